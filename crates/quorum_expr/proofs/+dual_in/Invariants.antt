@@ -1,0 +1,11 @@
+use Rattle.std.proofs.Common.{◌≡◌, ◌++◌, drop, map}
+use Rattle.volume_model.specs.Formula.{dual_of, each_once, EachHasCounts}
+use Rattle.quorum_expr.specs.Expr.{formula_of}
+use Rattle.quorum_expr.proofs.+dual_in.Given as goal
+
+-- the duals so far, and those of the children that are left
+abbrev pub invariant-loop-child : goal.invariant-loop-child
+invariant-loop-child g l = record {
+  so_far : map formula_of l.duals.items ++ map (λ e. dual_of (formula_of e)) (drop l.child-index l.child-items) ≡ map (λ e. dual_of (formula_of e)) l.child-items;
+  counts : EachHasCounts (each_once (map formula_of (drop l.child-index l.child-items)));
+}

@@ -1,0 +1,12 @@
+use Rattle.std.proofs.Common.{◌≡◌, ◌+◌, ◌≤◌, drop, map}
+use Rattle.std.specs.FinSet as set
+use Rattle.volume_model.specs.Formula.{weight_held, each_once}
+use Rattle.quorum_expr.specs.Expr.{formula_of}
+use Rattle.quorum_expr.proofs.+holds.Given as goal
+
+abbrev pub invariant-loop-child : goal.invariant-loop-child
+invariant-loop-child g l =
+    record {
+      so_far : l.held + weight_held (each_once (map formula_of (drop l.child-index l.child-items))) (set.contains l.members) ≡ weight_held (each_once (map formula_of l.child-items)) (set.contains l.members);
+      few : l.held ≤ l.child-index;
+    }

@@ -1,0 +1,14 @@
+-- What an expression means.
+use Rattle.quorum_expr.specs.declared.Expr.{Expr}
+use Rattle.quorum_expr.specs.declared.Expr.TheOpen.{Expr-F, Member, KOf}
+use Rattle.quorum_expr.specs.declared.Expr.TheFolds.{fold-Expr}
+use Rattle.volume_model.specs.Formula.{Formula, member, at_least, each_once}
+
+-- one expression, with the formulas of its children in their places
+abbrev pub formula_step : {A : Type 0} → Expr-F A Formula → Formula
+formula_step (Member x) = member x
+formula_step (KOf k of) = at_least k (each_once of.items)
+
+-- the formula that an expression spells, whatever memory it lies in
+abbrev pub formula_of : {A : Type 0} → Expr A → Formula
+formula_of {A} = fold-Expr A Formula formula_step

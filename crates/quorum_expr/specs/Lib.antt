@@ -1,0 +1,4 @@
+pub mod Expr
+pub mod MemberSet
+pub mod MemberSetBits
+pub mod Valid

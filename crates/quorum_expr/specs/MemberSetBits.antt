@@ -1,0 +1,110 @@
+-- Sets of members and the numbers whose bits stand for them.
+use Rattle.std.proofs.Common.{◌≡◌, ◌≢◌, ℕ, zero, suc, ◌+◌, ◌*◌, ◌%◌, ◌^◌, ◌<◌, ◌≤◌, arith, refl, ap, ◌∙◌, sym}
+use Rattle.std.proofs.Math.Pow.{pow_pos}
+use Rattle.std.proofs.Math.Nat.{mul_comm, pow-suc}
+use Rattle.std.proofs.Math.Arith.{mod-mul}
+use Rattle.std.specs.Prelude.{Bool, true, false, not, ◌&&◌, ◌||◌, nat_eq, nat_lt, if◌then◌else◌, ◌-◌, bit_or}
+use Rattle.std.specs.Ordering.{nat_cmp}
+use Rattle.std.specs.FinSet.{FinSet, empty, insert, contains, difference, code, contains-empty, contains-insert, contains-difference, same_set, nat_cmp-IsAntisymmetric}
+use Rattle.std.specs.Cmp.{nat_cmp_total, unsigned_tied}
+use Rattle.std.specs.Coded.{Coded, coded_ℕ}
+use Rattle.std.specs.Int.{bit_at, w64}
+use Rattle.std.proofs.lemmas.Nat.Bits.{bit_at-lt, bit_at-zero, bit_at_set_same, bit_at_set_other, bit_at_not}
+use Rattle.std.proofs.lemmas.Bool.Decides.{nat_tests}
+use Rattle.volume_model.specs.Sets.{contains-put}
+use Rattle.quorum_expr.specs.MemberSet.{members_below, members_of, bits_below, bits_of, numbers_below, all_members}
+
+-- the order of sets, by their elements
+abbrev pub set_code : Coded (FinSet nat_cmp)
+set_code = code coded_ℕ
+
+one_more : (x k : ℕ) (p : ℕ → Bool) → p k ≡ true → (nat_eq x k || (nat_lt x k && p x)) ≡ (nat_lt x (suc k) && p x)
+one_more x k p h = grind (arith, nat_tests)
+
+not_more : (x k : ℕ) (p : ℕ → Bool) → p k ≡ false → (nat_lt x k && p x) ≡ (nat_lt x (suc k) && p x)
+not_more x k p h = grind (arith, nat_tests)
+
+none_yet : (x : ℕ) (b : Bool) → false ≡ (nat_lt x 0 && b)
+none_yet x b = grind (arith, nat_tests)
+
+pub contains-members_below : (k n x : ℕ) → contains (members_below k n) x ≡ (nat_lt x k && nat_eq (bit_at n x) 1)
+unfolding members_below
+contains-members_below zero n x = contains-empty nat_cmp x ∙ none_yet x _
+contains-members_below (suc k) n x =
+    let bit : ℕ → Bool = λ y. nat_eq (bit_at n y) 1 in
+    elim (nat_eq (bit_at n k) 1) as (λ b. nat_eq (bit_at n k) 1 ≡ b → contains (if b then insert (members_below k n) k else members_below k n) x ≡ (nat_lt x (suc k) && nat_eq (bit_at n x) 1)) [
+      | true ↦ λ e. contains-put (members_below k n) k x ∙ ap (λ b. nat_eq x k || b) (contains-members_below k n x) ∙ one_more x k bit e
+      | false ↦ λ e. contains-members_below k n x ∙ not_more x k bit e
+    ] refl
+
+pub contains-members_of : (n x : ℕ) → contains (members_of n) x ≡ (nat_lt x 64 && nat_eq (bit_at n x) 1)
+unfolding members_of
+contains-members_of n x = contains-members_below 64 n x
+
+bit_weight : (b p : ℕ) → b < 2 → (if nat_eq b 1 then p else 0) ≡ b * p
+bit_weight zero p h = omega arith
+bit_weight (suc zero) p h = omega arith
+bit_weight (suc (suc b)) p h = absurd (omega arith)
+
+bits_below-members_of : (k n : ℕ) → k ≤ 64 → bits_below k (members_of n) ≡ n % 2 ^ k
+unfolding bits_below
+bits_below-members_of zero n h = omega arith
+bits_below-members_of (suc k) n h =
+    let within : (nat_lt k 64 && nat_eq (bit_at n k) 1) ≡ nat_eq (bit_at n k) 1 = grind (arith, nat_tests) in
+    let bit : (if contains (members_of n) k then 2 ^ k else 0) ≡ bit_at n k * 2 ^ k =
+    ap (λ (b : Bool). if b then 2 ^ k else 0) (contains-members_of n k ∙ within) ∙ bit_weight (bit_at n k) (2 ^ k) (bit_at-lt n k) in
+    let low : bits_below k (members_of n) ≡ n % 2 ^ k = bits_below-members_of k n (omega arith) in
+    (λ i. bit i + low i) ∙ sym (mod-mul n {m = 2} {c = 2 ^ k} (omega arith) (pow_pos k)) ∙ ap (λ (m : ℕ). n % m) (mul_comm 2 (2 ^ k) ∙ sym (pow-suc 2 k))
+
+pub bits_of-members_of : (n : ℕ) → n < 2 ^ 64 → bits_of (members_of n) ≡ n
+unfolding bits_of
+bits_of-members_of n h = bits_below-members_of 64 n (omega arith) ∙ omega arith
+
+-- each member's test, from the bits
+pub same_members : (s t : FinSet nat_cmp) → ((x : ℕ) → contains s x ≡ contains t x) → s ≡ t
+same_members = same_set nat_cmp_total nat_cmp-IsAntisymmetric
+
+pub contains-numbers_below : (k x : ℕ) → contains (numbers_below k) x ≡ nat_lt x k
+unfolding numbers_below
+contains-numbers_below zero x = contains-empty nat_cmp x ∙ grind (arith, nat_tests)
+contains-numbers_below (suc k) x = contains-put (numbers_below k) k x ∙ ap (λ b. nat_eq x k || b) (contains-numbers_below k x) ∙ grind (arith, nat_tests)
+
+pub contains-all_members : (x : ℕ) → contains all_members x ≡ nat_lt x 64
+unfolding all_members
+contains-all_members x = contains-numbers_below 64 x
+
+pub members_of-zero : members_of 0 ≡ empty
+members_of-zero = same_members _ _ (λ x. contains-members_of 0 x ∙ ap (λ b. nat_lt x 64 && nat_eq b 1) (bit_at-zero x) ∙ no_bit x ∙ sym (contains-empty nat_cmp x))
+  where
+    no_bit : (x : ℕ) → (nat_lt x 64 && false) ≡ false
+    no_bit x = grind (arith, nat_tests)
+
+set_bit : (n k x : ℕ) → k < 64 → (nat_lt x 64 && nat_eq (bit_at (bit_or n (1 * 2 ^ k % 2 ^ 64)) x) 1) ≡ (nat_eq x k || (nat_lt x 64 && nat_eq (bit_at n x) 1))
+set_bit n k x h =
+    elim (nat_eq x k) as (λ b. nat_eq x k ≡ b → (nat_lt x 64 && nat_eq (bit_at (bit_or n (1 * 2 ^ k % 2 ^ 64)) x) 1) ≡ (b || (nat_lt x 64 && nat_eq (bit_at n x) 1))) [
+      | true ↦ λ e. let is : x ≡ k = grind (arith, nat_tests, e) in
+          (λ i. nat_lt (is i) 64 && nat_eq (bit_at (bit_or n (1 * 2 ^ k % 2 ^ 64)) (is i)) 1) ∙ ap (λ b. nat_lt k 64 && nat_eq b 1) (bit_at_set_same w64 n k h) ∙ grind (arith, nat_tests)
+      | false ↦ λ e. let is_not : x ≢ k = grind (arith, nat_tests, e) in
+          ap (λ b. nat_lt x 64 && nat_eq b 1) (bit_at_set_other w64 n k h x is_not)
+    ] refl
+
+pub members_of-with : (n k : ℕ) → k < 64 → members_of (bit_or n (1 * 2 ^ k % 2 ^ 64)) ≡ insert (members_of n) k
+members_of-with n k h = same_members _ _ (λ x.
+    contains-members_of _ x ∙ set_bit n k x h ∙ ap (λ b. nat_eq x k || b) (sym (contains-members_of n x)) ∙ sym (contains-put (members_of n) k x))
+
+flipped_bit : (n x : ℕ) → n < 2 ^ 64 → (nat_lt x 64 && nat_eq (bit_at (2 ^ 64 - 1 - n) x) 1) ≡ (nat_lt x 64 && not (nat_lt x 64 && nat_eq (bit_at n x) 1))
+flipped_bit n x h =
+    elim (nat_lt x 64) as (λ b. nat_lt x 64 ≡ b → (b && nat_eq (bit_at (2 ^ 64 - 1 - n) x) 1) ≡ (b && not (b && nat_eq (bit_at n x) 1))) [
+      | true ↦ λ e. let within : x < 64 = grind (arith, nat_tests, e) in
+          ap (λ b. nat_eq b 1) (bit_at_not w64 n x h within) ∙ flipped (bit_at n x) (bit_at-lt n x)
+      | false ↦ λ e. refl
+    ] refl
+  where
+    flipped : (b : ℕ) → b < 2 → nat_eq (1 - b) 1 ≡ not (nat_eq b 1)
+    flipped zero h = refl
+    flipped (suc zero) h = refl
+    flipped (suc (suc b)) h = absurd (omega arith)
+
+pub members_of-complement : (n : ℕ) → n < 2 ^ 64 → members_of (2 ^ 64 - 1 - n) ≡ difference all_members (members_of n)
+members_of-complement n h = same_members _ _ (λ x.
+    contains-members_of _ x ∙ flipped_bit n x h ∙ (λ i. sym (contains-all_members x) i && not (sym (contains-members_of n x) i)) ∙ sym (contains-difference nat_cmp_total all_members (members_of n) x))

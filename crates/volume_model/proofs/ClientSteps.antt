@@ -1,0 +1,755 @@
+-- Each step of a client keeps the invariant
+use Rattle.std.proofs.Common.{◌≡◌, ℕ, zero, suc, ◌+◌, ◌^◌, ◌<◌, ◌≤◌, max, Bool, true, false, not, ◌&&◌, ◌==◌, nat_lt, nat_le, eqb, ◌⊎◌, List, [], ◌∷◌, ◌++◌, Option, Some, None, Ok, Err, length, if◌then◌else◌, refl, sym, ap, ◌∙◌, subst, inl, inr, arith}
+use Rattle.std.proofs.lemmas.Bool.{cases_Bool, cases_lt, and_parts, true≢false, both_ways, eqb-true, eq-eqb, ltb-true, leb-true, not-true, not-false}
+use Rattle.volume_model.specs.Lists.{IsIn, every, every_below, each_below, numbered, put}
+use Rattle.volume_model.specs.Formula.{Formula, sat}
+use Rattle.volume_model.specs.FormulaLaws.{sat-some}
+use Rattle.volume_model.specs.Redo.{Redo, record_at, last_lsn, of_group, cut_of, log_found}
+use Rattle.volume_model.specs.Lineage.{Lineage, last_epoch, last_start, extended, Contents, newest, found_in}
+use Rattle.volume_model.specs.Plan.{Plan, IsCertified}
+use Rattle.volume_model.specs.Message.{Label, Place, Message, place_in}
+use Rattle.volume_model.specs.Message.Message.{View, StepTo, Fence, Report, Install, Write, Gossip, Ack, CopyAsk, CopyReport, PageAsk, Page}
+use Rattle.volume_model.specs.Node.{From, senders, with_first, in_group}
+use Rattle.volume_model.specs.Client.{Client, Stage, Count, Change, ClientStep, ClientAnswer, is_born, has_cut, is_open, unborn, reaching, best, with_count, place_configuration, ClientGroup, newly_at, group_of, place_of, reports_of, counts_of, raised_group, raised, groups_now, durable_point, label_of, record_of, is_last, issued_log, issued_writes, is_change, is_transaction, issued, fences, installs, is_raised, raised_in, later_group, reread_group, moved, viewed, stays, report_taken, ack_taken, are_places, taken, all_reports, has_read, has_installed, cut_client, opened, write_of, resent, last_of_group_below, page_asked, place_of, reports_of, counts_of, no_group}
+use Rattle.volume_model.specs.Client.Stage.{Unborn, Reading, Installing, Writing}
+use Rattle.volume_model.specs.World.{World, of_client, after_step, take}
+use Rattle.volume_model.proofs.Basics.{any_passes, numbered-in, IsIn-append, IsIn-append_right}
+use Rattle.volume_model.proofs.Logs.{IsLink}
+use Rattle.volume_model.proofs.Chains.{record_at-some}
+use Rattle.volume_model.proofs.Invariant.{log_of, found_of, lineage_of, HasCut, IsMade, label, WasAt, IsCopy, config}
+use Rattle.volume_model.proofs.Kept.{IsPlace, IsGrown, HasRead, IsChild, IsOwned, IsCutClient, IsReached, IsBorn, ClientKept, IsView, MessageKept, IsKept}
+use Rattle.volume_model.proofs.Ordered.{IsOrdered, of_group-ordered}
+use Rattle.volume_model.proofs.Added.{MessageNew, messages_added}
+use Rattle.volume_model.proofs.Changed.{ClientGrows, client_changed}
+use Rattle.volume_model.proofs.Records.{of_group-from, of_group-has, newest-most, newest-of, all_reports-from, all_reports-has, with_first-from}
+use Rattle.volume_model.proofs.Sound.{born_from_cut, is_sound}
+use Rattle.volume_model.proofs.NodeSteps.{refuse_if-ok}
+use Rattle.volume_model.proofs.Groups.{set-all, group_of-moved, later_group-none, reread_group-none, group_of-new, group_of-raised}
+use Rattle.std.specs.Prelude.{map, slice_set}
+use Rattle.volume_model.specs.declared.fault.Fault.TheVariants.{AlreadyDone, BadTransaction, LimitReached, LsnSpent, NoActor, NoGroup, NotAddressed, NotInPlan, NotOpen, NotReady}
+
+pub every-all : {A : Type 0} (test : A → Bool) (xs : List A) → every test xs ≡ true → (x : A) → IsIn x xs → test x ≡ true
+every-all test [] h x i = absurd i
+every-all test (y ∷ ys) h x (inl e) = subst (λ z. test z ≡ true) (sym e) (and_parts (test y) (every test ys) h).0
+every-all test (y ∷ ys) h x (inr i) = every-all test ys (and_parts (test y) (every test ys) h).1 x i
+
+pub every_below-all : (n : ℕ) (test : ℕ → Bool) → every_below n test ≡ true → (k : ℕ) → k < n → test k ≡ true
+every_below-all zero test h k l = absurd (omega arith)
+every_below-all (suc n) test h k l =
+    let parts : (test n ≡ true) × (every_below n test ≡ true) = and_parts (test n) (every_below n test) h in
+    elim (cases_lt k n) [
+      | inl b ↦ every_below-all n test parts.1 k b
+      | inr b ↦ (let e : n ≡ k = omega arith in subst (λ z. test z ≡ true) e parts.0)
+    ]
+
+pub each_below-from : {A : Type 0} (n : ℕ) (test : ℕ → Bool) (f : ℕ → A) (x : A) → IsIn x (each_below n test f) → (k : ℕ) × (k < n) × (x ≡ f k)
+each_below-from zero test f x i = absurd i
+each_below-from {A} (suc n) test f x i =
+    elim (IsIn-append (each_below n test f) (if test n then f n ∷ [] else []) x i) [
+      | inl j ↦ (let (k, l, e) = each_below-from n test f x j in (k, omega arith, e))
+      | inr j ↦ last (test n) j
+    ]
+  where
+    last : (b : Bool) → IsIn x (if b then f n ∷ [] else []) → (k : ℕ) × (k < suc n) × (x ≡ f k)
+    last false j = absurd j
+    last true (inl e) = (n, omega arith, e)
+    last true (inr z) = absurd z
+
+cut_from_open : (stage : Stage) → is_open stage ≡ true → has_cut stage ≡ true
+cut_from_open Unborn h = h
+cut_from_open Reading h = h
+cut_from_open Installing h = refl
+cut_from_open Writing h = refl
+
+-- what a client says, of itself as the step leaves it
+abbrev pub ClientSays : ℕ → Client → Message → Type 0
+ClientSays v client (Fence to l) = Unit {0}
+ClientSays v client (Install to l q) = (has_cut client.stage ≡ true) × (l.volume ≡ v) × (q.lineage ≡ client.lineage) × (q.records ≡ of_group to client.found)
+ClientSays v client (Write to l r) = (has_cut client.stage ≡ true) × (l.volume ≡ v) × IsIn r client.log × (r.group ≡ to)
+ClientSays v client (PageAsk to l block point) = Unit {0}
+ClientSays v client (View u places) = ⊥
+ClientSays v client (StepTo to place) = ⊥
+ClientSays v client (Report to l from q) = ⊥
+ClientSays v client (Gossip to l r) = ⊥
+ClientSays v client (Ack to l from s) = ⊥
+ClientSays v client (CopyAsk to f) = ⊥
+ClientSays v client (CopyReport to f from q) = ⊥
+ClientSays v client (Page to l from block point bytes) = ⊥
+
+-- a step of a client that keeps the invariant
+pub record IsGoodMove (plan : Plan) (world : World) (v : ℕ) (step : ClientStep) : Type 0 where
+  pub grows : ClientGrows (world.clients v) step.client
+  -- the client, as it was
+  pub client : ClientKept plan world v step.client
+  pub says : (m : Message) → IsIn m step.made → ClientSays v step.client m
+
+head_of : (plan : Plan) (world : World) (v : ℕ) (client : Client) → IsCutClient plan world v client → last_epoch client.lineage ≡ v
+head_of plan world v client k = elim k.origin [ inl root ↦ ap last_epoch root.lineage ∙ sym root.one | inr child ↦ ap last_epoch child.lineage ]
+
+put-same : {A : Type 0} (f : ℕ → A) (x : ℕ) (value : A) → put f x value x ≡ value
+put-same f x value = rw (eq-eqb x x refl) refl
+
+-- counts: where each comes from
+with_count-from : (sender reached : ℕ) (counts : List Count) (count : Count) → IsIn count (with_count sender reached counts) → ((count.sender ≡ sender) × (count.reached ≡ reached)) ⊎ ((c : Count) × IsIn c counts × (count.sender ≡ c.sender) × (count.reached ≡ c.reached))
+with_count-from sender reached [] count i =
+    let j : (count ≡ record { sender = sender; reached = reached }) ⊎ ⊥ = i in
+    elim j [ inl e ↦ inl (ap (λ z. z.sender) e, ap (λ z. z.reached) e) | inr z ↦ absurd z ]
+with_count-from sender reached (c ∷ rest) count i =
+    elim (cases_Bool (eqb c.sender sender)) [
+      | inl e ↦ (
+          let j : (count ≡ record { sender = sender; reached = max c.reached reached }) ⊎ IsIn count rest = rw e at i in
+          elim j [
+            | inl p ↦ (
+                let a : count.sender ≡ sender = ap (λ z. z.sender) p in
+                let b : count.reached ≡ max c.reached reached = ap (λ z. z.reached) p in
+                elim (cases_lt c.reached reached) [
+                  | inl l ↦ inl (a, omega arith)
+                  | inr l ↦ inr (c, inl refl, a ∙ sym (eqb-true c.sender sender e), omega arith)
+                ])
+            | inr k ↦ inr (count, inr k, refl, refl)
+          ])
+      | inr e ↦ (
+          let j : (count ≡ c) ⊎ IsIn count (with_count sender reached rest) = rw e at i in
+          elim j [
+            | inl p ↦ inr (c, inl refl, ap (λ z. z.sender) p, ap (λ z. z.reached) p)
+            | inr k ↦ elim (with_count-from sender reached rest count k) [
+              | inl h ↦ inl h
+              | inr h ↦ inr (h.0, inr h.1, h.2, h.3)
+            ]
+          ])
+    ]
+
+-- the best number: 0, or one that a write set has reached
+best-is : (write : Formula) (all list : List Count) → (best write all list ≡ 0) ⊎ (sat write (reaching all (best write all list)) ≡ true)
+best-is write all [] = inl refl
+best-is write all (c ∷ rest) =
+    elim (cases_Bool (sat write (reaching all c.reached))) [
+      | inl e ↦ elim (cases_lt (best write all rest) c.reached) [
+        | inl l ↦ (let m : max c.reached (best write all rest) ≡ c.reached = omega arith in inr (rw (e, m) e))
+        | inr l ↦ elim (best-is write all rest) [
+          | inl z ↦ (let m : max c.reached (best write all rest) ≡ 0 = omega arith in inl (rw (e, m) refl))
+          | inr h ↦ (let m : max c.reached (best write all rest) ≡ best write all rest = omega arith in inr (rw (e, m) h))
+        ]
+      ]
+      | inr e ↦ elim (best-is write all rest) [
+        | inl z ↦ (let m : max 0 (best write all rest) ≡ 0 = omega arith in inl (rw (e, m) refl))
+        | inr h ↦ (let m : max 0 (best write all rest) ≡ best write all rest = omega arith in inr (rw (e, m) h))
+      ]
+    ]
+
+module _ (plan : Plan) (certified : IsCertified plan) (world : World) (kept : IsKept plan world) (v : ℕ) where
+  says_new : (client : Client) → ClientKept plan world v client → (m : Message) → ClientSays v client m → MessageNew plan (record world { clients = put world.clients v client }) m
+  says_new client good (Fence to l) h = tt
+  says_new client good (Install to l q) h =
+      let later : World = record world { clients = put world.clients v client } in
+      let same : client ≡ put world.clients v client v = sym (put-same world.clients v client) in
+      let k : IsCutClient plan world v client = good.cut h.0 in
+      let e : last_epoch q.lineage ≡ v = ap last_epoch h.2 ∙ head_of plan world v client k in
+      let in_log : (r : Redo) → IsIn r client.found → IsIn r client.log = λ r i. subst (λ z. IsIn r z) k.log (IsIn-append_right k.own client.found r i) in (
+        record {
+          cut = subst (λ u. HasCut later u) (sym e) (ap (λ c. has_cut c.stage) (sym same) ∙ h.0);
+          lineage = h.2 ∙ ap (λ c. c.lineage) same ∙ ap (λ u. lineage_of later u) (sym e);
+          records = λ r i. (
+              let f : IsIn r client.found × (r.group ≡ to) = of_group-from to client.found r (subst (λ z. IsIn r z) h.3 i) in
+              (subst (λ u. IsIn r (log_of later u)) (sym e) (subst (λ c. IsIn r c.log) same (in_log r f.0)), f.1));
+          found = λ r i g. (
+              let i' : IsIn r client.found = subst (λ c. IsIn r c.found) (sym same) (subst (λ u. IsIn r (found_of later u)) e i) in
+              subst (λ z. IsIn r z) (sym h.3) (of_group-has to client.found r i' g));
+        },
+        e ∙ sym h.1,
+        subst IsOrdered (sym h.3) (of_group-ordered to client.found),
+      )
+  says_new client good (Write to l r) h =
+      let later : World = record world { clients = put world.clients v client } in
+      let same : client ≡ put world.clients v client v = sym (put-same world.clients v client) in
+      record {
+        cut = subst (λ u. HasCut later u) (sym h.1) (ap (λ c. has_cut c.stage) (sym same) ∙ h.0);
+        stands = subst (λ u. IsIn r (log_of later u)) (sym h.1) (subst (λ c. IsIn r c.log) same h.2);
+        group_is = h.3;
+      }
+  says_new client good (PageAsk to l block point) h = tt
+  says_new client good (View u places) h = absurd h
+  says_new client good (StepTo to place) h = absurd h
+  says_new client good (Report to l from q) h = absurd h
+  says_new client good (Gossip to l r) h = absurd h
+  says_new client good (Ack to l from s) h = absurd h
+  says_new client good (CopyAsk to f) h = absurd h
+  says_new client good (CopyReport to f from q) h = absurd h
+  says_new client good (Page to l from block point bytes) h = absurd h
+
+  pub client_step : (answer : ClientAnswer) → ((step : ClientStep) → answer ≡ Ok step → IsGoodMove plan world v step) → IsKept plan (after_step world (of_client world v answer))
+  client_step (Err number) good = kept
+  client_step (Ok step) good =
+      let g : IsGoodMove plan world v step = good step refl in
+      messages_added plan certified step.made (record world { clients = put world.clients v step.client })
+      (client_changed plan world kept v step.client g.grows g.client)
+      (λ m i. says_new step.client g.client m (g.says m i))
+
+  abbrev client : Client
+  client = world.clients v
+
+  now : ClientKept plan world v client
+  now = kept.clients v
+
+  Ok-is : (a b : ClientStep) → ◌≡◌ {A = ClientAnswer} (Ok a) (Ok b) → a ≡ b
+  Ok-is a b h = cc
+
+  -- a client that stays, and says something
+  stays_good : (made : List Message) → ((m : Message) → IsIn m made → ClientSays v client m) → IsGoodMove plan world v (record { made = made; client = client })
+  stays_good made says = record {
+    grows = record { cut = λ h. h; lineage = λ h. refl; found = λ h. refl; logs = λ h r i. i };
+    client = now;
+    says = says;
+  }
+
+  -- the facts of a cut, where only the stage is new, and of the groups all but the reports
+  cut_moved : (stage : Stage) (groups : List ClientGroup) → ((group : ℕ) → reports_of groups group ≡ reports_of client.groups group) → IsCutClient plan world v client → IsCutClient plan world v (record client { stage = stage; groups = groups })
+  cut_moved stage groups same k =
+      let all : all_reports (reports_of client.groups) plan.groups ≡ all_reports (reports_of groups) plan.groups = λ i. all_reports (λ group. sym (same group) i) plan.groups in
+      record {
+        own = k.own;
+        log = k.log;
+        grown = k.grown;
+        owned = λ r i. record { volume = (k.owned r i).volume; above = (k.owned r i).above; group = (k.owned r i).group };
+        origin = elim k.origin [
+          | inl root ↦ inl (record { one = root.one; lineage = root.lineage; found = root.found })
+          | inr child ↦ inr (record {
+            parent = child.parent;
+            below = child.below;
+            parent_cut = child.parent_cut;
+            lineage = child.lineage ∙ ap (λ z. extended (lineage_of world child.parent) v (cut_of (found_in (lineage_of world child.parent) z)) plan.lal) all;
+            found = child.found ∙ ap (λ z. log_found (found_in (lineage_of world child.parent) z)) all;
+            reads = λ group there. (let r : HasRead plan world v client child.parent group = child.reads group there in record {
+              at = r.at;
+              positive = r.positive;
+              there = r.there;
+              was = r.was;
+              reads = subst (λ z. sat (config plan world group r.at).read (senders z) ≡ true) (sym (same group)) r.reads;
+              kept = λ from i. r.kept from (subst (λ z. IsIn from z) (same group) i);
+            });
+          })
+        ];
+      }
+
+  -- where a client may have a group
+  abbrev PlaceGood : ℕ → Place → Type 0
+  PlaceGood group place = IsPlace plan world group place × WasAt world v group place.epoch
+
+  -- each count comes from an acknowledgement that may be counted
+  abbrev CountsGood : ℕ → ClientGroup → Type 0
+  CountsGood group g = (count : Count) → IsIn count g.counts → (a : ℕ) × (a ≤ g.place.epoch) × IsMade world (Ack group (label v a) count.sender count.reached)
+
+  -- the point is acknowledged
+  abbrev PointGood : ℕ → ℕ → Type 0
+  PointGood group point = (point ≡ 0) ⊎ IsReached plan world v group point
+
+  -- what a client that has cut may keep of a group
+  record IsGoodGroup (group : ℕ) (g : ClientGroup) : Type 0 where
+    reports : g.reports ≡ reports_of client.groups group
+    place : PlaceGood group g.place
+    counts : CountsGood group g
+    point : PointGood group g.point
+
+  -- what a client that has cut may keep of all groups
+  abbrev AreGood : List ClientGroup → Type 0
+  AreGood groups = (group : ℕ) → group < plan.groups → IsGoodGroup group (group_of groups group)
+
+  groups_good : has_cut client.stage ≡ true → AreGood client.groups
+  groups_good cut group there = record {
+    reports = refl;
+    place = (now.born (born_from_cut client.stage cut)).places group there;
+    counts = now.counts group there;
+    point = now.points group there;
+  }
+
+  -- a client that has cut, with later places, more counts and higher points
+  moved_good : has_cut client.stage ≡ true → (stage : Stage) → has_cut stage ≡ true → (groups : List ClientGroup) → ((group : ℕ) → reports_of groups group ≡ reports_of client.groups group) → AreGood groups → (made : List Message) → ((m : Message) → IsIn m made → ClientSays v (record client { stage = stage; groups = groups }) m) → IsGoodMove plan world v (record { made = made; client = record client { stage = stage; groups = groups } })
+  moved_good cut stage cut' groups same good made says =
+      let b : IsBorn plan world v client = now.born (born_from_cut client.stage cut) in
+      record {
+        grows = record { cut = λ h. cut'; lineage = λ h. refl; found = λ h. refl; logs = λ h r i. i };
+        client = record {
+          born = λ h. record { positive = b.positive; known = b.known; places = λ group there. (good group there).place };
+          reading = λ h. absurd (both_ways (has_cut stage) h cut');
+          cut = λ h. cut_moved stage groups same (now.cut cut);
+          counts = λ group there. (good group there).counts;
+          points = λ group there. (good group there).point;
+        };
+        says = says;
+      }
+
+  -- what the counts satisfy now
+  raised_point_good : (group : ℕ) (g : ClientGroup) → IsGoodGroup group g → PointGood group (raised_group plan group g).point
+  raised_point_good group g good =
+      let write : Formula = (place_configuration plan group g.place).write in
+      let n : ℕ = best write g.counts g.counts in
+      elim (cases_lt g.point n) [
+        | inr l ↦ (let m : g.point ≡ max g.point n = omega arith in subst (PointGood group) m good.point)
+        | inl l ↦ (
+            let m : n ≡ max g.point n = omega arith in
+            subst (PointGood group) m (elim (best-is write g.counts g.counts) [
+              | inl z ↦ inl z
+              | inr h ↦ inr (
+                  let p : IsPlace plan world group g.place = good.place.0 in
+                  record {
+                    at = g.place.epoch;
+                    positive = p.positive;
+                    there = p.there;
+                    was = good.place.1;
+                    writers = reaching g.counts n;
+                    writes = subst (λ c. sat (plan.configuration group c).write (reaching g.counts n) ≡ true) p.configuration h;
+                    acked = λ x r. (
+                        let t : (c : Count) × IsIn c g.counts × ((c.sender == x && nat_le n c.reached) ≡ true) = any_passes (λ c. c.sender == x && nat_le n c.reached) g.counts r in
+                        let both : (eqb t.0.sender x ≡ true) × (nat_le n t.0.reached ≡ true) = and_parts _ _ t.2 in
+                        let a : (a : ℕ) × (a ≤ g.place.epoch) × IsMade world (Ack group (label v a) t.0.sender t.0.reached) = good.counts t.0 t.1 in
+                        (a.0, t.0.reached, a.1, leb-true n t.0.reached both.1, subst (λ y. IsMade world (Ack group (label v a.0) y t.0.reached)) (eqb-true t.0.sender x both.0) a.2));
+                  })
+            ]))
+      ]
+
+  raised_good : (groups : List ClientGroup) → AreGood groups → AreGood (raised plan groups)
+  raised_good groups good group there =
+      subst (IsGoodGroup group) (sym (group_of-raised plan groups group)) (
+      let g : IsGoodGroup group (group_of groups group) = good group there in
+      record { reports = g.reports; place = g.place; counts = g.counts; point = raised_point_good group (group_of groups group) g })
+
+  raised_reports : (groups : List ClientGroup) (group : ℕ) → reports_of (raised plan groups) group ≡ reports_of groups group
+  raised_reports groups group = ap (λ g. g.reports) (group_of-raised plan groups group)
+
+  -- own records behind what was found, after these changes
+  record IsOwnLog (found log : List Redo) : Type 0 where
+    own : List Redo
+    is : own ++ found ≡ log
+    grown : IsGrown found own
+    owned : (r : Redo) → IsIn r own → IsOwned plan v client r
+
+  issued_own : (changes : List Change) → ((change : Change) → IsIn change changes → change.group < plan.groups) → (found log : List Redo) → IsOwnLog found log → IsOwnLog found (issued_log v (last_start client.lineage) changes log)
+  issued_own [] there found log h = h
+  issued_own (change ∷ more) there found log h =
+      let start : ℕ = last_start client.lineage in
+      let r : Redo = record_of v start log change (is_last more) in
+      issued_own more (λ c i. there c (inr i)) found (r ∷ log) (record {
+        own = r ∷ h.own;
+        is = ap (λ z. r ∷ z) h.is;
+        grown = (subst (λ z. IsLink r z) (sym h.is) (record { above = omega arith; volume_link = refl; group_link = refl }), h.grown);
+        owned = λ s i. (let j : (s ≡ r) ⊎ IsIn s h.own = i in elim j [
+          | inl e ↦ subst (λ z. IsOwned plan v client z) (sym e) (record { volume = refl; above = omega arith; group = there change (inl refl) })
+          | inr k ↦ h.owned s k
+        ]);
+      })
+
+  issued_keeps : (start : ℕ) (changes : List Change) (log : List Redo) (r : Redo) → IsIn r log → IsIn r (issued_log v start changes log)
+  issued_keeps start [] log r i = i
+  issued_keeps start (change ∷ more) log r i = issued_keeps start more (record_of v start log change (is_last more) ∷ log) r (inr i)
+
+  issued_says : (after : Client) → has_cut after.stage ≡ true → (places : ℕ → Place) (start : ℕ) (changes : List Change) (log : List Redo) → ((r : Redo) → IsIn r (issued_log v start changes log) → IsIn r after.log) → (m : Message) → IsIn m (issued_writes v places start changes log) → ClientSays v after m
+  issued_says after cut places start [] log within m i = absurd i
+  issued_says after cut places start (change ∷ more) log within m i =
+      let r : Redo = record_of v start log change (is_last more) in
+      let j : (m ≡ Write change.group (label_of v places change.group) r) ⊎ IsIn m (issued_writes v places start more (r ∷ log)) = i in
+      elim j [
+        | inl e ↦ subst (λ z. ClientSays v after z) (sym e) (cut, refl, within r (issued_keeps start more (r ∷ log) r (inl refl)), refl)
+        | inr k ↦ issued_says after cut places start more (r ∷ log) within m k
+      ]
+
+  issued_good : (changes : List Change) (step : ClientStep) → issued plan v client changes ≡ Ok step → IsGoodMove plan world v step
+  issued_good changes step h =
+      let start : ℕ = last_start client.lineage in
+      let last : ℕ = max (last_lsn client.log) start + length changes in
+      let (z, h0) = refuse_if-ok (not (is_born client.stage)) NoActor _ step h in
+      let (a, h1) = refuse_if-ok (not (is_open client.stage)) NotOpen _ step h0 in
+      let (b, h2) = refuse_if-ok (not (is_transaction plan changes)) BadTransaction _ step h1 in
+      let (c, h3) = refuse_if-ok (nat_lt (2 ^ 62) last) LsnSpent _ step h2 in
+      let (d, h4) = refuse_if-ok (nat_lt (max (durable_point client) start + plan.lal) last) LimitReached _ step h3 in
+      let cut : has_cut client.stage ≡ true = cut_from_open client.stage (not-false _ a) in
+      let k : IsCutClient plan world v client = now.cut cut in
+      let good : (nat_le 1 (length changes) ≡ true) × ((nat_le (length changes) 32 && every (is_change plan) changes) ≡ true) = and_parts _ _ (not-false _ b) in
+      let each : every (is_change plan) changes ≡ true = (and_parts (nat_le (length changes) 32) _ good.1).1 in
+      let there : (change : Change) → IsIn change changes → change.group < plan.groups = λ change i. ltb-true change.group plan.groups (and_parts (nat_lt change.group plan.groups) _ (every-all (is_change plan) changes each change i)).0 in
+      let o : IsOwnLog client.found (issued_log v start changes client.log) = issued_own changes there client.found client.log (record { own = k.own; is = k.log; grown = k.grown; owned = k.owned }) in
+      let after : Client = record client { log = issued_log v start changes client.log } in
+      subst (λ s. IsGoodMove plan world v s) (Ok-is _ step h4) (record {
+        grows = record { cut = λ h. h; lineage = λ h. refl; found = λ h. refl; logs = λ h r i. issued_keeps start changes client.log r i };
+        client = record {
+          born = λ h. (let n : IsBorn plan world v client = now.born h in record { positive = n.positive; known = n.known; places = n.places });
+          reading = now.reading;
+          cut = λ h. record {
+            own = o.own;
+            log = o.is;
+            grown = o.grown;
+            owned = λ r i. record { volume = (o.owned r i).volume; above = (o.owned r i).above; group = (o.owned r i).group };
+            origin = elim k.origin [
+              | inl root ↦ inl (record { one = root.one; lineage = root.lineage; found = root.found })
+              | inr child ↦ inr (record {
+                parent = child.parent;
+                below = child.below;
+                parent_cut = child.parent_cut;
+                lineage = child.lineage;
+                found = child.found;
+                reads = λ group t. (let r : HasRead plan world v client child.parent group = child.reads group t in record { at = r.at; positive = r.positive; there = r.there; was = r.was; reads = r.reads; kept = r.kept });
+              })
+            ];
+          };
+          counts = now.counts;
+          points = now.points;
+        };
+        says = issued_says after cut (place_of client.groups) start changes client.log (λ r i. i);
+      })
+
+  resent_good : (lsn : ℕ) (step : ClientStep) → resent v client lsn ≡ Ok step → IsGoodMove plan world v step
+  resent_good lsn step h =
+      let (z, h0) = refuse_if-ok (not (is_born client.stage)) NoActor _ step h in
+      let (a, h1) = refuse_if-ok (not (is_open client.stage)) NotOpen _ step h0 in
+      go (record_at client.log lsn) refl (cut_from_open client.stage (not-false _ a)) h1
+    where
+      go : (found : Option Redo) → record_at client.log lsn ≡ found → has_cut client.stage ≡ true → write_of v client found ≡ Ok step → IsGoodMove plan world v step
+      go None e cut h = cc
+      go (Some r) e cut h =
+          subst (λ s. IsGoodMove plan world v s) (Ok-is _ step h) (stays_good _ (λ m i. (
+          let j : (m ≡ Write r.group (label_of v (place_of client.groups) r.group) r) ⊎ ⊥ = i in
+          elim j [
+            | inl p ↦ subst (λ z. ClientSays v client z) (sym p) (cut, refl, (record_at-some client.log lsn r e).0, refl)
+            | inr z ↦ absurd z
+          ])))
+
+  asked_good : (group block : ℕ) (step : ClientStep) → page_asked plan v client group block ≡ Ok step → IsGoodMove plan world v step
+  asked_good group block step h =
+      let (z, h0) = refuse_if-ok (not (is_born client.stage)) NoActor _ step h in
+      let (a, h1) = refuse_if-ok (not (is_open client.stage)) NotOpen _ step h0 in
+      let (b, h2) = refuse_if-ok (not (nat_lt group plan.groups)) NoGroup _ step h1 in
+      subst (λ s. IsGoodMove plan world v s) (Ok-is _ step h2) (stays_good _ (λ m i. (
+      let j : (m ≡ PageAsk group (label_of v (place_of client.groups) group) block (last_of_group_below group (durable_point client) client.log)) ⊎ ⊥ = i in
+      elim j [
+        | inl p ↦ subst (λ z. ClientSays v client z) (sym p) tt
+        | inr z ↦ absurd z
+      ])))
+
+  opened_good : (step : ClientStep) → opened plan client ≡ Ok step → IsGoodMove plan world v step
+  opened_good step h =
+      let (z, h0) = refuse_if-ok (not (is_born client.stage)) NoActor _ step h in
+      let (a, h1) = refuse_if-ok (is_open client.stage) AlreadyDone _ step h0 in
+      let (b, h2) = refuse_if-ok (not (has_cut client.stage && has_installed plan client)) NotReady _ step h1 in
+      let cut : has_cut client.stage ≡ true = (and_parts (has_cut client.stage) _ (not-false _ b)).0 in
+      subst (λ s. IsGoodMove plan world v s) (Ok-is _ step h2)
+      (moved_good cut Writing refl (raised plan client.groups) (raised_reports client.groups) (raised_good client.groups (groups_good cut)) [] (λ m i. absurd i))
+
+  -- the Installs of a client that has cut
+  installs_says : (after : Client) → has_cut after.stage ≡ true → (places : ℕ → Place) (test : ℕ → Bool) → (m : Message) → IsIn m (installs plan v places after.lineage after.found test) → ClientSays v after m
+  installs_says after cut places test m i =
+      let (group, l, e) = each_below-from plan.groups test (λ group. Install group (label_of v places group) (record { lineage = after.lineage; records = of_group group after.found })) m i in
+      subst (λ z. ClientSays v after z) (sym e) (cut, refl, refl, refl)
+
+  fences_says : (after : Client) (places : ℕ → Place) (test : ℕ → Bool) → (m : Message) → IsIn m (fences plan v places test) → ClientSays v after m
+  fences_says after places test m i =
+      let (group, l, e) = each_below-from plan.groups test (λ group. Fence group (label_of v places group)) m i in
+      subst (λ z. ClientSays v after z) (sym e) tt
+
+  cut_good : (step : ClientStep) → cut_client plan v client ≡ Ok step → IsGoodMove plan world v step
+  cut_good step h =
+      let reported : List Contents = all_reports (reports_of client.groups) plan.groups in
+      let parent : Lineage = newest reported in
+      let records : List Redo = found_in parent reported in
+      let lineage : Lineage = extended parent v (cut_of records) plan.lal in
+      let found : List Redo = log_found records in
+      let (z, h0) = refuse_if-ok (not (is_born client.stage)) NoActor _ step h in
+      let (a, h1) = refuse_if-ok (has_cut client.stage) AlreadyDone _ step h0 in
+      let (b, h2) = refuse_if-ok (not (has_read plan client)) NotReady _ step h1 in
+      let (c, h3) = refuse_if-ok (nat_lt (2 ^ 62) (last_start lineage)) LsnSpent _ step h2 in
+      let born : IsBorn plan world v client = now.born (not-false _ z) in
+      let reads : (group : ℕ) → group < plan.groups → sat (plan.configuration group (place_of client.groups group).configuration).read (senders (reports_of client.groups group)) ≡ true =
+      λ group there. every_below-all plan.groups (λ group. sat (place_configuration plan group (place_of client.groups group)).read (senders (reports_of client.groups group))) (not-false _ b) group there in
+      let at : (group : ℕ) → group < plan.groups → IsPlace plan world group (place_of client.groups group) = λ group there. (born.places group there).0 in
+      let line_there : (group : ℕ) → group < plan.groups → (place_of client.groups group).configuration < plan.configurations group =
+      λ group there. subst (λ c. c < plan.configurations group) (sym (at group there).configuration) (((is_sound plan certified world kept).line group there).there (place_of client.groups group).epoch (at group there).positive (at group there).there) in
+      let zero_there : 0 < plan.groups = certified.group_there in
+      let some : (y : ℕ) × (senders (reports_of client.groups 0) y ≡ true) = sat-some (plan.configuration 0 (place_of client.groups 0).configuration).read (senders (reports_of client.groups 0)) (certified.valid_reads 0 (place_of client.groups 0).configuration zero_there (line_there 0 zero_there)) (reads 0 zero_there) in
+      let first : (f : From) × IsIn f (reports_of client.groups 0) × ((f.sender == some.0) ≡ true) = any_passes (λ f. f.sender == some.0) (reports_of client.groups 0) some.1 in
+      let one : (d : Contents) × IsIn d reported × (parent ≡ d.lineage) = newest-of reported first.0.contents (all_reports-has (reports_of client.groups) plan.groups 0 first.0 zero_there first.1) in
+      let d : Contents = one.0 in
+      let came : (group : ℕ) × (group < plan.groups) × (from : From) × IsIn from (reports_of client.groups group) × (from.contents ≡ d) = all_reports-from (reports_of client.groups) plan.groups d one.1 in
+      let told : IsMade world (Report came.0 (label v (place_of client.groups came.0).epoch) came.2.sender came.2.contents) × (last_epoch came.2.contents.lineage < v) = now.reading a came.0 came.1 came.2 came.3 in
+      let report : MessageKept plan world (Report came.0 (label v (place_of client.groups came.0).epoch) came.2.sender came.2.contents) = kept.messages _ told.0 in
+      let copy : IsCopy world came.0 d = subst (λ z. IsCopy world came.0 z) came.4 report.0 in
+      let p : ℕ = last_epoch parent in
+      let same_last : last_epoch d.lineage ≡ p = ap last_epoch (sym one.2) in
+      let known : parent ≡ lineage_of world p = one.2 ∙ copy.lineage ∙ ap (λ u. lineage_of world u) same_last in
+      let below : last_epoch d.lineage < v = subst (λ z. last_epoch z.lineage < v) came.4 told.1 in
+      let after : Client = record client { stage = Installing; lineage = lineage; found = found; log = found } in
+      let child : IsChild plan world v after = record {
+        parent = p;
+        below = omega arith;
+        parent_cut = subst (λ u. HasCut world u) same_last copy.cut;
+        lineage = ap (λ z. extended z v (cut_of (found_in z reported)) plan.lal) known;
+        found = ap (λ z. log_found (found_in z reported)) known;
+        reads = λ group there. record {
+          at = (place_of client.groups group).epoch;
+          positive = (at group there).positive;
+          there = (at group there).there;
+          was = (born.places group there).1;
+          reads = subst (λ c. sat (plan.configuration group c).read (senders (reports_of client.groups group)) ≡ true) (at group there).configuration (reads group there);
+          kept = λ from i. ((now.reading a group there from i).0, newest-most reported from.contents (all_reports-has (reports_of client.groups) plan.groups group from there i));
+        };
+      } in
+      subst (λ s. IsGoodMove plan world v s) (Ok-is _ step h3) (record {
+        grows = record {
+          cut = λ h. refl;
+          lineage = λ h. absurd (both_ways _ a h);
+          found = λ h. absurd (both_ways _ a h);
+          logs = λ h. absurd (both_ways _ a h);
+        };
+        client = record {
+          born = λ h. record { positive = born.positive; known = born.known; places = born.places };
+          reading = λ h. absurd (true≢false h);
+          cut = λ h. record { own = []; log = refl; grown = tt; owned = λ r i. absurd i; origin = inr child };
+          counts = now.counts;
+          points = now.points;
+        };
+        says = installs_says after refl (place_of client.groups) (λ group. true);
+      })
+
+  -- a View of its epoch
+  module _ (listed : List Place) (made : IsMade world (View v listed)) where
+    view : IsView plan world v (place_in listed)
+    view = kept.messages _ made
+
+    new_placed : (group : ℕ) → group < plan.groups → PlaceGood group (place_in listed group)
+    new_placed group there = (view.standing group there, inr (listed, made, refl))
+
+    -- the groups, moved on
+    abbrev later : List ClientGroup
+    later = moved later_group client.groups listed
+
+    later-at : (group : ℕ) → group_of later group ≡ later_group (group_of client.groups group) (place_in listed group)
+    later-at group = group_of-moved later_group later_group-none client.groups listed group
+
+    later_reports : (group : ℕ) → reports_of later group ≡ reports_of client.groups group
+    later_reports group =
+        ap (λ g. g.reports) (later-at group) ∙ (elim (cases_Bool (is_raised (place_of client.groups group) (place_in listed group))) [
+          | inl e ↦ rw e refl
+          | inr e ↦ rw e refl
+        ])
+
+    -- epochs only rise
+    later_group_good : (group : ℕ) → group < plan.groups → (g : ClientGroup) → IsGoodGroup group g → IsGoodGroup group (later_group g (place_in listed group))
+    later_group_good group there g good =
+        elim (cases_Bool (is_raised g.place (place_in listed group))) [
+          | inl e ↦ (
+              let up : g.place.epoch < (place_in listed group).epoch = ltb-true _ _ e in
+              let is : record g { place = place_in listed group } ≡ later_group g (place_in listed group) = rw e refl in
+              subst (IsGoodGroup group) is (record {
+                reports = good.reports;
+                place = new_placed group there;
+                counts = λ count i. (let t : (a : ℕ) × (a ≤ g.place.epoch) × IsMade world (Ack group (label v a) count.sender count.reached) = good.counts count i in let below : t.0 ≤ g.place.epoch = t.1 in (t.0, omega arith, t.2));
+                point = good.point;
+              }))
+          | inr e ↦ (let is : g ≡ later_group g (place_in listed group) = rw e refl in subst (IsGoodGroup group) is good)
+        ]
+
+    later_good : AreGood client.groups → AreGood later
+    later_good good group there = subst (IsGoodGroup group) (sym (later-at group)) (later_group_good group there (group_of client.groups group) (good group there))
+
+    -- the groups of a client that has not cut, moved on
+    abbrev reread : List ClientGroup
+    reread = moved reread_group client.groups listed
+
+    -- what a client that has not cut may keep of a group
+    record IsReadGroup (group : ℕ) (g : ClientGroup) : Type 0 where
+      place : PlaceGood group g.place
+      reports : (from : From) → IsIn from g.reports → IsMade world (Report group (label v g.place.epoch) from.sender from.contents) × (last_epoch from.contents.lineage < v)
+      counts : CountsGood group g
+      point : PointGood group g.point
+
+    reread_group_good : (group : ℕ) → group < plan.groups → (g : ClientGroup) → IsReadGroup group g → IsReadGroup group (reread_group g (place_in listed group))
+    reread_group_good group there g good =
+        elim (cases_Bool (is_raised g.place (place_in listed group))) [
+          | inl e ↦ (
+              let up : g.place.epoch < (place_in listed group).epoch = ltb-true _ _ e in
+              let is : record g { place = place_in listed group; reports = [] } ≡ reread_group g (place_in listed group) = rw e refl in
+              subst (IsReadGroup group) is (record {
+                place = new_placed group there;
+                reports = λ from i. absurd i;
+                counts = λ count i. (let t : (a : ℕ) × (a ≤ g.place.epoch) × IsMade world (Ack group (label v a) count.sender count.reached) = good.counts count i in let below : t.0 ≤ g.place.epoch = t.1 in (t.0, omega arith, t.2));
+                point = good.point;
+              }))
+          | inr e ↦ (let is : g ≡ reread_group g (place_in listed group) = rw e refl in subst (IsReadGroup group) is good)
+        ]
+
+    reread_good : has_cut client.stage ≡ false → is_born client.stage ≡ true → (group : ℕ) → group < plan.groups → IsReadGroup group (group_of reread group)
+    reread_good n born group there =
+        subst (IsReadGroup group) (sym (group_of-moved reread_group reread_group-none client.groups listed group))
+        (reread_group_good group there (group_of client.groups group)
+        (record { place = (now.born born).places group there; reports = now.reading n group there; counts = now.counts group there; point = now.points group there }))
+
+    -- a group that is new to the client
+    new_good : (group : ℕ) → group < plan.groups → IsReadGroup group (group_of (map newly_at listed) group)
+    new_good group there =
+        subst (IsReadGroup group) (sym (group_of-new listed group))
+        (record { place = new_placed group there; reports = λ from i. absurd i; counts = λ count i. absurd i; point = inl refl })
+
+    viewed_good : (stage : Stage) → client.stage ≡ stage → IsGoodMove plan world v (viewed plan v client listed stage)
+    viewed_good Unborn e = record {
+      grows = (let n : has_cut client.stage ≡ false = ap has_cut e in record { cut = λ h. absurd (both_ways _ n h); lineage = λ h. absurd (both_ways _ n h); found = λ h. absurd (both_ways _ n h); logs = λ h. absurd (both_ways _ n h) });
+      client = record {
+        born = λ h. record { positive = view.positive; known = view.known; places = λ group there. (new_good group there).place };
+        reading = λ h group there. (new_good group there).reports;
+        cut = λ h. absurd (true≢false (sym h));
+        counts = λ group there. (new_good group there).counts;
+        points = λ group there. (new_good group there).point;
+      };
+      says = fences_says (record unborn { stage = Reading; groups = map newly_at listed }) (place_in listed) (λ group. true);
+    }
+    viewed_good Reading e =
+        let n : has_cut client.stage ≡ false = ap has_cut e in
+        let born : is_born client.stage ≡ true = ap is_born e in
+        let b : IsBorn plan world v client = now.born born in
+        record {
+          grows = record { cut = λ h. absurd (both_ways _ n h); lineage = λ h. absurd (both_ways _ n h); found = λ h. absurd (both_ways _ n h); logs = λ h. absurd (both_ways _ n h) };
+          client = record {
+            born = λ h. record { positive = b.positive; known = b.known; places = λ group there. (reread_good n born group there).place };
+            reading = λ h group there. (reread_good n born group there).reports;
+            cut = λ h. absurd (both_ways _ n h);
+            counts = λ group there. (reread_good n born group there).counts;
+            points = λ group there. (reread_good n born group there).point;
+          };
+          says = fences_says (record client { groups = reread }) (place_of reread) (raised_in (place_of client.groups) (place_in listed));
+        }
+    viewed_good Installing e =
+        let cut : has_cut client.stage ≡ true = ap has_cut e in
+        moved_good cut client.stage cut later later_reports (later_good (groups_good cut)) _
+        (installs_says (record client { stage = client.stage; groups = later }) cut (place_of later) (raised_in (place_of client.groups) (place_in listed)))
+    viewed_good Writing e =
+        let cut : has_cut client.stage ≡ true = ap has_cut e in
+        moved_good cut client.stage cut (raised plan later) (λ group. raised_reports later group ∙ later_reports group) (raised_good later (later_good (groups_good cut))) [] (λ m i. absurd i)
+
+  label-is : (l : Label) (volume member : ℕ) → l.volume ≡ volume → l.member ≡ member → l ≡ label volume member
+  label-is l volume member a b = λ i. record { volume = a i; member = b i }
+
+  -- a Report of its epoch
+  report_good : (group : ℕ) (l : Label) (sender : ℕ) (c : Contents) → IsMade world (Report group l sender c) → l.volume ≡ v → IsGoodMove plan world v (stays (report_taken v client group l (record { sender = sender; contents = c })))
+  report_good group l sender c made e =
+      elim (cases_Bool ((not (has_cut client.stage)) && (l.member == (place_of client.groups group).epoch && nat_lt (last_epoch c.lineage) v))) [
+        | inr no' ↦ rw no' (stays_good [] (λ m i. absurd i))
+        | inl yes' ↦ rw yes' (
+            let parts : (not (has_cut client.stage) ≡ true) × ((l.member == (place_of client.groups group).epoch && nat_lt (last_epoch c.lineage) v) ≡ true) = and_parts _ _ yes' in
+            let n : has_cut client.stage ≡ false = not-true _ parts.0 in
+            let both : (eqb l.member (place_of client.groups group).epoch ≡ true) × (nat_lt (last_epoch c.lineage) v ≡ true) = and_parts _ _ parts.1 in
+            let at : l ≡ label v (place_of client.groups group).epoch = label-is l v (place_of client.groups group).epoch e (eqb-true _ _ both.0) in
+            let made' : IsMade world (Report group (label v (place_of client.groups group).epoch) sender c) = subst (λ z. IsMade world (Report group z sender c)) at made in
+            let with_report : ClientGroup = record (group_of client.groups group) { reports = with_first (record { sender = sender; contents = c }) (reports_of client.groups group) } in
+            record {
+              grows = record { cut = λ h. absurd (both_ways _ n h); lineage = λ h. absurd (both_ways _ n h); found = λ h. absurd (both_ways _ n h); logs = λ h. absurd (both_ways _ n h) };
+              client = record {
+                born = λ h. (let b : IsBorn plan world v client = now.born h in record {
+                  positive = b.positive;
+                  known = b.known;
+                  places = set-all no_group (λ g x. g < plan.groups → PlaceGood g x.place) client.groups group with_report (b.places group) b.places;
+                });
+                reading = λ h. set-all no_group (λ g x. g < plan.groups → (from : From) → IsIn from x.reports → IsMade world (Report g (label v x.place.epoch) from.sender from.contents) × (last_epoch from.contents.lineage < v)) client.groups group with_report
+                    (λ there from i. elim (with_first-from (record { sender = sender; contents = c }) (reports_of client.groups group) from i) [
+                      | inl new ↦ subst (λ z. IsMade world (Report group (label v (place_of client.groups group).epoch) z.sender z.contents) × (last_epoch z.contents.lineage < v)) (sym new) (made', ltb-true _ _ both.1)
+                      | inr old ↦ now.reading n group there from old
+                    ])
+                    (now.reading n);
+                cut = λ h. absurd (both_ways _ n h);
+                counts = set-all no_group (λ g x. g < plan.groups → CountsGood g x) client.groups group with_report (now.counts group) now.counts;
+                points = set-all no_group (λ g x. g < plan.groups → PointGood g x.point) client.groups group with_report (now.points group) now.points;
+              };
+              says = λ m i. absurd i;
+            })
+      ]
+
+  -- an acknowledgement of its epoch
+  ack_good : (group : ℕ) (l : Label) (sender reached : ℕ) → IsMade world (Ack group l sender reached) → l.volume ≡ v → IsGoodMove plan world v (stays (ack_taken plan client group l sender reached))
+  ack_good group l sender reached made e =
+      elim (cases_Bool (has_cut client.stage && nat_le l.member (place_of client.groups group).epoch)) [
+        | inr no' ↦ rw no' (stays_good [] (λ m i. absurd i))
+        | inl yes' ↦ rw yes' (
+            let parts : (has_cut client.stage ≡ true) × (nat_le l.member (place_of client.groups group).epoch ≡ true) = and_parts _ _ yes' in
+            let cut : has_cut client.stage ≡ true = parts.0 in
+            let at : l ≡ label v l.member = label-is l v l.member e refl in
+            let made' : IsMade world (Ack group (label v l.member) sender reached) = subst (λ z. IsMade world (Ack group z sender reached)) at made in
+            let with_ack : ClientGroup = record (group_of client.groups group) { counts = with_count sender reached (counts_of client.groups group) } in
+            let groups : List ClientGroup = slice_set client.groups group with_ack in
+            let good : AreGood groups =
+            set-all no_group (λ g x. g < plan.groups → IsGoodGroup g x) client.groups group with_ack
+            (λ there. (let old : IsGoodGroup group (group_of client.groups group) = groups_good cut group there in record {
+              reports = old.reports;
+              place = old.place;
+              counts = λ count i. elim (with_count-from sender reached (counts_of client.groups group) count i) [
+                | inl new ↦ (l.member, leb-true _ _ parts.1, subst (λ s. IsMade world (Ack group (label v l.member) count.sender s)) (sym new.1) (subst (λ y. IsMade world (Ack group (label v l.member) y reached)) (sym new.0) made'))
+                | inr older ↦ (
+                    let t : (a : ℕ) × (a ≤ (place_of client.groups group).epoch) × IsMade world (Ack group (label v a) older.0.sender older.0.reached) = old.counts older.0 older.1 in
+                    (t.0, t.1, subst (λ s. IsMade world (Ack group (label v t.0) count.sender s)) (sym older.3) (subst (λ y. IsMade world (Ack group (label v t.0) y older.0.reached)) (sym older.2) t.2)))
+              ];
+              point = old.point;
+            }))
+            (groups_good cut) in
+            let same : (g : ℕ) → reports_of groups g ≡ reports_of client.groups g = set-all no_group (λ g x. x.reports ≡ reports_of client.groups g) client.groups group with_ack refl (λ g. refl) in
+            moved_good cut client.stage cut (groups_now plan client.stage groups) (now_reports client.stage groups same) (now_good client.stage groups good) [] (λ m i. absurd i))
+      ]
+    where
+      now_good : (stage : Stage) (groups : List ClientGroup) → AreGood groups → AreGood (groups_now plan stage groups)
+      now_good Unborn groups good = good
+      now_good Reading groups good = good
+      now_good Installing groups good = good
+      now_good Writing groups good = raised_good groups good
+
+      now_reports : (stage : Stage) (groups : List ClientGroup) → ((g : ℕ) → reports_of groups g ≡ reports_of client.groups g) → (g : ℕ) → reports_of (groups_now plan stage groups) g ≡ reports_of client.groups g
+      now_reports Unborn groups same = same
+      now_reports Reading groups same = same
+      now_reports Installing groups same = same
+      now_reports Writing groups same = λ g. raised_reports groups g ∙ same g
+
+  taken_good : (m : Message) → IsMade world m → (step : ClientStep) → taken plan v client m ≡ Ok step → IsGoodMove plan world v step
+  taken_good (View of places) made step h =
+      let (a, h1) = refuse_if-ok (not (of == v)) NotAddressed _ step h in
+      let (b, h2) = refuse_if-ok (not (are_places plan places)) NotInPlan _ step h1 in
+      let e : of ≡ v = eqb-true of v (not-false _ a) in
+      subst (λ s. IsGoodMove plan world v s) (Ok-is _ step h2) (viewed_good places (subst (λ u. IsMade world (View u places)) e made) client.stage refl)
+  taken_good (Report group l sender c) made step h =
+      let (a, h1) = refuse_if-ok (not (l.volume == v && (nat_lt group plan.groups && (in_group group c && nat_lt sender 64)))) NotAddressed _ step h in
+      let (b, h2) = refuse_if-ok (not (is_born client.stage)) NoActor _ step h1 in
+      let e : l.volume ≡ v = eqb-true l.volume v (and_parts (eqb l.volume v) (nat_lt group plan.groups && (in_group group c && nat_lt sender 64)) (not-false _ a)).0 in
+      subst (λ s. IsGoodMove plan world v s) (Ok-is _ step h2) (report_good group l sender c made e)
+  taken_good (Ack group l sender reached) made step h =
+      let (a, h1) = refuse_if-ok (not (l.volume == v && (nat_lt group plan.groups && nat_lt sender 64))) NotAddressed _ step h in
+      let (b, h2) = refuse_if-ok (not (is_born client.stage)) NoActor _ step h1 in
+      let e : l.volume ≡ v = eqb-true l.volume v (and_parts (eqb l.volume v) (nat_lt group plan.groups && nat_lt sender 64) (not-false _ a)).0 in
+      subst (λ s. IsGoodMove plan world v s) (Ok-is _ step h2) (ack_good group l sender reached made e)
+  taken_good (Page group l sender block point bytes) made step h =
+      let (a, h1) = refuse_if-ok (not (l.volume == v && (nat_lt group plan.groups && nat_lt sender 64))) NotAddressed _ step h in
+      let (b, h2) = refuse_if-ok (not (is_born client.stage)) NoActor _ step h1 in
+      subst (λ s. IsGoodMove plan world v s) (Ok-is _ step h2) (stays_good [] (λ m i. absurd i))
+  taken_good (StepTo group place) made step h = cc
+  taken_good (Fence group l) made step h = cc
+  taken_good (Install group l c) made step h = cc
+  taken_good (Write group l r) made step h = cc
+  taken_good (Gossip group l r) made step h = cc
+  taken_good (CopyAsk group epoch) made step h = cc
+  taken_good (CopyReport group epoch sender c) made step h = cc
+  taken_good (PageAsk group l block point) made step h = cc
+
+  take_good : (number : ℕ) (step : ClientStep) → take plan v client (numbered world.messages number) ≡ Ok step → IsGoodMove plan world v step
+  take_good number step h = go (numbered world.messages number) refl h
+    where
+      go : (found : Option Message) → numbered world.messages number ≡ found → take plan v client found ≡ Ok step → IsGoodMove plan world v step
+      go None e h = cc
+      go (Some m) e h = taken_good m (numbered-in world.messages number m e) step h
+
+  pub issue_kept : (changes : List Change) → IsKept plan (after_step world (of_client world v (issued plan v (world.clients v) changes)))
+  issue_kept changes = client_step _ (issued_good changes)
+
+  pub take_kept : (number : ℕ) → IsKept plan (after_step world (of_client world v (take plan v (world.clients v) (numbered world.messages number))))
+  take_kept number = client_step _ (take_good number)
+
+  pub cut_kept : IsKept plan (after_step world (of_client world v (cut_client plan v (world.clients v))))
+  cut_kept = client_step _ cut_good
+
+  pub open_kept : IsKept plan (after_step world (of_client world v (opened plan (world.clients v))))
+  open_kept = client_step _ opened_good
+
+  pub resend_kept : (lsn : ℕ) → IsKept plan (after_step world (of_client world v (resent v (world.clients v) lsn)))
+  resend_kept lsn = client_step _ (resent_good lsn)
+
+  pub read_kept : (group block : ℕ) → IsKept plan (after_step world (of_client world v (page_asked plan v (world.clients v) group block)))
+  read_kept group block = client_step _ (asked_good group block)

@@ -1,0 +1,210 @@
+-- A later world, and that every fact of the invariant stays true in it
+use Rattle.std.proofs.Common.{◌≡◌, ℕ, ◌≤◌, true, List, [], ◌∷◌, sym, ap, ◌∙◌, subst, inl, inr, arith}
+use Rattle.volume_model.specs.Lists.{IsIn}
+use Rattle.volume_model.specs.Formula.{Members, sat}
+use Rattle.volume_model.specs.Redo.{Redo, cut_of, log_found}
+use Rattle.volume_model.specs.Lineage.{last_epoch, extended, Contents, found_in}
+use Rattle.volume_model.specs.Plan.{Plan, has_member}
+use Rattle.volume_model.specs.Message.{Label, Place, Message, place_in}
+use Rattle.volume_model.specs.Message.Message.{View, StepTo, Fence, Report, Install, Write, Gossip, Ack, CopyAsk, CopyReport, PageAsk, Page}
+use Rattle.volume_model.specs.Node.{Node, senders}
+use Rattle.volume_model.specs.Client.{Client, place_of, reports_of, point_of}
+use Rattle.volume_model.specs.World.{World}
+use Rattle.volume_model.proofs.Invariant.{epoch_now, path, config, log_of, found_of, lineage_of, HasCut, IsMade, WasAt, IsCopy, IsSource, IsSourced, MessageSourced, IsHistory}
+use Rattle.volume_model.proofs.Kept.{IsPlace, Retains, NodeGrows, NodeKept, HasRead, reported_to, IsChild, IsReached, ClientKept, IsWrite, MessageKept}
+
+-- what was so in the one world is so in the other
+pub record Extends (plan : Plan) (world later : World) : Type 0 where
+  pub messages : (m : Message) → IsMade world m → IsMade later m
+  pub last : world.authority.last_volume ≤ later.authority.last_volume
+  pub epoch : (group : ℕ) → epoch_now plan world group ≤ epoch_now plan later group
+  pub path_same : (group e : ℕ) → 1 ≤ e → e ≤ epoch_now plan world group → path plan later group e ≡ path plan world group e
+  pub cut : (v : ℕ) → HasCut world v → HasCut later v
+  pub lineage : (v : ℕ) → HasCut world v → lineage_of later v ≡ lineage_of world v
+  pub found : (v : ℕ) → HasCut world v → found_of later v ≡ found_of world v
+  pub logs : (v : ℕ) → HasCut world v → (r : Redo) → IsIn r (log_of world v) → IsIn r (log_of later v)
+  pub nodes : (group x : ℕ) → NodeGrows (world.nodes group x) (later.nodes group x)
+
+pub NodeGrows-same : (node : Node) → NodeGrows node node
+NodeGrows-same node = record { volume = omega arith; epoch = omega arith; whole = λ h. h; contents = λ h. record { epoch = omega arith; records = λ e r i. i } }
+
+pub Retains-source : (world : World) (group v s : ℕ) (q q' : Contents) → IsSource q q' → Retains world group v s q → Retains world group v s q'
+Retains-source world group v s q q' source retains =
+    let a : v ≤ last_epoch q.lineage = retains.epoch in
+    let b : last_epoch q.lineage ≤ last_epoch q'.lineage = source.epoch in
+    record {
+      kept = retains.kept;
+      complete = retains.complete;
+      cut = retains.cut;
+      stands = retains.stands;
+      epoch = omega arith;
+      records = λ e r i. (let p : last_epoch q.lineage ≡ v = omega arith in source.records (p ∙ sym e) r (retains.records p r i));
+    }
+
+module _ (plan : Plan) (world later : World) (extends : Extends plan world later) where
+  pub WasAt-later : (v group e : ℕ) → WasAt world v group e → WasAt later v group e
+  WasAt-later v group e (inl h) = inl h
+  WasAt-later v group e (inr h) = inr (h.0, extends.messages _ h.1, h.2)
+
+  pub IsPlace-later : (group : ℕ) (place : Place) → IsPlace plan world group place → IsPlace plan later group place
+  IsPlace-later group place h = record {
+    positive = h.positive;
+    there = (let a : place.epoch ≤ epoch_now plan world group = h.there in let b : epoch_now plan world group ≤ epoch_now plan later group = extends.epoch group in omega arith);
+    configuration = h.configuration ∙ sym (extends.path_same group place.epoch h.positive h.there);
+  }
+
+  pub IsCopy-later : (group : ℕ) (q : Contents) → IsCopy world group q → IsCopy later group q
+  IsCopy-later group q h = record {
+    cut = extends.cut _ h.cut;
+    lineage = h.lineage ∙ sym (extends.lineage _ h.cut);
+    records = λ r i. (extends.logs _ h.cut r (h.records r i).0, (h.records r i).1);
+    found = λ r i g. h.found r (subst (λ z. IsIn r z) (extends.found _ h.cut) i) g;
+  }
+
+  pub sat_read-later : (group e : ℕ) (set : Members) → 1 ≤ e → e ≤ epoch_now plan world group → sat (config plan world group e).read set ≡ true → sat (config plan later group e).read set ≡ true
+  sat_read-later group e set l h p = subst (λ c. sat (plan.configuration group c).read set ≡ true) (sym (extends.path_same group e l h)) p
+
+  pub sat_write-later : (group e : ℕ) (set : Members) → 1 ≤ e → e ≤ epoch_now plan world group → sat (config plan world group e).write set ≡ true → sat (config plan later group e).write set ≡ true
+  sat_write-later group e set l h p = subst (λ c. sat (plan.configuration group c).write set ≡ true) (sym (extends.path_same group e l h)) p
+
+  epoch-later : (group e : ℕ) → e ≤ epoch_now plan world group → e ≤ epoch_now plan later group
+  epoch-later group e h = let b : epoch_now plan world group ≤ epoch_now plan later group = extends.epoch group in omega arith
+
+  pub IsSourced-later : (older older' : List Message) → ((m : Message) → IsIn m older → IsIn m older') → (group x : ℕ) (q : Contents) → IsSourced plan world older group x q → IsSourced plan later older' group x q
+  IsSourced-later older older' more group x q (inl h) = inl h
+  IsSourced-later older older' more group x q (inr h) = inr (record {
+    at = h.at;
+    positive = h.positive;
+    there = epoch-later group h.at h.there;
+    member = subst (λ c. has_member (plan.configuration group c) x ≡ true) (sym (extends.path_same group h.at h.positive h.there)) h.member;
+    readers = h.readers;
+    reads = sat_read-later group h.at h.readers h.positive h.there h.reads;
+    source = λ y r. ((h.source y r).0, more _ (h.source y r).1, (h.source y r).2);
+  })
+
+  pub MessageSourced-later : (older : List Message) (m : Message) → MessageSourced plan world older m → MessageSourced plan later older m
+  MessageSourced-later older (Report group l x q) h = IsSourced-later older older (λ k i. i) group x q h
+  MessageSourced-later older (CopyReport group f x q) h = IsSourced-later older older (λ k i. i) group x q h
+  MessageSourced-later older (View v places) h = tt
+  MessageSourced-later older (StepTo group place) h = tt
+  MessageSourced-later older (Fence group l) h = tt
+  MessageSourced-later older (Install group l q) h = tt
+  MessageSourced-later older (Write group l r) h = tt
+  MessageSourced-later older (Gossip group l r) h = tt
+  MessageSourced-later older (Ack group l x s) h = tt
+  MessageSourced-later older (CopyAsk group f) h = tt
+  MessageSourced-later older (PageAsk group l block point) h = tt
+  MessageSourced-later older (Page group l x block point bytes) h = tt
+
+  pub IsHistory-later : (messages : List Message) → IsHistory plan world messages → IsHistory plan later messages
+  IsHistory-later [] h = tt
+  IsHistory-later (m ∷ older) h = (MessageSourced-later older m h.0, IsHistory-later older h.1)
+
+  pub Retains-later : (group v s : ℕ) (q : Contents) → Retains world group v s q → Retains later group v s q
+  Retains-later group v s q h = record {
+    kept = h.kept;
+    complete = h.complete;
+    cut = extends.cut v h.cut;
+    stands = λ r i. (extends.logs v h.cut r (h.stands r i).0, (h.stands r i).1);
+    epoch = h.epoch;
+    records = h.records;
+  }
+
+  pub NodeKept-later : (group x : ℕ) (node : Node) → NodeKept plan world group x node → NodeKept plan later group x node
+  NodeKept-later group x node h = record {
+    place = elim h.place [ inl z ↦ inl z | inr p ↦ inr (IsPlace-later group node.place p) ];
+    copies = λ from i. extends.messages _ (h.copies from i);
+    whole = λ w. record {
+      copy = IsCopy-later group node.contents (h.whole w).copy;
+      below = (h.whole w).below;
+      sourced = IsSourced-later world.messages later.messages extends.messages group x node.contents (h.whole w).sourced;
+      ordered = (h.whole w).ordered;
+    };
+  }
+
+  HasRead-later : (v : ℕ) (client : Client) (parent group : ℕ) → HasRead plan world v client parent group → HasRead plan later v client parent group
+  HasRead-later v client parent group h = record {
+    at = h.at;
+    positive = h.positive;
+    there = epoch-later group h.at h.there;
+    was = WasAt-later v group h.at h.was;
+    reads = sat_read-later group h.at (senders (reports_of client.groups group)) h.positive h.there h.reads;
+    kept = λ from i. (extends.messages _ (h.kept from i).0, (h.kept from i).1);
+  }
+
+  IsChild-later : (v : ℕ) (client : Client) → IsChild plan world v client → IsChild plan later v client
+  IsChild-later v client h =
+      let same : lineage_of world h.parent ≡ lineage_of later h.parent = sym (extends.lineage h.parent h.parent_cut) in
+      record {
+        parent = h.parent;
+        below = h.below;
+        parent_cut = extends.cut h.parent h.parent_cut;
+        lineage = h.lineage ∙ ap (λ z. extended z v (cut_of (found_in z (reported_to plan client))) plan.lal) same;
+        found = h.found ∙ ap (λ z. log_found (found_in z (reported_to plan client))) same;
+        reads = λ group there. HasRead-later v client h.parent group (h.reads group there);
+      }
+
+  IsReached-later : (v group n : ℕ) → IsReached plan world v group n → IsReached plan later v group n
+  IsReached-later v group n h = record {
+    at = h.at;
+    positive = h.positive;
+    there = epoch-later group h.at h.there;
+    was = WasAt-later v group h.at h.was;
+    writers = h.writers;
+    writes = sat_write-later group h.at h.writers h.positive h.there h.writes;
+    acked = λ x w. (let (a, s, p, q, m) = h.acked x w in (a, s, p, q, extends.messages _ m));
+  }
+
+  pub ClientKept-later : (v : ℕ) (client : Client) → ClientKept plan world v client → ClientKept plan later v client
+  ClientKept-later v client h = record {
+    born = λ b. record {
+      positive = (h.born b).positive;
+      known = (let k : v ≤ world.authority.last_volume = (h.born b).known in let l : world.authority.last_volume ≤ later.authority.last_volume = extends.last in omega arith);
+      places = λ group there. (IsPlace-later group (place_of client.groups group) ((h.born b).places group there).0, WasAt-later v group _ ((h.born b).places group there).1);
+    };
+    reading = λ n group there from i. (extends.messages _ (h.reading n group there from i).0, (h.reading n group there from i).1);
+    cut = λ c. record {
+      own = (h.cut c).own;
+      log = (h.cut c).log;
+      grown = (h.cut c).grown;
+      owned = (h.cut c).owned;
+      origin = elim (h.cut c).origin [ inl r ↦ inl r | inr k ↦ inr (IsChild-later v client k) ];
+    };
+    counts = λ group there count i. (let (a, p, m) = h.counts group there count i in (a, p, extends.messages _ m));
+    points = λ group there. elim (h.points group there) [ inl z ↦ inl z | inr r ↦ inr (IsReached-later v group (point_of client.groups group) r) ];
+  }
+
+  IsWrite-later : (group : ℕ) (l : Label) (r : Redo) → IsWrite world group l r → IsWrite later group l r
+  IsWrite-later group l r h = record { cut = extends.cut _ h.cut; stands = extends.logs _ h.cut r h.stands; group_is = h.group_is }
+
+  pub MessageKept-later : (m : Message) → MessageKept plan world m → MessageKept plan later m
+  MessageKept-later (View v places) h = record {
+    known = (let k : v ≤ world.authority.last_volume = h.known in let l : world.authority.last_volume ≤ later.authority.last_volume = extends.last in omega arith);
+    positive = h.positive;
+    standing = λ group there. IsPlace-later group (place_in places group) (h.standing group there);
+  }
+  MessageKept-later (StepTo group place) h = IsPlace-later group place h
+  MessageKept-later (Fence group l) h = tt
+  MessageKept-later (Report group l x q) h = (IsCopy-later group q h.0, (let a : l.volume ≤ (world.nodes group x).volume = h.1 in let b : (world.nodes group x).volume ≤ (later.nodes group x).volume = (extends.nodes group x).volume in omega arith))
+  MessageKept-later (Install group l q) h = (IsCopy-later group q h.0, h.1, h.2)
+  MessageKept-later (Write group l r) h = IsWrite-later group l r h
+  MessageKept-later (Gossip group l r) h = IsWrite-later group l r h
+  MessageKept-later (Ack group l x s) h =
+      let grows : NodeGrows (world.nodes group x) (later.nodes group x) = extends.nodes group x in
+      record {
+        whole = grows.whole h.whole;
+        volume = (let a : l.volume ≤ (world.nodes group x).volume = h.volume in let b : (world.nodes group x).volume ≤ (later.nodes group x).volume = grows.volume in omega arith);
+        member = (let a : l.member ≤ (world.nodes group x).place.epoch = h.member in let b : (world.nodes group x).place.epoch ≤ (later.nodes group x).place.epoch = grows.epoch in omega arith);
+        retains = Retains-source later group l.volume s (world.nodes group x).contents (later.nodes group x).contents (grows.contents h.whole) (Retains-later group l.volume s (world.nodes group x).contents h.retains);
+      }
+  MessageKept-later (CopyAsk group f) h = tt
+  MessageKept-later (CopyReport group f x q) h = (IsCopy-later group q h.0, (let a : f ≤ (world.nodes group x).place.epoch = h.1 in let b : (world.nodes group x).place.epoch ≤ (later.nodes group x).place.epoch = (extends.nodes group x).epoch in omega arith))
+  MessageKept-later (PageAsk group l block point) h = tt
+  MessageKept-later (Page group l x block point bytes) h = record {
+    cut = extends.cut _ h.cut;
+    kept = h.kept;
+    ordered = h.ordered;
+    complete = h.complete;
+    stands = λ r i. (extends.logs _ h.cut r (h.stands r i).0, (h.stands r i).1);
+    page = h.page;
+  }

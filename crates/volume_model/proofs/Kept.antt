@@ -1,0 +1,184 @@
+-- The invariant: facts of each actor and each message that, once true, stay true
+use Rattle.std.proofs.Common.{◌≡◌, ℕ, ◌<◌, ◌≤◌, true, false, ◌⊎◌, List, [], ◌∷◌, ◌++◌}
+use Rattle.volume_model.specs.Lists.{IsIn}
+use Rattle.volume_model.specs.Formula.{Members, sat}
+use Rattle.volume_model.specs.Redo.{Redo, scl, cut_of, log_found}
+use Rattle.volume_model.specs.Lineage.{birth, last_epoch, last_start, extended, Contents, found_in}
+use Rattle.volume_model.specs.Plan.{Plan}
+use Rattle.volume_model.specs.Message.{Label, Place, Message, place_in}
+use Rattle.volume_model.specs.Message.Message.{View, StepTo, Fence, Report, Install, Write, Gossip, Ack, CopyAsk, CopyReport, PageAsk, Page}
+use Rattle.volume_model.specs.Node.{From, Node, senders, page_of}
+use Rattle.volume_model.specs.Client.{Client, Count, is_born, has_cut, all_reports, place_of, reports_of, counts_of, point_of}
+use Rattle.volume_model.specs.World.{Authority, World, configuration_of}
+use Rattle.volume_model.proofs.Logs.{IsLink}
+use Rattle.volume_model.proofs.Ordered.{IsOrdered}
+use Rattle.volume_model.proofs.Invariant.{epoch_now, path, config, log_of, lineage_of, HasCut, IsMade, label, WasAt, IsCopy, IsSource, IsSourced, IsHistory}
+
+-- an epoch of the group that has been, with its configuration
+pub record IsPlace (plan : Plan) (world : World) (group : ℕ) (place : Place) : Type 0 where
+  pub positive : 1 ≤ place.epoch
+  pub there : place.epoch ≤ epoch_now plan world group
+  pub configuration : place.configuration ≡ path plan world group place.epoch
+
+-- own records behind the log found, each linked to what was there before it
+abbrev pub IsGrown : List Redo → List Redo → Type 0
+IsGrown found [] = Unit {0}
+IsGrown found (r ∷ own) = IsLink r (own ++ found) × IsGrown found own
+
+-- what a segment of complete point s held of v's log is still there, unless a later client's lineage has come
+pub record Retains (world : World) (group v s : ℕ) (q : Contents) : Type 0 where
+  pub kept : List Redo
+  pub complete : scl kept ≡ s
+  pub cut : HasCut world v
+  pub stands : (r : Redo) → IsIn r kept → IsIn r (log_of world v) × (r.group ≡ group)
+  pub epoch : v ≤ last_epoch q.lineage
+  pub records : last_epoch q.lineage ≡ v → (r : Redo) → IsIn r kept → IsIn r q.records
+
+-- what a node has gone through it has gone through for good
+pub record NodeGrows (old new : Node) : Type 0 where
+  pub volume : old.volume ≤ new.volume
+  pub epoch : old.place.epoch ≤ new.place.epoch
+  pub whole : old.whole ≡ true → new.whole ≡ true
+  pub contents : old.whole ≡ true → IsSource old.contents new.contents
+
+-- what is known of a whole node
+pub record IsWhole (plan : Plan) (world : World) (group x : ℕ) (node : Node) : Type 0 where
+  pub copy : IsCopy world group node.contents
+  pub below : last_epoch node.contents.lineage ≤ node.volume
+  pub sourced : IsSourced plan world world.messages group x node.contents
+  pub ordered : IsOrdered node.contents.records
+
+-- what is known of a node
+pub record NodeKept (plan : Plan) (world : World) (group x : ℕ) (node : Node) : Type 0 where
+  pub place : (node.place.epoch ≡ 0) ⊎ IsPlace plan world group node.place
+  pub copies : (from : From) → IsIn from node.copies → IsMade world (CopyReport group node.place.epoch from.sender from.contents)
+  pub whole : node.whole ≡ true → IsWhole plan world group x node
+
+-- of a group, a client has read a read set of an epoch at which it was
+pub record HasRead (plan : Plan) (world : World) (v : ℕ) (client : Client) (parent group : ℕ) : Type 0 where
+  pub at : ℕ
+  pub positive : 1 ≤ at
+  pub there : at ≤ epoch_now plan world group
+  pub was : WasAt world v group at
+  pub reads : sat (config plan world group at).read (senders (reports_of client.groups group)) ≡ true
+  pub kept : (from : From) → IsIn from (reports_of client.groups group) → IsMade world (Report group (label v at) from.sender from.contents) × (last_epoch from.contents.lineage ≤ parent)
+
+-- what a cut made of the reports
+abbrev pub reported_to : Plan → Client → List Contents
+reported_to plan client = all_reports (reports_of client.groups) plan.groups
+
+-- what a cut unites
+abbrev pub records_of : Plan → World → Client → ℕ → List Redo
+records_of plan world client parent = found_in (lineage_of world parent) (reported_to plan client)
+
+-- a client that has cut, from the reports of an earlier one's log
+pub record IsChild (plan : Plan) (world : World) (v : ℕ) (client : Client) : Type 0 where
+  pub parent : ℕ
+  pub below : parent < v
+  pub parent_cut : HasCut world parent
+  pub lineage : client.lineage ≡ extended (lineage_of world parent) v (cut_of (records_of plan world client parent)) plan.lal
+  pub found : client.found ≡ log_found (records_of plan world client parent)
+  pub reads : (group : ℕ) → group < plan.groups → HasRead plan world v client parent group
+
+-- the first writer
+pub record IsRoot (v : ℕ) (client : Client) : Type 0 where
+  pub one : v ≡ 1
+  pub lineage : client.lineage ≡ birth
+  pub found : client.found ≡ []
+
+-- a record of the client's own
+pub record IsOwned (plan : Plan) (v : ℕ) (client : Client) (r : Redo) : Type 0 where
+  pub volume : r.volume ≡ v
+  pub above : last_start client.lineage < r.lsn
+  pub group : r.group < plan.groups
+
+-- what is known of a client that has cut
+pub record IsCutClient (plan : Plan) (world : World) (v : ℕ) (client : Client) : Type 0 where
+  pub own : List Redo
+  pub log : own ++ client.found ≡ client.log
+  pub grown : IsGrown client.found own
+  pub owned : (r : Redo) → IsIn r own → IsOwned plan v client r
+  pub origin : IsRoot v client ⊎ IsChild plan world v client
+
+-- the group point is acknowledged by a write set of an epoch at which the client was
+pub record IsReached (plan : Plan) (world : World) (v group n : ℕ) : Type 0 where
+  pub at : ℕ
+  pub positive : 1 ≤ at
+  pub there : at ≤ epoch_now plan world group
+  pub was : WasAt world v group at
+  pub writers : Members
+  pub writes : sat (config plan world group at).write writers ≡ true
+  pub acked : (x : ℕ) → writers x ≡ true → (a : ℕ) × (s : ℕ) × (a ≤ at) × (n ≤ s) × IsMade world (Ack group (label v a) x s)
+
+-- what is known of a client that is born
+pub record IsBorn (plan : Plan) (world : World) (v : ℕ) (client : Client) : Type 0 where
+  pub positive : 1 ≤ v
+  pub known : v ≤ world.authority.last_volume
+  pub places : (group : ℕ) → group < plan.groups → IsPlace plan world group (place_of client.groups group) × WasAt world v group (place_of client.groups group).epoch
+
+-- what is known of a client
+pub record ClientKept (plan : Plan) (world : World) (v : ℕ) (client : Client) : Type 0 where
+  pub born : is_born client.stage ≡ true → IsBorn plan world v client
+  pub reading : has_cut client.stage ≡ false → (group : ℕ) → group < plan.groups → (from : From) → IsIn from (reports_of client.groups group) → IsMade world (Report group (label v (place_of client.groups group).epoch) from.sender from.contents) × (last_epoch from.contents.lineage < v)
+  pub cut : has_cut client.stage ≡ true → IsCutClient plan world v client
+  pub counts : (group : ℕ) → group < plan.groups → (count : Count) → IsIn count (counts_of client.groups group) → (a : ℕ) × (a ≤ (place_of client.groups group).epoch) × IsMade world (Ack group (label v a) count.sender count.reached)
+  pub points : (group : ℕ) → group < plan.groups → (point_of client.groups group ≡ 0) ⊎ IsReached plan world v group (point_of client.groups group)
+
+-- what is known of an acknowledgement
+pub record IsAck (world : World) (group : ℕ) (l : Label) (x s : ℕ) : Type 0 where
+  pub whole : (world.nodes group x).whole ≡ true
+  pub volume : l.volume ≤ (world.nodes group x).volume
+  pub member : l.member ≤ (world.nodes group x).place.epoch
+  pub retains : Retains world group l.volume s (world.nodes group x).contents
+
+-- what is known of a written record
+pub record IsWrite (world : World) (group : ℕ) (l : Label) (r : Redo) : Type 0 where
+  pub cut : HasCut world l.volume
+  pub stands : IsIn r (log_of world l.volume)
+  pub group_is : r.group ≡ group
+
+-- made from records of the writer's log that reach the point
+pub record IsPage (world : World) (group : ℕ) (l : Label) (block point : ℕ) (bytes : List ℕ) : Type 0 where
+  pub cut : HasCut world l.volume
+  pub kept : List Redo
+  pub ordered : IsOrdered kept
+  pub complete : point ≤ scl kept
+  pub stands : (r : Redo) → IsIn r kept → IsIn r (log_of world l.volume) × (r.group ≡ group)
+  pub page : page_of kept block point ≡ bytes
+
+-- what is known of a View
+pub record IsView (plan : Plan) (world : World) (v : ℕ) (places : ℕ → Place) : Type 0 where
+  pub known : v ≤ world.authority.last_volume
+  pub positive : 1 ≤ v
+  pub standing : (group : ℕ) → group < plan.groups → IsPlace plan world group (places group)
+
+-- what is known of a message
+abbrev pub MessageKept : Plan → World → Message → Type 0
+MessageKept plan world (View v places) = IsView plan world v (place_in places)
+MessageKept plan world (StepTo group place) = IsPlace plan world group place
+MessageKept plan world (Fence group l) = Unit {0}
+MessageKept plan world (Report group l x q) = IsCopy world group q × (l.volume ≤ (world.nodes group x).volume)
+MessageKept plan world (Install group l q) = IsCopy world group q × (last_epoch q.lineage ≡ l.volume) × IsOrdered q.records
+MessageKept plan world (Write group l r) = IsWrite world group l r
+MessageKept plan world (Gossip group l r) = IsWrite world group l r
+MessageKept plan world (Ack group l x s) = IsAck world group l x s
+MessageKept plan world (CopyAsk group f) = Unit {0}
+MessageKept plan world (CopyReport group f x q) = IsCopy world group q × (f ≤ (world.nodes group x).place.epoch)
+MessageKept plan world (PageAsk group l block point) = Unit {0}
+MessageKept plan world (Page group l x block point bytes) = IsPage world group l block point bytes
+
+-- what is known of the authority
+pub record AuthorityKept (plan : Plan) (authority : Authority) : Type 0 where
+  pub positive : 1 ≤ authority.last_volume
+  pub there : (group : ℕ) → group < plan.groups → configuration_of authority group < plan.configurations group
+
+-- the invariant
+pub record IsKept (plan : Plan) (world : World) : Type 0 where
+  pub authority : AuthorityKept plan world.authority
+  pub nodes : (group x : ℕ) → group < plan.groups → NodeKept plan world group x (world.nodes group x)
+  pub clients : (v : ℕ) → ClientKept plan world v (world.clients v)
+  pub messages : (m : Message) → IsMade world m → MessageKept plan world m
+  pub views_ordered : (u v : ℕ) (p q : List Place) → u < v → IsMade world (View u p) → IsMade world (View v q) → (group : ℕ) → group < plan.groups → (place_in p group).epoch ≤ (place_in q group).epoch
+  pub acks_copies : (group v a x s f : ℕ) (q : Contents) → IsMade world (Ack group (label v a) x s) → IsMade world (CopyReport group f x q) → a < f → Retains world group v s q
+  pub acks_reports : (group v a x s : ℕ) (l : Label) (q : Contents) → IsMade world (Ack group (label v a) x s) → IsMade world (Report group l x q) → v < l.volume → Retains world group v s q
+  pub history : IsHistory plan world world.messages

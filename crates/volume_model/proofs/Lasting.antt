@@ -1,0 +1,360 @@
+-- What a writer has acknowledged it has acknowledged for good
+use Rattle.std.proofs.Common.{◌≡◌, ℕ, ◌+◌, ◌^◌, ◌<◌, ◌≤◌, max, Bool, true, false, not, ◌&&◌, ◌==◌, nat_lt, nat_le, eqb, List, [], ◌∷◌, ◌++◌, append_assoc, Option, Some, None, Result, Ok, Err, length, refl, sym, ap, ◌∙◌, subst, inl, inr, arith}
+use Rattle.std.proofs.lemmas.Bool.{cases_Bool, and_parts, and_from, both_ways, eqb-true, eq-eqb, leb-true, le-leb, not-true}
+use Rattle.volume_model.specs.Lists.{IsIn, any, numbered}
+use Rattle.volume_model.specs.Redo.{Redo, last_lsn, record_at, up_to}
+use Rattle.volume_model.specs.Lineage.{last_start, last_epoch}
+use Rattle.volume_model.specs.Plan.{Plan, IsCertified}
+use Rattle.volume_model.specs.Message.{Label, Place, Message, place_in}
+use Rattle.volume_model.specs.Message.Message.{View, StepTo, Fence, Report, Install, Write, Gossip, Ack, CopyAsk, CopyReport, PageAsk, Page}
+use Rattle.volume_model.specs.Node.{From, NodeAnswer, in_group}
+use Rattle.volume_model.specs.Client.{Client, Stage, Change, ClientStep, ClientAnswer, is_born, has_cut, is_open, complete_of, point_below, is_point_of, complete_point, durable_point, groups_now, issued_log, record_of, is_last, is_transaction, issued, viewed, report_taken, ack_taken, with_count, are_places, taken, cut_client, opened, write_of, resent, page_asked, place_of, counts_of, point_of, ClientGroup, no_group, group_of, raised, raised_group, moved, later_group, is_raised}
+use Rattle.volume_model.specs.Client.Stage.{Unborn, Reading, Installing, Writing}
+use Rattle.volume_model.specs.World.{World, Event, AuthorityStep, of_authority, of_client, of_node, after_step, after, run, opening, assigned, advanced, refreshed, take}
+use Rattle.volume_model.specs.World.Event.{Assign, Advance, Refresh, Issue, Take, Cut, Open, Resend, Read, Deliver, Hydrate, Restart, Offer}
+use Rattle.volume_model.specs.Headline.{Acknowledges, part_of, AcknowledgementsLast}
+use Rattle.volume_model.proofs.Basics.{any_passes, any_from, put-all, IsIn-append_right}
+use Rattle.volume_model.proofs.Logs.{IsChain, up_to-newer}
+use Rattle.volume_model.proofs.Kept.{IsKept}
+use Rattle.volume_model.proofs.Sound.{facts}
+use Rattle.volume_model.proofs.NodeSteps.{refuse_if-ok}
+use Rattle.volume_model.proofs.Run.{opening_kept, run_kept}
+use Rattle.volume_model.proofs.Groups.{set-all, group_of-moved, later_group-none, group_of-raised}
+use Rattle.std.specs.Prelude.{slice_set}
+use Rattle.volume_model.specs.declared.fault.Fault.{Fault}
+use Rattle.volume_model.specs.declared.fault.Fault.TheVariants.{AlreadyDone, BadTransaction, LimitReached, LsnSpent, NoActor, NoGroup, NotAddressed, NotInPlan, NotOpen}
+
+-- what an open client has it keeps
+pub record Lasts (old new : Client) : Type 0 where
+  pub open_on : is_open old.stage ≡ true → is_open new.stage ≡ true
+  pub points : is_open old.stage ≡ true → (group : ℕ) → point_of old.groups group ≤ point_of new.groups group
+  pub log : is_open old.stage ≡ true → (later : List Redo) × (later ++ old.log ≡ new.log)
+
+same_lasts : (client : Client) → Lasts client client
+same_lasts client = record { open_on = λ h. h; points = λ h group. omega arith; log = λ h. ([], refl) }
+
+lasts_after : (a b c : Client) → Lasts a b → Lasts b c → Lasts a c
+lasts_after a b c f g = record {
+  open_on = λ h. g.open_on (f.open_on h);
+  points = λ h group. (let x : point_of a.groups group ≤ point_of b.groups group = f.points h group in let y : point_of b.groups group ≤ point_of c.groups group = g.points (f.open_on h) group in omega arith);
+  log = λ h. (let (m, p) = f.log h in let (n, q) = g.log (f.open_on h) in (n ++ m, append_assoc n m a.log ∙ ap (λ z. n ++ z) p ∙ q));
+}
+
+closed_lasts : (old new : Client) → is_open old.stage ≡ false → Lasts old new
+closed_lasts old new n = record { open_on = λ h. absurd (both_ways _ n h); points = λ h. absurd (both_ways _ n h); log = λ h. absurd (both_ways _ n h) }
+
+closed_before_cut : (stage : Stage) → has_cut stage ≡ false → is_open stage ≡ false
+closed_before_cut Unborn h = refl
+closed_before_cut Reading h = refl
+closed_before_cut Installing h = refl
+closed_before_cut Writing h = h
+
+Ok-is : (a b : ClientStep) → ◌≡◌ {A = ClientAnswer} (Ok a) (Ok b) → a ≡ b
+Ok-is a b h = cc
+
+issued_later : (v start : ℕ) (changes : List Change) (log : List Redo) → (later : List Redo) × (later ++ log ≡ issued_log v start changes log)
+issued_later v start [] log = ([], refl)
+issued_later v start (change ∷ more) log =
+    let r : Redo = record_of v start log change (is_last more) in
+    let (later, e) = issued_later v start more (r ∷ log) in
+    (later ++ r ∷ [], append_assoc later (r ∷ []) log ∙ e)
+
+module _ (plan : Plan) (v : ℕ) (client : Client) where
+  -- the step leaves what an open client has
+  abbrev IsLater : ClientStep → Type 0
+  IsLater step = Lasts client step.client
+
+  issue_lasts : (changes : List Change) (step : ClientStep) → issued plan v client changes ≡ Ok step → IsLater step
+  issue_lasts changes step h =
+      let start : ℕ = last_start client.lineage in
+      let last : ℕ = max (last_lsn client.log) start + length changes in
+      let (z, h0) = refuse_if-ok (not (is_born client.stage)) NoActor _ step h in
+      let (a, h1) = refuse_if-ok (not (is_open client.stage)) NotOpen _ step h0 in
+      let (b, h2) = refuse_if-ok (not (is_transaction plan changes)) BadTransaction _ step h1 in
+      let (c, h3) = refuse_if-ok (nat_lt (2 ^ 62) last) LsnSpent _ step h2 in
+      let (d, h4) = refuse_if-ok (nat_lt (max (durable_point client) start + plan.lal) last) LimitReached _ step h3 in
+      subst IsLater (Ok-is _ step h4) (record { open_on = λ h. h; points = λ h group. omega arith; log = λ h. issued_later v start changes client.log })
+
+  cut_lasts : (step : ClientStep) → cut_client plan v client ≡ Ok step → IsLater step
+  cut_lasts step h =
+      let (z, h0) = refuse_if-ok (not (is_born client.stage)) NoActor _ step h in
+      let (a, h1) = refuse_if-ok (has_cut client.stage) AlreadyDone _ step h0 in
+      closed_lasts client step.client (closed_before_cut client.stage a)
+
+  open_lasts : (step : ClientStep) → opened plan client ≡ Ok step → IsLater step
+  open_lasts step h =
+      let (z, h0) = refuse_if-ok (not (is_born client.stage)) NoActor _ step h in
+      let (a, h1) = refuse_if-ok (is_open client.stage) AlreadyDone _ step h0 in
+      closed_lasts client step.client a
+
+  resend_lasts : (lsn : ℕ) (step : ClientStep) → resent v client lsn ≡ Ok step → IsLater step
+  resend_lasts lsn step h =
+      let (z, h0) = refuse_if-ok (not (is_born client.stage)) NoActor _ step h in
+      let (a, h1) = refuse_if-ok (not (is_open client.stage)) NotOpen _ step h0 in
+      go (record_at client.log lsn) h1
+    where
+      go : (found : Option Redo) → write_of v client found ≡ Ok step → IsLater step
+      go None h = cc
+      go (Some r) h = subst IsLater (Ok-is _ step h) (same_lasts client)
+
+  read_lasts : (group block : ℕ) (step : ClientStep) → page_asked plan v client group block ≡ Ok step → IsLater step
+  read_lasts group block step h =
+      let (z, h0) = refuse_if-ok (not (is_born client.stage)) NoActor _ step h in
+      let (a, h1) = refuse_if-ok (not (is_open client.stage)) NotOpen _ step h0 in
+      let (b, h2) = refuse_if-ok (not (nat_lt group plan.groups)) NoGroup _ step h1 in
+      subst IsLater (Ok-is _ step h2) (same_lasts client)
+
+  raised_rises : (groups : List ClientGroup) (group : ℕ) → point_of groups group ≤ point_of (raised plan groups) group
+  raised_rises groups group =
+      let e : point_of (raised plan groups) group ≡ (raised_group plan group (group_of groups group)).point = ap (λ g. g.point) (group_of-raised plan groups group) in
+      omega arith
+
+  later_point : (g : ClientGroup) (place : Place) → (later_group g place).point ≡ g.point
+  later_point g place = elim (cases_Bool (is_raised g.place place)) [ inl e ↦ rw e refl | inr e ↦ rw e refl ]
+
+  later_same : (places : List Place) (group : ℕ) → point_of (moved later_group client.groups places) group ≡ point_of client.groups group
+  later_same places group = ap (λ g. g.point) (group_of-moved later_group later_group-none client.groups places group) ∙ later_point (group_of client.groups group) (place_in places group)
+
+  viewed_lasts : (places : List Place) (stage : Stage) → client.stage ≡ stage → IsLater (viewed plan v client places stage)
+  viewed_lasts places Unborn e = closed_lasts client _ (ap is_open e)
+  viewed_lasts places Reading e = closed_lasts client _ (ap is_open e)
+  viewed_lasts places Installing e = closed_lasts client _ (ap is_open e)
+  viewed_lasts places Writing e = record {
+    open_on = λ h. h;
+    points = λ h group. (
+        let same : point_of (moved later_group client.groups places) group ≡ point_of client.groups group = later_same places group in
+        let rises : point_of (moved later_group client.groups places) group ≤ point_of (raised plan (moved later_group client.groups places)) group = raised_rises (moved later_group client.groups places) group in
+        omega arith);
+    log = λ h. ([], refl);
+  }
+
+  report_lasts : (group : ℕ) (l : Label) (from : From) → Lasts client (report_taken v client group l from)
+  report_lasts group l from =
+      elim (cases_Bool ((not (has_cut client.stage)) && (l.member == (place_of client.groups group).epoch && nat_lt (last_epoch from.contents.lineage) v))) [
+        | inr n ↦ rw n (same_lasts client)
+        | inl y ↦ closed_lasts client (report_taken v client group l from) (closed_before_cut client.stage (not-true _ (and_parts (not (has_cut client.stage)) _ y).0))
+      ]
+
+  now_rises : (stage : Stage) (groups : List ClientGroup) (group : ℕ) → point_of groups group ≤ point_of (groups_now plan stage groups) group
+  now_rises Unborn groups group = omega arith
+  now_rises Reading groups group = omega arith
+  now_rises Installing groups group = omega arith
+  now_rises Writing groups group = raised_rises groups group
+
+  ack_lasts : (group : ℕ) (l : Label) (sender reached : ℕ) → Lasts client (ack_taken plan client group l sender reached)
+  ack_lasts group l sender reached =
+      let with_ack : ClientGroup = record (group_of client.groups group) { counts = with_count sender reached (counts_of client.groups group) } in
+      let groups : List ClientGroup = slice_set client.groups group with_ack in
+      let same : (g : ℕ) → point_of groups g ≡ point_of client.groups g = set-all no_group (λ g x. x.point ≡ point_of client.groups g) client.groups group with_ack refl (λ g. refl) in
+      elim (cases_Bool (has_cut client.stage && nat_le l.member (place_of client.groups group).epoch)) [
+        | inr n ↦ rw n (same_lasts client)
+        | inl y ↦ rw y (record {
+          open_on = λ h. h;
+          points = λ h g. (
+              let e : point_of groups g ≡ point_of client.groups g = same g in
+              let rises : point_of groups g ≤ point_of (groups_now plan client.stage groups) g = now_rises client.stage groups g in
+              omega arith);
+          log = λ h. ([], refl);
+        })
+      ]
+
+  taken_lasts : (m : Message) (step : ClientStep) → taken plan v client m ≡ Ok step → IsLater step
+  taken_lasts (View of places) step h =
+      let (a, h1) = refuse_if-ok (not (of == v)) NotAddressed _ step h in
+      let (b, h2) = refuse_if-ok (not (are_places plan places)) NotInPlan _ step h1 in
+      subst IsLater (Ok-is _ step h2) (viewed_lasts places client.stage refl)
+  taken_lasts (Report group l sender c) step h =
+      let (a, h1) = refuse_if-ok (not (l.volume == v && (nat_lt group plan.groups && (in_group group c && nat_lt sender 64)))) NotAddressed _ step h in
+      let (b, h2) = refuse_if-ok (not (is_born client.stage)) NoActor _ step h1 in
+      subst IsLater (Ok-is _ step h2) (report_lasts group l (record { sender = sender; contents = c }))
+  taken_lasts (Ack group l sender reached) step h =
+      let (a, h1) = refuse_if-ok (not (l.volume == v && (nat_lt group plan.groups && nat_lt sender 64))) NotAddressed _ step h in
+      let (b, h2) = refuse_if-ok (not (is_born client.stage)) NoActor _ step h1 in
+      subst IsLater (Ok-is _ step h2) (ack_lasts group l sender reached)
+  taken_lasts (Page group l sender block point bytes) step h =
+      let (a, h1) = refuse_if-ok (not (l.volume == v && (nat_lt group plan.groups && nat_lt sender 64))) NotAddressed _ step h in
+      let (b, h2) = refuse_if-ok (not (is_born client.stage)) NoActor _ step h1 in
+      subst IsLater (Ok-is _ step h2) (same_lasts client)
+  taken_lasts (StepTo group place) step h = cc
+  taken_lasts (Fence group l) step h = cc
+  taken_lasts (Install group l c) step h = cc
+  taken_lasts (Write group l r) step h = cc
+  taken_lasts (Gossip group l r) step h = cc
+  taken_lasts (CopyAsk group epoch) step h = cc
+  taken_lasts (CopyReport group epoch sender c) step h = cc
+  taken_lasts (PageAsk group l block point) step h = cc
+
+  take_lasts : (found : Option Message) (step : ClientStep) → take plan v client found ≡ Ok step → IsLater step
+  take_lasts None step h = cc
+  take_lasts (Some m) step h = taken_lasts m step h
+
+module _ (plan : Plan) (world : World) where
+  -- each open client keeps what it has
+  abbrev AllLast : World → Type 0
+  AllLast later = (y : ℕ) → Lasts (world.clients y) (later.clients y)
+
+  by_authority : (answer : Result AuthorityStep Fault) → AllLast (after_step world (of_authority world answer))
+  by_authority (Err number) y = same_lasts (world.clients y)
+  by_authority (Ok s) y = same_lasts (world.clients y)
+
+  by_node : (group x : ℕ) (answer : NodeAnswer) → AllLast (after_step world (of_node world group x answer))
+  by_node group x (Err number) y = same_lasts (world.clients y)
+  by_node group x (Ok s) y = same_lasts (world.clients y)
+
+  by_client : (v : ℕ) (answer : ClientAnswer) → ((s : ClientStep) → answer ≡ Ok s → Lasts (world.clients v) s.client) → AllLast (after_step world (of_client world v answer))
+  by_client v (Err number) h y = same_lasts (world.clients y)
+  by_client v (Ok s) h y = put-all (λ u c. Lasts (world.clients u) c) world.clients v s.client (h s refl) (λ u. same_lasts (world.clients u)) y
+
+  by_event : (event : Event) → AllLast (after plan world event)
+  by_event Assign = by_authority (assigned plan world.authority)
+  by_event (Advance group c) = by_authority (advanced plan world.authority group c)
+  by_event (Refresh volume) = by_authority (refreshed plan world.authority volume)
+  by_event (Issue v changes) = by_client v _ (issue_lasts plan v (world.clients v) changes)
+  by_event (Take v number) = by_client v _ (take_lasts plan v (world.clients v) (numbered world.messages number))
+  by_event (Cut v) = by_client v _ (cut_lasts plan v (world.clients v))
+  by_event (Open v) = by_client v _ (open_lasts plan v (world.clients v))
+  by_event (Resend v lsn) = by_client v _ (resend_lasts plan v (world.clients v) lsn)
+  by_event (Read v group block) = by_client v _ (read_lasts plan v (world.clients v) group block)
+  by_event (Deliver group x number) = by_node group x _
+  by_event (Hydrate group x) = by_node group x _
+  by_event (Restart group x) = by_node group x _
+  by_event (Offer group x lsn) = by_node group x _
+
+all_last : (plan : Plan) (events : List Event) (world : World) (y : ℕ) → Lasts (world.clients y) ((run plan world events).clients y)
+all_last plan [] world y = same_lasts (world.clients y)
+all_last plan (event ∷ events) world y = lasts_after (world.clients y) ((after plan world event).clients y) _ (by_event plan world event y) (all_last plan events (after plan world event) y)
+
+-- the complete point and the durable point don't fall
+complete_below : (points : ℕ → ℕ) (log : List Redo) → IsChain log → complete_of points log ≤ last_lsn log
+complete_below points [] c = omega arith
+complete_below points (s ∷ older) c =
+    elim (cases_Bool (eqb (complete_of points older) (last_lsn older) && nat_le s.lsn (points s.group))) [
+      | inl e ↦ rw e (omega arith)
+      | inr e ↦ rw e (let l : complete_of points older ≤ last_lsn older = complete_below points older c.1 in let k : last_lsn older < s.lsn = c.0.above in omega arith)
+    ]
+
+complete_rises : (points points' : ℕ → ℕ) → ((group : ℕ) → points group ≤ points' group) → (log : List Redo) → IsChain log → complete_of points log ≤ complete_of points' log
+complete_rises points points' up [] c = omega arith
+complete_rises points points' up (s ∷ older) c =
+    let ih : complete_of points older ≤ complete_of points' older = complete_rises points points' up older c.1 in
+    let below : complete_of points' older ≤ last_lsn older = complete_below points' older c.1 in
+    let link : last_lsn older < s.lsn = c.0.above in
+    elim (cases_Bool (eqb (complete_of points older) (last_lsn older) && nat_le s.lsn (points s.group))) [
+      | inl e ↦ (
+          let parts : (eqb (complete_of points older) (last_lsn older) ≡ true) × (nat_le s.lsn (points s.group) ≡ true) = and_parts _ _ e in
+          let all : complete_of points older ≡ last_lsn older = eqb-true _ _ parts.0 in
+          let reached : s.lsn ≤ points s.group = leb-true _ _ parts.1 in
+          let more : points s.group ≤ points' s.group = up s.group in
+          let e' : (eqb (complete_of points' older) (last_lsn older) && nat_le s.lsn (points' s.group)) ≡ true = and_from _ _ (eq-eqb (complete_of points' older) (last_lsn older) (omega arith)) (le-leb s.lsn (points' s.group) (omega arith)) in
+          rw (e, e') (omega arith))
+      | inr e ↦ rw e (elim (cases_Bool (eqb (complete_of points' older) (last_lsn older) && nat_le s.lsn (points' s.group))) [
+        | inl f ↦ rw f (omega arith)
+        | inr f ↦ rw f ih
+      ])
+    ]
+
+point_at_most_last : (n : ℕ) (log : List Redo) → IsChain log → point_below n log ≤ last_lsn log
+point_at_most_last n [] c = omega arith
+point_at_most_last n (s ∷ older) c =
+    elim (cases_Bool (s.point && nat_le s.lsn n)) [
+      | inl e ↦ rw e (omega arith)
+      | inr e ↦ rw e (let l : point_below n older ≤ last_lsn older = point_at_most_last n older c.1 in let k : last_lsn older < s.lsn = c.0.above in omega arith)
+    ]
+
+point_rises : (n m : ℕ) → n ≤ m → (log : List Redo) → IsChain log → point_below n log ≤ point_below m log
+point_rises n m h [] c = omega arith
+point_rises n m h (s ∷ older) c =
+    let ih : point_below n older ≤ point_below m older = point_rises n m h older c.1 in
+    let below : point_below n older ≤ last_lsn older = point_at_most_last n older c.1 in
+    let link : last_lsn older < s.lsn = c.0.above in
+    elim (cases_Bool (s.point && nat_le s.lsn n)) [
+      | inl e ↦ (
+          let parts : (s.point ≡ true) × (nat_le s.lsn n ≡ true) = and_parts _ _ e in
+          let l : s.lsn ≤ n = leb-true _ _ parts.1 in
+          let e' : (s.point && nat_le s.lsn m) ≡ true = and_from _ _ parts.0 (le-leb s.lsn m (omega arith)) in
+          rw (e, e') (omega arith))
+      | inr e ↦ rw e (elim (cases_Bool (s.point && nat_le s.lsn m)) [
+        | inl f ↦ rw f (omega arith)
+        | inr f ↦ rw f ih
+      ])
+    ]
+
+durable_rises : (points points' : ℕ → ℕ) → ((group : ℕ) → points group ≤ points' group) → (later log : List Redo) → IsChain (later ++ log) → point_below (complete_of points log) log ≤ point_below (complete_of points' (later ++ log)) (later ++ log)
+durable_rises points points' up [] log c = point_rises _ _ (complete_rises points points' up log c) log c
+durable_rises points points' up (s ∷ later) log c =
+    let older : List Redo = later ++ log in
+    let ih : point_below (complete_of points log) log ≤ point_below (complete_of points' older) older = durable_rises points points' up later log c.1 in
+    let grows : complete_of points' older ≤ complete_of points' (s ∷ older) =
+    elim (cases_Bool (eqb (complete_of points' older) (last_lsn older) && nat_le s.lsn (points' s.group))) [
+      | inl e ↦ rw e (let b : complete_of points' older ≤ last_lsn older = complete_below points' older c.1 in let k : last_lsn older < s.lsn = c.0.above in omega arith)
+      | inr e ↦ rw e (omega arith)
+    ] in
+    let rises : point_below (complete_of points' older) older ≤ point_below (complete_of points' (s ∷ older)) older = point_rises _ _ grows older c.1 in
+    let below : point_below (complete_of points' (s ∷ older)) older ≤ last_lsn older = point_at_most_last _ older c.1 in
+    let link : last_lsn older < s.lsn = c.0.above in
+    elim (cases_Bool (s.point && nat_le s.lsn (complete_of points' (s ∷ older)))) [
+      | inl e ↦ rw e (omega arith)
+      | inr e ↦ rw e (omega arith)
+    ]
+
+any-later : {A : Type 0} (test : A → Bool) (later xs : List A) → any test xs ≡ true → any test (later ++ xs) ≡ true
+any-later test later xs h = let (x, i, p) = any_passes test xs h in any_from test (later ++ xs) x (IsIn-append_right later xs x i) p
+
+-- records that came behind a chain are above it
+later_above : (later log : List Redo) → IsChain (later ++ log) → (r : Redo) → IsIn r later → last_lsn log < r.lsn
+later_above [] log c r i = absurd i
+later_above (s ∷ later) log c r (inl e) =
+    let link : last_lsn (later ++ log) < s.lsn = c.0.above in
+    let q : r.lsn ≡ s.lsn = ap (λ z. z.lsn) e in
+    let l : last_lsn log ≤ last_lsn (later ++ log) = last_grows later log c.1 in
+    omega arith
+  where
+    last_grows : (later log : List Redo) → IsChain (later ++ log) → last_lsn log ≤ last_lsn (later ++ log)
+    last_grows [] log c = omega arith
+    last_grows (s ∷ later) log c = let link : last_lsn (later ++ log) < s.lsn = c.0.above in let l : last_lsn log ≤ last_lsn (later ++ log) = last_grows later log c.1 in omega arith
+later_above (s ∷ later) log c r (inr i) = later_above later log c.1 r i
+
+cut_from_open : (stage : Stage) → is_open stage ≡ true → has_cut stage ≡ true
+cut_from_open Unborn h = h
+cut_from_open Reading h = h
+cut_from_open Installing h = refl
+cut_from_open Writing h = refl
+
+IsChain-rest : (later log : List Redo) → IsChain (later ++ log) → IsChain log
+IsChain-rest [] log c = c
+IsChain-rest (s ∷ later) log c = IsChain-rest later log c.1
+
+module _ (plan : Plan) (certified : IsCertified plan) (events more : List Event) where
+  -- the world after the first events
+  abbrev before : World
+  before = run plan (opening plan) events
+
+  -- the world after all events
+  abbrev end : World
+  end = run plan before more
+
+  end_kept : IsKept plan end
+  end_kept = run_kept plan certified more before (run_kept plan certified events (opening plan) (opening_kept plan certified))
+
+  stays : (v n : ℕ) → Acknowledges before v n → Acknowledges end v n × (part_of end v n ≡ part_of before v n)
+  stays v n h =
+      let old : Client = before.clients v in
+      let new : Client = end.clients v in
+      let lasts : Lasts old new = all_last plan more before v in
+      let parts : (is_open old.stage ≡ true) × ((is_point_of n old.log && nat_le n (durable_point old)) ≡ true) = and_parts _ _ h in
+      let both : (is_point_of n old.log ≡ true) × (nat_le n (durable_point old) ≡ true) = and_parts _ _ parts.1 in
+      let open_now : is_open new.stage ≡ true = lasts.open_on parts.0 in
+      let (later, e) = lasts.log parts.0 in
+      let chain : IsChain new.log = (facts plan certified end end_kept v (cut_from_open new.stage open_now)).chain in
+      let chain' : IsChain (later ++ old.log) = subst IsChain (sym e) chain in
+      let rises : durable_point old ≤ point_below (complete_of (point_of new.groups) (later ++ old.log)) (later ++ old.log) = durable_rises (point_of old.groups) (point_of new.groups) (lasts.points parts.0) later old.log chain' in
+      let rises' : durable_point old ≤ durable_point new = subst (λ log. durable_point old ≤ point_below (complete_of (point_of new.groups) log) log) e rises in
+      let low : n ≤ durable_point old = leb-true n (durable_point old) both.1 in
+      let at : is_point_of n new.log ≡ true = subst (λ log. is_point_of n log ≡ true) e (any-later (λ r. eqb r.lsn n && r.point) later old.log both.0) in
+      let below : durable_point old ≤ last_lsn old.log = point_at_most_last (complete_point old) old.log (IsChain-rest later old.log chain') in (
+        and_from _ _ open_now (and_from _ _ at (le-leb n (durable_point new) (omega arith))),
+        ap (up_to n) (sym e) ∙ up_to-newer n later old.log (λ r i. (let a : last_lsn old.log < r.lsn = later_above later old.log chain' r i in omega arith)),
+      )
+
+pub acknowledgements_last : AcknowledgementsLast
+acknowledgements_last plan certified events more = record { acknowledged_on = stays plan certified events more }

@@ -1,0 +1,76 @@
+-- The configurations that a group goes through, one an epoch, and the descent along them
+use Rattle.std.proofs.Common.{◌≡◌, ℕ, zero, suc, ◌+◌, ◌-◌, ◌<◌, ◌≤◌, true, false, ◌&&◌, ◌==◌, ◌⊎◌, ap, subst, inl, inr, arith}
+use Rattle.std.proofs.lemmas.Bool.{cases_Bool, and_parts, and_from, both_ways, eqb-true}
+use Rattle.volume_model.specs.Lists.{IsIn, any}
+use Rattle.volume_model.specs.Formula.{Members, sat}
+use Rattle.volume_model.specs.Plan.{Plan, has_member, parent_of, ancestor, is_fresh, IsStep, IsCertified}
+use Rattle.volume_model.proofs.Basics.{any_passes, any_fails}
+
+-- a run of configurations, one an epoch from 1 to the last, each but the root a child of the one before
+pub record IsLine (plan : Plan) (group : ℕ) (line : ℕ → ℕ) (last : ℕ) : Type 0 where
+  pub there : (e : ℕ) → 1 ≤ e → e ≤ last → line e < plan.configurations group
+  pub root : line 1 ≡ 0
+  pub parent : (e : ℕ) → 1 ≤ e → suc e ≤ last → parent_of plan group (line (suc e)) ≡ line e
+  pub child : (e : ℕ) → 1 ≤ e → suc e ≤ last → 0 < line (suc e)
+
+-- a member of no configuration up to epoch e
+abbrev pub IsLate : Plan → ℕ → (ℕ → ℕ) → ℕ → ℕ → Type 0
+IsLate plan group line e x = (i : ℕ) → 1 ≤ i → i ≤ e → has_member (plan.configuration group (line i)) x ≡ false
+
+module _ (plan : Plan) (certified : IsCertified plan) (group : ℕ) (there : group < plan.groups) (line : ℕ → ℕ) (last : ℕ) (is_line : IsLine plan group line last) where
+  -- so many steps above epoch i + steps stands epoch i
+  pub ancestor-line : (steps i : ℕ) → 1 ≤ i → steps + i ≤ last → ancestor plan group steps (line (steps + i)) ≡ line i
+  ancestor-line zero i l h = ap line (omega arith)
+  ancestor-line (suc steps) i l h =
+      let e : suc steps + i ≡ suc (steps + i) = omega arith in
+      let p : parent_of plan group (line (suc (steps + i))) ≡ line (steps + i) = is_line.parent (steps + i) (omega arith) (omega arith) in
+      rw (e, p) (ancestor-line steps i l (omega arith))
+
+  -- who is fresh at a later epoch is late
+  pub late_from_fresh : (e f x : ℕ) → 1 ≤ e → e < f → f ≤ last → is_fresh plan group (line f) x ≡ true → IsLate plan group line e x
+  late_from_fresh e zero x l h k fresh i li ie = absurd (omega arith)
+  late_from_fresh e (suc f) x l h k fresh i li ie =
+      let is_step : IsStep plan group (line (suc f)) = certified.step group (line (suc f)) there (is_line.there (suc f) (omega arith) k) (is_line.child f (omega arith) k) in
+      let steps : ℕ = f - i in
+      let s : suc steps + i ≡ suc f = omega arith in
+      let unused : has_member (plan.configuration group (ancestor plan group (suc steps) (line (suc f)))) x ≡ false = is_step.fresh_unused x steps fresh in
+      let up : ancestor plan group (suc steps) (line (suc f)) ≡ line i = subst (λ n. ancestor plan group (suc steps) (line n) ≡ line i) s (ancestor-line (suc steps) i li (omega arith)) in
+      rw up at unused
+
+  -- a fresh member in the set, or none
+  pub fresh_or_none : (c : ℕ) (set : Members) → ((x : ℕ) × (set x ≡ true) × (is_fresh plan group c x ≡ true)) ⊎ ((x : ℕ) → set x ≡ true → is_fresh plan group c x ≡ false)
+  fresh_or_none c set =
+      elim (cases_Bool (any (λ x. set x && is_fresh plan group c x) (plan.configuration group c).members)) [
+        | inl h ↦ (
+            let (x, i, p) = any_passes (λ x. set x && is_fresh plan group c x) (plan.configuration group c).members h in
+            let q : (set x ≡ true) × (is_fresh plan group c x ≡ true) = and_parts (set x) (is_fresh plan group c x) p in
+            inl (x, q.0, q.1))
+        | inr h ↦ inr (λ x s. elim (cases_Bool (is_fresh plan group c x)) [
+          | inr no' ↦ no'
+          | inl fresh ↦ absurd (
+              let member : has_member (plan.configuration group c) x ≡ true = (and_parts (has_member (plan.configuration group c) x) _ fresh).0 in
+              let (y, i, e) = any_passes (λ y. y == x) (plan.configuration group c).members member in
+              let e' : y ≡ x = eqb-true y x e in
+              let i' : IsIn x (plan.configuration group c).members = subst (λ z. IsIn z (plan.configuration group c).members) e' i in
+              both_ways _ (any_fails (λ x. set x && is_fresh plan group c x) (plan.configuration group c).members h x i') (and_from (set x) (is_fresh plan group c x) s fresh))
+        ])
+      ]
+
+  -- the descent: a read set of epoch steps + e has a member of a write set of epoch e, or one that is late
+  pub descent : (steps e : ℕ) (readers writers : Members) → 1 ≤ e → steps + e ≤ last → sat (plan.configuration group (line (steps + e))).read readers ≡ true → sat (plan.configuration group (line e)).write writers ≡ true → (x : ℕ) × (readers x ≡ true) × ((writers x ≡ true) ⊎ IsLate plan group line e x)
+  descent zero e readers writers l h r w =
+      let z : zero + e ≡ e = omega arith in
+      let r' : sat (plan.configuration group (line e)).read readers ≡ true = rw z at r in
+      let (x, a, b) = (certified.meets group (line e) there (is_line.there e l (omega arith))) readers writers r' w in
+      (x, a, inl b)
+  descent (suc steps) e readers writers l h r w =
+      let s : suc steps + e ≡ suc (steps + e) = omega arith in
+      let r' : sat (plan.configuration group (line (suc (steps + e)))).read readers ≡ true = rw s at r in
+      elim (fresh_or_none (line (suc (steps + e))) readers) [
+        | inl h' ↦ (let (x, a, fresh) = h' in (x, a, inr (late_from_fresh e (suc (steps + e)) x l (omega arith) (omega arith) fresh)))
+        | inr none ↦ (
+            let is_step : IsStep plan group (line (suc (steps + e))) = certified.step group (line (suc (steps + e))) there (is_line.there (suc (steps + e)) (omega arith) (omega arith)) (is_line.child (steps + e) (omega arith) (omega arith)) in
+            let up : parent_of plan group (line (suc (steps + e))) ≡ line (steps + e) = is_line.parent (steps + e) (omega arith) (omega arith) in
+            let reads : sat (plan.configuration group (parent_of plan group (line (suc (steps + e))))).read readers ≡ true = is_step.reads_on readers r' none in
+            descent steps e readers writers l (omega arith) (rw up at reads) w)
+      ]

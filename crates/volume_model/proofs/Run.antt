@@ -1,0 +1,210 @@
+-- The invariant holds of the opening world and of every world that a list of events leads to; so does the headline
+use Rattle.std.proofs.Common.{◌≡◌, ℕ, zero, suc, ◌-◌, ◌<◌, ◌≤◌, true, not, ◌&&◌, ◌==◌, nat_lt, List, [], ◌∷◌, ◌++◌, length, length-append, Result, Ok, Err, refl, sym, ap, ◌∙◌, subst, inl, inr, arith, ◌⊎◌}
+use Rattle.std.proofs.lemmas.Bool.{cases_Bool, cases_lt, and_parts, true≢false, eqb-true, ltb-true, not-false}
+use Rattle.volume_model.specs.Lists.{IsIn, put, each_below}
+use Rattle.volume_model.specs.Plan.{Plan, has_member, parent_of, epoch_of, ancestor, IsCertified}
+use Rattle.volume_model.specs.Message.{Place, place_in}
+use Rattle.volume_model.specs.Message.Message.{View, StepTo, Ack}
+use Rattle.volume_model.specs.Node.{born_node}
+use Rattle.volume_model.specs.Client.{first_writer, unborn, Count, newly_at, no_group, at_root}
+use Rattle.volume_model.specs.World.{Authority, World, Event, opening, place_now, places_now, AuthorityStep, assigned, advanced, refreshed, of_authority, after_step, after, run, configuration_of}
+use Rattle.volume_model.specs.World.Event.{Assign, Advance, Refresh, Issue, Take, Cut, Open, Resend, Read, Deliver, Hydrate, Restart, Offer}
+use Rattle.volume_model.specs.Headline.{KeepsCommits, VolumeKeepsCommits, SaysTruePages, PagesAreTrue}
+use Rattle.volume_model.specs.Redo.{Redo, of_group, scl}
+use Rattle.volume_model.proofs.Chains.{scl-all}
+use Rattle.volume_model.proofs.Records.{of_group-has, of_group-from}
+use Rattle.volume_model.proofs.Ordered.{page_of-same, of_group-ordered}
+use Rattle.volume_model.proofs.Basics.{put-all}
+use Rattle.volume_model.proofs.Invariant.{IsMade, label, WasAt}
+use Rattle.volume_model.proofs.Kept.{IsPage, IsPlace, IsReached, NodeKept, ClientKept, IsKept}
+use Rattle.volume_model.proofs.Added.{MessageNew, message_added}
+use Rattle.volume_model.proofs.Changed.{volume_assigned, step_taken}
+use Rattle.volume_model.proofs.Sound.{is_sound, facts}
+use Rattle.volume_model.proofs.FromInvariant.{keeps_commits}
+use Rattle.volume_model.proofs.NodeSteps.{refuse_if-ok, deliver_kept, hydrate_kept, restart_kept, offer_kept}
+use Rattle.volume_model.proofs.ClientSteps.{issue_kept, take_kept, cut_kept, open_kept, resend_kept, read_kept}
+use Rattle.std.specs.Prelude.{slice_set}
+use Rattle.volume_model.proofs.Groups.{replicate-all}
+use Rattle.volume_model.specs.declared.fault.Fault.{Fault}
+use Rattle.volume_model.specs.declared.fault.Fault.TheVariants.{EpochsSpent, NoGroup, NotInPlan, Superseded}
+
+Ok-is : (a b : AuthorityStep) → ◌≡◌ {A = Result AuthorityStep Fault} (Ok a) (Ok b) → a ≡ b
+Ok-is a b h = cc
+
+place_in-append : (xs : List Place) (k : ℕ) (ys : List Place) → k < length xs → place_in (xs ++ ys) k ≡ place_in xs k
+place_in-append [] k ys h = absurd (omega arith)
+place_in-append (x ∷ xs) zero ys h = refl
+place_in-append (x ∷ xs) (suc k) ys h = place_in-append xs k ys (omega arith)
+
+place_in-last : (xs : List Place) (y : Place) → place_in (xs ++ y ∷ []) (length xs) ≡ y
+place_in-last [] y = refl
+place_in-last (x ∷ xs) y = place_in-last xs y
+
+length-each : (n : ℕ) (f : ℕ → Place) → length (each_below n (λ k. true) f) ≡ n
+length-each zero f = refl
+length-each (suc n) f = simp (length-append) (let h : length (each_below n (λ k. true) f) ≡ n = length-each n f in omega arith)
+
+-- the list of all groups' places has each
+place_in-each : (n : ℕ) (f : ℕ → Place) (k : ℕ) → k < n → place_in (each_below n (λ k. true) f) k ≡ f k
+place_in-each zero f k h = absurd (omega arith)
+place_in-each (suc n) f k h =
+    let l : length (each_below n (λ k. true) f) ≡ n = length-each n f in
+    elim (cases_lt k n) [
+      | inl b ↦ place_in-append (each_below n (λ k. true) f) k (f n ∷ []) (omega arith) ∙ place_in-each n f k b
+      | inr b ↦ (
+          let e : k ≡ length (each_below n (λ k. true) f) = omega arith in
+          let e' : k ≡ n = omega arith in
+          ap (place_in (each_below n (λ k. true) f ++ f n ∷ [])) e ∙ place_in-last (each_below n (λ k. true) f) (f n) ∙ ap f (sym e'))
+    ]
+
+module _ (plan : Plan) (certified : IsCertified plan) (world : World) (kept : IsKept plan world) where
+  -- a step of the authority: a change, and then the message that it makes
+  authority_step : (answer : Result AuthorityStep Fault) → ((s : AuthorityStep) → answer ≡ Ok s → IsKept plan (record world { authority = s.authority }) × MessageNew plan (record world { authority = s.authority }) s.made) → IsKept plan (after_step world (of_authority world answer))
+  authority_step (Err number) good = kept
+  authority_step (Ok s) good = message_added plan certified (record world { authority = s.authority }) (good s refl).0 s.made (good s refl).1
+
+  -- a step of the authority that keeps the invariant
+  abbrev IsGood : AuthorityStep → Type 0
+  IsGood s = IsKept plan (record world { authority = s.authority }) × MessageNew plan (record world { authority = s.authority }) s.made
+
+  as_answered : (s t : AuthorityStep) → ◌≡◌ {A = Result AuthorityStep Fault} (Ok s) (Ok t) → IsGood s → IsGood t
+  as_answered s t e g = subst IsGood (Ok-is s t e) g
+
+  assigned_good : (s : AuthorityStep) → assigned plan world.authority ≡ Ok s → IsGood s
+  assigned_good s h =
+      let (a, h1) = refuse_if-ok _ EpochsSpent _ s h in
+      as_answered (record { made = View (suc world.authority.last_volume) (places_now plan world.authority); authority = record world.authority { last_volume = suc world.authority.last_volume } }) s h1
+      (volume_assigned plan world kept, (refl, λ group there. place_in-each plan.groups (place_now plan world.authority) group there))
+
+  advanced_good : (group c : ℕ) (s : AuthorityStep) → advanced plan world.authority group c ≡ Ok s → IsGood s
+  advanced_good group c s h =
+      let (a, h1) = refuse_if-ok (not (nat_lt group plan.groups)) NoGroup _ s h in
+      let (b, h2) = refuse_if-ok (not (nat_lt 0 c && (nat_lt c (plan.configurations group) && parent_of plan group c == configuration_of world.authority group))) NotInPlan _ s h1 in
+      let there : group < plan.groups = ltb-true _ _ (not-false _ a) in
+      let parts : (nat_lt 0 c ≡ true) × ((nat_lt c (plan.configurations group) && parent_of plan group c == configuration_of world.authority group) ≡ true) = and_parts _ _ (not-false _ b) in
+      let both : (nat_lt c (plan.configurations group) ≡ true) × ((parent_of plan group c == configuration_of world.authority group) ≡ true) = and_parts _ _ parts.1 in
+      let next : Authority = record world.authority { configurations = slice_set world.authority.configurations group c } in
+      as_answered (record { made = StepTo group (place_now plan next group); authority = next }) s h2
+      (step_taken plan world kept certified group c there (ltb-true _ _ parts.0) (ltb-true _ _ both.0) (eqb-true _ _ both.1), (there, refl))
+
+  refreshed_good : (volume : ℕ) (s : AuthorityStep) → refreshed plan world.authority volume ≡ Ok s → IsGood s
+  refreshed_good volume s h =
+      let (a, h1) = refuse_if-ok (not (volume == world.authority.last_volume)) Superseded _ s h in
+      as_answered (record { made = View volume (places_now plan world.authority); authority = world.authority }) s h1
+      (kept, (eqb-true volume world.authority.last_volume (not-false _ a), λ group there. place_in-each plan.groups (place_now plan world.authority) group there))
+
+  assign_kept : IsKept plan (after_step world (of_authority world (assigned plan world.authority)))
+  assign_kept = authority_step (assigned plan world.authority) assigned_good
+
+  advance_kept : (group c : ℕ) → IsKept plan (after_step world (of_authority world (advanced plan world.authority group c)))
+  advance_kept group c = authority_step (advanced plan world.authority group c) (advanced_good group c)
+
+  refresh_kept : (volume : ℕ) → IsKept plan (after_step world (of_authority world (refreshed plan world.authority volume)))
+  refresh_kept volume = authority_step (refreshed plan world.authority volume) (refreshed_good volume)
+
+  event_kept : (event : Event) → IsKept plan (after plan world event)
+  event_kept Assign = assign_kept
+  event_kept (Advance group c) = advance_kept group c
+  event_kept (Refresh volume) = refresh_kept volume
+  event_kept (Issue volume changes) = issue_kept plan certified world kept volume changes
+  event_kept (Take volume number) = take_kept plan certified world kept volume number
+  event_kept (Cut volume) = cut_kept plan certified world kept volume
+  event_kept (Open volume) = open_kept plan certified world kept volume
+  event_kept (Resend volume lsn) = resend_kept plan certified world kept volume lsn
+  event_kept (Read volume group block) = read_kept plan certified world kept volume group block
+  event_kept (Deliver group member number) = deliver_kept plan certified world kept group member number
+  event_kept (Hydrate group member) = hydrate_kept plan certified world kept group member
+  event_kept (Restart group member) = restart_kept plan certified world kept group member
+  event_kept (Offer group member lsn) = offer_kept plan certified world kept group member lsn
+
+module _ (plan : Plan) (certified : IsCertified plan) where
+  -- the opening world
+  abbrev pub start : World
+  start = opening plan
+
+  at_first : (group : ℕ) → group < plan.groups → configuration_of start.authority group ≡ 0
+  at_first group there = replicate-all 0 (λ c. c ≡ 0) plan.groups 0 refl group there
+
+  root_place : (group : ℕ) → group < plan.groups → IsPlace plan start group (record { configuration = 0; epoch = 1 })
+  root_place group there =
+      let e : epoch_of plan group 0 ≡ 1 = certified.root_epoch group there in
+      let d : 0 ≡ epoch_of plan group 0 - 1 = omega arith in
+      let zero_there : 1 ≤ epoch_of plan group 0 = omega arith in
+      record {
+        positive = omega arith;
+        there = subst (λ c. 1 ≤ epoch_of plan group c) (sym (at_first group there)) zero_there;
+        configuration = subst (λ c. 0 ≡ ancestor plan group (epoch_of plan group c - 1) c) (sym (at_first group there)) (ap (λ n. ancestor plan group n 0) d);
+      }
+
+  opening_node : (group x : ℕ) → group < plan.groups → NodeKept plan start group x (born_node plan group x)
+  opening_node group x there =
+      elim (cases_Bool (has_member (plan.configuration group 0) x)) [
+        | inl e ↦ rw e (record {
+          place = inr (root_place group there);
+          copies = λ from i. absurd i;
+          whole = λ h. record {
+            copy = record { cut = refl; lineage = refl; records = λ r i. absurd i; found = λ r i g. absurd i };
+            below = omega arith;
+            sourced = inl e;
+            ordered = tt;
+          };
+        })
+        | inr e ↦ rw e (record { place = inl refl; copies = λ from i. absurd i; whole = λ h. absurd (true≢false (sym h)) })
+      ]
+
+  opening_client : (v : ℕ) → ClientKept plan start v (put (λ volume. unborn) 1 (first_writer plan) v)
+  opening_client = put-all (λ v c. ClientKept plan start v c) (λ volume. unborn) 1 (first_writer plan)
+      (record {
+        born = λ h. record { positive = omega arith; known = omega arith; places = λ group there. replicate-all no_group (λ g. IsPlace plan start group g.place × WasAt start 1 group g.place.epoch) plan.groups (newly_at at_root) (root_place group there, inl (refl, refl)) group there };
+        reading = λ h. absurd (true≢false h);
+        cut = λ h. record { own = []; log = refl; grown = tt; owned = λ r i. absurd i; origin = inl (record { one = refl; lineage = refl; found = refl }) };
+        counts = λ group there. replicate-all no_group (λ g. (count : Count) → IsIn count g.counts → (a : ℕ) × (a ≤ g.place.epoch) × IsMade start (Ack group (label 1 a) count.sender count.reached)) plan.groups (newly_at at_root) (λ count i. absurd i) group there;
+        points = λ group there. replicate-all no_group (λ g. (g.point ≡ 0) ⊎ IsReached plan start 1 group g.point) plan.groups (newly_at at_root) (inl refl) group there;
+      })
+      (λ v. record {
+        born = λ h. absurd (true≢false (sym h));
+        reading = λ h group there from i. absurd i;
+        cut = λ h. absurd (true≢false (sym h));
+        counts = λ group there count i. absurd i;
+        points = λ group there. inl refl;
+      })
+
+  pub opening_kept : IsKept plan start
+  opening_kept = record {
+    authority = record { positive = omega arith; there = λ group there. subst (λ c. c < plan.configurations group) (sym (at_first group there)) (certified.root_there group there) };
+    nodes = opening_node;
+    clients = opening_client;
+    messages = λ m i. absurd i;
+    views_ordered = λ u v p q h i. absurd i;
+    acks_copies = λ group v a x s f q i. absurd i;
+    acks_reports = λ group v a x s l q i. absurd i;
+    history = tt;
+  }
+
+  pub run_kept : (events : List Event) (world : World) → IsKept plan world → IsKept plan (run plan world events)
+  run_kept [] world kept = kept
+  run_kept (event ∷ events) world kept = run_kept events (after plan world event) (event_kept plan certified world kept event)
+
+  pages_true : (events : List Event) → SaysTruePages (run plan start events)
+  pages_true events group l x block point bytes i =
+      let world : World = run plan start events in
+      let kept : IsKept plan world = run_kept events start opening_kept in
+      let page : IsPage world group l block point bytes = kept.messages _ i in
+      let log : List Redo = (world.clients l.volume).log in
+      sym page.page ∙ page_of-same page.kept (of_group group log) block point page.ordered (of_group-ordered group log)
+      (λ r j h. of_group-has group log r (page.stands r j).0 (page.stands r j).1)
+      (λ r j h. (
+      let s : IsIn r log × (r.group ≡ group) = of_group-from group log r j in
+      let c : point ≤ scl page.kept = page.complete in
+      scl-all log (facts plan certified world kept l.volume page.cut).chain group page.kept page.stands r s.0 s.1 (omega arith)))
+
+  commits_kept : (events : List Event) → KeepsCommits (run plan start events)
+  commits_kept events =
+      let kept : IsKept plan (run plan start events) = run_kept events start opening_kept in
+      keeps_commits plan certified (run plan start events) (is_sound plan certified (run plan start events) kept)
+
+pub pages_are_true : PagesAreTrue
+pages_are_true plan certified events = pages_true plan certified events
+
+pub volume_keeps_commits : VolumeKeepsCommits
+volume_keeps_commits plan certified events = commits_kept plan certified events

@@ -1,0 +1,198 @@
+use Rattle.std.specs.Prelude.{ℕ, ◌+◌, Bool, true, false, not, ◌&&◌, ◌==◌, nat_lt, nat_le, if◌then◌else◌, List, [], ◌∷◌, ◌++◌, Option, Some, None, Result, Ok, Err, length, map, max, take, drop, replicate}
+use Rattle.volume_model.specs.Lists.{any, every}
+use Rattle.volume_model.specs.Formula.{Members, sat}
+use Rattle.volume_model.specs.Redo.{Redo, with_record, holds_record, record_at, scl}
+use Rattle.volume_model.specs.Lineage.{birth, last_epoch, Contents, newest, found_in}
+use Rattle.volume_model.specs.Plan.{Plan, has_member, is_full, is_configuration}
+use Rattle.volume_model.specs.Message.{Label, Place, Message}
+use Rattle.volume_model.specs.Message.Message.{View, StepTo, Fence, Report, Install, Write, Gossip, Ack, CopyAsk, CopyReport, PageAsk, Page}
+use Rattle.volume_model.specs.Refusal.{refuse_if}
+use Rattle.volume_model.specs.declared.fault.Fault.{Fault}
+use Rattle.volume_model.specs.declared.fault.Fault.TheVariants.{AheadMember, AlreadyWhole, Full, NoRecord, NotAddressed, NotEnough, NotInPlan, NotInstalled, NotWhole, PointAhead, StaleMember, StaleVolume, TailSegment}
+
+-- what came from a sender
+pub record From : Type 0 where
+  pub sender : ℕ
+  pub contents : Contents
+
+-- a segment of a group: its volume epoch, where its group stands as far as it was told, whether it is whole,
+-- what it holds, and the copies that it has been sent
+pub record Node : Type 0 where
+  pub volume : ℕ
+  pub place : Place
+  pub whole : Bool
+  pub contents : Contents
+  pub copies : List From
+
+-- the last volume epoch of the lineage that it holds
+abbrev pub lineage_epoch : Node → ℕ
+lineage_epoch node = last_epoch node.contents.lineage
+
+-- a member of the root is born whole, any other not
+abbrev pub born_node : Plan → ℕ → ℕ → Node
+born_node plan group member =
+    if has_member (plan.configuration group 0) member
+    then record { volume = 1; place = record { configuration = 0; epoch = 1 }; whole = true; contents = record { lineage = birth; records = [] }; copies = [] }
+    else record { volume = 0; place = record { configuration = 0; epoch = 0 }; whole = false; contents = record { lineage = []; records = [] }; copies = [] }
+
+-- the member is one of the configuration that the node took last
+abbrev pub has_configuration : Plan → ℕ → ℕ → Node → Bool
+has_configuration plan group member node = nat_lt 0 node.place.epoch && has_member (plan.configuration group node.place.configuration) member
+
+-- what a step of a node leaves: the messages that it makes, and the node
+pub record NodeStep : Type 0 where
+  pub made : List Message
+  pub node : Node
+
+-- a step, or the number of a refusal
+abbrev pub NodeAnswer : Type 0
+NodeAnswer = Result NodeStep Fault
+
+-- the tests of a label, in order
+abbrev pub label_checks : Node → Label → NodeAnswer → NodeAnswer
+label_checks node label rest =
+    refuse_if (nat_lt label.member node.place.epoch) StaleMember (
+    refuse_if (nat_lt node.place.epoch label.member) AheadMember (
+    refuse_if (not node.whole) NotWhole (
+    refuse_if (nat_lt label.volume node.volume) StaleVolume rest)))
+
+-- how many records a segment may hold
+abbrev pub most_records : ℕ
+most_records = 1048576
+
+-- the members that something came from
+abbrev pub senders : List From → Members
+senders reports x = any (λ report. report.sender == x) reports
+
+-- the first of each sender is kept
+abbrev pub with_first : From → List From → List From
+with_first new reports = if senders reports new.sender then reports else reports ++ new ∷ []
+
+-- what the senders hold
+abbrev pub contents_of : List From → List Contents
+contents_of reports = map (λ report. report.contents) reports
+
+-- the acknowledgement of what a segment holds
+abbrev pub ack_of : ℕ → ℕ → Label → List Redo → Message
+ack_of group member label records = Ack group label member (scl records)
+
+-- a record that comes
+abbrev pub take_record : ℕ → ℕ → Node → Label → Redo → NodeAnswer
+take_record group member node label r =
+    label_checks node label (
+    refuse_if (not (lineage_epoch node == label.volume)) NotInstalled (
+    refuse_if (not (holds_record r node.contents.records) && nat_le most_records (length node.contents.records)) Full (
+    let records = with_record r node.contents.records in
+    Ok (record {
+      made = ack_of group member label records ∷ [];
+      node = record node { volume = label.volume; contents = record { lineage = node.contents.lineage; records = records } };
+    }))))
+
+-- where the lineage is installed already nothing is replaced
+abbrev pub installed : Node → Label → Contents → Contents
+installed node label contents = if lineage_epoch node == label.volume then node.contents else contents
+
+-- the bytes of a block's page with one record's write
+abbrev pub written : Redo → List ℕ → List ℕ
+written r page = take r.offset page ++ r.bytes ++ drop (r.offset + length r.bytes) page
+
+-- the page of a block up to a number: the writes applied in order to zeros
+abbrev pub page_from : List ℕ → ℕ → ℕ → List Redo → List ℕ
+page_from page block point [] = page
+page_from page block point (r ∷ rest) =
+    page_from (if r.block == block && nat_le r.lsn point then written r page else page) block point rest
+
+-- the page of a block up to a number, from zeros
+abbrev pub page_of : List Redo → ℕ → ℕ → List ℕ
+page_of records block point = page_from (replicate 512 0) block point records
+
+-- each record is one of the group
+abbrev pub in_group : ℕ → Contents → Bool
+in_group group contents = every (λ r. r.group == group) contents.records
+
+-- what a node does with a message: the first refusal that applies, else its effect and its answer
+abbrev pub reaction : Plan → ℕ → ℕ → Node → Message → NodeAnswer
+reaction plan group member node (Fence to label) =
+    refuse_if (not (to == group)) NotAddressed (
+    label_checks node label (
+    Ok (record {
+      made = Report group label member node.contents ∷ [];
+      node = record node { volume = label.volume };
+    })))
+reaction plan group member node (Install to label contents) =
+    refuse_if (not (to == group && in_group group contents)) NotAddressed (
+    label_checks node label (
+    refuse_if (nat_lt most_records (length contents.records)) Full (
+    let now = installed node label contents in
+    Ok (record {
+      made = ack_of group member label now.records ∷ [];
+      node = record node { volume = label.volume; contents = now };
+    }))))
+reaction plan group member node (Write to label r) =
+    refuse_if (not (to == group && r.group == group)) NotAddressed (take_record group member node label r)
+reaction plan group member node (Gossip to label r) =
+    refuse_if (not (to == group && r.group == group)) NotAddressed (take_record group member node label r)
+reaction plan group member node (StepTo to place) =
+    refuse_if (not (to == group)) NotAddressed (
+    refuse_if (nat_le place.epoch node.place.epoch) StaleMember (
+    refuse_if (not (is_configuration plan group place.configuration place.epoch)) NotInPlan (
+    Ok (record {
+      made = if node.whole then [] else CopyAsk group place.epoch ∷ [];
+      node = record node { place = place; copies = [] };
+    }))))
+reaction plan group member node (CopyAsk to epoch) =
+    refuse_if (not (to == group)) NotAddressed (
+    refuse_if (nat_lt epoch node.place.epoch) StaleMember (
+    refuse_if (nat_lt node.place.epoch epoch) AheadMember (
+    refuse_if (not node.whole) NotWhole (
+    Ok (record { made = CopyReport group epoch member node.contents ∷ []; node = node })))))
+reaction plan group member node (CopyReport to epoch sender contents) =
+    refuse_if (not (to == group && in_group group contents && nat_lt sender 64)) NotAddressed (
+    refuse_if node.whole AlreadyWhole (
+    refuse_if (nat_lt epoch node.place.epoch) StaleMember (
+    refuse_if (nat_lt node.place.epoch epoch) AheadMember (
+    Ok (record { made = []; node = record node { copies = with_first (record { sender = sender; contents = contents }) node.copies } })))))
+reaction plan group member node (PageAsk to label block point) =
+    refuse_if (not (to == group)) NotAddressed (
+    label_checks node label (
+    refuse_if (not (lineage_epoch node == label.volume)) NotInstalled (
+    refuse_if (not (has_configuration plan group member node && is_full (plan.configuration group node.place.configuration) member)) TailSegment (
+    refuse_if (nat_lt (scl node.contents.records) point) PointAhead (
+    Ok (record {
+      made = Page group label member block point (page_of node.contents.records block point) ∷ [];
+      node = node;
+    }))))))
+reaction plan group member node (View volume places) = Err NotAddressed
+reaction plan group member node (Report to label sender contents) = Err NotAddressed
+reaction plan group member node (Ack to label sender reached) = Err NotAddressed
+reaction plan group member node (Page to label sender block point bytes) = Err NotAddressed
+
+-- becoming whole, from copies of a read set of the node's own configuration
+abbrev pub hydrated : Plan → ℕ → ℕ → Node → NodeAnswer
+hydrated plan group member node =
+    let lineage = newest (contents_of node.copies) in
+    let found = found_in lineage (contents_of node.copies) in
+    refuse_if node.whole AlreadyWhole (
+    refuse_if (not (has_configuration plan group member node && sat (plan.configuration group node.place.configuration).read (senders node.copies))) NotEnough (
+    refuse_if (nat_lt most_records (length found)) Full (
+    Ok (record {
+      made = [];
+      node = record { volume = max node.volume (last_epoch lineage); place = node.place; whole = true; contents = record { lineage = lineage; records = found }; copies = node.copies };
+    }))))
+
+-- what a restart leaves
+abbrev pub restarted : Node → Node
+restarted node = record node { copies = [] }
+
+-- the Gossip of a record that was found
+abbrev pub gossip_of : ℕ → Node → Option Redo → NodeAnswer
+gossip_of group node None = Err NoRecord
+gossip_of group node (Some r) =
+    Ok (record { made = Gossip group (record { volume = node.volume; member = node.place.epoch }) r ∷ []; node = node })
+
+-- one of its records, for the others
+abbrev pub offered : ℕ → Node → ℕ → NodeAnswer
+offered group node lsn =
+    refuse_if (not node.whole) NotWhole (
+    refuse_if (not (node.volume == lineage_epoch node)) NotInstalled (
+    gossip_of group node (record_at node.contents.records lsn)))

@@ -1,0 +1,145 @@
+//! Why calls refuse, each reason with its number.
+
+ghost use Rattle.std.specs.Prelude.{◌≡◌};
+ghost use Rattle.volume_model.specs.Numbers.{number_of};
+ghost use Rattle.volume_model.specs.declared.fault.Fault.TheVariants.{NoMemory};
+
+use std::alloc::{AllocError, AllocFailed};
+use std::error::Error;
+use std::fmt;
+
+/// Why a call refuses, or what is wrong with a text, an expression, a certificate or a plan.
+#[derive(Clone, Copy, Debug, PartialEq, Eq)]
+pub enum Fault {
+    /// The bytes end before the record does.
+    Short = 1,
+    /// A field of the record isn't allowed.
+    BadField = 2,
+    /// There are bytes after the record.
+    Trailing = 3,
+    /// A growth was refused.
+    NoMemory = 9,
+    /// A threshold that isn't `1 <= k <= n <= 64`.
+    BadCount = 10,
+    /// An expression of more than six levels.
+    TooDeep = 11,
+    /// No member of the configuration.
+    NotAMember = 12,
+    /// A text of another shape.
+    Malformed = 13,
+    /// No item of this number.
+    NoSuchItem = 20,
+    /// The item can still hold.
+    NotDead = 21,
+    /// The items aren't the same member.
+    NoClash = 22,
+    /// The item doesn't ask for all its children.
+    NotAll = 23,
+    /// The other children could be enough.
+    TooFewPicked = 24,
+    /// A child that isn't there, or that is named twice.
+    BadPair = 25,
+    /// The pairs are too few.
+    CountTooSmall = 26,
+    /// Another number of branches than of children or pairs.
+    BranchCount = 27,
+    /// The parent doesn't stand before the configuration.
+    BadParent = 30,
+    /// A fresh member that an ancestor has.
+    MemberReused = 31,
+    /// A claim without a certificate.
+    NoCertificate = 32,
+    /// A certificate that doesn't refute its claim.
+    Certificate = 33,
+    /// More than the limit.
+    OverLimit = 34,
+    /// The volume epoch isn't the last one assigned.
+    Superseded = 40,
+    /// No such configuration of the plan, or not a child of the present one.
+    NotInPlan = 41,
+    /// No such group.
+    NoGroup = 42,
+    /// No volume epoch is left.
+    EpochsSpent = 43,
+    /// The node has promised a later volume epoch.
+    StaleVolume = 50,
+    /// The node is at a later membership epoch.
+    StaleMember = 51,
+    /// The node is at an earlier membership epoch.
+    AheadMember = 52,
+    /// The node's lineage isn't that of the volume epoch.
+    NotInstalled = 53,
+    /// The node isn't whole yet.
+    NotWhole = 54,
+    /// The segment holds as many records as it may.
+    Full = 55,
+    /// The node is whole already.
+    AlreadyWhole = 56,
+    /// The copies aren't those of a read set.
+    NotEnough = 57,
+    /// The segment holds no such record.
+    NoRecord = 58,
+    /// The member keeps no whole pages.
+    TailSegment = 60,
+    /// The segment isn't complete up to the point.
+    PointAhead = 61,
+    /// The client isn't an open writer.
+    NotOpen = 70,
+    /// The log would run too far ahead of the durable point.
+    LimitReached = 71,
+    /// No transaction of 1 to 32 good changes.
+    BadTransaction = 72,
+    /// No log sequence number is left.
+    LsnSpent = 73,
+    /// The sets that the step asks for aren't there yet.
+    NotReady = 74,
+    /// The client has taken this step already.
+    AlreadyDone = 75,
+    /// The log has no such record.
+    NoLogRecord = 76,
+    /// No such message was made.
+    NoMessage = 80,
+    /// The message isn't for this actor.
+    NotAddressed = 81,
+    /// The actor isn't there.
+    NoActor = 82,
+    /// No slot is left for a client.
+    NoSlot = 83,
+    /// The journal has no cell left.
+    JournalFull = 84,
+}
+
+impl Fault {
+    /// The number that stands for the fault in what the program prints.
+    pub fn number(self) -> u8
+        ensures { result ≡ number_of self }
+    {
+        self as u8
+    }
+}
+
+/// The number and the name.
+impl fmt::Display for Fault {
+    fn fmt<W: fmt::Write>(&self, f: &mut fmt::Formatter<W>) -> fmt::Result {
+        let number = self.number();
+        write!(f, "{number} {self:?}")
+    }
+}
+
+impl Error for Fault {}
+
+impl From<AllocError> for Fault {
+    ghost from_gives = { λ _ e. e ≡ NoMemory };
+
+    fn from(_e: AllocError) -> Fault {
+        Fault::NoMemory
+    }
+}
+
+impl<T: Drop> From<AllocFailed<T>> for Fault {
+    ghost from_gives = { λ _ e. e ≡ NoMemory };
+
+    fn from(_e: AllocFailed<T>) -> Fault {
+        Fault::NoMemory
+    }
+}
