@@ -202,8 +202,12 @@ module _ (plan : Plan) (certified : IsCertified plan) (world : World) (kept : Is
           ];
           found = λ s i g. with_record-keeps r node.contents.records s (w.copy.found s i g);
         } in
+        let below : last_epoch node.contents.lineage ≤ node.volume = w.below in
+        let above : node.volume ≤ l.volume = p.volume in
+        let at : l.volume ≡ node.volume = omega arith in
         subst (λ z. IsGoodStep plan world group x z) (Ok-is _ step h3)
-        (join_good l p q copy e (record { epoch = omega arith; records = λ same s i. with_record-keeps r node.contents.records s i }) (with_record-ordered r node.contents.records w.ordered))
+        (subst (λ v. IsGoodStep plan world group x (record { made = Ack group l x (scl q.records) ∷ []; node = record node { volume = v; contents = q } })) at
+        (join_good l p q copy e (record { epoch = omega arith; records = λ same s i. with_record-keeps r node.contents.records s i }) (with_record-ordered r node.contents.records w.ordered)))
 
     install_good : (l : Label) (c : Contents) → IsCopy world group c → last_epoch c.lineage ≡ l.volume → IsOrdered c.records → Passed l → IsGoodStep plan world group x (record { made = Ack group l x (scl (installed node l c).records) ∷ []; node = record node { volume = l.volume; contents = installed node l c } })
     install_good l c copy e ordered p =

@@ -14,5 +14,6 @@ pub mod Refusal
 pub mod Node
 pub mod Client
 pub mod World
+pub mod Outcome
 pub mod Headline
 pub mod Stage

@@ -85,7 +85,7 @@ take_record group member node label r =
     let records = with_record r node.contents.records in
     Ok (record {
       made = ack_of group member label records ∷ [];
-      node = record node { volume = label.volume; contents = record { lineage = node.contents.lineage; records = records } };
+      node = record node { contents = record { lineage = node.contents.lineage; records = records } };
     }))))
 
 -- where the lineage is installed already nothing is replaced

@@ -1,6 +1,6 @@
 -- Sets of numbers, and the members of one as a list.
 use Rattle.std.proofs.Common.{◌≡◌, ℕ, ap, ◌∙◌}
-use Rattle.std.specs.Prelude.{Bool, ◌||◌, nat_eq, List}
+use Rattle.std.specs.Prelude.{◌||◌, nat_eq, List}
 use Rattle.std.specs.Ordering.{nat_cmp}
 use Rattle.std.specs.FinSet.{FinSet, insert, contains, contains-insert}
 use Rattle.std.specs.Cmp.{nat_cmp_total, unsigned_tied}

@@ -1,4 +1,4 @@
-use Rattle.std.specs.Prelude.{ℕ, Bool, not, List, [], ◌∷◌, Result}
+use Rattle.std.specs.Prelude.{Bool, not, List, [], ◌∷◌, Result}
 use Rattle.volume_model.specs.Plan.{Plan, IsCertified}
 use Rattle.volume_model.specs.World.{World, Event, Step, opening, step, after_step}
 use Rattle.volume_model.specs.Headline.{KeepsCommits, SaysTruePages}

@@ -1,7 +1,6 @@
 //! The model of the volume, and the theorem about all its runs.
 #![tactic(auto)]
 
-
 ghost use Rattle.volume_model.specs.Headline.{VolumeKeepsCommits, PagesAreTrue, AcknowledgementsLast};
 ghost use Rattle.volume_model.specs.Claims.{ClaimsCertify};
 ghost use Rattle.volume_model.specs.Stage.{StageKeepsCommits};
