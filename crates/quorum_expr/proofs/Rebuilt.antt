@@ -1,15 +1,23 @@
 -- Expressions that are rebuilt child by child.
 use Rattle.std.proofs.Common.{◌≡◌, ℕ, suc, ◌+◌, ◌-◌, ◌<◌, ◌≤◌, List, [], ◌∷◌, ◌++◌, length, get_or, drop, map, arith, ap, subst, vec_len, ◌∙◌, sym, append_assoc, add-one, drop-cons, rules}
-use Rattle.std.specs.Prelude.{Vec}
+use Rattle.std.specs.Prelude.{Vec, Result, Ok}
+use Rattle.volume_model.specs.declared.fault.Fault.{Fault}
 use Rattle.std.proofs.lemmas.List.{drop_all}
 use Rattle.std.proofs.lemmas.List.{append-nil, map-append, length-map}
 use Rattle.std.proofs.lemmas.Simd.{map-map}
-use Rattle.quorum_expr.specs.declared.Expr.{Expr}
-use Rattle.quorum_expr.specs.declared.Expr.TheVariants.{KOf}
-use Rattle.quorum_expr.specs.declared.Expr.TheFolds.{the_lemmas}
-use Rattle.volume_model.specs.Formula.{at_least, each_once, total_weight, dual_of, HasCounts, EachHasCounts}
+use Rattle.quorum_expr.specs.declared.expression.Expr.{Expr}
+use Rattle.quorum_expr.specs.declared.expression.Expr.TheVariants.{KOf}
+use Rattle.quorum_expr.specs.declared.expression.Expr.TheFolds.{the_lemmas}
+use Rattle.volume_model.specs.Formula.{Formula, at_least, each_once, total_weight, dual_of, HasCounts, EachHasCounts}
 use Rattle.volume_model.specs.FormulaLaws.{total_weight-each_once, dual_of-once}
 use Rattle.quorum_expr.specs.Expr.{formula_of}
+
+-- what a call gave is what its definition gives
+pub given : (x y : Formula) → ◌≡◌ {A = Result Formula Fault} (Ok x) (Ok y) → y ≡ x
+given x y h = cc
+
+pub Ok-same : {x y : Formula} → x ≡ y → ◌≡◌ {A = Result Formula Fault} (Ok x) (Ok y)
+Ok-same h = cc
 
 -- one more is done, and one fewer is left
 pub step : {P Q : Type 0} (f : P → Q) (xs : List P) (i : ℕ) (x : P) (done : List Q) (all : List Q) → i < length xs → x ≡ get_or xs i x → done ++ map f (drop i xs) ≡ all → (done ++ f x ∷ []) ++ map f (drop (i + 1) xs) ≡ all

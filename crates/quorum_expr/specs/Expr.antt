@@ -1,7 +1,7 @@
 -- What an expression means.
-use Rattle.quorum_expr.specs.declared.Expr.{Expr}
-use Rattle.quorum_expr.specs.declared.Expr.TheOpen.{Expr-F, Member, KOf}
-use Rattle.quorum_expr.specs.declared.Expr.TheFolds.{fold-Expr}
+use Rattle.quorum_expr.specs.declared.expression.Expr.{Expr}
+use Rattle.quorum_expr.specs.declared.expression.Expr.TheOpen.{Expr-F, Member, KOf}
+use Rattle.quorum_expr.specs.declared.expression.Expr.TheFolds.{fold-Expr}
 use Rattle.volume_model.specs.Formula.{Formula, member, at_least, each_once}
 
 -- one expression, with the formulas of its children in their places

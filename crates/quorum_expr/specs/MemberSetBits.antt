@@ -5,8 +5,8 @@ use Rattle.std.proofs.Math.Nat.{mul_comm, pow-suc}
 use Rattle.std.proofs.Math.Arith.{mod-mul}
 use Rattle.std.specs.Prelude.{Bool, true, false, not, ◌&&◌, ◌||◌, nat_eq, nat_lt, if◌then◌else◌, ◌-◌, bit_or}
 use Rattle.std.specs.Ordering.{nat_cmp}
-use Rattle.std.specs.FinSet.{FinSet, empty, insert, contains, difference, code, contains-empty, contains-insert, contains-difference, same_set, nat_cmp-IsAntisymmetric}
-use Rattle.std.specs.Cmp.{nat_cmp_total, unsigned_tied}
+use Rattle.std.specs.FinSet.{FinSet, empty, insert, contains, difference, code, contains-empty, contains-difference, same_set, nat_cmp-IsAntisymmetric}
+use Rattle.std.specs.Cmp.{nat_cmp_total}
 use Rattle.std.specs.Coded.{Coded, coded_ℕ}
 use Rattle.std.specs.Int.{bit_at, w64}
 use Rattle.std.proofs.lemmas.Nat.Bits.{bit_at-lt, bit_at-zero, bit_at_set_same, bit_at_set_other, bit_at_not}

@@ -1,11 +1,11 @@
 -- Which expressions are valid, and the first fault of one that isn't.
-use Rattle.std.specs.Prelude.{ℕ, ◌-◌, Bool, ◌&&◌, ◌==◌, nat_lt, nat_le, if◌then◌else◌, Option, Some, None}
+use Rattle.std.specs.Prelude.{ℕ, ◌+◌, ◌-◌, Bool, ◌&&◌, ◌==◌, nat_lt, nat_le, if◌then◌else◌, Option, Some, None}
+use Rattle.volume_model.specs.declared.fault.Fault.{Fault}
+use Rattle.volume_model.specs.declared.fault.Fault.TheVariants.{BadCount, TooDeep, NotAMember, OverLimit}
 use Rattle.volume_model.specs.Formula.{Formula, Children, member, at_least, no_child, child, total_weight}
-use Rattle.quorum_expr.specs.declared.valid.ExprFault.{ExprFault}
-use Rattle.quorum_expr.specs.declared.valid.ExprFault.TheVariants.{BadCount, TooDeep, NotAMember}
 
 -- the first fault, and else the next
-abbrev pub or_then : Option ExprFault → Option ExprFault → Option ExprFault
+abbrev pub or_then : Option Fault → Option Fault → Option Fault
 or_then None next = next
 or_then (Some fault) next = Some fault
 
@@ -15,12 +15,28 @@ good_count k n = nat_le 1 k && (nat_le k n && nat_le n 64)
 
 -- the first fault of a formula that may have so many levels, outer ones before inner ones
 abbrev mutual
-  pub shape_fault : Formula → ℕ → Option ExprFault
+  pub shape_fault : Formula → ℕ → Option Fault
   shape_fault (member x) levels = (if levels == 0 then Some TooDeep else (if nat_lt x 64 then None else Some NotAMember))
   shape_fault (at_least k of) levels =
       (if levels == 0 then Some TooDeep else (if good_count k (total_weight of) then row_fault of (levels - 1) else Some BadCount))
 
   -- the first fault of children, in order
-  pub row_fault : Children → ℕ → Option ExprFault
+  pub row_fault : Children → ℕ → Option Fault
   row_fault no_child levels = None
   row_fault (child w f fs) levels = or_then (shape_fault f levels) (row_fault fs levels)
+
+-- how many members and thresholds a formula has
+abbrev mutual
+  pub nodes : Formula → ℕ
+  nodes (member x) = 1
+  nodes (at_least k of) = 1 + row_nodes of
+
+  -- how many all children have
+  pub row_nodes : Children → ℕ
+  row_nodes no_child = 0
+  row_nodes (child w f fs) = nodes f + row_nodes fs
+
+-- The first fault of a formula, if any: six levels, good thresholds and members below 64 at each node, and when the
+-- whole has been walked at most 4,096 nodes.
+abbrev pub expression_fault : Formula → Option Fault
+expression_fault f = or_then (shape_fault f 6) (if nat_le (nodes f) 4096 then None else Some OverLimit)

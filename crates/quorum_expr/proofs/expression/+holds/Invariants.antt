@@ -2,7 +2,7 @@ use Rattle.std.proofs.Common.{◌≡◌, ◌+◌, ◌≤◌, drop, map}
 use Rattle.std.specs.FinSet as set
 use Rattle.volume_model.specs.Formula.{weight_held, each_once}
 use Rattle.quorum_expr.specs.Expr.{formula_of}
-use Rattle.quorum_expr.proofs.+holds.Given as goal
+use Rattle.quorum_expr.proofs.expression.+holds.Given as goal
 
 abbrev pub invariant-loop-child : goal.invariant-loop-child
 invariant-loop-child g l =

@@ -1,7 +1,7 @@
 use Rattle.std.proofs.Common.{◌≡◌, ◌++◌, drop, map}
 use Rattle.volume_model.specs.Formula.{dual_of, each_once, EachHasCounts}
 use Rattle.quorum_expr.specs.Expr.{formula_of}
-use Rattle.quorum_expr.proofs.+dual_in.Given as goal
+use Rattle.quorum_expr.proofs.rebuilding.+dual_formula.Given as goal
 
 -- the duals so far, and those of the children that are left
 abbrev pub invariant-loop-child : goal.invariant-loop-child

@@ -1,8 +1,0 @@
-use Rattle.std.proofs.Common.{◌≡◌, ◌-◌, drop, map}
-use Rattle.volume_model.specs.Formula.{each_once}
-use Rattle.quorum_expr.specs.Expr.{formula_of}
-use Rattle.quorum_expr.specs.Valid.{row_fault}
-use Rattle.quorum_expr.proofs.valid.+fault_within.Given as goal
-
-abbrev pub invariant-loop-child : goal.invariant-loop-child
-invariant-loop-child g l = row_fault (each_once (map formula_of (drop l.child-index l.child-items))) (l.levels - 1) ≡ row_fault (each_once (map formula_of l.child-items)) (l.levels - 1)

@@ -1,0 +1,34 @@
+//! Quorum expressions and their meaning.
+
+ghost use Rattle.std.specs.Prelude.{◌≡◌};
+ghost use Rattle.std.specs.FinSet as set;
+ghost use Rattle.volume_model.specs.Formula.{sat};
+ghost use Rattle.quorum_expr.specs.Expr.{formula_of};
+
+use crate::MemberSet;
+use std::alloc::Allocator;
+
+/// A member of a group, or at least `k` of several expressions.
+#[derive(Drop)]
+pub enum Expr<A: Allocator> {
+    Member(u8),
+    KOf { k: u8, of: Vec<Expr<A>, A> },
+}
+
+/// Whether an expression holds in a set of members.
+pub fn holds<A: Allocator>(expr: &Expr<A>, members: MemberSet) -> bool
+    ensures { result ≡ sat (formula_of expr.now) (set.contains members) }
+{
+    match expr {
+        Expr::Member(member) => members.contains(*member),
+        Expr::KOf { k, of } => {
+            let mut held = 0usize;
+            for child in of {
+                if holds(child, members) {
+                    held += 1;
+                }
+            }
+            held >= usize::from(*k)
+        }
+    }
+}

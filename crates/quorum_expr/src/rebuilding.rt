@@ -1,0 +1,67 @@
+//! Expressions made from others: copies and duals.
+
+ghost use Rattle.std.specs.Prelude.{◌≡◌, IfOk, Ok, None, not};
+ghost use Rattle.volume_model.specs.Answer.{Gives};
+ghost use Rattle.volume_model.specs.Formula.{Members, sat, dual_of, HasCounts};
+ghost use Rattle.quorum_expr.specs.Expr.{formula_of};
+ghost use Rattle.quorum_expr.specs.Valid.{expression_fault};
+
+use crate::expression::Expr;
+use std::alloc::Allocator;
+use volume_model::Fault;
+
+/// The same expression in other memory.
+pub fn copy_in<A: Allocator, B: Allocator + Clone>(
+    expr: &Expr<A>,
+    alloc: B,
+) -> Result<Expr<B>, Fault>
+    ensures { Gives formula_of result (Ok (formula_of expr.now)) }
+{
+    match expr {
+        Expr::Member(member) => Ok(Expr::Member(*member)),
+        Expr::KOf { k, of } => {
+            let mut copies = Vec::new(alloc.clone()?);
+            for child in of {
+                copies.push(copy_in(child, alloc.clone()?)?)?;
+            }
+            Ok(Expr::KOf { k: *k, of: copies })
+        }
+    }
+}
+
+/// The dual of an expression with good thresholds.
+fn dual_formula<A: Allocator, B: Allocator + Clone>(
+    expr: &Expr<A>,
+    alloc: B,
+) -> Result<Expr<B>, Fault>
+    requires { HasCounts (formula_of expr.now) }
+    ensures { Gives formula_of result (Ok (dual_of (formula_of expr.now))) }
+{
+    match expr {
+        Expr::Member(member) => Ok(Expr::Member(*member)),
+        Expr::KOf { k, of } => {
+            let mut duals = Vec::new(alloc.clone()?);
+            for child in of {
+                duals.push(dual_formula(child, alloc.clone()?)?)?;
+            }
+            let all = of.len();
+            Ok(Expr::KOf {
+                k: (all + 1 - usize::from(*k)) as u8,
+                of: duals,
+            })
+        }
+    }
+}
+
+/// The expression that holds in a set exactly where the given one, which is valid, doesn't hold in the complement.
+pub fn dual_in<A: Allocator, B: Allocator + Clone>(
+    expr: &Expr<A>,
+    alloc: B,
+) -> Result<Expr<B>, Fault>
+    requires { expression_fault (formula_of expr.now) ≡ None }
+    ensures dual { Gives formula_of result (Ok (dual_of (formula_of expr.now))) }
+    ensures law { IfOk result (λ dual. (s : Members) → sat (formula_of dual) s ≡ not (sat (formula_of expr.now) (λ x. not (s x)))) }
+    ensures valid { IfOk result (λ dual. expression_fault (formula_of dual) ≡ None) }
+{
+    dual_formula(expr, alloc)
+}

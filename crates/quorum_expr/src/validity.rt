@@ -1,0 +1,64 @@
+//! The test of an expression.
+
+ghost use Rattle.std.specs.Prelude.{◌≡◌, ◌-◌, None, Some, OnOk, IfErr, IfNone};
+ghost use Rattle.quorum_expr.specs.Expr.{formula_of};
+ghost use Rattle.quorum_expr.specs.Valid.{shape_fault, expression_fault, nodes};
+
+use crate::expression::Expr;
+use std::alloc::Allocator;
+use volume_model::Fault;
+
+/// How many levels an expression may have.
+pub const LEVELS: u8 = 6;
+
+/// How many nodes an expression may have.
+pub const NODES: u32 = 4_096;
+
+/// The first fault of an expression that may have so many levels. The room falls by one a node, to 0 at least.
+fn fault_within<A: Allocator>(expr: &Expr<A>, levels: u8, room: &mut u32) -> Option<Fault>
+    ensures fault { result ≡ shape_fault (formula_of expr.now) levels }
+    ensures counted { IfNone result (room.new ≡ room.old - nodes (formula_of expr.now)) }
+{
+    if levels == 0 {
+        return Some(Fault::TooDeep);
+    }
+    *room = room.saturating_sub(1);
+    match expr {
+        Expr::Member(member) => {
+            if *member < 64 {
+                None
+            } else {
+                Some(Fault::NotAMember)
+            }
+        }
+        Expr::KOf { k, of } => {
+            if *k < 1 || usize::from(*k) > of.len() || of.len() > 64 {
+                return Some(Fault::BadCount);
+            }
+            for child in of {
+                if let Some(fault) = fault_within(child, levels - 1, room) {
+                    return Some(fault);
+                }
+            }
+            None
+        }
+    }
+}
+
+/// Whether an expression has at most six levels, each threshold from 1 to its at most 64 children, members of 0 to
+/// 63 alone and at most 4,096 nodes. Of several faults it is the first, outer ones before inner ones and children in
+/// order; the nodes are counted when the whole has been walked.
+pub fn valid<A: Allocator>(expr: &Expr<A>) -> Result<(), Fault>
+    ensures ok { OnOk result (expression_fault (formula_of expr.now) ≡ None) }
+    ensures err { IfErr result (λ fault. expression_fault (formula_of expr.now) ≡ Some fault) }
+{
+    // One more than the limit, so that nothing is left exactly where it is passed.
+    let mut room = NODES + 1;
+    if let Some(fault) = fault_within(expr, LEVELS, &mut room) {
+        return Err(fault);
+    }
+    if room == 0 {
+        return Err(Fault::OverLimit);
+    }
+    Ok(())
+}
