@@ -1,0 +1,4 @@
+pub mod Payload
+pub mod Record
+pub mod Packet
+pub mod Ranges

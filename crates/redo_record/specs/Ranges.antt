@@ -1,0 +1,34 @@
+use Rattle.std.specs.Prelude.{◌+◌, ◌^◌, ◌<◌, ◌≤◌, length}
+use Rattle.volume_model.specs.Redo.{Redo}
+use Rattle.redo_record.specs.declared.«record».Record.{Record}
+use Rattle.redo_record.specs.declared.packet.Packet.{Packet}
+use Rattle.redo_record.specs.Record.{redo_of}
+use Rattle.redo_record.specs.Packet.{packet_redo}
+
+-- what each record keeps
+pub record HasRanges (r : Redo) : Type 0 where
+  pub lsn_positive : 1 ≤ r.lsn
+  pub lsn_in_range : r.lsn ≤ 2 ^ 62
+  pub volume_positive : 1 ≤ r.volume
+  pub prev_volume_before : r.prev_volume < r.lsn
+  pub prev_group_in_volume : r.prev_group ≤ r.prev_volume
+  pub prev_block_in_group : r.prev_block ≤ r.prev_group
+  pub group_in_range : r.group < 16
+  pub bytes_within : r.offset + length r.bytes ≤ 512
+
+-- a record keeps its ranges
+pub redo_of-ranges : (r : Record) → HasRanges (redo_of r)
+redo_of-ranges r = record {
+  lsn_positive = r.lsn_positive;
+  lsn_in_range = r.lsn_in_range;
+  volume_positive = r.volume_epoch_positive;
+  prev_volume_before = r.prev_volume_before;
+  prev_group_in_volume = r.prev_group_in_volume;
+  prev_block_in_group = r.prev_block_in_group;
+  group_in_range = r.group_in_range;
+  bytes_within = r.bytes_within;
+}
+
+-- a packet's record keeps its ranges
+pub packet_redo-ranges : (packet : Packet) → HasRanges (packet_redo packet)
+packet_redo-ranges packet = redo_of-ranges packet.«record»

@@ -1,0 +1,23 @@
+use Rattle.std.specs.Prelude.{ℕ, List, [], ◌∷◌, length, if◌then◌else◌}
+use Rattle.volume_model.specs.Redo.{Redo}
+use Rattle.redo_record.specs.declared.«record».Record.{Record}
+use Rattle.redo_record.specs.Payload.{payload_bytes}
+
+-- the record of the model that a record is
+abbrev pub redo_of : Record → Redo
+redo_of r = record {
+  lsn = r.lsn;
+  volume = r.volume_epoch;
+  prev_volume = r.prev_volume;
+  prev_group = r.prev_group;
+  prev_block = r.prev_block;
+  group = r.group;
+  block = r.block;
+  offset = r.offset;
+  bytes = payload_bytes r.bytes;
+  point = r.point;
+}
+
+-- the numbers of a record before its bytes
+abbrev pub heading : Redo → List ℕ
+heading r = r.lsn ∷ r.volume ∷ r.prev_volume ∷ r.prev_group ∷ r.prev_block ∷ r.group ∷ r.block ∷ r.offset ∷ (if r.point then 1 else 0) ∷ length r.bytes ∷ []

@@ -1,0 +1,45 @@
+//! The bytes that a record writes.
+
+ghost use Rattle.std.specs.Prelude.{◌≤◌};
+
+/// How many bytes a record writes at most.
+const MOST_BYTES: usize = 64;
+
+/// 1 to 64 bytes, in place.
+#[derive(Clone, Copy)]
+pub struct Payload {
+    place: [u8; MOST_BYTES],
+    length: u8,
+    ghost not_empty: { 1 ≤ length },
+    ghost in_place: { length ≤ 64 },
+}
+
+impl Payload {
+    ghost use Rattle.std.specs.Prelude.{◌≡◌, ◌↔◌, length, IsSome, IfSome};
+    ghost use Rattle.redo_record.specs.Payload.{payload_bytes, HasRoom};
+
+    /// These bytes, where there are 1 to 64.
+    pub fn new(bytes: &[u8]) -> Option<Payload>
+        ensures when { IsSome result ↔ HasRoom (length bytes.now) }
+        ensures value { IfSome result (λ payload. payload_bytes payload ≡ bytes.now) }
+    {
+        let length = bytes.len();
+        if length == 0 || length > MOST_BYTES {
+            return None;
+        }
+        let mut place = [0; MOST_BYTES];
+        place[..length].copy_from_slice(bytes);
+        Some(Payload {
+            place,
+            length: length as u8,
+        })
+    }
+
+    /// The bytes.
+    pub fn as_slice(&self) -> &[u8]
+        ensures value { result.now ≡ payload_bytes self.now }
+        ensures room { HasRoom (length result.now) }
+    {
+        &self.place[..self.length as usize]
+    }
+}
