@@ -1,0 +1,8 @@
+//! Lineages: which recoveries a volume went through, and up to where each of them kept the log.
+#![tactic(auto)]
+
+mod entry;
+mod lineage;
+
+pub use entry::Entry;
+pub use lineage::Lineage;
