@@ -1,0 +1,56 @@
+//! Refutations within the limits.
+
+ghost use Rattle.std.specs.Prelude.{◌≡◌, ◌≤◌, true, false, OnOk, IfErr};
+ghost use Rattle.refutation.specs.Rule.{depth_of, HasLimits};
+ghost use Rattle.refutation.specs.Refutation.{rule_of};
+ghost use Rattle.refutation.specs.Limits.{is_certificate};
+
+use crate::Refutation;
+use crate::limits::{is_shallow, keep_lists, room_after};
+use std::alloc::Allocator;
+use volume_model::Fault;
+
+/// How many levels a certificate may have.
+pub const MAX_DEPTH: u8 = 40;
+
+/// How many rules a certificate may have.
+pub const MAX_NODES: u32 = 100_000;
+
+/// A refutation of at most 40 levels and 100,000 rules, whose lists have at most 255 entries and whose members are
+/// below 64.
+#[derive(Drop)]
+pub struct Certificate<A: Allocator> {
+    tree: Refutation<A>,
+    ghost within: { is_certificate (rule_of tree) ≡ true },
+}
+
+impl<A: Allocator> Certificate<A> {
+    ghost use Rattle.std.specs.Prelude.{IfOk};
+    ghost use Rattle.refutation.specs.Certificate.{certificate_rule};
+
+    /// The certificate that a refutation is. `OverLimit`, with the refutation, where it passes a limit.
+    pub fn new(tree: Refutation<A>) -> Result<Certificate<A>, (Fault, Refutation<A>)>
+        ensures made { IfOk result (λ c. certificate_rule c ≡ rule_of tree) }
+        ensures within { OnOk result (is_certificate (rule_of tree) ≡ true) }
+        ensures over { IfErr result (λ e. (e.0 ≡ Fault.OverLimit) × (e.1 ≡ tree) × (is_certificate (rule_of tree) ≡ false)) }
+    {
+        // One more than the limit, so that nothing is left exactly where it is passed.
+        if !is_shallow(&tree, MAX_DEPTH)
+            || !keep_lists(&tree)
+            || room_after(&tree, MAX_NODES + 1) == 0
+        {
+            return Err((Fault::OverLimit, tree));
+        }
+        Ok(Certificate { tree })
+    }
+
+    /// Its tree.
+    pub fn tree(&self) -> &Refutation<A>
+        ensures rule { rule_of result.now ≡ certificate_rule self.now }
+        ensures depth { depth_of (certificate_rule self.now) ≤ 40 }
+        ensures limits { HasLimits (certificate_rule self.now) }
+        ensures within { is_certificate (certificate_rule self.now) ≡ true }
+    {
+        &self.tree
+    }
+}
