@@ -358,14 +358,14 @@ module _ (plan : Plan) (certified : IsCertified plan) (world : World) (kept : Is
       let last : ℕ = max (last_lsn client.log) start + length changes in
       let (z, h0) = refuse_if-ok (not (is_born client.stage)) NoActor _ step h in
       let (a, h1) = refuse_if-ok (not (is_open client.stage)) NotOpen _ step h0 in
-      let (b, h2) = refuse_if-ok (not (is_transaction plan changes)) BadTransaction _ step h1 in
+      let (b, h2) = refuse_if-ok (not (is_transaction plan.groups changes)) BadTransaction _ step h1 in
       let (c, h3) = refuse_if-ok (nat_lt (2 ^ 62) last) LsnSpent _ step h2 in
       let (d, h4) = refuse_if-ok (nat_lt (max (durable_point client) start + plan.lal) last) LimitReached _ step h3 in
       let cut : has_cut client.stage ≡ true = cut_from_open client.stage (not-false _ a) in
       let k : IsCutClient plan world v client = now.cut cut in
-      let good : (nat_le 1 (length changes) ≡ true) × ((nat_le (length changes) 32 && every (is_change plan) changes) ≡ true) = and_parts _ _ (not-false _ b) in
-      let each : every (is_change plan) changes ≡ true = (and_parts (nat_le (length changes) 32) _ good.1).1 in
-      let there : (change : Change) → IsIn change changes → change.group < plan.groups = λ change i. ltb-true change.group plan.groups (and_parts (nat_lt change.group plan.groups) _ (every-all (is_change plan) changes each change i)).0 in
+      let good : (nat_le 1 (length changes) ≡ true) × ((nat_le (length changes) 32 && every (is_change plan.groups) changes) ≡ true) = and_parts _ _ (not-false _ b) in
+      let each : every (is_change plan.groups) changes ≡ true = (and_parts (nat_le (length changes) 32) _ good.1).1 in
+      let there : (change : Change) → IsIn change changes → change.group < plan.groups = λ change i. ltb-true change.group plan.groups (and_parts (nat_lt change.group plan.groups) _ (every-all (is_change plan.groups) changes each change i)).0 in
       let o : IsOwnLog client.found (issued_log v start changes client.log) = issued_own changes there client.found client.log (record { own = k.own; is = k.log; grown = k.grown; owned = k.owned }) in
       let after : Client = record client { log = issued_log v start changes client.log } in
       subst (λ s. IsGoodMove plan world v s) (Ok-is _ step h4) (record {

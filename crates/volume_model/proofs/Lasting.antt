@@ -70,7 +70,7 @@ module _ (plan : Plan) (v : ℕ) (client : Client) where
       let last : ℕ = max (last_lsn client.log) start + length changes in
       let (z, h0) = refuse_if-ok (not (is_born client.stage)) NoActor _ step h in
       let (a, h1) = refuse_if-ok (not (is_open client.stage)) NotOpen _ step h0 in
-      let (b, h2) = refuse_if-ok (not (is_transaction plan changes)) BadTransaction _ step h1 in
+      let (b, h2) = refuse_if-ok (not (is_transaction plan.groups changes)) BadTransaction _ step h1 in
       let (c, h3) = refuse_if-ok (nat_lt (2 ^ 62) last) LsnSpent _ step h2 in
       let (d, h4) = refuse_if-ok (nat_lt (max (durable_point client) start + plan.lal) last) LimitReached _ step h3 in
       subst IsLater (Ok-is _ step h4) (record { open_on = λ h. h; points = λ h group. omega arith; log = λ h. issued_later v start changes client.log })

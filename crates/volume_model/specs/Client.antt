@@ -223,13 +223,13 @@ issued_writes volume places start (change ∷ more) log =
     let r = record_of volume start log change (is_last more) in
     Write change.group (label_of volume places change.group) r ∷ issued_writes volume places start more (r ∷ log)
 
--- the change is one of a group of the plan, within a page
-abbrev pub is_change : Plan → Change → Bool
-is_change plan change = nat_lt change.group plan.groups && (nat_le 1 (length change.bytes) && (nat_le (length change.bytes) 64 && nat_le (change.offset + length change.bytes) 512))
+-- the change is one of a group below the number of groups, of 1 to 64 bytes within a page
+abbrev pub is_change : ℕ → Change → Bool
+is_change groups change = nat_lt change.group groups && (nat_le 1 (length change.bytes) && (nat_le (length change.bytes) 64 && nat_le (change.offset + length change.bytes) 512))
 
 -- one to 32 changes, each of them a good one
-abbrev pub is_transaction : Plan → List Change → Bool
-is_transaction plan changes = nat_le 1 (length changes) && (nat_le (length changes) 32 && every (is_change plan) changes)
+abbrev pub is_transaction : ℕ → List Change → Bool
+is_transaction groups changes = nat_le 1 (length changes) && (nat_le (length changes) 32 && every (is_change groups) changes)
 
 -- what a writer does with a transaction
 abbrev pub issued : Plan → ℕ → Client → List Change → ClientAnswer
@@ -238,7 +238,7 @@ issued plan volume client changes =
     let last = max (last_lsn client.log) start + length changes in
     refuse_if (not (is_born client.stage)) NoActor (
     refuse_if (not (is_open client.stage)) NotOpen (
-    refuse_if (not (is_transaction plan changes)) BadTransaction (
+    refuse_if (not (is_transaction plan.groups changes)) BadTransaction (
     refuse_if (nat_lt (2 ^ 62) last) LsnSpent (
     refuse_if (nat_lt (max (durable_point client) start + plan.lal) last) LimitReached (
     Ok (record {
