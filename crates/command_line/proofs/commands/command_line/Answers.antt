@@ -1,0 +1,10 @@
+use Rattle.std.proofs.Common.{◌∙◌, ap, ap₂}
+use Rattle.std.proofs.lemmas.Result.{IfOk-weaker}
+use Rattle.clap.specs.Words.{App, with_subcommand}
+use Rattle.command_line.proofs.commands.command_line.Goals as goal
+
+pub returns : goal.returns
+returns c =
+    let top = λ (a : App). a.top in
+    let one = c.in_ok-command.ensures ∙ ap₂ with_subcommand c.program-command.ensures (ap top c.in_ok-check.ensures.app) in
+    IfOk-weaker c.add-2.result _ _ (λ r h. h ∙ ap₂ with_subcommand one (ap top c.in_ok-run.ensures.app)) c.add-2.ensures

@@ -1,0 +1,15 @@
+use Rattle.std.proofs.Common.{sym}
+use Rattle.clap.specs.Words.{found_of, rows_of}
+use Rattle.clap.specs.declared.parser.matches.ArgMatches.TheViews.{out-ArgMatches}
+use Rattle.command_line.proofs.Entered.{is_entered}
+use Rattle.command_line.proofs.words.job_of.Goals as goal
+
+pub returns : goal.returns
+returns c =
+    let rows = rows_of (found_of c.in-Some.inner.now) in
+    record {
+      rows = rows;
+      entered = rw (← c.in-Some-action_of.ensures) (is_entered (out-ArgMatches c.args.matches.now).subcommand c.in-Some.name.now rows c.in-Some.ensures.name c.in-Some.ensures.rows);
+      plan = sym c.in-Some-text_of.ensures;
+      script = c.script_of-script.ensures;
+    }

@@ -1,0 +1,29 @@
+-- The command line, as clap reads it.
+use Rattle.std.specs.Prelude.{◌≡◌, codes, Some, true, false}
+use Rattle.clap.specs.Words.{App, Rule, Text, app_of, new_app, new_rule, with_rule, with_subcommand}
+use Rattle.clap.specs.Simple.{on_top}
+use Rattle.clap.specs.declared.builder.command.Command.{Command}
+use Rattle.clap.specs.declared.builder.command.Command.TheViews.{out-Command}
+use Rattle.clap.specs.declared.builder.action.ArgAction.TheVariants.{Set}
+
+abbrev pub file_rule : Text → Rule
+file_rule id = record (new_rule id) { required = true; action = Some Set }
+
+abbrev pub file_leaf : Text → App
+file_leaf name = with_rule (new_app name) (file_rule (codes "plan"))
+
+abbrev pub script_leaf : Text → App
+script_leaf name = with_rule (file_leaf name) (file_rule (codes "script"))
+
+-- a subcommand as it stands before it is added
+pub record IsLeaf (a : App) (c : Command) : Type 0 where
+  pub app : app_of c ≡ a
+  pub local : (out-Command c).has_globals ≡ false
+
+-- the program before its subcommands: one is asked for, and it tells its version
+abbrev pub program : App
+program = on_top (λ s. record s { has_version = true; subcommand_required = true }) (new_app (codes "plan_tool"))
+
+-- check FILE, run PLAN SCRIPT
+abbrev pub tool : App
+tool = with_subcommand (with_subcommand program (file_leaf (codes "check")).top) (script_leaf (codes "run")).top

@@ -1,0 +1,61 @@
+//! The command line, by clap's builder.
+
+ghost use Rattle.std.specs.Prelude.{◌≡◌, IfOk, false};
+ghost use Rattle.clap.specs.Words.{app_of, rule_of, with_subcommand};
+ghost use Rattle.clap.specs.declared.builder.command.Command.TheViews.{out-Command as fields_of};
+ghost use Rattle.command_line.specs.CommandLine.{IsLeaf, file_rule, tool, program, file_leaf, script_leaf};
+
+use clap::{Arg, ArgAction, Command};
+use std::alloc::{AllocError, Global};
+
+fn file<'a>(alloc: Global, id: &'a str) -> Arg<'a>
+    ensures rule { rule_of result ≡ file_rule id.entry.now }
+    ensures local { result.global ≡ false }
+{
+    Arg::new(alloc, id).required(true).action(ArgAction::Set)
+}
+
+/// The program before its subcommands.
+fn program<'a>(alloc: Global) -> Command<'a>
+    ensures { app_of result ≡ program }
+{
+    Command::new(alloc, "plan_tool")
+        .about("Checks plans of a quorum log volume, and runs scripts over them")
+        .version("0.1.0")
+        .subcommand_required(true)
+}
+
+/// A subcommand of one file.
+fn of_file<'a>(alloc: Global, name: &'a str, about: &'a str) -> Result<Command<'a>, AllocError>
+    ensures { IfOk result (IsLeaf (file_leaf name.entry.now)) }
+{
+    Command::new(alloc, name)
+        .about(about)
+        .arg(file(alloc, "plan"))
+}
+
+/// A subcommand of a plan and a script.
+fn of_script<'a>(alloc: Global, name: &'a str, about: &'a str) -> Result<Command<'a>, AllocError>
+    ensures { IfOk result (IsLeaf (script_leaf name.entry.now)) }
+{
+    of_file(alloc, name, about)?.arg(file(alloc, "script"))
+}
+
+fn add<'a>(command: Command<'a>, leaf: Command<'a>) -> Result<Command<'a>, AllocError>
+    requires { (fields_of leaf).has_globals ≡ false }
+    ensures { IfOk result
+        (λ c. app_of c ≡ with_subcommand (app_of command.entry) (app_of leaf.entry).top) }
+{
+    command.subcommand(leaf)
+}
+
+/// The whole command line.
+pub fn command_line<'a>(alloc: Global) -> Result<Command<'a>, AllocError>
+    ensures { IfOk result (λ c. app_of c ≡ tool) }
+{
+    let command = program(alloc);
+    let check = of_file(alloc, "check", "Says whether a plan's quorums all meet")?;
+    let command = add(command, check)?;
+    let run = of_script(alloc, "run", "Runs a script over a plan")?;
+    add(command, run)
+}

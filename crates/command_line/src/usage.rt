@@ -1,0 +1,29 @@
+//! Why the words of a command line aren't a job.
+
+ghost use Rattle.std.specs.Prelude.{◌≡◌};
+
+use std::alloc::AllocError;
+use thiserror::Error;
+
+/// What is printed in place of a job.
+#[derive(Debug, Drop, Error)]
+pub enum Usage {
+    /// What clap says: a mistake in the words, or the help or the version that they ask for.
+    #[error(transparent)]
+    Words(#[from] clap::Error),
+    /// A subcommand or a file that clap let pass, though it asks for it.
+    #[error("error: {0}\n")]
+    Missing(&'static str),
+    #[error("error: out of memory\n")]
+    Memory(#[from(alloc)] AllocError),
+}
+
+impl Usage {
+    /// Whether the words asked for this text, so that it goes to the standard output and is no mistake.
+    pub fn is_asked_for(&self) -> bool {
+        match self {
+            Usage::Words(error) => !error.use_stderr(),
+            _ => false,
+        }
+    }
+}

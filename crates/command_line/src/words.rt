@@ -1,0 +1,66 @@
+//! What a command line asks for.
+
+ghost use Rattle.std.specs.Prelude.{◌≡◌, [], IfOk, IfSome, codes, map, option_map, unwrap_or};
+ghost use Rattle.clap.specs.Words.{first_of, found_of, rows_of, subcommand_of, subcommand_rows_of};
+ghost use Rattle.command_line.specs.CommandLine.{tool};
+ghost use Rattle.command_line.specs.Jobs.{IsJob, name_of};
+
+use crate::action::{Action, Job};
+use crate::commands::command_line;
+use crate::usage::Usage;
+use clap::ArgMatches;
+use std::alloc::Global;
+
+/// The job that the words of a command line name; the first is the program's own name.
+pub fn job<'a>(alloc: Global, words: &'a [&'a str]) -> Result<Job<'a>, Usage>
+    ensures { IfOk result (IsJob (subcommand_of tool (map (λ w. w.now) words.entry.now))) }
+{
+    let matches = command_line(alloc)?.try_get_matches_from(words)?;
+    job_of(&matches)
+}
+
+/// The first value of an id.
+fn text_of<'a>(matches: &ArgMatches<'a>, id: &str) -> Option<&'a str>
+    ensures { option_map (λ w. w.now) result ≡ first_of id.now (rows_of (found_of matches.now)) }
+{
+    matches.get_str(id)
+}
+
+fn action_of(name: &str) -> Option<Action>
+    ensures { IfSome result (λ action. name.now ≡ name_of action) }
+{
+    match name {
+        "check" => Some(Action::Check),
+        "run" => Some(Action::Run),
+        _ => None,
+    }
+}
+
+fn script_of<'a>(matches: &ArgMatches<'a>) -> &'a str
+    ensures { result.now ≡ unwrap_or (first_of (codes "script") (rows_of (found_of matches.now))) [] }
+{
+    match text_of(matches, "script") {
+        Some(text) => text,
+        None => "",
+    }
+}
+
+fn job_of<'a>(matches: &ArgMatches<'a>) -> Result<Job<'a>, Usage>
+    ensures { IfOk result (IsJob (subcommand_rows_of matches.now)) }
+{
+    let Some((name, inner)) = matches.subcommand() else {
+        return Err(Usage::Missing("no subcommand"));
+    };
+    let Some(action) = action_of(name) else {
+        return Err(Usage::Missing("no such subcommand"));
+    };
+    let Some(plan) = text_of(inner, "plan") else {
+        return Err(Usage::Missing("no plan"));
+    };
+    let script = script_of(inner);
+    Ok(Job {
+        action,
+        plan,
+        script,
+    })
+}

@@ -1,0 +1,3 @@
+pub mod Logs
+pub mod Growing
+pub mod OneMore

@@ -1,0 +1,73 @@
+-- One record more of a transaction.
+use Rattle.std.proofs.Common.{◌≡◌, ℕ, zero, suc, ◌+◌, ◌<◌, ◌≤◌, ◌^◌, Bool, true, false, ◌&&◌, nat_lt, nat_le, nat_eq, List, [], ◌∷◌, ◌++◌, map, max, length, drop, get_or, take, refl, sym, ap, ap₂, ◌∙◌, subst, arith, drop-cons, add-one, append_assoc, length-drop}
+use Rattle.std.proofs.lemmas.Bool.{lt-ltb}
+use Rattle.std.proofs.lemmas.List.{take-append-le, length-take}
+use Rattle.std.proofs.lemmas.Bool.Decides.{nat_tests}
+use Rattle.volume_model.specs.Lists.{every}
+use Rattle.volume_model.specs.Redo.{Redo, last_lsn}
+use Rattle.volume_model.specs.Message as model
+use Rattle.volume_model.specs.Client as client
+use Rattle.volume_model.specs.Client.{record_of, is_last, issued_log, issued_writes, is_change}
+use Rattle.redo_record.specs.declared.«record».Record.{Record}
+use Rattle.redo_record.specs.Record.{redo_of}
+use Rattle.wire.specs.declared.message.Message.{Message}
+use Rattle.wire.specs.Message.{message_of, messages_of}
+use Rattle.writer_core.specs.declared.change.Change.{Change}
+use Rattle.writer_core.specs.Logs.{log_of, is_growing}
+use Rattle.writer_core.specs.Changes.{change_of, changes_of}
+use Rattle.writer_core.proofs.Logs.{log_of-push}
+
+last_here : (changes : List Change) (i : ℕ) → i < length changes → nat_eq (i + 1) (length changes) ≡ is_last (changes_of (drop (i + 1) changes))
+last_here [] i h = absurd (omega arith)
+last_here (x ∷ []) zero h = refl
+last_here (x ∷ y ∷ ys) zero h = grind (arith, nat_tests)
+last_here (x ∷ xs) (suc i) h =
+    let inner : nat_eq (i + 1) (length xs) ≡ is_last (changes_of (drop (i + 1) xs)) = last_here xs i (omega arith) in
+    let e : suc i + 1 ≡ suc (i + 1) = omega arith in
+    let f : nat_eq (suc (i + 1)) (suc (length xs)) ≡ nat_eq (i + 1) (length xs) = grind (arith, nat_tests) in
+    rw e (f ∙ inner)
+
+module _ (volume start : ℕ) (places : ℕ → model.Place) (changes : List Change) (i : ℕ) (change : Change) (within : i < length changes) (is : change ≡ get_or changes i change) (records : List Record) (r : Record) (made : redo_of r ≡ record_of volume start (log_of records) (change_of change) (nat_eq (i + 1) (length changes))) where
+  pub rest_is : changes_of (drop i changes) ≡ change_of change ∷ changes_of (drop (i + 1) changes)
+  rest_is = ap changes_of (drop-cons changes i change within) ∙ ap₂ (λ x n. change_of x ∷ changes_of (drop n changes)) (sym is) (sym (add-one i))
+
+  record_is : redo_of r ≡ record_of volume start (log_of records) (change_of change) (is_last (changes_of (drop (i + 1) changes)))
+  record_is = made ∙ ap (record_of volume start (log_of records) (change_of change)) (last_here changes i within)
+
+  log_is : log_of (records ++ r ∷ []) ≡ record_of volume start (log_of records) (change_of change) (is_last (changes_of (drop (i + 1) changes))) ∷ log_of records
+  log_is = log_of-push records r ∙ ap (λ s. s ∷ log_of records) record_is
+
+  pub logged_on : issued_log volume start (changes_of (drop (i + 1) changes)) (log_of (records ++ r ∷ [])) ≡ issued_log volume start (changes_of (drop i changes)) (log_of records)
+  logged_on = ap (issued_log volume start (changes_of (drop (i + 1) changes))) log_is ∙ sym (ap (λ cs. issued_log volume start cs (log_of records)) rest_is)
+
+  pub written_on : (m : model.Message) → m ≡ model.Message.Write change.group (client.label_of volume places change.group) (redo_of r) → m ∷ issued_writes volume places start (changes_of (drop (i + 1) changes)) (log_of (records ++ r ∷ [])) ≡ issued_writes volume places start (changes_of (drop i changes)) (log_of records)
+  written_on m e =
+      ap₂ (λ x l. x ∷ issued_writes volume places start (changes_of (drop (i + 1) changes)) l) (e ∙ ap (model.Message.Write change.group (client.label_of volume places change.group)) record_is) log_is
+      ∙ sym (ap (λ cs. issued_writes volume places start cs (log_of records)) rest_is)
+
+  pub growing_on : is_growing (log_of records) ≡ true → is_growing (log_of (records ++ r ∷ [])) ≡ true
+  growing_on h =
+      let lsn : (redo_of r).lsn ≡ suc (max (last_lsn (log_of records)) start) = ap (λ s. s.lsn) record_is in
+      let above : nat_lt (last_lsn (log_of records)) (redo_of r).lsn ≡ true = lt-ltb (last_lsn (log_of records)) (redo_of r).lsn (omega arith) in
+      ap is_growing (log_of-push records r) ∙ ap (λ b. b && is_growing (log_of records)) above ∙ h
+
+  pub room_on : max (last_lsn (log_of records)) start + length (drop i changes) ≤ 2 ^ 62 → max (last_lsn (log_of (records ++ r ∷ []))) start + length (drop (i + 1) changes) ≤ 2 ^ 62
+  room_on h =
+      let lsn : (redo_of r).lsn ≡ suc (max (last_lsn (log_of records)) start) = ap (λ s. s.lsn) record_is in
+      rw (log_of-push records r, lsn) (omega (arith, length-drop {A = Change}))
+
+  pub good_on : (groups : ℕ) → every (is_change groups) (changes_of (drop i changes)) ≡ true → (is_change groups (change_of change) ≡ true) × (every (is_change groups) (changes_of (drop (i + 1) changes)) ≡ true)
+  good_on groups h = parts _ _ (sym (ap (every (is_change groups)) rest_is) ∙ h)
+    where
+      parts : (a b : Bool) → (a && b) ≡ true → (a ≡ true) × (b ≡ true)
+      parts a b e = grind (arith, nat_tests)
+
+pub front_on : (records : List Record) (r : Record) (front : List Record) → take (length front) records ≡ front → take (length front) (records ++ r ∷ []) ≡ front
+front_on records r front e =
+    let l : length (take (length front) records) ≡ length front = ap length e in
+    let within : length front ≤ length records = omega (arith, l, length-take (length front) records) in
+    take-append-le (length front) records (r ∷ []) within ∙ e
+
+pub messages_on : (messages : List Message) (m : Message) (rest whole : List model.Message) → message_of m ∷ rest ≡ whole → messages_of (messages ++ m ∷ []) ++ rest ≡ messages_of messages ++ whole
+messages_on [] m rest whole e = e
+messages_on (x ∷ messages) m rest whole e = ap (λ ms. message_of x ∷ ms) (messages_on messages m rest whole e)

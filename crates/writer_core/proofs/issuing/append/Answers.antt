@@ -1,0 +1,37 @@
+use Rattle.std.proofs.Common.{◌≡◌, ℕ, ap, ◌∙◌, ◌++◌, ◌∷◌, [], nat_eq, ◌+◌, length}
+use Rattle.volume_model.specs.Redo.{Redo}
+use Rattle.volume_model.specs.Message as model
+use Rattle.volume_model.specs.Client.{place_of, record_of, label_of}
+use Rattle.wire.specs.Message.{message_of}
+use Rattle.redo_record.specs.Record.{redo_of}
+use Rattle.writer_core.specs.Logs.{log_of}
+use Rattle.writer_core.specs.Changes.{change_of}
+use Rattle.writer_core.specs.Standings.{groups_of}
+use Rattle.writer_core.proofs.OneMore.{logged_on, written_on, growing_on, room_on, good_on, front_on, messages_on}
+use Rattle.writer_core.proofs.issuing.append.Goals as goal
+
+pub loop-i-preserved : goal.loop-i-preserved
+loop-i-preserved c =
+    let volume = c.args.span.volume in
+    let start = c.args.span.start in
+    let places = place_of (groups_of c.args.standings.now) in
+    let changes = c.args.changes.now in
+    let i = c.loop-i.i in
+    let change = c.index-changes-i.result in
+    let records = c.loop-i.log.items in
+    let r = c.next_record-record.result in
+    let within = c.loop-i-test.true in
+    let is = c.index-changes-i.is in
+    let made : redo_of r ≡ record_of volume start (log_of records) (change_of change) (nat_eq (i + 1) (length changes)) = rw c.as_slice.ensures.value at c.next_record-record.ensures in
+    let logs : c.push-in-loop-i.new.self.items ≡ records ++ r ∷ [] = c.in_ok-push-2.ensures.items in
+    let messages : c.push.new.self.items ≡ c.loop-i.messages.items ++ c.write_of.result ∷ [] = c.in_ok-push.ensures.items in
+    let said : message_of c.write_of.result ≡ model.Message.Write change.group (label_of volume places change.group) (redo_of r) =
+    c.write_of.ensures ∙ ap (λ (g : ℕ). model.Message.Write g (label_of volume places g) (redo_of r)) (ap (λ (s : Redo). s.group) made) in
+    record {
+      growing = rw logs (growing_on volume start places changes i change within is records r made c.loop-i.invariant.growing);
+      room = rw logs (room_on volume start places changes i change within is records r made c.loop-i.invariant.room);
+      good = (good_on volume start places changes i change within is records r made (length c.args.standings.now) c.loop-i.invariant.good).1;
+      logged = rw logs (logged_on volume start places changes i change within is records r made ∙ c.loop-i.invariant.logged);
+      written = rw (logs, messages) (messages_on c.loop-i.messages.items c.write_of.result _ _ (written_on volume start places changes i change within is records r made _ said) ∙ c.loop-i.invariant.written);
+      front = rw logs (front_on records r _ c.loop-i.invariant.front);
+    }

@@ -1,0 +1,100 @@
+//! The records of a transaction, and the messages that carry them.
+
+ghost use Rattle.std.specs.Prelude.{◌≡◌, ◌+◌, ◌^◌, ◌<◌, ◌≤◌, ◌++◌, true, length, max, take, OnOk, OnErr, IfErr};
+ghost use Rattle.volume_model.specs.declared.fault.Fault.TheVariants.{NoMemory};
+ghost use Rattle.volume_model.specs.Redo.{last_lsn};
+ghost use Rattle.volume_model.specs.Client.{record_of, issued_log, issued_writes, is_change, place_of};
+ghost use Rattle.volume_model.specs.Lists.{every};
+ghost use Rattle.redo_record.specs.Record.{redo_of};
+ghost use Rattle.redo_record.specs.Payload.{HasRoom};
+ghost use Rattle.volume_model.specs.Message as model;
+ghost use Rattle.volume_model.specs.Client.{label_of};
+ghost use Rattle.wire.specs.Message.{message_of, messages_of};
+ghost use Rattle.writer_core.specs.Logs.{log_of, is_growing};
+ghost use Rattle.writer_core.specs.Standings.{groups_of};
+ghost use Rattle.writer_core.specs.Changes.{change_of, changes_of};
+
+use crate::change::Change;
+use crate::log::{last_lsn, last_of_block, last_of_group};
+use crate::standing::Standing;
+use redo_record::{Packet, Payload, Record};
+use volume_model::Fault;
+use wire::{Label, Message, Write};
+
+/// The volume epoch of a writer, and the LSN after which its own records begin.
+#[derive(Clone, Copy)]
+pub struct Span {
+    pub volume: u32,
+    pub start: u64,
+    pub ghost assigned: { 1 ≤ volume },
+}
+
+/// The record of a change behind a log; `point` makes it a consistency point.
+fn next_record(span: Span, log: &[Record], change: &Change, point: bool) -> Record
+    requires growing { is_growing (log_of log.now) ≡ true }
+    requires room { max (last_lsn (log_of log.now)) span.start < 2 ^ 62 }
+    requires group { change.now.group < 16 }
+    requires bytes { HasRoom (length change.now.bytes.items) }
+    requires place { change.now.offset + length change.now.bytes.items ≤ 512 }
+    ensures { redo_of result ≡ record_of span.volume span.start (log_of log.now) (change_of change.now) point }
+{
+    let last = last_lsn(log);
+    let bytes = match Payload::new(change.bytes.as_slice()) {
+        Some(bytes) => bytes,
+        None => unreachable!(),
+    };
+    Record {
+        lsn: last.max(span.start) + 1,
+        volume_epoch: span.volume,
+        prev_volume: last,
+        prev_group: last_of_group(log, change.group),
+        prev_block: last_of_block(log, change.group, change.block),
+        group: change.group,
+        block: change.block,
+        offset: change.offset,
+        bytes,
+        point,
+    }
+}
+
+/// The message that gives a record to the nodes of its group.
+pub fn write_of(volume: u32, standings: &[Standing], record: &Record) -> Message
+    requires { record.now.group < length standings.now }
+    ensures { message_of result ≡ model.Message.Write record.now.group (label_of volume (place_of (groups_of standings.now)) record.now.group) (redo_of record.now) }
+{
+    Message::Write(Write {
+        group: record.group,
+        label: Label {
+            volume,
+            member: standings[usize::from(record.group)].epoch,
+        },
+        packet: Packet::pack(record),
+    })
+}
+
+/// Adds the records of a transaction's changes to a log, and their messages to others. Where memory runs out the log has
+/// only grown.
+pub fn append(
+    span: Span,
+    standings: &[Standing],
+    log: &mut Vec<Record>,
+    changes: &[Change],
+    messages: &mut Vec<Message>,
+) -> Result<(), Fault>
+    requires growing { is_growing (log_of log.old.items) ≡ true }
+    requires room { max (last_lsn (log_of log.old.items)) span.start + length changes.now ≤ 2 ^ 62 }
+    requires few { length standings.now ≤ 16 }
+    requires good { every (is_change (length standings.now)) (changes_of changes.now) ≡ true }
+    ensures logged { OnOk result (log_of log.new.items ≡ issued_log span.volume span.start (changes_of changes.now) (log_of log.old.items)) }
+    ensures grown { OnOk result (is_growing (log_of log.new.items) ≡ true) }
+    ensures written { OnOk result (messages_of messages.new.items ≡ messages_of messages.old.items ++ issued_writes span.volume (place_of (groups_of standings.now)) span.start (changes_of changes.now) (log_of log.old.items)) }
+    ensures memory { IfErr result (λ e. e ≡ NoMemory) }
+    ensures err { OnErr result (take (length log.old.items) log.new.items ≡ log.old.items) }
+{
+    for (i, change) in changes.iter().enumerate() {
+        let record = next_record(span, log.as_slice(), change, i + 1 == changes.len());
+        messages.push(write_of(span.volume, standings, &record))?;
+        log.push(record)?;
+    }
+    Ok(())
+}

@@ -1,0 +1,10 @@
+//! The writer of a volume epoch: it gives redo records their numbers, and says how far the log is durable.
+#![tactic(auto)]
+
+mod change;
+mod issuing;
+mod log;
+mod standing;
+mod transaction;
+
+pub use change::Change;

@@ -1,0 +1,42 @@
+//! Which transactions are good ones.
+
+ghost use Rattle.std.specs.Prelude.{◌≡◌};
+ghost use Rattle.volume_model.specs.Client.{is_change, is_transaction};
+ghost use Rattle.writer_core.specs.Changes.{change_of, changes_of};
+
+use crate::change::Change;
+
+/// The bytes of a block.
+const BLOCK: usize = 512;
+
+/// The most changes that a transaction asks for.
+const MOST_CHANGES: usize = 32;
+
+/// The most bytes that a record writes.
+const MOST_BYTES: usize = 64;
+
+/// Whether a change is one of a group that there is, of 1 to 64 bytes within a block.
+fn is_change(groups: usize, change: &Change) -> bool
+    ensures { result ≡ is_change groups (change_of change.now) }
+{
+    let length = change.bytes.len();
+    usize::from(change.group) < groups
+        && 1 <= length
+        && length <= MOST_BYTES
+        && usize::from(change.offset) + length <= BLOCK
+}
+
+/// Whether there are 1 to 32 changes, each of them a good one.
+pub fn is_transaction(groups: usize, changes: &[Change]) -> bool
+    ensures { result ≡ is_transaction groups (changes_of changes.now) }
+{
+    if changes.is_empty() || changes.len() > MOST_CHANGES {
+        return false;
+    }
+    for change in changes {
+        if !is_change(groups, change) {
+            return false;
+        }
+    }
+    true
+}
