@@ -3,13 +3,13 @@ use Rattle.std.proofs.Common.{◌≡◌, ◌≢◌, ℕ, zero, suc, ◌+◌, ◌
 use Rattle.std.proofs.Math.Pow.{pow_pos}
 use Rattle.std.proofs.Math.Nat.{mul_comm, pow-suc}
 use Rattle.std.proofs.Math.Arith.{mod-mul}
-use Rattle.std.specs.Prelude.{Bool, true, false, not, ◌&&◌, ◌||◌, nat_eq, nat_lt, if◌then◌else◌, ◌-◌, bit_or}
+use Rattle.std.specs.Prelude.{Bool, true, false, not, ◌&&◌, ◌||◌, nat_eq, nat_lt, if◌then◌else◌, ◌-◌, bit_or, bit_and, min}
 use Rattle.std.specs.Ordering.{nat_cmp}
 use Rattle.std.specs.FinSet.{FinSet, empty, insert, contains, difference, code, contains-empty, contains-difference, same_set, nat_cmp-IsAntisymmetric}
 use Rattle.std.specs.Cmp.{nat_cmp_total}
 use Rattle.std.specs.Coded.{Coded, coded_ℕ}
 use Rattle.std.specs.Int.{bit_at, w64}
-use Rattle.std.proofs.lemmas.Nat.Bits.{bit_at-lt, bit_at-zero, bit_at_set_same, bit_at_set_other, bit_at_not}
+use Rattle.std.proofs.lemmas.Nat.Bits.{bit_at-lt, bit_at-zero, bit_at_set_same, bit_at_set_other, bit_at_not, bit_at_and}
 use Rattle.std.proofs.lemmas.Bool.Decides.{nat_tests}
 use Rattle.volume_model.specs.Sets.{contains-put}
 use Rattle.quorum_expr.specs.MemberSet.{members_below, members_of, bits_below, bits_of, numbers_below, all_members}
@@ -108,3 +108,34 @@ flipped_bit n x h =
 pub members_of-complement : (n : ℕ) → n < 2 ^ 64 → members_of (2 ^ 64 - 1 - n) ≡ difference all_members (members_of n)
 members_of-complement n h = same_members _ _ (λ x.
     contains-members_of _ x ∙ flipped_bit n x h ∙ (λ i. sym (contains-all_members x) i && not (sym (contains-members_of n x) i)) ∙ sym (contains-difference nat_cmp_total all_members (members_of n) x))
+
+in_range : (x : ℕ) (b : Bool) → (nat_lt x 64 && b) ≡ true → x < 64
+in_range x b h = grind (arith, nat_tests)
+
+-- each member is below 64
+pub members_of-below : (n x : ℕ) → contains (members_of n) x ≡ true → x < 64
+members_of-below n x h = in_range x _ (sym (contains-members_of n x) ∙ h)
+
+both_bits : (m n : ℕ) → m < 2 → n < 2 → nat_eq (min m (1 - n)) 1 ≡ (nat_eq m 1 && not (nat_eq n 1))
+both_bits zero zero h i = refl
+both_bits zero (suc zero) h i = refl
+both_bits (suc zero) zero h i = refl
+both_bits (suc zero) (suc zero) h i = refl
+both_bits (suc (suc m)) n h i = absurd (omega arith)
+both_bits m (suc (suc n)) h i = absurd (omega arith)
+
+cleared_bit : (a b x : ℕ) → b < 2 ^ 64 → (nat_lt x 64 && nat_eq (bit_at (bit_and a (2 ^ 64 - 1 - b)) x) 1) ≡ ((nat_lt x 64 && nat_eq (bit_at a x) 1) && not (nat_lt x 64 && nat_eq (bit_at b x) 1))
+cleared_bit a b x h =
+    elim (nat_lt x 64) as (λ c. nat_lt x 64 ≡ c → (c && nat_eq (bit_at (bit_and a (2 ^ 64 - 1 - b)) x) 1) ≡ ((c && nat_eq (bit_at a x) 1) && not (c && nat_eq (bit_at b x) 1))) [
+      | true ↦ λ e. let within : x < 64 = grind (arith, nat_tests, e) in
+          ap (λ n. nat_eq n 1) (bit_at_and a (2 ^ 64 - 1 - b) x ∙ ap (min (bit_at a x)) (bit_at_not w64 b x h within))
+          ∙ both_bits (bit_at a x) (bit_at b x) (bit_at-lt a x) (bit_at-lt b x)
+      | false ↦ λ e. refl
+    ] refl
+
+pub members_of-difference : (a b : ℕ) → b < 2 ^ 64 → members_of (bit_and a (2 ^ 64 - 1 - b)) ≡ difference (members_of a) (members_of b)
+members_of-difference a b h = same_members _ _ (λ x.
+    contains-members_of _ x ∙ cleared_bit a b x h ∙ (λ i. sym (contains-members_of a x) i && not (sym (contains-members_of b x) i)) ∙ sym (contains-difference nat_cmp_total (members_of a) (members_of b) x))
+
+pub zero-members_of : (n : ℕ) → n < 2 ^ 64 → members_of n ≡ empty → n ≡ 0
+zero-members_of n h none = sym (bits_of-members_of n h) ∙ ap bits_of (none ∙ sym members_of-zero) ∙ bits_of-members_of 0 (omega arith)

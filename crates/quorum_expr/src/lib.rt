@@ -2,6 +2,7 @@
 #![tactic(auto)]
 
 mod expression;
+mod form;
 mod member_set;
 mod reading;
 mod rebuilding;
@@ -9,6 +10,7 @@ mod validity;
 
 pub use expression::{Expr, holds};
 pub use member_set::{MEMBERS, MemberSet};
-pub use reading::Lists;
+pub use form::Lists;
+pub use reading::read_expr;
 pub use rebuilding::{copy_in, dual_in};
 pub use validity::valid;

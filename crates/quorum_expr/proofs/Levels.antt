@@ -1,0 +1,85 @@
+-- A value of JSON, and what it spells at its own level.
+use Rattle.std.proofs.Common.{◌≡◌, ℕ, zero, suc, List, length, String, Global, BTreeMap, Result, Ok, Err, refl, nat_eq, false, arith}
+use Rattle.serde_json.specs.Data.{Data}
+use Rattle.serde_json.specs.View.{view}
+use Rattle.serde_json.specs.declared.value.Value.{Value, Object}
+use Rattle.serde_json.proofs.Views.{members_len-members_view, view-Object}
+use Rattle.volume_model.specs.declared.fault.Fault.{Fault}
+use Rattle.volume_model.specs.declared.fault.Fault.TheVariants.{Short, BadField, Trailing, NoMemory, BadCount, TooDeep, NotAMember, Malformed, NoSuchItem, NotDead, NoClash, NotAll, TooFewPicked, BadPair, CountTooSmall, BranchCount, BadParent, MemberReused, NoCertificate, Certificate, OverLimit, Superseded, NotInPlan, NoGroup, EpochsSpent, StaleVolume, StaleMember, AheadMember, NotInstalled, NotWhole, Full, AlreadyWhole, NotEnough, NoRecord, TailSegment, PointAhead, NotOpen, LimitReached, BadTransaction, LsnSpent, NotReady, AlreadyDone, NoLogRecord, NoMessage, NotAddressed, NoActor, NoSlot, JournalFull}
+use Rattle.volume_model.specs.Answer.{Fails}
+use Rattle.quorum_expr.specs.declared.form.Lists.{Lists}
+use Rattle.quorum_expr.specs.Reading.{Form, choice_of, form_of, formula_from, formula_at}
+
+-- a definition that fails wherever another does
+pub Fails-at : {X Y : Type 0} (f : Fault) (r : Result X Fault) (s : Result Y Fault) → (r ≡ Err f → s ≡ Err f) → Fails f r → Fails f s
+Fails-at NoMemory r s k h = tt
+Fails-at Short r s k h = k h
+Fails-at BadField r s k h = k h
+Fails-at Trailing r s k h = k h
+Fails-at BadCount r s k h = k h
+Fails-at TooDeep r s k h = k h
+Fails-at NotAMember r s k h = k h
+Fails-at Malformed r s k h = k h
+Fails-at NoSuchItem r s k h = k h
+Fails-at NotDead r s k h = k h
+Fails-at NoClash r s k h = k h
+Fails-at NotAll r s k h = k h
+Fails-at TooFewPicked r s k h = k h
+Fails-at BadPair r s k h = k h
+Fails-at CountTooSmall r s k h = k h
+Fails-at BranchCount r s k h = k h
+Fails-at BadParent r s k h = k h
+Fails-at MemberReused r s k h = k h
+Fails-at NoCertificate r s k h = k h
+Fails-at Certificate r s k h = k h
+Fails-at OverLimit r s k h = k h
+Fails-at Superseded r s k h = k h
+Fails-at NotInPlan r s k h = k h
+Fails-at NoGroup r s k h = k h
+Fails-at EpochsSpent r s k h = k h
+Fails-at StaleVolume r s k h = k h
+Fails-at StaleMember r s k h = k h
+Fails-at AheadMember r s k h = k h
+Fails-at NotInstalled r s k h = k h
+Fails-at NotWhole r s k h = k h
+Fails-at Full r s k h = k h
+Fails-at AlreadyWhole r s k h = k h
+Fails-at NotEnough r s k h = k h
+Fails-at NoRecord r s k h = k h
+Fails-at TailSegment r s k h = k h
+Fails-at PointAhead r s k h = k h
+Fails-at NotOpen r s k h = k h
+Fails-at LimitReached r s k h = k h
+Fails-at BadTransaction r s k h = k h
+Fails-at LsnSpent r s k h = k h
+Fails-at NotReady r s k h = k h
+Fails-at AlreadyDone r s k h = k h
+Fails-at NoLogRecord r s k h = k h
+Fails-at NoMessage r s k h = k h
+Fails-at NotAddressed r s k h = k h
+Fails-at NoActor r s k h = k h
+Fails-at NoSlot r s k h = k h
+Fails-at JournalFull r s k h = k h
+
+pub two_keys : (m : BTreeMap (String Global) Value) → length m.entries ≡ 2 → form_of (view (Object m)) ≡ choice_of (view (Object m))
+unfolding form_of
+two_keys m h = rw (view-Object m, members_len-members_view m.entries, h) refl
+
+pub other_keys : (m : BTreeMap (String Global) Value) → ¬ (length m.entries ≡ 2) → form_of (view (Object m)) ≡ Err Malformed
+unfolding form_of
+other_keys m h =
+    let no : nat_eq (length m.entries) 2 ≡ false = grind arith in
+    rw (view-Object m, members_len-members_view m.entries, no) refl
+
+pub too_deep : (lists : Lists) (left : ℕ) (d : Data) (f : Form) → left ≡ 0 → form_of d ≡ Ok f → formula_at lists left d ≡ Err TooDeep
+unfolding formula_at
+too_deep lists left d f none e = rw (none, e) refl
+
+pub one_level : (lists : Lists) (left below : ℕ) (d : Data) (f : Form) → left ≡ suc below → form_of d ≡ Ok f → formula_at lists left d ≡ formula_from lists below (formula_at lists below) f
+unfolding formula_at
+one_level lists left below d f more e = rw (more, e) refl
+
+pub no_form : (lists : Lists) (left : ℕ) (d : Data) (f : Fault) → Fails f (form_of d) → Fails f (formula_at lists left d)
+unfolding formula_at
+no_form lists zero d f h = Fails-at f (form_of d) (formula_at lists zero d) (λ e. rw e refl) h
+no_form lists (suc left) d f h = Fails-at f (form_of d) (formula_at lists (suc left) d) (λ e. rw e refl) h

@@ -1,0 +1,25 @@
+use Rattle.std.proofs.Common.{◌-◌, arith}
+use Rattle.std.proofs.lemmas.Grind.{common_steps}
+use Rattle.std.proofs.lemmas.Result.{err_from_is_err_and}
+use Rattle.serde_json.specs.View.{view}
+use Rattle.quorum_expr.specs.Forms.{form_data}
+use Rattle.quorum_expr.proofs.MemberLists.{pushed_nodes}
+use Rattle.quorum_expr.proofs.Levels.{too_deep, one_level, no_form}
+use Rattle.quorum_expr.proofs.reading.+tree.Goals as goal
+
+pub tree-returns-in_err-form-clause-read : goal.tree-returns-in_err-form-clause-read
+tree-returns-in_err-form-clause-read t c =
+    let p = err_from_is_err_and c.from_residual.result c.from_residual.ensures.1 in
+    rw (p.1, p.2) (no_form c.args.lists.now c.args.left (view c.args.value.now) c.in_err-form.field-0.0 c.in_err-form.ensures)
+
+pub tree-returns-then-left-eq0-clause-read : goal.tree-returns-then-left-eq0-clause-read
+tree-returns-then-left-eq0-clause-read t c = too_deep _ _ _ (form_data c.in_ok-form.form) (omega arith) c.in_ok-form.ensures
+
+pub tree-returns-clause-read : goal.tree-returns-clause-read
+tree-returns-clause-read t c = rw (one_level _ c.args.left (c.args.left - 1) _ (form_data c.in_ok-form.form) (omega arith) c.in_ok-form.ensures) c.tree_of_form.ensures.read
+
+pub child_trees-children-preserved : goal.child_trees-children-preserved
+child_trees-children-preserved t c = record {
+  read = grind (arith, common_steps);
+  counted = rw (c.in_ok-push-in-Each.ensures.items, pushed_nodes) (omega (arith, c.children.invariant.counted, c.in_ok-tree-in-Each.ensures.counted));
+}

@@ -1,0 +1,25 @@
+use Rattle.std.proofs.Common.{◌≡◌, ◌+◌, ◌-◌, ◌*◌, drop}
+use Rattle.serde_json.specs.View.{items_view}
+use Rattle.volume_model.specs.Formula.{each_once}
+use Rattle.quorum_expr.specs.Valid.{row_nodes}
+use Rattle.quorum_expr.specs.Forms.{formulas_of}
+use Rattle.quorum_expr.specs.Reading.{each_of, formula_at}
+use Rattle.quorum_expr.proofs.Loop.{with_front}
+use Rattle.quorum_expr.proofs.reading.+tree.Given as goal
+
+abbrev pub decreases-child_trees : goal.decreases-child_trees
+decreases-child_trees l = 3 * l.left + 1
+
+abbrev pub decreases-tree : goal.decreases-tree
+decreases-tree l = 3 * l.left
+
+abbrev pub decreases-tree_of_form : goal.decreases-tree_of_form
+decreases-tree_of_form l = 3 * l.left + 2
+
+abbrev pub invariant-child_trees-children : goal.invariant-child_trees-children
+invariant-child_trees-children l =
+    let read = formula_at l.lists l.left in
+    record {
+      read : with_front (formulas_of l.of.items) (each_of read (items_view (drop l.value-index l.value-items))) ≡ each_of read (items_view l.value-items);
+      counted : l.room ≡ l.initial.room - row_nodes (each_once (formulas_of l.of.items));
+    }
