@@ -1,5 +1,5 @@
 -- A value of JSON, and what it spells at its own level.
-use Rattle.std.proofs.Common.{◌≡◌, ℕ, zero, suc, List, length, String, Global, BTreeMap, Result, Ok, Err, refl, nat_eq, false, arith}
+use Rattle.std.proofs.Common.{◌≡◌, ◌<◌, ℕ, zero, suc, List, map, length, String, Global, BTreeMap, Result, Ok, Err, refl, nat_eq, false, arith}
 use Rattle.serde_json.specs.Data.{Data}
 use Rattle.serde_json.specs.View.{view}
 use Rattle.serde_json.specs.declared.value.Value.{Value, Object}
@@ -7,8 +7,9 @@ use Rattle.serde_json.proofs.Views.{members_len-members_view, view-Object}
 use Rattle.volume_model.specs.declared.fault.Fault.{Fault}
 use Rattle.volume_model.specs.declared.fault.Fault.TheVariants.{Short, BadField, Trailing, NoMemory, BadCount, TooDeep, NotAMember, Malformed, NoSuchItem, NotDead, NoClash, NotAll, TooFewPicked, BadPair, CountTooSmall, BranchCount, BadParent, MemberReused, NoCertificate, Certificate, OverLimit, Superseded, NotInPlan, NoGroup, EpochsSpent, StaleVolume, StaleMember, AheadMember, NotInstalled, NotWhole, Full, AlreadyWhole, NotEnough, NoRecord, TailSegment, PointAhead, NotOpen, LimitReached, BadTransaction, LsnSpent, NotReady, AlreadyDone, NoLogRecord, NoMessage, NotAddressed, NoActor, NoSlot, JournalFull}
 use Rattle.volume_model.specs.Answer.{Fails}
+use Rattle.volume_model.specs.Formula.{member}
 use Rattle.quorum_expr.specs.declared.form.Lists.{Lists}
-use Rattle.quorum_expr.specs.Reading.{Form, choice_of, form_of, formula_from, formula_at}
+use Rattle.quorum_expr.specs.Reading.{members_at, Form, choice_of, form_of, formula_from, formula_at}
 
 -- a definition that fails wherever another does
 pub Fails-at : {X Y : Type 0} (f : Fault) (r : Result X Fault) (s : Result Y Fault) → (r ≡ Err f → s ≡ Err f) → Fails f r → Fails f s
@@ -83,3 +84,7 @@ pub no_form : (lists : Lists) (left : ℕ) (d : Data) (f : Fault) → Fails f (f
 unfolding formula_at
 no_form lists zero d f h = Fails-at f (form_of d) (formula_at lists zero d) (λ e. rw e refl) h
 no_form lists (suc left) d f h = Fails-at f (form_of d) (formula_at lists (suc left) d) (λ e. rw e refl) h
+
+pub some_level : (left : ℕ) (ms : List ℕ) → 0 < left → members_at left ms ≡ Ok (map member ms)
+some_level zero ms h = absurd (omega arith)
+some_level (suc left) ms h = refl

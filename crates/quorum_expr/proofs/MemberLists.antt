@@ -1,12 +1,14 @@
 -- The members of a set one after the other.
-use Rattle.std.proofs.Common.{◌≡◌, ℕ, zero, suc, ◌+◌, ◌<◌, ◌≤◌, arith, refl, ap, ◌∙◌, sym, add-one, append_assoc}
-use Rattle.std.specs.Prelude.{map, Bool, true, false, not, nat_eq, nat_lt, ◌^◌, ◌&&◌, if◌then◌else◌, ◌-◌, List, [], ◌∷◌, ◌++◌, slice_get, Some, None, IsTrue, ◌↔◌}
+use Rattle.std.proofs.Common.{◌≡◌, ℕ, zero, suc, ◌+◌, ◌<◌, ◌≤◌, arith, refl, ap, ◌∙◌, sym, add-one, append_assoc, rules}
+use Rattle.std.specs.Prelude.{length, map, Bool, true, false, not, nat_eq, nat_lt, ◌^◌, ◌&&◌, if◌then◌else◌, ◌-◌, List, [], ◌∷◌, ◌++◌, slice_get, Some, None, IsTrue, ◌↔◌}
 use Rattle.std.specs.Ordering.{nat_cmp}
 use Rattle.std.specs.Cmp.{nat_cmp_total}
 use Rattle.std.specs.FinSet.{FinSet, empty, contains, difference, is_subset, contains-empty, contains-difference, contains-is_subset, is_subset-contains}
 use Rattle.volume_model.specs.Formula.{member, each_once}
 use Rattle.volume_model.specs.Lists.{each_below}
 use Rattle.quorum_expr.specs.declared.expression.Expr.{Expr}
+use Rattle.quorum_expr.specs.declared.expression.Expr.TheVariants.{Member}
+use Rattle.quorum_expr.specs.declared.expression.Expr.TheFolds.{the_lemmas}
 use Rattle.quorum_expr.specs.Expr.{formula_of}
 use Rattle.quorum_expr.specs.Forms.{formulas_of}
 use Rattle.quorum_expr.specs.Valid.{nodes, row_nodes}
@@ -36,9 +38,10 @@ begins n zero test f =
     ([], ap (λ m. each_below m test f) none ∙ sym (nil_right (each_below n test f)))
 begins n (suc k) test f =
     let before = begins n k test f in
-    let more : suc k + n ≡ suc (k + n) = omega arith in
-    (before.0 ++ (if test (k + n) then f (k + n) ∷ [] else []),
-    ap (λ m. each_below m test f) more ∙ ap (λ xs. xs ++ (if test (k + n) then f (k + n) ∷ [] else [])) before.1 ∙ append_assoc (each_below n test f) before.0 _)
+    let more : suc k + n ≡ suc (k + n) = omega arith in (
+      before.0 ++ (if test (k + n) then f (k + n) ∷ [] else []),
+      ap (λ m. each_below m test f) more ∙ ap (λ xs. xs ++ (if test (k + n) then f (k + n) ∷ [] else [])) before.1 ∙ append_assoc (each_below n test f) before.0 _,
+    )
 
 -- no number passes
 pub none_listed : {A : Type 0} (n : ℕ) (test : ℕ → Bool) (f : ℕ → A) → ((x : ℕ) → x < n → test x ≡ false) → each_below n test f ≡ []
@@ -105,3 +108,28 @@ pushed_nodes (x ∷ es) e = omega (arith, pushed_nodes es e)
 pub members_nodes : (ms : List ℕ) → row_nodes (each_once (map member ms)) ≡ length ms
 members_nodes [] = refl
 members_nodes (m ∷ ms) = omega (arith, members_nodes ms)
+
+-- ---- a list of members that grows by one
+
+pub formulas_pushed : {A : Type 0} (es : List (Expr A)) (e : Expr A) → formulas_of (es ++ e ∷ []) ≡ formulas_of es ++ formula_of e ∷ []
+formulas_pushed [] e = refl
+formulas_pushed (x ∷ es) e = ap (λ fs. formula_of x ∷ fs) (formulas_pushed es e)
+
+members_pushed : (ms : List ℕ) (m : ℕ) → map member (ms ++ m ∷ []) ≡ map member ms ++ member m ∷ []
+members_pushed [] m = refl
+members_pushed (x ∷ ms) m = ap (λ fs. member x ∷ fs) (members_pushed ms m)
+
+pub formula_of-Member : (A : Type 0) (m : ℕ) → formula_of {A = A} (Member m) ≡ member m
+formula_of-Member A m = search (rules, the_lemmas)
+
+pub member_pushed : {A : Type 0} (before after : List (Expr A)) (m : ℕ) (test : ℕ → Bool) → after ≡ before ++ Member m ∷ [] → test m ≡ true → formulas_of before ≡ map member (each_below m test (λ x. x)) → formulas_of after ≡ map member (each_below (m + 1) test (λ x. x))
+member_pushed {A} before after m test more here h =
+    ap formulas_of more ∙ formulas_pushed before (Member m) ∙ (λ i. h i ++ formula_of-Member A m i ∷ []) ∙ sym (members_pushed (each_below m test (λ x. x)) m) ∙ ap (map member) (sym (one_more m test (λ x. x) here))
+
+pub member_skipped : {A : Type 0} (before : List (Expr A)) (m : ℕ) (test : ℕ → Bool) → test m ≡ false → formulas_of before ≡ map member (each_below m test (λ x. x)) → formulas_of before ≡ map member (each_below (m + 1) test (λ x. x))
+member_skipped before m test none h = h ∙ ap (map member) (sym (no_more m test (λ x. x) none))
+
+pub member_counted : {A : Type 0} (before after : List (Expr A)) (m room left whole : ℕ) → after ≡ before ++ Member m ∷ [] → left ≡ room - 1 → room ≡ whole - row_nodes (each_once (formulas_of before)) → left ≡ whole - row_nodes (each_once (formulas_of after))
+member_counted {A} before after m room left whole more less h =
+    let one : row_nodes (each_once (formulas_of after)) ≡ row_nodes (each_once (formulas_of before)) + 1 = ap (λ es. row_nodes (each_once (formulas_of es))) more ∙ pushed_nodes before (Member m) ∙ ap (λ f. row_nodes (each_once (formulas_of before)) + nodes f) (formula_of-Member A m) in
+    omega (arith, one)

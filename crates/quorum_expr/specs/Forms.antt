@@ -1,6 +1,5 @@
 -- What the forms of the code stand for.
 use Rattle.std.specs.Prelude.{List, map}
-
 use Rattle.serde_json.specs.View.{items_view}
 use Rattle.volume_model.specs.Formula.{Formula}
 use Rattle.quorum_expr.specs.declared.expression.Expr.{Expr}

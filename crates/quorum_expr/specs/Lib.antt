@@ -3,5 +3,6 @@ pub mod Forms
 pub mod MemberSet
 pub mod MemberSetBits
 pub mod Reading
+pub mod ReadingLaws
 pub mod Valid
 pub mod ValidLaws

@@ -1,5 +1,5 @@
 -- The expression that a JSON value spells, or the first fault in reading order.
-use Rattle.std.specs.Prelude.{◌&&◌, ◌==◌, ℕ, zero, suc, List, [], ◌∷◌, length, map, Bool, Option, Some, None, Result, Ok, Err, nat_lt, nat_le, codes, if◌then◌else◌}
+use Rattle.std.specs.Prelude.{◌&&◌, ◌==◌, ℕ, zero, suc, List, [], ◌∷◌, length, map, Option, Some, None, Result, Ok, Err, nat_lt, nat_le, codes, if◌then◌else◌}
 use Rattle.std.specs.Str.{bytes_eq}
 use Rattle.std.specs.Ordering.{nat_cmp}
 use Rattle.std.specs.FinSet.{FinSet, contains, difference}

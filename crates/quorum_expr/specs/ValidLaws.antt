@@ -23,7 +23,7 @@ both_none : (a b : Option Fault) → or_then a b ≡ None → (a ≡ None) × (b
 both_none None b h = (refl, h)
 both_none (Some e) b h = absurd (cc)
 
-neither : (a b : Option Fault) → a ≡ None → b ≡ None → or_then a b ≡ None
+pub neither : (a b : Option Fault) → a ≡ None → b ≡ None → or_then a b ≡ None
 neither None b h i = i
 neither (Some e) b h i = absurd (cc)
 

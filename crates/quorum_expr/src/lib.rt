@@ -9,8 +9,8 @@ mod rebuilding;
 mod validity;
 
 pub use expression::{Expr, holds};
-pub use member_set::{MEMBERS, MemberSet};
 pub use form::Lists;
+pub use member_set::{MEMBERS, MemberSet};
 pub use reading::read_expr;
 pub use rebuilding::{copy_in, dual_in};
 pub use validity::valid;

@@ -85,7 +85,11 @@ fn is_good_count(k: u64, n: usize) -> bool
 }
 
 /// An expression for each member of a set, in growing order.
-fn each_member(alloc: Global, members: MemberSet, room: &mut u32) -> Result<Vec<Expr<Global>>, Fault>
+fn each_member(
+    alloc: Global,
+    members: MemberSet,
+    room: &mut u32,
+) -> Result<Vec<Expr<Global>>, Fault>
     ensures read { Gives (λ v. formulas_of v.items) result (Ok (map member (listed members))) }
     ensures counted { IfOk result (λ v. room.new ≡ room.old - row_nodes (each_once (formulas_of v.items))) }
 {

@@ -1,10 +1,14 @@
-use Rattle.std.proofs.Common.{◌-◌, arith}
+use Rattle.std.proofs.Common.{◌-◌, ◌∙◌, ap, sym, subst, map, Ok, arith}
 use Rattle.std.proofs.lemmas.Grind.{common_steps}
 use Rattle.std.proofs.lemmas.Result.{err_from_is_err_and}
 use Rattle.serde_json.specs.View.{view}
-use Rattle.quorum_expr.specs.Forms.{form_data}
+use Rattle.volume_model.specs.Answer.{Gives}
+use Rattle.volume_model.specs.Formula.{member}
+use Rattle.volume_model.specs.Sets.{listed}
+use Rattle.quorum_expr.specs.Forms.{form_data, formulas_of, child_list}
+use Rattle.quorum_expr.specs.Reading.{children_at, formula_at}
 use Rattle.quorum_expr.proofs.MemberLists.{pushed_nodes}
-use Rattle.quorum_expr.proofs.Levels.{too_deep, one_level, no_form}
+use Rattle.quorum_expr.proofs.Levels.{too_deep, one_level, no_form, some_level}
 use Rattle.quorum_expr.proofs.reading.+tree.Goals as goal
 
 pub tree-returns-in_err-form-clause-read : goal.tree-returns-in_err-form-clause-read
@@ -23,3 +27,10 @@ child_trees-children-preserved t c = record {
   read = grind (arith, common_steps);
   counted = rw (c.in_ok-push-in-Each.ensures.items, pushed_nodes) (omega (arith, c.children.invariant.counted, c.in_ok-tree-in-Each.ensures.counted));
 }
+
+pub child_trees-returns-else-left-eq0-clause-read : goal.child_trees-returns-else-left-eq0-clause-read
+child_trees-returns-else-left-eq0-clause-read t c =
+    subst (λ d. Gives (λ v. formulas_of v.items) c.each_member.result d)
+    (ap (λ s. Ok (map member (listed s))) c.named.ensures ∙ sym (some_level c.args.left _ (omega arith))
+    ∙ ap (λ l. children_at c.args.lists.now c.args.left (formula_at c.args.lists.now c.args.left) (child_list l)) (sym c.in-Named.is))
+    c.each_member.ensures.read

@@ -1,0 +1,131 @@
+-- What is read is valid.
+use Rattle.std.proofs.Common.{◌≡◌, ℕ, zero, suc, ◌-◌, ◌≤◌, arith, refl, ap, ◌∙◌, sym}
+use Rattle.std.specs.Prelude.{Bool, true, false, ◌&&◌, ◌==◌, nat_lt, nat_le, if◌then◌else◌, List, [], ◌∷◌, ◌++◌, length, map, Some, None, Result, Ok, Err}
+use Rattle.std.specs.FinSet.{FinSet, contains}
+use Rattle.std.specs.Ordering.{nat_cmp}
+use Rattle.std.proofs.lemmas.Bool.Decides.{nat_tests}
+use Rattle.std.proofs.lemmas.List.{length-map}
+use Rattle.serde_json.specs.Data.{Data, Items, no_items, item}
+use Rattle.serde_json.specs.Events.{items_len}
+use Rattle.volume_model.specs.declared.fault.Fault.{Fault}
+use Rattle.volume_model.specs.declared.fault.Fault.TheVariants.{BadCount, TooDeep, NotAMember, OverLimit}
+use Rattle.volume_model.specs.Answer.{◌>>=◌}
+use Rattle.volume_model.specs.Formula.{Formula, member, at_least, each_once, total_weight}
+use Rattle.volume_model.specs.FormulaLaws.{total_weight-each_once}
+use Rattle.volume_model.specs.Lists.{each_below}
+use Rattle.volume_model.specs.Sets.{listed}
+use Rattle.quorum_expr.specs.declared.form.Lists.{Lists}
+use Rattle.quorum_expr.specs.Valid.{good_count, shape_fault, row_fault, nodes, expression_fault}
+use Rattle.quorum_expr.specs.ValidLaws.{neither}
+use Rattle.quorum_expr.specs.Reading.{ChildList, each, named, Form, single, choice, set_of, form_of, child_count, each_of, members_at, children_at, formula_from, formula_at, expression_in}
+
+-- ---- the parts of a reading without a fault
+
+bind_ok : {A B : Type 0} (r : Result A Fault) (f : A → Result B Fault) (y : B) → (r >>= f) ≡ Ok y → (x : A) × (r ≡ Ok x) × (f x ≡ Ok y)
+bind_ok (Ok x) f y h = (x, refl, h)
+bind_ok (Err e) f y h = absurd (cc)
+
+if_ok : {A : Type 0} (b : Bool) (r : Result A Fault) (e : Fault) (y : A) → (if b then r else Err e) ≡ Ok y → (b ≡ true) × (r ≡ Ok y)
+if_ok true r e y h = (refl, h)
+if_ok false r e y h = absurd (cc)
+
+both_true : (a b : Bool) → (a && b) ≡ true → (a ≡ true) × (b ≡ true)
+both_true true b h = (refl, h)
+both_true false b h = absurd (cc)
+
+-- ---- one level
+
+member_within : (n left : ℕ) → nat_lt n 64 ≡ true → shape_fault (member n) (suc left) ≡ None
+member_within n left h =
+    let some : (suc left == 0) ≡ false = grind (arith, nat_tests) in
+    ap (λ (b : Bool). if b then Some TooDeep else (if nat_lt n 64 then None else Some NotAMember)) some
+    ∙ ap (λ (b : Bool). if b then None else Some NotAMember) h
+
+choice_within : (k left : ℕ) (fs : List Formula) → good_count k (length fs) ≡ true → row_fault (each_once fs) left ≡ None → shape_fault (at_least k (each_once fs)) (suc left) ≡ None
+choice_within k left fs count row =
+    let some : (suc left == 0) ≡ false = grind (arith, nat_tests) in
+    let below : suc left - 1 ≡ left = omega arith in
+    ap (λ (b : Bool). if b then Some TooDeep else (if good_count k (total_weight (each_once fs)) then row_fault (each_once fs) (suc left - 1) else Some BadCount)) some
+    ∙ ap (λ (b : Bool). if b then row_fault (each_once fs) (suc left - 1) else Some BadCount) (ap (good_count k) (total_weight-each_once fs) ∙ count)
+    ∙ ap (row_fault (each_once fs)) below ∙ row
+
+-- ---- lists of members
+
+abbrev AreBelow : List ℕ → Type 0
+AreBelow [] = Unit {0}
+AreBelow (x ∷ xs) = (nat_lt x 64 ≡ true) × AreBelow xs
+
+below_append : (xs ys : List ℕ) → AreBelow xs → AreBelow ys → AreBelow (xs ++ ys)
+below_append [] ys h i = i
+below_append (x ∷ xs) ys h i = (h.0, below_append xs ys h.1 i)
+
+listed_below : (n : ℕ) (test : ℕ → Bool) → n ≤ 64 → AreBelow (each_below n test (λ x. x))
+listed_below zero test h = tt
+listed_below (suc n) test h =
+    below_append (each_below n test (λ x. x)) (if test n then n ∷ [] else []) (listed_below n test (omega arith))
+    (elim (test n) as (λ (b : Bool). AreBelow (if b then n ∷ [] else [])) [ true ↦ (grind (arith, nat_tests), tt) | false ↦ tt ])
+
+members_row : (ms : List ℕ) (left : ℕ) → AreBelow ms → row_fault (each_once (map member ms)) (suc left) ≡ None
+members_row [] left h = refl
+members_row (m ∷ ms) left h = neither _ _ (member_within m left h.0) (members_row ms left h.1)
+
+same_ok : {A : Type 0} (x y : A) → ◌≡◌ {A = Result A Fault} (Ok x) (Ok y) → x ≡ y
+same_ok x y h = cc
+
+members_within : (left : ℕ) (s : FinSet nat_cmp) (fs : List Formula) → members_at left (listed s) ≡ Ok fs → (length fs ≡ length (listed s)) × (row_fault (each_once fs) left ≡ None)
+members_within zero s fs h = absurd (cc)
+members_within (suc left) s fs h =
+    let is : map member (listed s) ≡ fs = same_ok _ _ h in (
+      ap length (sym is) ∙ length-map (listed s) member,
+      ap (λ gs. row_fault (each_once gs) (suc left)) (sym is) ∙ members_row (listed s) left (listed_below 64 (contains s) (omega arith)),
+    )
+
+-- ---- all levels
+
+each_within : (left : ℕ) (read : Data → Result Formula Fault) → ((d : Data) (f : Formula) → read d ≡ Ok f → shape_fault f left ≡ None) → (ds : Items) (fs : List Formula) → each_of read ds ≡ Ok fs → (length fs ≡ items_len ds) × (row_fault (each_once fs) left ≡ None)
+each_within left read good no_items fs h =
+    let is : [] ≡ fs = same_ok _ _ h in
+    (ap length (sym is), ap (λ gs. row_fault (each_once gs) left) (sym is))
+each_within left read good (item d ds) fs h =
+    let first = bind_ok (read d) (λ f. each_of read ds >>= λ gs. Ok (f ∷ gs)) fs h in
+    let rest = bind_ok (each_of read ds) (λ gs. Ok (first.0 ∷ gs)) fs first.2 in
+    let is : (first.0 ∷ rest.0) ≡ fs = same_ok _ _ rest.2 in
+    let below = each_within left read good ds rest.0 rest.1 in (
+      ap length (sym is) ∙ ap suc below.0,
+      ap (λ gs. row_fault (each_once gs) left) (sym is) ∙ neither _ _ (good d first.0 first.1) below.1,
+    )
+
+children_within : (lists : Lists) (left : ℕ) (read : Data → Result Formula Fault) → ((d : Data) (f : Formula) → read d ≡ Ok f → shape_fault f left ≡ None) → (list : ChildList) (fs : List Formula) → children_at lists left read list ≡ Ok fs → (length fs ≡ child_count lists list) × (row_fault (each_once fs) left ≡ None)
+children_within lists left read good (each ds) fs h = each_within left read good ds fs h
+children_within lists left read good (named name) fs h = members_within left (set_of lists name) fs h
+
+form_within : (lists : Lists) (left : ℕ) (read : Data → Result Formula Fault) → ((d : Data) (f : Formula) → read d ≡ Ok f → shape_fault f left ≡ None) → (form : Form) (f : Formula) → formula_from lists left read form ≡ Ok f → shape_fault f (suc left) ≡ None
+form_within lists left read good (single n) f h =
+    let here = if_ok (nat_lt n 64 && contains lists.members n) (Ok (member n)) NotAMember f h in
+    ap (λ g. shape_fault g (suc left)) (sym (same_ok (member n) f here.1)) ∙ member_within n left (both_true (nat_lt n 64) (contains lists.members n) here.0).0
+form_within lists left read good (choice k list) f h =
+    let here = if_ok (good_count k (child_count lists list)) (children_at lists left read list >>= λ fs. Ok (at_least k (each_once fs))) BadCount f h in
+    let below = bind_ok (children_at lists left read list) (λ fs. Ok (at_least k (each_once fs))) f here.1 in
+    let row = children_within lists left read good list below.0 below.1 in
+    ap (λ g. shape_fault g (suc left)) (sym (same_ok (at_least k (each_once below.0)) f below.2))
+    ∙ choice_within k left below.0 (ap (good_count k) row.0 ∙ here.0) row.1
+
+pub formula_within : (lists : Lists) (left : ℕ) (d : Data) (f : Formula) → formula_at lists left d ≡ Ok f → shape_fault f left ≡ None
+unfolding formula_at
+formula_within lists zero d f h = let form = bind_ok (form_of d) (λ form. Err TooDeep) f h in absurd (let no : ◌≡◌ {A = Result Formula Fault} (Err TooDeep) (Ok f) = form.2 in cc)
+formula_within lists (suc left) d f h =
+    let form = bind_ok (form_of d) (formula_from lists left (formula_at lists left)) f h in
+    form_within lists left (formula_at lists left) (formula_within lists left) form.0 f form.2
+
+-- what is read of few nodes is valid
+pub valid_read : (lists : Lists) (d : Data) (f : Formula) → formula_at lists 6 d ≡ Ok f → nat_le (nodes f) 4096 ≡ true → expression_fault f ≡ None
+valid_read lists d f h few =
+    neither (shape_fault f 6) (if nat_le (nodes f) 4096 then None else Some OverLimit) (formula_within lists 6 d f h) (ap (λ (b : Bool). if b then None else Some OverLimit) few)
+
+-- an expression that is read is valid
+pub valid-expression_in : (lists : Lists) (d : Data) (f : Formula) → expression_in lists d ≡ Ok f → expression_fault f ≡ None
+unfolding expression_in
+valid-expression_in lists d f h =
+    let whole = bind_ok (formula_at lists 6 d) (λ g. if nat_le (nodes g) 4096 then Ok g else Err OverLimit) f h in
+    let few = if_ok (nat_le (nodes whole.0) 4096) (Ok whole.0) OverLimit f whole.2 in
+    ap expression_fault (sym (same_ok whole.0 f few.1)) ∙ valid_read lists d whole.0 whole.1 few.0
