@@ -1,0 +1,26 @@
+-- The plan of the model that a checked plan stands for.
+use Rattle.std.specs.Prelude.{◌≡◌, ℕ, ◌<◌, Option, Some, None}
+use Rattle.std.specs.Borrow.{Bor}
+use Rattle.volume_model.specs.Plan as model
+use Rattle.volume_model.specs.Sets.{listed}
+use Rattle.quorum_expr.specs.Expr.{formula_of}
+use Rattle.plan.specs.declared.configurations.Configuration.{Configuration}
+use Rattle.plan.specs.declared.checked.CheckedPlan.{CheckedPlan}
+use Rattle.plan.specs.PlanData.{model_of, or_zero}
+use Rattle.plan.specs.Plan.{plan_data}
+
+abbrev pub checked_model : CheckedPlan → model.Plan
+checked_model checked = model_of (plan_data checked.plan)
+
+-- a program's configuration is this one of the model
+pub record Shows (x : Configuration) (y : model.Configuration) : Type 0 where
+  pub parent : or_zero x.parent ≡ y.parent
+  pub members : listed x.members ≡ y.members
+  pub full : listed x.full ≡ y.full
+  pub read : formula_of x.read ≡ y.read
+  pub write : formula_of x.write ≡ y.write
+
+-- the configuration of a group, or none where there is no such group or no such configuration
+abbrev pub ShowsConfiguration : Option (Bor Configuration) → model.Plan → ℕ → ℕ → Type 0
+ShowsConfiguration None plan g c = (g < plan.groups) → (c < plan.configurations g) → ⊥
+ShowsConfiguration (Some x) plan g c = (g < plan.groups) × (c < plan.configurations g) × Shows x.now (plan.configuration g c)

@@ -1,0 +1,4 @@
+pub mod PlanData
+pub mod PlanFaults
+pub mod Plan
+pub mod CheckedModel

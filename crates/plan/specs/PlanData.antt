@@ -1,0 +1,94 @@
+-- What a plan is, wherever its memory lies, and the plan of the model that it stands for.
+use Rattle.std.specs.Prelude.{ℕ, zero, suc, ◌&&◌, nat_lt, if◌then◌else◌, Bool, true, List, [], length, Option, Some, None, slice_index_or}
+use Rattle.std.specs.Ordering.{nat_cmp}
+use Rattle.std.specs.FinSet.{FinSet, empty, contains}
+use Rattle.volume_model.specs.Formula.{Formula, Children, member, at_least, no_child, child}
+use Rattle.volume_model.specs.Sets.{listed}
+use Rattle.volume_model.specs.Plan as model
+use Rattle.refutation.specs.Rule.{Rule}
+
+-- A configuration: its parent's number, its members and those that are full, its expressions, and the certificates of its claims.
+pub record ConfigurationData : Type 0 where
+  pub parent : Option ℕ
+  pub members : FinSet nat_cmp
+  pub full : FinSet nat_cmp
+  pub read : Formula
+  pub write : Formula
+  pub meets : Option Rule
+  pub step : Option Rule
+
+-- How far numbers may run ahead, and the configurations of each group.
+pub record PlanData : Type 0 where
+  pub lal : ℕ
+  pub groups : List (List ConfigurationData)
+
+-- what stands where there is no configuration
+abbrev pub no_configuration : ConfigurationData
+no_configuration = record { parent = None; members = empty; full = empty; read = member 0; write = member 0; meets = None; step = None }
+
+-- the configurations of a group
+abbrev pub group_at : PlanData → ℕ → List ConfigurationData
+group_at plan g = slice_index_or plan.groups g []
+
+-- a configuration of a group by its number
+abbrev pub configuration_at : List ConfigurationData → ℕ → ConfigurationData
+configuration_at group c = slice_index_or group c no_configuration
+
+-- the number of a parent that stands before the configuration
+abbrev pub earlier : ℕ → Option ℕ → Option ℕ
+earlier c None = None
+earlier c (Some p) = if nat_lt p c then Some p else None
+
+-- the number of the parent, where it stands before the configuration
+abbrev pub parent_at : List ConfigurationData → ℕ → Option ℕ
+parent_at group c = earlier c (configuration_at group c).parent
+
+-- one value where there is no parent, and another where there is one
+abbrev pub by_parent : {A : Type 0} → Option ℕ → A → (ℕ → A) → A
+by_parent None root under = root
+by_parent (Some p) root under = under p
+
+-- the membership epoch, in at most so many steps up: 1 for a root, and one more than its parent's for a child
+abbrev pub epoch_within : ℕ → List ConfigurationData → ℕ → ℕ
+epoch_within zero group c = 1
+epoch_within (suc steps) group c = by_parent (parent_at group c) 1 (λ p. suc (epoch_within steps group p))
+
+-- the membership epoch of a configuration
+abbrev pub epoch_at : List ConfigurationData → ℕ → ℕ
+epoch_at group c = epoch_within c group c
+
+-- a number, or 0
+abbrev pub or_zero : Option ℕ → ℕ
+or_zero None = 0
+or_zero (Some n) = n
+
+-- a configuration as the model has it
+abbrev pub shown : ℕ → ConfigurationData → model.Configuration
+shown epoch x = record {
+  parent = or_zero x.parent;
+  epoch = epoch;
+  members = listed x.members;
+  full = listed x.full;
+  read = x.read;
+  write = x.write;
+}
+
+-- the plan of the model
+abbrev pub model_of : PlanData → model.Plan
+model_of plan = record {
+  lal = plan.lal;
+  groups = length plan.groups;
+  configurations = λ g. length (group_at plan g);
+  configuration = λ g c. shown (epoch_at (group_at plan g) c) (configuration_at (group_at plan g) c);
+}
+
+-- the formula names none but members of the set
+abbrev mutual
+  pub names_only : Formula → FinSet nat_cmp → Bool
+  names_only (member x) s = contains s x
+  names_only (at_least k of) s = each_names_only of s
+
+  -- each child does
+  pub each_names_only : Children → FinSet nat_cmp → Bool
+  each_names_only no_child s = true
+  each_names_only (child w f fs) s = names_only f s && each_names_only fs s

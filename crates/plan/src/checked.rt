@@ -1,0 +1,72 @@
+//! Plans that were checked.
+
+ghost use Rattle.std.specs.Prelude.{◌≡◌, None};
+ghost use Rattle.plan.specs.PlanFaults.{plan_fault};
+ghost use Rattle.plan.specs.Plan.{plan_data};
+
+use crate::configurations::{Configuration, Plan};
+
+/// A plan without a fault.
+#[derive(Drop)]
+pub struct CheckedPlan {
+    plan: Plan,
+    ghost checked: { plan_fault (plan_data plan) ≡ None },
+}
+
+impl CheckedPlan {
+    ghost use Rattle.std.specs.Prelude.{◌&&◌, nat_lt};
+    ghost use Rattle.volume_model.specs.Plan.{has_member, is_named};
+    ghost use Rattle.plan.specs.CheckedModel.{checked_model, ShowsConfiguration};
+
+    /// How far log sequence numbers may run ahead of the durable point.
+    pub fn lal(&self) -> u64
+        ensures { result ≡ (checked_model self.now).lal }
+    {
+        self.plan.lal
+    }
+
+    /// How many groups there are.
+    pub fn groups(&self) -> u8
+        ensures { result ≡ (checked_model self.now).groups }
+    {
+        self.plan.groups.len() as u8
+    }
+
+    /// How many configurations a group has, and 0 where there is no such group.
+    pub fn configurations(&self, group: u8) -> u8
+        ensures { result ≡ (checked_model self.now).configurations group }
+    {
+        match self.plan.groups.get(usize::from(group)) {
+            Some(group) => group.configurations.len() as u8,
+            None => 0,
+        }
+    }
+
+    /// A configuration of a group.
+    pub fn configuration(&self, group: u8, configuration: u8) -> Option<&Configuration>
+        ensures { ShowsConfiguration result (checked_model self.now) group configuration }
+    {
+        let group = self.plan.groups.get(usize::from(group))?;
+        group.configurations.get(usize::from(configuration))
+    }
+
+    /// Whether a configuration of the group has the member.
+    pub fn names(&self, group: u8, member: u8) -> bool
+        ensures { result ≡ is_named (checked_model self.now) group member }
+    {
+        match self.plan.groups.get(usize::from(group)) {
+            Some(group) => group.names(member),
+            None => false,
+        }
+    }
+
+    /// Whether the root of the group has the member.
+    pub fn is_root_member(&self, group: u8, member: u8) -> bool
+        ensures { result ≡ (nat_lt group (checked_model self.now).groups && has_member ((checked_model self.now).configuration group 0) member) }
+    {
+        match self.configuration(group, 0) {
+            Some(root) => root.members.contains(member),
+            None => false,
+        }
+    }
+}

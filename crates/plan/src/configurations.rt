@@ -1,0 +1,70 @@
+//! What a plan is made of.
+
+ghost use Rattle.std.specs.Prelude.{◌≡◌, ◌≤◌, true, None, length};
+ghost use Rattle.volume_model.specs.Formula.{Formula};
+ghost use Rattle.quorum_expr.specs.Expr.{formula_of};
+ghost use Rattle.quorum_expr.specs.Valid.{expression_fault};
+ghost use Rattle.plan.specs.PlanData.{names_only};
+
+use quorum_expr::{Expr, MemberSet};
+use refutation::Certificate;
+use std::alloc::Global;
+
+/// A configuration of a group. Both expressions are valid and name none but its members.
+#[derive(Drop)]
+pub struct Configuration {
+    /// The number of the configuration that it comes from.
+    pub parent: Option<u64>,
+    pub members: MemberSet,
+    /// The members that keep whole pages.
+    pub full: MemberSet,
+    pub read: Expr<Global>,
+    pub write: Expr<Global>,
+    /// Shows that each read set meets each write set.
+    pub meets: Option<Certificate<Global>>,
+    /// Shows that a read set without a fresh member is one of the parent's.
+    pub step: Option<Certificate<Global>>,
+    ghost read_valid: { expression_fault (formula_of read) ≡ None },
+    ghost write_valid: { expression_fault (formula_of write) ≡ None },
+    ghost read_own: { names_only (formula_of read) members ≡ true },
+    ghost write_own: { names_only (formula_of write) members ≡ true },
+}
+
+/// The 1 to 64 configurations of a group. Number 0 is the root.
+#[derive(Drop)]
+pub struct Group {
+    pub configurations: Vec<Configuration>,
+    ghost some: { 1 ≤ length configurations.items },
+    ghost few: { length configurations.items ≤ 64 },
+}
+
+/// How far log sequence numbers may run ahead of the durable point, from 1 to 10,000,000, and the 1 to 16 groups.
+#[derive(Drop)]
+pub struct Plan {
+    pub lal: u64,
+    pub groups: Vec<Group>,
+    ghost lal_some: { 1 ≤ lal },
+    ghost lal_few: { lal ≤ 10000000 },
+    ghost some: { 1 ≤ length groups.items },
+    ghost few: { length groups.items ≤ 16 },
+}
+
+impl Group {
+    ghost use Rattle.std.specs.Prelude.{◌&&◌, nat_lt};
+    ghost use Rattle.std.specs.FinSet.{contains};
+    ghost use Rattle.volume_model.specs.Lists.{some_below};
+    ghost use Rattle.plan.specs.PlanData.{configuration_at};
+    ghost use Rattle.plan.specs.Plan.{group_data};
+
+    /// Whether one of its configurations has the member.
+    pub fn names(&self, member: u8) -> bool
+        ensures { result ≡ some_below (length (group_data self.now)) (λ c. nat_lt member 64 && contains (configuration_at (group_data self.now) c).members member) }
+    {
+        for configuration in &self.configurations {
+            if configuration.members.contains(member) {
+                return true;
+            }
+        }
+        false
+    }
+}
