@@ -5,14 +5,14 @@ use Rattle.std.specs.List.{list_any}
 use mathlib.Core.Bool.{true≢false}
 use Rattle.std.proofs.lemmas.Bool.Decides.{nat_tests}
 use Rattle.std.proofs.lemmas.List.{length-map, map-append}
-use Rattle.quorum_expr.specs.declared.Expr.{Expr}
-use Rattle.quorum_expr.specs.declared.Expr.TheVariants.{KOf}
+use Rattle.quorum_expr.specs.declared.expression.Expr.{Expr}
+use Rattle.quorum_expr.specs.declared.expression.Expr.TheVariants.{KOf}
 use Rattle.volume_model.specs.Formula.{Formula, member, at_least, each_once, total_weight, formulas, weight_at}
 use Rattle.volume_model.specs.FormulaLaws.{EachWeighs-to, each_once_weighs, formulas-each_once, total_weight-each_once}
 use Rattle.quorum_expr.specs.Expr.{formula_of}
-use Rattle.quorum_expr.proofs.Rebuilt.{formula_of-KOf}
-use Rattle.quorum_checker.specs.declared.fault.Fault.{Fault}
-use Rattle.quorum_checker.specs.declared.fault.Fault.TheVariants.{NotAll, BadPair, TooFewPicked, CountTooSmall, BranchCount}
+use Rattle.quorum_expr.specs.ExprLaws.{formula_of-KOf}
+use Rattle.volume_model.specs.declared.fault.Fault.{Fault}
+use Rattle.volume_model.specs.declared.fault.Fault.TheVariants.{NotAll, BadPair, TooFewPicked, CountTooSmall, BranchCount}
 use Rattle.quorum_checker.specs.Refutes.{picked_weight, paired_weight}
 use Rattle.quorum_checker.specs.FirstFault.{good_places, children_of, open_fault, pick_fault, pair_fault}
 

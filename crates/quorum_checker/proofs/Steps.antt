@@ -8,7 +8,7 @@ use Rattle.refutation.specs.declared.Refutation.{Refutation}
 use Rattle.refutation.specs.Rule.{Branches, pick, pair_up, branches_of, branch_count, depth_of}
 use Rattle.refutation.specs.Refutation.{rule_of}
 use Rattle.refutation.proofs.Rules.{branches_step}
-use Rattle.quorum_checker.specs.declared.fault.Fault.TheVariants.{NoMemory}
+use Rattle.volume_model.specs.declared.fault.Fault.TheVariants.{NoMemory}
 use Rattle.quorum_checker.specs.declared.fault.FaultAt.{FaultAt}
 use Rattle.quorum_checker.specs.Refutes.{State, items_of, replaced, paired}
 use Rattle.quorum_checker.specs.FirstFault.{place, children_of, first_of, under, at_item, or_else, pick_fault, pair_fault, first_fault, first_picked, first_paired, good_places}

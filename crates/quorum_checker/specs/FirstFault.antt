@@ -8,8 +8,8 @@ use Rattle.quorum_expr.specs.MemberSet.{all_members}
 use Rattle.refutation.specs.declared.Side.{Side}
 use Rattle.refutation.specs.declared.Side.TheVariants.{Left, Right}
 use Rattle.refutation.specs.Rule.{Rule, Branches, dead, clash, open_all, pick, pair_up, split, no_branch, branch, branch_count}
-use Rattle.quorum_checker.specs.declared.fault.Fault.{Fault}
-use Rattle.quorum_checker.specs.declared.fault.Fault.TheVariants.{NoSuchItem, NotDead, NoClash, NotAll, TooFewPicked, BadPair, CountTooSmall, BranchCount}
+use Rattle.volume_model.specs.declared.fault.Fault.{Fault}
+use Rattle.volume_model.specs.declared.fault.Fault.TheVariants.{NoSuchItem, NotDead, NoClash, NotAll, TooFewPicked, BadPair, CountTooSmall, BranchCount}
 use Rattle.quorum_checker.specs.declared.fault.FaultAt.{FaultAt}
 use Rattle.quorum_checker.specs.Refutes.{State, items_of, absent_of, replaced, paired, without, picked_weight, paired_weight}
 

@@ -1,11 +1,11 @@
 -- What the items of a state mean.
 use Rattle.std.specs.Prelude.{◌≡◌, ℕ, List, map, Result, Ok, Err, Some, None, slice_get}
 use Rattle.std.specs.Borrow.{Bor}
-use Rattle.quorum_expr.specs.declared.Expr.{Expr}
+use Rattle.quorum_expr.specs.declared.expression.Expr.{Expr}
 use Rattle.volume_model.specs.Formula.{Formula}
 use Rattle.quorum_expr.specs.Expr.{formula_of}
 use Rattle.quorum_checker.specs.declared.items.Items.{Items}
-use Rattle.quorum_checker.specs.declared.fault.Fault.TheVariants.{NoSuchItem}
+use Rattle.volume_model.specs.declared.fault.Fault.TheVariants.{NoSuchItem}
 use Rattle.quorum_checker.specs.declared.fault.FaultAt.{FaultAt}
 use Rattle.quorum_checker.specs.Refutes.{State}
 use Rattle.quorum_checker.specs.FirstFault.{here}

@@ -1,27 +1,60 @@
-//! The checker of refutations.
+//! The checker: whether a certificate refutes a claim.
 #![tactic(auto)]
 
-ghost use Rattle.std.specs.Prelude.{◌≡◌, None};
+ghost use Rattle.std.specs.Prelude.{◌≡◌, ◌≢◌, None, Some, OnOk, IfErr};
 ghost use Rattle.std.specs.Ordering.{nat_cmp};
 ghost use Rattle.std.specs.FinSet.{FinSet};
 ghost use Rattle.volume_model.specs.Formula.{Formula};
-ghost use Rattle.refutation.specs.Rule.{Rule};
 ghost use Rattle.volume_model.specs.Meets.{Meets};
+ghost use Rattle.quorum_expr.specs.Expr.{formula_of};
+ghost use Rattle.refutation.specs.Rule.{Rule};
+ghost use Rattle.refutation.specs.Certificate.{certificate_rule};
 ghost use Rattle.quorum_checker.specs.Refutes.{Refutes, State, claim_state};
+ghost use Rattle.quorum_checker.specs.Claim.{first_state};
 ghost use Rattle.quorum_checker.specs.FirstFault.{first_fault};
 
-mod arena;
-mod check;
+mod claim;
 mod fault;
 mod items;
 mod node;
 mod path;
+mod rules;
 
-pub use arena::{check_from_arena, dual_in_arena};
-pub use check::{Claim, check as check_claim, check_rule};
-pub use fault::{Fault, FaultAt};
-pub use items::Items;
-pub use path::{MAX_DEPTH, Path};
+pub use claim::Claim;
+pub use fault::FaultAt;
+use items::Items;
+pub use path::Path;
+use quorum_expr::MemberSet;
+use refutation::Certificate;
+use rules::check_rule;
+use std::alloc::{Allocator, Global};
+use volume_model::Fault;
+
+/// Whether a certificate refutes a claim, and if not, its first fault, numbered from 20 to 27. The two may lie in
+/// different memory. Only the lists of items take any.
+pub fn check<A: Allocator, B: Allocator>(
+    alloc: Global,
+    claim: &Claim<A>,
+    certificate: &Certificate<B>,
+) -> Result<(), FaultAt>
+    // Ok exactly where the certificate refutes the claim, unless memory runs out.
+    ensures refutes { OnOk result (Refutes (certificate_rule certificate.now) (first_state claim.now)) }
+    ensures accepted { IfErr result (λ e. e.fault ≢ Fault.NoMemory → ¬ (Refutes (certificate_rule certificate.now) (first_state claim.now))) }
+    ensures fault { IfErr result (λ e. e.fault ≢ Fault.NoMemory → first_fault (certificate_rule certificate.now) (first_state claim.now) ≡ Some e) }
+
+    // What an Ok means, for all sets.
+    ensures meets { OnOk result (Meets (formula_of claim.now.left) (formula_of claim.now.right) claim.now.clear) }
+{
+    let left = [&claim.left];
+    let right = [&claim.right];
+    let items = Items {
+        left: &left,
+        right: &right,
+        absent_left: claim.clear,
+        absent_right: MemberSet::empty(),
+    };
+    check_rule(alloc, certificate.tree(), &items)
+}
 
 /// Where a rule refutes a claim, each set that satisfies its left expression, and is clear of what it
 /// has to be clear of, meets each set that satisfies its right expression.

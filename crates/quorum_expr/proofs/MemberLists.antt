@@ -1,5 +1,5 @@
 -- The members of a set one after the other.
-use Rattle.std.proofs.Common.{◌≡◌, ℕ, zero, suc, ◌+◌, ◌<◌, ◌≤◌, arith, refl, ap, ◌∙◌, sym, add-one, append_assoc, rules}
+use Rattle.std.proofs.Common.{◌≡◌, ℕ, zero, suc, ◌+◌, ◌<◌, ◌≤◌, arith, refl, ap, ◌∙◌, sym, add-one, append_assoc}
 use Rattle.std.specs.Prelude.{length, map, Bool, true, false, not, nat_eq, nat_lt, ◌^◌, ◌&&◌, if◌then◌else◌, ◌-◌, List, [], ◌∷◌, ◌++◌, slice_get, Some, None, IsTrue, ◌↔◌}
 use Rattle.std.specs.Ordering.{nat_cmp}
 use Rattle.std.specs.Cmp.{nat_cmp_total}
@@ -8,8 +8,8 @@ use Rattle.volume_model.specs.Formula.{member, each_once}
 use Rattle.volume_model.specs.Lists.{each_below}
 use Rattle.quorum_expr.specs.declared.expression.Expr.{Expr}
 use Rattle.quorum_expr.specs.declared.expression.Expr.TheVariants.{Member}
-use Rattle.quorum_expr.specs.declared.expression.Expr.TheFolds.{the_lemmas}
 use Rattle.quorum_expr.specs.Expr.{formula_of}
+use Rattle.quorum_expr.specs.ExprLaws.{formula_of-Member}
 use Rattle.quorum_expr.specs.Forms.{formulas_of}
 use Rattle.quorum_expr.specs.Valid.{nodes, row_nodes}
 use Rattle.volume_model.specs.Sets.{listed}
@@ -118,9 +118,6 @@ formulas_pushed (x ∷ es) e = ap (λ fs. formula_of x ∷ fs) (formulas_pushed 
 members_pushed : (ms : List ℕ) (m : ℕ) → map member (ms ++ m ∷ []) ≡ map member ms ++ member m ∷ []
 members_pushed [] m = refl
 members_pushed (x ∷ ms) m = ap (λ fs. member x ∷ fs) (members_pushed ms m)
-
-pub formula_of-Member : (A : Type 0) (m : ℕ) → formula_of {A = A} (Member m) ≡ member m
-formula_of-Member A m = search (rules, the_lemmas)
 
 pub member_pushed : {A : Type 0} (before after : List (Expr A)) (m : ℕ) (test : ℕ → Bool) → after ≡ before ++ Member m ∷ [] → test m ≡ true → formulas_of before ≡ map member (each_below m test (λ x. x)) → formulas_of after ≡ map member (each_below (m + 1) test (λ x. x))
 member_pushed {A} before after m test more here h =

@@ -1,5 +1,5 @@
 -- Expressions that are rebuilt child by child.
-use Rattle.std.proofs.Common.{◌≡◌, ℕ, suc, ◌+◌, ◌-◌, ◌<◌, ◌≤◌, List, [], ◌∷◌, ◌++◌, length, get_or, drop, map, arith, ap, subst, vec_len, ◌∙◌, sym, append_assoc, add-one, drop-cons, rules}
+use Rattle.std.proofs.Common.{◌≡◌, ℕ, suc, ◌+◌, ◌-◌, ◌<◌, ◌≤◌, List, [], ◌∷◌, ◌++◌, length, get_or, drop, map, arith, ap, subst, vec_len, ◌∙◌, sym, append_assoc, add-one, drop-cons}
 use Rattle.std.specs.Prelude.{Vec, Result, Ok}
 use Rattle.volume_model.specs.declared.fault.Fault.{Fault}
 use Rattle.std.proofs.lemmas.List.{drop_all}
@@ -7,10 +7,10 @@ use Rattle.std.proofs.lemmas.List.{append-nil, map-append, length-map}
 use Rattle.std.proofs.lemmas.Simd.{map-map}
 use Rattle.quorum_expr.specs.declared.expression.Expr.{Expr}
 use Rattle.quorum_expr.specs.declared.expression.Expr.TheVariants.{KOf}
-use Rattle.quorum_expr.specs.declared.expression.Expr.TheFolds.{the_lemmas}
 use Rattle.volume_model.specs.Formula.{Formula, at_least, each_once, total_weight, dual_of, HasCounts, EachHasCounts}
 use Rattle.volume_model.specs.FormulaLaws.{total_weight-each_once, dual_of-once}
 use Rattle.quorum_expr.specs.Expr.{formula_of}
+use Rattle.quorum_expr.specs.ExprLaws.{formula_of-KOf}
 
 -- what a call gave is what its definition gives
 pub given : (x y : Formula) → ◌≡◌ {A = Result Formula Fault} (Ok x) (Ok y) → y ≡ x
@@ -35,9 +35,6 @@ pushed g f xs i x before after y all more same h is so_far =
 -- nothing is left
 pub finish : {P Q : Type 0} (f : P → Q) (xs : List P) (i : ℕ) (done all : List Q) → length xs ≤ i → done ++ map f (drop i xs) ≡ all → done ≡ all
 finish f xs i done all h so_far = sym (append-nil done) ∙ ap (λ ys. done ++ map f ys) (sym (drop_all i xs h)) ∙ so_far
-
-pub formula_of-KOf : {A : Type 0} (k : ℕ) (of : Vec (Expr A) A) → formula_of (KOf k of) ≡ at_least k (each_once (map formula_of of.items))
-formula_of-KOf k of = search (rules, the_lemmas)
 
 -- the thresholds of the child at hand and of those after it
 pub counts_step : {A : Type 0} (xs : List (Expr A)) (i : ℕ) (x : Expr A) → i < length xs → x ≡ get_or xs i x → EachHasCounts (each_once (map formula_of (drop i xs))) → HasCounts (formula_of x) × EachHasCounts (each_once (map formula_of (drop (i + 1) xs)))

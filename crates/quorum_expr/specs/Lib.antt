@@ -1,4 +1,5 @@
 pub mod Expr
+pub mod ExprLaws
 pub mod Forms
 pub mod MemberSet
 pub mod MemberSetBits

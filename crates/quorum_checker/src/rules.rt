@@ -1,21 +1,17 @@
 //! The check of a refutation, rule by rule.
 
-ghost use Rattle.std.specs.Prelude.{◌≡◌, ◌≢◌, ◌≤◌, map, OnOk, IfErr};
-ghost use Rattle.quorum_expr.specs.Expr.{formula_of};
-ghost use Rattle.volume_model.specs.Meets.{Meets};
-ghost use Rattle.quorum_checker.specs.Refutes.{Refutes, claim_state};
+ghost use Rattle.std.specs.Prelude.{◌≤◌, map};
 ghost use Rattle.refutation.specs.Rule.{dead, clash, pick, pair_up, branches_of, depth_of, HasLimits};
 ghost use Rattle.refutation.specs.Refutation.{rule_of};
 ghost use Rattle.quorum_checker.specs.Items.{state_of};
 ghost use Rattle.quorum_checker.specs.FirstFault.{first_fault};
 ghost use Rattle.quorum_checker.specs.Outcome.{Answers};
 
-use crate::fault::{Fault, FaultAt, inside};
+use crate::fault::{FaultAt, inside};
 use crate::items::{Items, item_at, picked_items, replaced_by_all};
 use crate::node::{
     children, fault_of_clash, fault_of_dead, fault_of_match, fault_of_open, fault_of_pick,
 };
-use quorum_expr::{Expr, MemberSet};
 use refutation::{Refutation, Side, branch_count_of};
 use std::alloc::{Allocator, Global};
 
@@ -148,41 +144,4 @@ fn check_match<A: Allocator, B: Allocator>(
         }
     }
     Ok(())
-}
-
-/// That each set that satisfies the left expression, and is clear of the given members, meets each set that
-/// satisfies the right expression.
-#[derive(Drop)]
-pub struct Claim<A: Allocator> {
-    pub left: Expr<A>,
-    pub right: Expr<A>,
-    pub clear: MemberSet,
-}
-
-/// Whether a refutation refutes a claim, and if not, its first fault.
-pub fn check<A: Allocator, B: Allocator>(
-    alloc: Global,
-    claim: &Claim<A>,
-    refutation: &Refutation<B>,
-) -> Result<(), FaultAt>
-    requires depth { depth_of (rule_of refutation.now) ≤ 40 }
-    requires limits { HasLimits (rule_of refutation.now) }
-
-    // Ok exactly where the refutation refutes the claim, unless memory runs out.
-    ensures refutes { OnOk result (Refutes (rule_of refutation.now) (claim_state (formula_of claim.now.left) (formula_of claim.now.right) claim.now.clear)) }
-    ensures accepted { IfErr result (λ e. e.fault ≢ Fault.NoMemory → ¬ (Refutes (rule_of refutation.now) (claim_state (formula_of claim.now.left) (formula_of claim.now.right) claim.now.clear))) }
-    ensures fault { IfErr result (λ e. e.fault ≢ Fault.NoMemory → first_fault (rule_of refutation.now) (claim_state (formula_of claim.now.left) (formula_of claim.now.right) claim.now.clear) ≡ Some e) }
-
-    // What an Ok means, for all sets.
-    ensures meets { OnOk result (Meets (formula_of claim.now.left) (formula_of claim.now.right) claim.now.clear) }
-{
-    let left = [&claim.left];
-    let right = [&claim.right];
-    let items = Items {
-        left: &left,
-        right: &right,
-        absent_left: claim.clear,
-        absent_right: MemberSet::empty(),
-    };
-    check_rule(alloc, refutation, &items)
 }
