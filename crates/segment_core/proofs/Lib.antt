@@ -1,0 +1,4 @@
+pub mod Complete
+pub mod Settled
+pub mod Order
+pub mod Edits

@@ -1,0 +1,12 @@
+use Rattle.std.proofs.Common.{ap, ◌∙◌}
+use Rattle.std.specs.List.{remove}
+use Rattle.redo_record.specs.Packet.{packet_redo}
+use Rattle.segment_core.specs.Records.{records_of}
+use Rattle.segment_core.proofs.Edits.{remove-insert}
+use Rattle.segment_core.proofs.records.Records.complete_point_with.Goals as goal
+
+pub returns-clause-same : goal.returns-clause-same
+returns-clause-same c =
+    c.remove.ensures.dropped
+    ∙ ap (λ xs. remove xs c.args.place) (c.insert.ensures.taken ∙ c.requires.place.joins)
+    ∙ remove-insert (records_of c.args.self.now) c.args.place (packet_redo c.args.packet.now) c.requires.place.within

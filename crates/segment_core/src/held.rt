@@ -1,0 +1,58 @@
+//! Records in order, each with the complete point of those up to it.
+
+ghost use Rattle.std.specs.Prelude.{◌≡◌, ℕ, ◌<◌, ◌≤◌, List, [], ◌∷◌, ◌++◌, length, slice_index_or};
+ghost use Rattle.volume_model.specs.Redo.{scl};
+ghost use Rattle.redo_record.specs.Packet.{packet_redo};
+ghost use Rattle.segment_core.specs.declared.held.Held.{Held};
+ghost use Rattle.segment_core.specs.Held.{redo_held, redos_of, IsInOrder, IsReachedBelow, AreSettled};
+
+use redo_record::Packet;
+
+/// A record, and the complete point of the records up to it.
+#[derive(Clone, Copy)]
+pub struct Held {
+    pub packet: Packet,
+    pub reached: u64,
+}
+
+/// The complete point of these records.
+pub fn complete_point(held: &[Held]) -> u64
+    requires { AreSettled held.now }
+    ensures { result ≡ scl (redos_of held.now) }
+{
+    match held.last() {
+        Some(last) => last.reached,
+        None => 0,
+    }
+}
+
+/// The complete point of these records and one more, whose number is at least theirs.
+fn complete_point_with(held: &[Held], packet: &Packet) -> u64
+    requires settled { AreSettled held.now }
+    requires last { (k : ℕ) (d : Held) → k < length held.now → (redo_held (slice_index_or held.now k d)).lsn ≤ (packet_redo packet.now).lsn }
+    ensures { result ≡ scl (redos_of held.now ++ packet_redo packet.now ∷ []) }
+{
+    let back = packet.prev_group();
+    let count = held.partition_point(|held| held.packet.lsn() <= back);
+    let below = &held[..count];
+    if complete_point(below) == back {
+        packet.lsn()
+    } else {
+        complete_point(held)
+    }
+}
+
+/// Works out the complete points anew, from this place on.
+pub fn settle(held: &mut [Held], from: usize)
+    requires in_order { IsInOrder (redos_of held.old) }
+    requires reached { IsReachedBelow from held.old }
+    requires within { from ≤ length held.old }
+    ensures settled { AreSettled held.new }
+    ensures same { redos_of held.new ≡ redos_of held.old }
+{
+    for k in from..held.len() {
+        let packet = held[k].packet;
+        let reached = complete_point_with(&held[..k], &packet);
+        held[k].reached = reached;
+    }
+}

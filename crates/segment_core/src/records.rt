@@ -1,0 +1,110 @@
+//! The records that a segment holds.
+
+ghost use Rattle.segment_core.specs.Held.{AreSettled};
+
+use crate::held::{Held, complete_point, settle};
+use redo_record::Packet;
+use std::alloc::{AllocError, Global};
+
+/// The records that a segment holds, each once, in the order of their bytes.
+#[derive(Drop)]
+pub struct Records {
+    held: Vec<Held>,
+    ghost settled: { AreSettled held.items },
+}
+
+impl Records {
+    ghost use Rattle.std.specs.Prelude.{◌≡◌, ◌<◌, [], length, OnOk, MatchOption};
+    ghost use Rattle.std.specs.List.{remove};
+    ghost use Rattle.volume_model.specs.Redo.{scl, with_record};
+    ghost use Rattle.redo_record.specs.Packet.{packet_redo};
+    ghost use Rattle.segment_core.specs.Places.{IsHeldIn, IsPlaceFor};
+    ghost use Rattle.segment_core.specs.Records.{records_of, room_of, HasRoom};
+
+    /// No record.
+    pub fn new(alloc: Global) -> Records
+        ensures { records_of result ≡ [] }
+    {
+        Records {
+            held: Vec::new(alloc),
+        }
+    }
+
+    /// How many records are held.
+    pub fn len(&self) -> usize
+        ensures { result ≡ length (records_of self.now) }
+    {
+        self.held.len()
+    }
+
+    /// The greatest number up to which all records of the group are held.
+    pub fn complete_point(&self) -> u64
+        ensures { result ≡ scl (records_of self.now) }
+    {
+        complete_point(&self.held)
+    }
+
+    /// Where the record would stand, `None` where it is held already.
+    pub fn place_for(&self, packet: &Packet) -> Option<usize>
+        ensures { MatchOption result (IsHeldIn (records_of self.now) (packet_redo packet.now)) (λ place. IsPlaceFor (records_of self.now) (packet_redo packet.now) place) }
+    {
+        let place = self
+            .held
+            .partition_point(|held| held.packet.is_before(packet));
+        if place == self.held.len() {
+            return Some(place);
+        }
+        if packet.is_same(&self.held[place].packet) {
+            None
+        } else {
+            Some(place)
+        }
+    }
+
+    /// Makes room for one more record.
+    pub fn make_room(&mut self) -> Result<(), AllocError>
+        ensures room { OnOk result (HasRoom self.new) }
+        ensures same { records_of self.new ≡ records_of self.old }
+    {
+        self.held.reserve(1)
+    }
+
+    /// Takes a record into its place.
+    pub fn insert(&mut self, place: usize, packet: &Packet)
+        requires room { HasRoom self.old }
+        requires place { IsPlaceFor (records_of self.old) (packet_redo packet.now) place }
+        ensures taken { records_of self.new ≡ with_record (packet_redo packet.now) (records_of self.old) }
+        ensures room { room_of self.new ≡ room_of self.old }
+    {
+        let held = Held {
+            packet: *packet,
+            reached: 0,
+        };
+        self.held.insert(place, held).unwrap();
+        settle(&mut self.held, place);
+    }
+
+    /// Drops the record at this place.
+    fn remove(&mut self, place: usize)
+        requires { place < length (records_of self.old) }
+        ensures dropped { records_of self.new ≡ remove (records_of self.old) place }
+        ensures room { room_of self.new ≡ room_of self.old }
+    {
+        self.held.remove(place);
+        settle(&mut self.held, place);
+    }
+
+    /// The complete point that the record would bring about.
+    pub fn complete_point_with(&mut self, place: usize, packet: &Packet) -> u64
+        requires room { HasRoom self.old }
+        requires place { IsPlaceFor (records_of self.old) (packet_redo packet.now) place }
+        ensures point { result ≡ scl (with_record (packet_redo packet.now) (records_of self.old)) }
+        ensures same { records_of self.new ≡ records_of self.old }
+        ensures room { HasRoom self.new }
+    {
+        self.insert(place, packet);
+        let point = self.complete_point();
+        self.remove(place);
+        point
+    }
+}
