@@ -14,7 +14,7 @@ pub struct CheckedPlan {
 }
 
 impl CheckedPlan {
-    ghost use Rattle.std.specs.Prelude.{◌&&◌, nat_lt};
+    ghost use Rattle.std.specs.Prelude.{◌&&◌, ◌≤◌, nat_lt};
     ghost use Rattle.volume_model.specs.Plan.{has_member, is_named};
     ghost use Rattle.plan.specs.CheckedModel.{checked_model, ShowsConfiguration};
 
@@ -27,7 +27,8 @@ impl CheckedPlan {
 
     /// How many groups there are.
     pub fn groups(&self) -> u8
-        ensures { result ≡ (checked_model self.now).groups }
+        ensures groups { result ≡ (checked_model self.now).groups }
+        ensures few { result ≤ 16 }
     {
         self.plan.groups.len() as u8
     }
