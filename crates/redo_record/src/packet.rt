@@ -42,6 +42,13 @@ impl Packet {
         self.record.prev_group
     }
 
+    /// The group of its record.
+    pub fn group(&self) -> u8
+        ensures { result ≡ (packet_redo self.now).group }
+    {
+        self.record.group
+    }
+
     /// Whether both are packets of the same record.
     pub fn is_same(&self, other: &Packet) -> bool
         ensures { result ≡ is_same (packet_redo self.now) (packet_redo other.now) }
