@@ -1,10 +1,10 @@
 -- One record more of a transaction.
-use Rattle.std.proofs.Common.{◌≡◌, ℕ, zero, suc, ◌+◌, ◌<◌, ◌≤◌, ◌^◌, Bool, true, false, ◌&&◌, nat_lt, nat_le, nat_eq, List, [], ◌∷◌, ◌++◌, map, max, length, drop, get_or, take, refl, sym, ap, ap₂, ◌∙◌, subst, arith, drop-cons, add-one, append_assoc, length-drop}
+use Rattle.std.proofs.Common.{◌≡◌, ℕ, zero, suc, ◌+◌, ◌<◌, ◌≤◌, ◌^◌, Bool, true, ◌&&◌, nat_lt, nat_eq, List, [], ◌∷◌, ◌++◌, max, length, drop, get_or, take, refl, sym, ap, ap₂, ◌∙◌, arith, drop-cons, add-one, length-drop}
 use Rattle.std.proofs.lemmas.Bool.{lt-ltb}
 use Rattle.std.proofs.lemmas.List.{take-append-le, length-take}
 use Rattle.std.proofs.lemmas.Bool.Decides.{nat_tests}
 use Rattle.volume_model.specs.Lists.{every}
-use Rattle.volume_model.specs.Redo.{Redo, last_lsn}
+use Rattle.volume_model.specs.Redo.{last_lsn}
 use Rattle.volume_model.specs.Message as model
 use Rattle.volume_model.specs.Client as client
 use Rattle.volume_model.specs.Client.{record_of, is_last, issued_log, issued_writes, is_change}

@@ -1,3 +1,4 @@
 pub mod Logs
 pub mod Standings
 pub mod Changes
+pub mod Writers

@@ -1,6 +1,6 @@
 //! The records of a transaction, and the messages that carry them.
 
-ghost use Rattle.std.specs.Prelude.{◌≡◌, ◌+◌, ◌^◌, ◌<◌, ◌≤◌, ◌++◌, true, length, max, take, OnOk, OnErr, IfErr};
+ghost use Rattle.std.specs.Prelude.{◌≡◌, ◌+◌, ◌^◌, ◌<◌, ◌≤◌, ◌++◌, true, length, max, take, OnOk, IfErr};
 ghost use Rattle.volume_model.specs.declared.fault.Fault.TheVariants.{NoMemory};
 ghost use Rattle.volume_model.specs.Redo.{last_lsn};
 ghost use Rattle.volume_model.specs.Client.{record_of, issued_log, issued_writes, is_change, place_of};
@@ -89,7 +89,7 @@ pub fn append(
     ensures grown { OnOk result (is_growing (log_of log.new.items) ≡ true) }
     ensures written { OnOk result (messages_of messages.new.items ≡ messages_of messages.old.items ++ issued_writes span.volume (place_of (groups_of standings.now)) span.start (changes_of changes.now) (log_of log.old.items)) }
     ensures memory { IfErr result (λ e. e ≡ NoMemory) }
-    ensures err { OnErr result (take (length log.old.items) log.new.items ≡ log.old.items) }
+    ensures front { take (length log.old.items) log.new.items ≡ log.old.items }
 {
     for (i, change) in changes.iter().enumerate() {
         let record = next_record(span, log.as_slice(), change, i + 1 == changes.len());

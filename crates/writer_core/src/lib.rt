@@ -6,5 +6,7 @@ mod issuing;
 mod log;
 mod standing;
 mod transaction;
+mod writer;
 
 pub use change::Change;
+pub use writer::Writer;

@@ -74,5 +74,7 @@ pub fn point_below(log: &[Record], limit: u64) -> u64
 fn point(groups: &[Standing], group: u8) -> u64
     ensures { result ≡ point_of (groups_of groups.now) group }
 {
-    groups.get(usize::from(group)).map_or(0, |standing| standing.point)
+    groups
+        .get(usize::from(group))
+        .map_or(0, |standing| standing.point)
 }

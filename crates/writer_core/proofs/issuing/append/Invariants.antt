@@ -15,6 +15,6 @@ invariant-loop-i l = record {
   good : every (is_change (length l.standings)) (changes_of (drop l.i l.changes)) ≡ true;
   logged : issued_log l.span.volume l.span.start (changes_of (drop l.i l.changes)) (log_of l.log.items) ≡ issued_log l.span.volume l.span.start (changes_of l.changes) (log_of l.initial.log.items);
   written : messages_of l.messages.items ++ issued_writes l.span.volume (place_of (groups_of l.standings)) l.span.start (changes_of (drop l.i l.changes)) (log_of l.log.items)
-    ≡ messages_of l.initial.messages.items ++ issued_writes l.span.volume (place_of (groups_of l.standings)) l.span.start (changes_of l.changes) (log_of l.initial.log.items);
+      ≡ messages_of l.initial.messages.items ++ issued_writes l.span.volume (place_of (groups_of l.standings)) l.span.start (changes_of l.changes) (log_of l.initial.log.items);
   front : take (length l.initial.log.items) l.log.items ≡ l.initial.log.items;
 }

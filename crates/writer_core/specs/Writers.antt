@@ -1,0 +1,50 @@
+-- What a writer is, as the model's client, and what it answers.
+use Rattle.std.specs.Prelude.{◌≡◌, ℕ, ◌+◌, ◌^◌, ◌≤◌, true, List, [], length, max, Result, Ok, Err}
+use Rattle.std.specs.Prelude.{Vec}
+use Rattle.std.specs.Global.{Global}
+use Rattle.std.specs.Arc.{arc_value}
+use Rattle.volume_model.specs.declared.fault.Fault.{Fault}
+use Rattle.volume_model.specs.declared.fault.Fault.TheVariants.{NoMemory}
+use Rattle.volume_model.specs.Plan.{Plan}
+use Rattle.volume_model.specs.Redo.{last_lsn}
+use Rattle.volume_model.specs.Lineage.{last_start}
+use Rattle.volume_model.specs.Client.{Client, Change, ClientStep, ClientAnswer, is_transaction, issued_log, issued_writes, place_of}
+use Rattle.volume_model.specs.Client.Stage.{Writing}
+use Rattle.plan.specs.CheckedModel.{checked_model}
+use Rattle.lineage.specs.Lineage.{lineage_of}
+use Rattle.wire.specs.declared.message.Message.{Message}
+use Rattle.wire.specs.Message.{messages_of}
+use Rattle.writer_core.specs.Logs.{log_of}
+use Rattle.writer_core.specs.Standings.{groups_of}
+use Rattle.writer_core.specs.declared.writer.Writer.{Writer}
+
+-- the plan that it was made over
+abbrev pub writer_plan : Writer → Plan
+writer_plan w = checked_model (arc_value w.plan)
+
+-- its volume epoch
+abbrev pub writer_volume : Writer → ℕ
+writer_volume w = w.volume
+
+-- the client that it is; the writer that a volume is born with has found no log
+abbrev pub client_of : Writer → Client
+client_of w = record { stage = Writing; groups = groups_of w.standings.items; lineage = lineage_of w.lineage; found = []; log = log_of w.log.items }
+
+-- what a transaction leaves that isn't refused
+abbrev pub issue_of : ℕ → Client → List Change → ClientStep
+issue_of volume client changes = record {
+  made = issued_writes volume (place_of client.groups) (last_start client.lineage) changes client.log;
+  client = record client { log = issued_log volume (last_start client.lineage) changes client.log };
+}
+
+-- a transaction for which there are log sequence numbers
+pub record CanIssue (plan : Plan) (client : Client) (changes : List Change) : Type 0 where
+  pub good : is_transaction plan.groups changes ≡ true
+  pub room : max (last_lsn client.log) (last_start client.lineage) + length changes ≤ 2 ^ 62
+
+-- A client's answer is the one defined, and it is then what the definition leaves; after a refusal, or where memory ran out, it is
+-- what it was.
+abbrev pub Acts : ClientAnswer → Client → Result (Vec Message Global) Fault → Client → Type 0
+Acts defined old (Ok messages) new = defined ≡ Ok (record { made = messages_of messages.items; client = new })
+Acts defined old (Err NoMemory) new = new ≡ old
+Acts defined old (Err fault) new = (defined ≡ Err fault) × (new ≡ old)
