@@ -1,0 +1,86 @@
+//! JSON values, one level at a time.
+
+ghost use Rattle.std.specs.Prelude.{◌≡◌, ◌≤◌, IfOk};
+ghost use Rattle.serde_json.specs.View.{view, items_view};
+ghost use Rattle.serde_json.specs.Events.{items_len};
+ghost use Rattle.volume_model.specs.Answer.{Gives};
+ghost use Rattle.quorum_expr.specs.Reading.{at_key, whole_of};
+ghost use Rattle.refutation.specs.Reading.{has_keys, array_of, entry_at, number_to, number_at};
+
+use serde_json::Value;
+use volume_model::Fault;
+
+/// The value at a key of an object. `Malformed` where there is none.
+pub fn value_at<'v>(value: &'v Value, key: &str) -> Result<&'v Value, Fault>
+    ensures { Gives (λ v. view v.now) result (at_key key.now (view value.now)) }
+{
+    value.get(key).ok_or(Fault::Malformed)
+}
+
+/// The entry at a place of a list. `Malformed` where there is none.
+pub fn entry<'v>(value: &'v Value, place: usize) -> Result<&'v Value, Fault>
+    ensures { Gives (λ v. view v.now) result (entry_at place (view value.now)) }
+{
+    value.get(place).ok_or(Fault::Malformed)
+}
+
+/// A whole number from 0. `Malformed` for another value.
+pub fn whole(value: &Value) -> Result<u64, Fault>
+    ensures { Gives (λ n. n) result (whole_of (view value.now)) }
+{
+    value.as_u64().ok_or(Fault::Malformed)
+}
+
+/// Whether the value is an object of so many keys. `Malformed` where it isn't.
+pub fn has_keys(value: &Value, keys: usize) -> Result<(), Fault>
+    ensures { Gives (λ u. u) result (has_keys keys (view value.now)) }
+{
+    match value {
+        Value::Object(map) => {
+            if map.len() != keys {
+                return Err(Fault::Malformed);
+            }
+            Ok(())
+        }
+        _ => Err(Fault::Malformed),
+    }
+}
+
+/// The entries of a list. `Malformed` for another value.
+pub fn array(value: &Value) -> Result<&Vec<Value>, Fault>
+    ensures { Gives (λ v. items_view v.now.items) result (array_of (view value.now)) }
+{
+    match value {
+        Value::Array(list) => Ok(list),
+        _ => Err(Fault::Malformed),
+    }
+}
+
+/// How many entries a list has.
+pub fn count(values: &Vec<Value>) -> usize
+    ensures { result ≡ items_len (items_view values.now.items) }
+{
+    values.len()
+}
+
+/// A whole number from 0 to a limit. `Malformed` for another value.
+#[tactic(auto, unfolding(crate::specs::Reading::number_to))]
+pub fn number_to(value: &Value, most: u64) -> Result<u64, Fault>
+    ensures given { Gives (λ n. n) result (number_to most (view value.now)) }
+    ensures within { IfOk result (λ n. n ≤ most) }
+{
+    let n = whole(value)?;
+    if n > most {
+        return Err(Fault::Malformed);
+    }
+    Ok(n)
+}
+
+/// A whole number from 0 to a limit at a key. `Malformed` where there is none.
+#[tactic(auto, unfolding(crate::specs::Reading::number_at))]
+pub fn number_at(value: &Value, key: &str, most: u64) -> Result<u64, Fault>
+    ensures given { Gives (λ n. n) result (number_at key.now most (view value.now)) }
+    ensures within { IfOk result (λ n. n ≤ most) }
+{
+    number_to(value_at(value, key)?, most)
+}
