@@ -1,3 +1,5 @@
 pub mod Held
 pub mod Places
 pub mod Records
+pub mod Prepared
+pub mod Segment

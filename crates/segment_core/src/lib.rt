@@ -2,4 +2,9 @@
 #![tactic(auto)]
 
 mod held;
+mod prepared;
 mod records;
+mod segment;
+
+pub use prepared::Prepared;
+pub use segment::Segment;
