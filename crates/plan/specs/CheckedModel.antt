@@ -1,10 +1,15 @@
 -- The plan of the model that a checked plan stands for.
-use Rattle.std.specs.Prelude.{◌≡◌, ℕ, ◌<◌, Option, Some, None}
+use Rattle.std.specs.Prelude.{◌≡◌, ◌≢◌, ℕ, ◌<◌, Option, Some, None, Result, Ok, Err}
 use Rattle.std.specs.Borrow.{Bor}
 use Rattle.volume_model.specs.Plan as model
 use Rattle.volume_model.specs.Sets.{listed}
 use Rattle.quorum_expr.specs.Expr.{formula_of}
 use Rattle.plan.specs.declared.configurations.Configuration.{Configuration}
+use Rattle.plan.specs.declared.configurations.Plan.{Plan}
+use Rattle.plan.specs.declared.fault.PlanFault.{PlanFault}
+use Rattle.plan.specs.declared.fault.PlanFault.TheVariants.{Text}
+use Rattle.volume_model.specs.declared.fault.Fault.TheVariants.{NoMemory}
+use Rattle.plan.specs.PlanFaults.{plan_fault}
 use Rattle.plan.specs.declared.checked.CheckedPlan.{CheckedPlan}
 use Rattle.plan.specs.PlanData.{model_of, or_zero}
 use Rattle.plan.specs.Plan.{plan_data}
@@ -24,3 +29,8 @@ pub record Shows (x : Configuration) (y : model.Configuration) : Type 0 where
 abbrev pub ShowsConfiguration : Option (Bor Configuration) → model.Plan → ℕ → ℕ → Type 0
 ShowsConfiguration None plan g c = (g < plan.groups) → (c < plan.configurations g) → ⊥
 ShowsConfiguration (Some x) plan g c = (g < plan.groups) × (c < plan.configurations g) × Shows x.now (plan.configuration g c)
+
+-- A check gives the checked plan exactly where there is no fault, and else the first one with the plan, unless memory runs out.
+abbrev pub ChecksTo : Result CheckedPlan (PlanFault × Plan) → Plan → Type 0
+ChecksTo (Ok checked) plan = (checked.plan ≡ plan) × (plan_fault (plan_data plan) ≡ None)
+ChecksTo (Err (fault, back)) plan = (back ≡ plan) × (fault ≢ Text NoMemory → plan_fault (plan_data plan) ≡ Some fault)

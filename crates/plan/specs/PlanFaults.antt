@@ -1,5 +1,5 @@
 -- The first fault of a plan.
-use Rattle.std.specs.Prelude.{ℕ, zero, suc, nat_lt, if◌then◌else◌, Bool, true, false, List, length, Option, Some, None, slice_get}
+use Rattle.std.specs.Prelude.{◌≡◌, ◌≢◌, ◌==◌, ℕ, zero, suc, nat_lt, if◌then◌else◌, Bool, true, false, List, length, Option, Some, None, Result, Ok, Err, [], slice_get, slice_index_or}
 use Rattle.std.specs.Ordering.{nat_cmp}
 use Rattle.std.specs.FinSet.{FinSet, empty, difference}
 use Rattle.volume_model.specs.Formula.{dual_of}
@@ -8,9 +8,10 @@ use Rattle.refutation.specs.Rule.{Rule}
 use Rattle.quorum_checker.specs.declared.fault.FaultAt.{FaultAt}
 use Rattle.quorum_checker.specs.Refutes.{State, claim_state}
 use Rattle.quorum_checker.specs.FirstFault.{first_fault}
+use Rattle.volume_model.specs.declared.fault.Fault.TheVariants.{NoMemory}
 use Rattle.plan.specs.declared.fault.PlanFault.{PlanFault}
-use Rattle.plan.specs.declared.fault.PlanFault.TheVariants.{BadParent, MemberReused, NoCertificate, Certificate}
-use Rattle.plan.specs.PlanData.{ConfigurationData, PlanData, group_at, configuration_at, parent_at, by_parent}
+use Rattle.plan.specs.declared.fault.PlanFault.TheVariants.{Text, BadParent, MemberReused, NoCertificate, Certificate}
+use Rattle.plan.specs.PlanData.{ConfigurationData, PlanData, configuration_at, parent_at, by_parent}
 
 -- the first fault, and else the next
 abbrev pub or_then : Option PlanFault → Option PlanFault → Option PlanFault
@@ -26,10 +27,8 @@ first_below (suc n) fault_of = or_then (first_below n fault_of) (fault_of n)
 
 -- configuration 0 has no parent, and each other one has one that stands before it
 abbrev pub is_good_parent : ℕ → Option ℕ → Bool
-is_good_parent zero None = true
-is_good_parent zero (Some p) = false
-is_good_parent (suc c) None = false
-is_good_parent (suc c) (Some p) = nat_lt p (suc c)
+is_good_parent c None = c == 0
+is_good_parent c (Some p) = nat_lt p c
 
 abbrev pub parent_fault : ℕ → List ConfigurationData → ℕ → Option PlanFault
 parent_fault g group c = if is_good_parent c (configuration_at group c).parent then None else Some (BadParent g c)
@@ -95,6 +94,15 @@ configuration_fault g group c = or_then (shape_fault g group c) (or_then (meets_
 abbrev pub group_fault : ℕ → List ConfigurationData → Option PlanFault
 group_fault g group = first_below (length group) (configuration_fault g group)
 
+-- the first fault of all groups
+abbrev pub groups_fault : List (List ConfigurationData) → Option PlanFault
+groups_fault groups = first_below (length groups) (λ g. group_fault g (slice_index_or groups g []))
+
 -- The first fault of a plan: configuration by configuration its parent, its fresh members, its claim that reads meet writes, and that of its step.
 unfoldable pub plan_fault : PlanData → Option PlanFault
-plan_fault plan = first_below (length plan.groups) (λ g. group_fault g (group_at plan g))
+plan_fault plan = groups_fault plan.groups
+
+-- A check answers the first fault, if there is one, unless memory runs out.
+abbrev pub Finds : Result (Unit {0}) PlanFault → Option PlanFault → Type 0
+Finds (Ok u) found = found ≡ None
+Finds (Err fault) found = fault ≢ Text NoMemory → found ≡ Some fault

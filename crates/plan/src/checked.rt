@@ -18,6 +18,14 @@ impl CheckedPlan {
     ghost use Rattle.volume_model.specs.Plan.{has_member, is_named};
     ghost use Rattle.plan.specs.CheckedModel.{checked_model, ShowsConfiguration};
 
+    /// A plan without a fault, as a checked one.
+    pub(crate) fn trusted(plan: Plan) -> CheckedPlan
+        requires { plan_fault (plan_data plan) ≡ None }
+        ensures { result.plan ≡ plan }
+    {
+        CheckedPlan { plan }
+    }
+
     /// How far log sequence numbers may run ahead of the durable point.
     pub fn lal(&self) -> u64
         ensures { result ≡ (checked_model self.now).lal }

@@ -2,9 +2,12 @@
 #![tactic(auto)]
 
 mod checked;
+mod checking;
 mod configurations;
 mod fault;
+mod parents;
 
 pub use checked::CheckedPlan;
+pub use checking::check_plan;
 pub use configurations::{Configuration, Group, Plan};
 pub use fault::{PlanFault, Quorum};

@@ -1,0 +1,189 @@
+//! The check of a plan.
+
+ghost use Rattle.std.specs.Prelude.{◌≡◌, ◌<◌, ◌≤◌, true, false, length, map, Ok, option_map};
+ghost use Rattle.std.specs.FinSet.{difference};
+ghost use Rattle.volume_model.specs.Answer.{Gives};
+ghost use Rattle.volume_model.specs.Formula.{dual_of};
+ghost use Rattle.quorum_expr.specs.Expr.{formula_of};
+ghost use Rattle.refutation.specs.Certificate.{certificate_rule};
+ghost use Rattle.quorum_checker.specs.Claim.{first_state};
+ghost use Rattle.quorum_checker.specs.Refutes.{claim_state};
+ghost use Rattle.plan.specs.Plan.{configuration_data, group_data};
+ghost use Rattle.plan.specs.PlanFaults.{Finds, certificate_fault, claim_fault, meets_claim, configuration_fault, group_fault, groups_fault};
+ghost use Rattle.plan.specs.CheckedModel.{ChecksTo};
+ghost use Rattle.quorum_checker.specs.FirstFault.{first_fault};
+
+use crate::checked::CheckedPlan;
+use crate::configurations::{Configuration, Group, Plan};
+use crate::fault::PlanFault;
+use crate::parents::check_shape;
+use quorum_checker::{Claim, FaultAt, check, no_fault_refutes};
+use quorum_expr::{MemberSet, copy_in, dual_in};
+use refutation::Certificate;
+use std::alloc::Global;
+use volume_model::Fault;
+
+/// That read sets meet write sets.
+pub fn meets_claim(alloc: Global, configuration: &Configuration) -> Result<Claim<Global>, Fault>
+    ensures { Gives first_state result (Ok (meets_claim (configuration_data configuration.now))) }
+{
+    let left = copy_in(&configuration.read, alloc)?;
+    let right = copy_in(&configuration.write, alloc)?;
+    Ok(Claim {
+        left,
+        right,
+        clear: MemberSet::empty(),
+    })
+}
+
+/// That read sets of the child without a fresh member meet what satisfies the dual of the parent's read expression.
+pub fn step_claim(
+    alloc: Global,
+    child: &Configuration,
+    parent: &Configuration,
+) -> Result<Claim<Global>, Fault>
+    ensures { Gives first_state result (Ok (claim_state (formula_of child.now.read) (dual_of (formula_of parent.now.read)) (difference child.now.members parent.now.members))) }
+{
+    let left = copy_in(&child.read, alloc)?;
+    let right = dual_in(&parent.read, alloc)?;
+    Ok(Claim {
+        left,
+        right,
+        clear: child.members.difference(parent.members),
+    })
+}
+
+/// Whether a certificate refutes a claim.
+fn check_certificate(
+    alloc: Global,
+    group: u8,
+    configuration: u8,
+    step: bool,
+    claim: &Claim<Global>,
+    certificate: &Certificate<Global>,
+) -> Result<(), PlanFault>
+    ensures { Finds result (certificate_fault group configuration step (first_fault (certificate_rule certificate.now) (first_state claim.now))) }
+{
+    no_fault_refutes();
+    match check(alloc, claim, certificate) {
+        Ok(()) => Ok(()),
+        Err(at) => match at.fault {
+            Fault::NoMemory => Err(PlanFault::Text(Fault::NoMemory)),
+            _ => Err(PlanFault::Certificate {
+                group,
+                configuration,
+                step,
+                at,
+            }),
+        },
+    }
+}
+
+/// Whether the configuration has a certificate that its read sets meet its write sets.
+fn check_meets(
+    alloc: Global,
+    group: u8,
+    configuration: u8,
+    this: &Configuration,
+) -> Result<(), PlanFault>
+    ensures { Finds result (claim_fault group configuration false (option_map certificate_rule this.now.meets) (meets_claim (configuration_data this.now))) }
+{
+    match &this.meets {
+        None => Err(PlanFault::NoCertificate {
+            group,
+            configuration,
+            step: false,
+        }),
+        Some(certificate) => {
+            let claim = meets_claim(alloc, this)?;
+            check_certificate(alloc, group, configuration, false, &claim, certificate)
+        }
+    }
+}
+
+/// Whether the child has a certificate that its read sets without a fresh member are read sets of its parent.
+fn check_step(
+    alloc: Global,
+    group: u8,
+    configuration: u8,
+    child: &Configuration,
+    parent: &Configuration,
+) -> Result<(), PlanFault>
+    ensures { Finds result (claim_fault group configuration true (option_map certificate_rule child.now.step)
+        (claim_state (formula_of child.now.read) (dual_of (formula_of parent.now.read)) (difference child.now.members parent.now.members))) }
+{
+    match &child.step {
+        None => Err(PlanFault::NoCertificate {
+            group,
+            configuration,
+            step: true,
+        }),
+        Some(certificate) => {
+            let claim = step_claim(alloc, child, parent)?;
+            check_certificate(alloc, group, configuration, true, &claim, certificate)
+        }
+    }
+}
+
+/// The first fault of a configuration: its parent, its fresh members, its claim and that of its step.
+fn check_configuration(
+    alloc: Global,
+    group: u8,
+    configurations: &[Configuration],
+    configuration: u8,
+) -> Result<(), PlanFault>
+    requires { configuration < length configurations.now }
+    ensures { Finds result (configuration_fault group (map configuration_data configurations.now) configuration) }
+{
+    check_shape(group, configurations, configuration)?;
+    let this = &configurations[usize::from(configuration)];
+    check_meets(alloc, group, configuration, this)?;
+    match this.parent {
+        None => Ok(()),
+        Some(parent) => check_step(
+            alloc,
+            group,
+            configuration,
+            this,
+            &configurations[parent as usize],
+        ),
+    }
+}
+
+/// The first fault of a group's configurations.
+fn check_group(alloc: Global, group: u8, configurations: &[Configuration]) -> Result<(), PlanFault>
+    requires { length configurations.now ≤ 64 }
+    ensures { Finds result (group_fault group (map configuration_data configurations.now)) }
+{
+    for configuration in 0..configurations.len() as u8 {
+        check_configuration(alloc, group, configurations, configuration)?;
+    }
+    Ok(())
+}
+
+/// The first fault of all groups.
+fn check_groups(alloc: Global, groups: &[Group]) -> Result<(), PlanFault>
+    requires { length groups.now ≤ 16 }
+    ensures { Finds result (groups_fault (map group_data groups.now)) }
+{
+    for group in 0..groups.len() as u8 {
+        check_group(alloc, group, &groups[usize::from(group)].configurations)?;
+    }
+    Ok(())
+}
+
+/// The plan, checked.
+///
+/// # Errors
+/// The first fault with the plan: configuration by configuration [`PlanFault::BadParent`], then
+/// [`PlanFault::MemberReused`], then [`PlanFault::NoCertificate`] or [`PlanFault::Certificate`] of its claim that read sets
+/// meet write sets, then those of its step.
+#[tactic(auto, unfolding(crate::specs::PlanFaults::plan_fault))]
+pub fn check_plan(alloc: Global, plan: Plan) -> Result<CheckedPlan, (PlanFault, Plan)>
+    ensures { ChecksTo result plan }
+{
+    match check_groups(alloc, &plan.groups) {
+        Ok(()) => Ok(CheckedPlan::trusted(plan)),
+        Err(fault) => Err((fault, plan)),
+    }
+}

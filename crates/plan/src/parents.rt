@@ -1,0 +1,124 @@
+//! The parents of configurations, and the members that are new to them.
+
+ghost use Rattle.std.specs.Prelude.{◌≡◌, ◌<◌, length, map};
+ghost use Rattle.plan.specs.PlanData.{configuration_at, parent_at};
+ghost use Rattle.plan.specs.Plan.{configuration_data};
+ghost use Rattle.plan.specs.PlanFaults.{Finds, is_good_parent, parent_fault, fresh_at, unused_within, reuse_fault, shape_fault};
+
+use crate::configurations::Configuration;
+use crate::fault::PlanFault;
+use quorum_expr::MemberSet;
+
+/// Whether a configuration may have this parent: configuration 0 none, and each other one that stands before it.
+fn is_good_parent(configuration: u8, parent: Option<u64>) -> bool
+    ensures { result ≡ is_good_parent configuration parent }
+{
+    match parent {
+        None => configuration == 0,
+        Some(parent) => parent < u64::from(configuration),
+    }
+}
+
+fn check_parent(
+    group: u8,
+    configurations: &[Configuration],
+    configuration: u8,
+) -> Result<(), PlanFault>
+    requires { configuration < length configurations.now }
+    ensures { Finds result (parent_fault group (map configuration_data configurations.now) configuration) }
+{
+    let parent = configurations[usize::from(configuration)].parent;
+    if !is_good_parent(configuration, parent) {
+        return Err(PlanFault::BadParent {
+            group,
+            configuration,
+        });
+    }
+    Ok(())
+}
+
+/// The members of the configuration with a number, and none where there is no such configuration.
+fn members_at(configurations: &[Configuration], number: u64) -> MemberSet
+    ensures { result ≡ (configuration_at (map configuration_data configurations.now) number).members }
+{
+    match configurations.get(number as usize) {
+        Some(configuration) => configuration.members,
+        None => MemberSet::empty(),
+    }
+}
+
+/// The parent of the configuration with a number, where it stands before it.
+fn parent_of(configurations: &[Configuration], number: u64) -> Option<u64>
+    ensures { result ≡ parent_at (map configuration_data configurations.now) number }
+{
+    let parent = configurations.get(number as usize)?.parent?;
+    if parent < number { Some(parent) } else { None }
+}
+
+/// The members that the parent lacks.
+fn fresh_members(configurations: &[Configuration], configuration: u8) -> MemberSet
+    requires { configuration < length configurations.now }
+    ensures { result ≡ fresh_at (map configuration_data configurations.now) configuration }
+{
+    let child = &configurations[usize::from(configuration)];
+    match child.parent {
+        None => MemberSet::empty(),
+        Some(parent) => child.members.difference(members_at(configurations, parent)),
+    }
+}
+
+/// What is left of a set without the members of the configurations above, in at most so many steps up.
+fn unused(configurations: &[Configuration], steps: u8, number: u64, set: MemberSet) -> MemberSet
+    ensures { result ≡ unused_within steps (map configuration_data configurations.now) number set }
+{
+    if steps == 0 {
+        return set;
+    }
+    match parent_of(configurations, number) {
+        None => set,
+        Some(parent) => unused(
+            configurations,
+            steps - 1,
+            parent,
+            set.difference(members_at(configurations, parent)),
+        ),
+    }
+}
+
+fn check_fresh(
+    group: u8,
+    configurations: &[Configuration],
+    configuration: u8,
+) -> Result<(), PlanFault>
+    requires { configuration < length configurations.now }
+    ensures { Finds result (reuse_fault group (map configuration_data configurations.now) configuration) }
+{
+    let fresh = fresh_members(configurations, configuration);
+    let left = unused(
+        configurations,
+        configuration,
+        u64::from(configuration),
+        fresh,
+    );
+    match fresh.difference(left).first() {
+        None => Ok(()),
+        Some(member) => Err(PlanFault::MemberReused {
+            group,
+            configuration,
+            member,
+        }),
+    }
+}
+
+/// The first fault of a configuration's parent and fresh members.
+pub fn check_shape(
+    group: u8,
+    configurations: &[Configuration],
+    configuration: u8,
+) -> Result<(), PlanFault>
+    requires { configuration < length configurations.now }
+    ensures { Finds result (shape_fault group (map configuration_data configurations.now) configuration) }
+{
+    check_parent(group, configurations, configuration)?;
+    check_fresh(group, configurations, configuration)
+}
