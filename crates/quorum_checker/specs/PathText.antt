@@ -1,0 +1,13 @@
+-- How a path is written.
+use Rattle.std.specs.Prelude.{ℕ, List, [], ◌∷◌, ◌++◌, codes}
+use Rattle.std.specs.Fmt.{decimal}
+
+-- a dot and a number for each
+abbrev pub dotted : List ℕ → List ℕ
+dotted [] = []
+dotted (n ∷ ns) = (codes "." ++ decimal n) ++ dotted ns
+
+-- the numbers of the branches joined by dots, or the root
+abbrev pub path_text : List ℕ → List ℕ
+path_text [] = codes "root"
+path_text (n ∷ ns) = decimal n ++ dotted ns
