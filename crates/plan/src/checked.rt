@@ -5,6 +5,8 @@ ghost use Rattle.plan.specs.PlanFaults.{plan_fault};
 ghost use Rattle.plan.specs.Plan.{plan_data};
 
 use crate::configurations::{Configuration, Plan};
+use quorum_checker::{no_fault_refutes, refuted_claim_meets};
+use volume_model::claims_certify;
 
 /// A plan without a fault.
 #[derive(Drop)]
@@ -15,7 +17,7 @@ pub struct CheckedPlan {
 
 impl CheckedPlan {
     ghost use Rattle.std.specs.Prelude.{◌&&◌, ◌≤◌, nat_lt};
-    ghost use Rattle.volume_model.specs.Plan.{has_member, is_named};
+    ghost use Rattle.volume_model.specs.Plan.{IsCertified, has_member, is_named};
     ghost use Rattle.plan.specs.CheckedModel.{checked_model, ShowsConfiguration};
 
     /// A plan without a fault, as a checked one.
@@ -77,5 +79,14 @@ impl CheckedPlan {
             Some(root) => root.members.contains(member),
             None => false,
         }
+    }
+
+    /// A checked plan is certified: in each configuration the read sets meet the write sets, and each step is one.
+    pub fn certified(&self)
+        ensures { IsCertified (checked_model self.now) }
+    {
+        claims_certify();
+        no_fault_refutes();
+        refuted_claim_meets();
     }
 }
