@@ -1,10 +1,19 @@
-//! Redo records: what a writer gives to storage, and in what order they stand.
+//! Redo records: what a writer gives to storage, how they are spelled, and in what order they stand.
 #![tactic(auto)]
 
+mod decoding;
+mod encoding;
+mod head;
 mod packet;
 mod payload;
 mod record;
+mod text;
 
+pub use decoding::decode;
+pub use encoding::encode;
 pub use packet::Packet;
 pub use payload::Payload;
 pub use record::Record;
+
+#[cfg(test)]
+mod tests;

@@ -1,0 +1,43 @@
+//! Records as bytes.
+
+ghost use Rattle.std.specs.Prelude.{◌≡◌, Ok, IfOk, IfErr};
+ghost use Rattle.volume_model.specs.declared.fault.Fault.TheVariants.{NoMemory};
+ghost use Rattle.redo_record.specs.Record.{redo_of};
+ghost use Rattle.redo_record.specs.Text.{text_bytes};
+ghost use Rattle.redo_record.specs.Spelling.{spelled, decoded};
+
+use crate::record::Record;
+use crate::text::Text;
+use std::alloc::Global;
+use volume_model::Fault;
+
+/// The spelling of a record, in place.
+pub fn spell(record: &Record) -> Text
+    ensures spelled { text_bytes result ≡ spelled (redo_of «record».now) }
+    ensures decoded { decoded (text_bytes result) ≡ Ok (redo_of «record».now) }
+{
+    let written = record.bytes.as_slice();
+    let mut text = Text::new();
+    text.write(&record.lsn.to_be_bytes());
+    text.write(&record.volume_epoch.to_be_bytes());
+    text.write(&record.prev_volume.to_be_bytes());
+    text.write(&record.prev_group.to_be_bytes());
+    text.write(&record.prev_block.to_be_bytes());
+    text.write(&[record.group]);
+    text.write(&record.block.to_be_bytes());
+    text.write(&record.offset.to_be_bytes());
+    text.write(&[u8::from(record.point), written.len() as u8]);
+    text.write(written);
+    text
+}
+
+/// The spelling of a record. Refused 9 where there is no memory for it.
+pub fn encode(alloc: Global, record: &Record) -> Result<Vec<u8>, Fault>
+    ensures spelled { IfOk result (λ v. v.items ≡ spelled (redo_of «record».now)) }
+    ensures decoded { IfOk result (λ v. decoded v.items ≡ Ok (redo_of «record».now)) }
+    ensures err { IfErr result (λ fault. fault ≡ NoMemory) }
+{
+    let text = spell(record);
+    let bytes = Vec::from_slice(alloc, text.as_slice())?;
+    Ok(bytes)
+}

@@ -1,0 +1,46 @@
+//! Bytes in place, written one after the other.
+
+ghost use Rattle.std.specs.Prelude.{◌≤◌};
+
+/// How many bytes a record takes at most.
+pub const MOST_TEXT: usize = 109;
+
+/// Bytes in place, written one after the other.
+#[derive(Clone, Copy)]
+pub struct Text {
+    place: [u8; MOST_TEXT],
+    length: usize,
+    ghost in_place: { length ≤ 109 },
+}
+
+impl Text {
+    ghost use Rattle.std.specs.Prelude.{◌≡◌, ◌+◌, [], ◌++◌, length};
+    ghost use Rattle.redo_record.specs.Text.{text_bytes};
+
+    /// No byte.
+    pub fn new() -> Text
+        ensures { text_bytes result ≡ [] }
+    {
+        Text {
+            place: [0; MOST_TEXT],
+            length: 0,
+        }
+    }
+
+    /// Writes these bytes at the end.
+    pub fn write(&mut self, bytes: &[u8])
+        requires { length (text_bytes self.old) + length bytes.now ≤ 109 }
+        ensures { text_bytes self.new ≡ text_bytes self.old ++ bytes.now }
+    {
+        let end = self.length + bytes.len();
+        self.place[self.length..end].copy_from_slice(bytes);
+        self.length = end;
+    }
+
+    /// The bytes.
+    pub fn as_slice(&self) -> &[u8]
+        ensures { result.now ≡ text_bytes self.now }
+    {
+        &self.place[..self.length]
+    }
+}
