@@ -4,3 +4,6 @@ pub mod FreshMembers
 pub mod Lookups
 pub mod Named
 pub mod KeepsClaims
+pub mod OwnMembers
+pub mod Text
+pub mod Loop

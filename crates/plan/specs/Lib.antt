@@ -2,3 +2,5 @@ pub mod PlanData
 pub mod PlanFaults
 pub mod Plan
 pub mod CheckedModel
+pub mod PlanText
+pub mod TextForms

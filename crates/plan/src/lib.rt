@@ -5,9 +5,12 @@ mod checked;
 mod checking;
 mod configurations;
 mod fault;
+mod fields;
 mod parents;
+mod reading;
 
 pub use checked::CheckedPlan;
 pub use checking::check_plan;
 pub use configurations::{Configuration, Group, Plan};
 pub use fault::{PlanFault, Quorum};
+pub use reading::read_plan;
