@@ -4,3 +4,4 @@ pub mod Plan
 pub mod CheckedModel
 pub mod PlanText
 pub mod TextForms
+pub mod FaultKinds

@@ -2,6 +2,7 @@
 
 use quorum_checker::FaultAt;
 use std::alloc::{AllocError, AllocFailed};
+use std::error::Error;
 use std::fmt;
 use volume_model::Fault;
 
@@ -13,7 +14,7 @@ pub enum Quorum {
 }
 
 /// The first fault of a plan or of its text, and where it stands.
-#[derive(Drop)]
+#[derive(Debug, Drop)]
 pub enum PlanFault {
     /// No memory, another text than a plan's, or more than a limit.
     Text(Fault),
@@ -49,6 +50,98 @@ pub enum PlanFault {
         at: FaultAt,
     },
 }
+
+impl PlanFault {
+    ghost use Rattle.std.specs.Prelude.{◌≡◌};
+    ghost use Rattle.plan.specs.FaultKinds.{is_input};
+
+    /// Whether the text isn't a plan's at all, or memory ran out.
+    pub fn is_input(&self) -> bool
+        ensures { result ≡ is_input self.now }
+    {
+        matches!(self, PlanFault::Text(Fault::NoMemory | Fault::Malformed))
+    }
+}
+
+impl fmt::Display for Quorum {
+    fn fmt<W: fmt::Write>(&self, f: &mut fmt::Formatter<W>) -> fmt::Result {
+        match self {
+            Quorum::Read => f.write_str("read"),
+            Quorum::Write => f.write_str("write"),
+        }
+    }
+}
+
+/// The name of a claim: that of a step, or that read sets meet write sets.
+fn claim_name(step: bool) -> &'static str {
+    if step { "step" } else { "meets" }
+}
+
+/// The line that a check of the plan prints.
+impl fmt::Display for PlanFault {
+    fn fmt<W: fmt::Write>(&self, f: &mut fmt::Formatter<W>) -> fmt::Result {
+        match self {
+            PlanFault::Text(fault) => {
+                let kind = if self.is_input() { "input" } else { "no" };
+                write!(f, "{kind}: {fault}")
+            }
+            PlanFault::Expression {
+                fault,
+                group,
+                configuration,
+                quorum,
+            } => write!(
+                f,
+                "no: {fault} group {group} configuration {configuration} {quorum}"
+            ),
+            PlanFault::BadParent {
+                group,
+                configuration,
+            } => {
+                let fault = Fault::BadParent;
+                write!(f, "no: {fault} group {group} configuration {configuration}")
+            }
+            PlanFault::MemberReused {
+                group,
+                configuration,
+                member,
+            } => {
+                let fault = Fault::MemberReused;
+                write!(
+                    f,
+                    "no: {fault} group {group} configuration {configuration} member {member}"
+                )
+            }
+            PlanFault::NoCertificate {
+                group,
+                configuration,
+                step,
+            } => {
+                let fault = Fault::NoCertificate;
+                let claim = claim_name(*step);
+                write!(
+                    f,
+                    "no: {fault} group {group} configuration {configuration} {claim}"
+                )
+            }
+            PlanFault::Certificate {
+                group,
+                configuration,
+                step,
+                at,
+            } => {
+                let number = Fault::Certificate.number();
+                let claim = claim_name(*step);
+                write!(
+                    f,
+                    "no: {number} group {group} configuration {configuration} {claim}: {at}"
+                )
+            }
+        }
+    }
+}
+
+impl Error for PlanFault {}
 
 impl From<Fault> for PlanFault {
     ghost use Rattle.std.specs.Prelude.{◌≡◌};

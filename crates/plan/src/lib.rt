@@ -14,3 +14,6 @@ pub use checking::check_plan;
 pub use configurations::{Configuration, Group, Plan};
 pub use fault::{PlanFault, Quorum};
 pub use reading::read_plan;
+
+#[cfg(test)]
+mod tests;

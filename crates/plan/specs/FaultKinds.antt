@@ -1,0 +1,20 @@
+-- What kind of a fault a plan's is.
+use Rattle.std.specs.Prelude.{Bool, true, false}
+use Rattle.volume_model.specs.declared.fault.Fault.{Fault}
+use Rattle.volume_model.specs.declared.fault.Fault.TheVariants.{NoMemory, Malformed}
+use Rattle.plan.specs.declared.fault.PlanFault.{PlanFault}
+use Rattle.plan.specs.declared.fault.PlanFault.TheVariants.{Text, Expression, BadParent, MemberReused, NoCertificate, Certificate}
+
+-- the text isn't a plan's at all, or memory ran out
+abbrev pub is_input_fault : Fault → Bool
+is_input_fault NoMemory = true
+is_input_fault Malformed = true
+is_input_fault fault = false
+
+abbrev pub is_input : PlanFault → Bool
+is_input (Text fault) = is_input_fault fault
+is_input (Expression fault g c quorum) = false
+is_input (BadParent g c) = false
+is_input (MemberReused g c x) = false
+is_input (NoCertificate g c step) = false
+is_input (Certificate g c step at) = false

@@ -1,0 +1,170 @@
+use super::*;
+use std::alloc::{AllocError, Global};
+use std::test::*;
+
+const CLASH: &str = "{\"rule\":\"clash\",\"left\":0,\"right\":0}";
+
+const CLASH_WITH_1: &str = "{\"rule\":\"clash\",\"left\":0,\"right\":1}";
+
+const DEAD: &str = "{\"rule\":\"dead\",\"side\":\"left\",\"item\":0}";
+
+const ALL: &str = "[0,1,2,3,4,5]";
+
+/// A match of six equal pairs with this item of the right, each closed by this rule and the last by another.
+fn pairs(alloc: Global, right: u8, each: &str, last: &str) -> Result<String, AllocError> {
+    format!(in alloc;
+        "{{\"rule\":\"match\",\"left\":0,\"right\":{right},\"pairs\":[[0,0],[1,1],[2,2],[3,3],[4,4],[5,5]],\"then\":[{each},{each},{each},{each},{each},{last}]}}"
+    )
+}
+
+/// Each of the left item's two children, closed by these.
+fn both(alloc: Global, first: &str, second: &str) -> Result<String, AllocError> {
+    format!(in alloc;
+        "{{\"rule\":\"pick\",\"side\":\"left\",\"item\":0,\"children\":[0,1],\"then\":[{first},{second}]}}"
+    )
+}
+
+/// All children of the right item.
+fn opened(alloc: Global, then: &str) -> Result<String, AllocError> {
+    format!(in alloc; "{{\"rule\":\"open\",\"side\":\"right\",\"item\":0,\"then\":{then}}}")
+}
+
+/// A configuration of six members, which reads by so many of them and writes by so many.
+fn six(
+    alloc: Global,
+    parent: &str,
+    read: u8,
+    write: u8,
+    meets: &str,
+    step: &str,
+) -> Result<String, AllocError> {
+    format!(in alloc;
+        "{{\"parent\":{parent},\"members\":{ALL},\"full\":{ALL},\"read\":{{\"k\":{read},\"of\":\"all\"}},\"write\":{{\"k\":{write},\"of\":\"all\"}},\"meets\":{meets},\"step\":{step}}}"
+    )
+}
+
+/// A root of six members.
+fn root(alloc: Global, read: u8, write: u8, meets: &str) -> Result<String, AllocError> {
+    six(alloc, "null", read, write, meets, "null")
+}
+
+/// A child of this parent with one more member, which reads by three of either six and writes by four of both.
+fn child(alloc: Global, parent: u8, meets: &str, step: &str) -> Result<String, AllocError> {
+    format!(in alloc;
+        "{{\"parent\":{parent},\"members\":[0,1,2,3,4,5,6],\"full\":[0,1,2,3,4,5,6],\"read\":{{\"k\":1,\"of\":[{{\"k\":3,\"of\":{ALL}}},{{\"k\":3,\"of\":[0,1,2,3,4,6]}}]}},\"write\":{{\"k\":2,\"of\":[{{\"k\":4,\"of\":{ALL}}},{{\"k\":4,\"of\":[0,1,2,3,4,6]}}]}},\"meets\":{meets},\"step\":{step}}}"
+    )
+}
+
+fn plan_text(alloc: Global, configurations: &str) -> Result<String, AllocError> {
+    format!(in alloc;
+        "{{\"format\":1,\"lal\":10,\"groups\":[{{\"configurations\":[{configurations}]}}]}}"
+    )
+}
+
+/// What a check of the text says.
+fn said(alloc: Global, text: &str) -> Result<String, AllocError> {
+    let plan = match read_plan(alloc, text.as_bytes()) {
+        Ok(plan) => plan,
+        Err(fault) => return fault.to_string(alloc),
+    };
+    match check_plan(alloc, plan) {
+        Ok(checked) => {
+            let groups = checked.groups();
+            let configurations = checked.configurations(0);
+            format!(in alloc; "yes {groups} {configurations}")
+        }
+        Err((fault, _)) => fault.to_string(alloc),
+    }
+}
+
+#[test]
+fn one_configuration(rt: HostRuntime) -> Result<(), AllocError> {
+    let alloc = rt.alloc();
+    let pairs = pairs(alloc, 0, CLASH, CLASH)?;
+    let rows = [
+        (root(alloc, 3, 4, &pairs)?, "yes 1 1"),
+        (
+            root(alloc, 3, 3, &pairs)?,
+            "no: 33 group 0 configuration 0 meets: 26 CountTooSmall at root",
+        ),
+        (
+            root(alloc, 0, 4, &pairs)?,
+            "no: 10 BadCount group 0 configuration 0 read",
+        ),
+        (
+            root(alloc, 3, 7, &pairs)?,
+            "no: 10 BadCount group 0 configuration 0 write",
+        ),
+        (
+            root(alloc, 3, 4, "null")?,
+            "no: 32 NoCertificate group 0 configuration 0 meets",
+        ),
+        (root(alloc, 3, 4, "1")?, "input: 13 Malformed"),
+    ];
+    for (configuration, want) in &rows {
+        let text = plan_text(alloc, configuration)?;
+        assert_eq!(rt; said(alloc, &text)?.as_str(), *want);
+    }
+    assert_eq!(rt;
+        said(alloc, "{\"format\":")?.as_str(),
+        "input: 13 Malformed"
+    );
+    Ok(())
+}
+
+#[test]
+fn steps(rt: HostRuntime) -> Result<(), AllocError> {
+    let alloc = rt.alloc();
+    let plain = pairs(alloc, 0, CLASH, CLASH)?;
+    let first = root(alloc, 3, 4, &plain)?;
+    let met = opened(
+        alloc,
+        &both(
+            alloc,
+            &pairs(alloc, 0, CLASH_WITH_1, CLASH_WITH_1)?,
+            &pairs(alloc, 1, CLASH_WITH_1, CLASH_WITH_1)?,
+        )?,
+    )?;
+    let stepped = both(alloc, &plain, &pairs(alloc, 0, CLASH, DEAD)?)?;
+    let clashing = both(alloc, &plain, &plain)?;
+    let second = child(alloc, 0, &met, &stepped)?;
+    let back = opened(alloc, &pairs(alloc, 0, CLASH_WITH_1, CLASH_WITH_1)?)?;
+    let third = six(alloc, "1", 3, 4, &plain, &back)?;
+    let rows = [
+        (format!(in alloc; "{first},{second}")?, "yes 1 2"),
+        (
+            {
+                let clash = child(alloc, 0, &met, &clashing)?;
+                format!(in alloc; "{first},{clash}")?
+            },
+            "no: 33 group 0 configuration 1 step: 22 NoClash at 1.5",
+        ),
+        (
+            {
+                let bare = child(alloc, 0, &met, "null")?;
+                format!(in alloc; "{first},{bare}")?
+            },
+            "no: 32 NoCertificate group 0 configuration 1 step",
+        ),
+        (
+            {
+                let own = child(alloc, 1, &met, &stepped)?;
+                format!(in alloc; "{first},{own}")?
+            },
+            "no: 30 BadParent group 0 configuration 1",
+        ),
+        (format!(in alloc; "{first},{second},{third}")?, "yes 1 3"),
+        (
+            {
+                let again = child(alloc, 2, &met, &stepped)?;
+                format!(in alloc; "{first},{second},{third},{again}")?
+            },
+            "no: 31 MemberReused group 0 configuration 3 member 6",
+        ),
+    ];
+    for (configurations, want) in &rows {
+        let text = plan_text(alloc, configurations)?;
+        assert_eq!(rt; said(alloc, &text)?.as_str(), *want);
+    }
+    Ok(())
+}
