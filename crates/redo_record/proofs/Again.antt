@@ -8,17 +8,9 @@ use Rattle.volume_model.specs.Refusal.{refuse_if}
 use Rattle.volume_model.specs.declared.fault.Fault.{Fault}
 use Rattle.volume_model.specs.declared.fault.Fault.TheVariants.{Short, BadField, Trailing}
 use Rattle.redo_record.specs.declared.head.Head.{Head}
-use Rattle.redo_record.specs.Head.{number_at, head_in, is_allowed, redo_from}
-use Rattle.redo_record.specs.Ranges.{HasRanges}
-use Rattle.redo_record.specs.Payload.{HasRoom}
+use Rattle.redo_record.specs.Head.{number_at, head_in, is_allowed, redo_from, redo_in}
+use Rattle.redo_record.specs.Ranges.{IsSpellable}
 use Rattle.redo_record.specs.Spelling.{spelled, decoded}
-
--- what a record keeps, and what its types keep
-pub record IsSpellable (r : Redo) : Type 0 where
-  pub ranges : HasRanges r
-  pub room : HasRoom (length r.bytes)
-  pub volume : r.volume < 2 ^ 32
-  pub block : r.block < 2 ^ 32
 
 -- the numbers of a record
 abbrev head_for : Redo → Head
@@ -110,8 +102,8 @@ redo_from-for r = λ i. record {
 }
 
 -- the record that a spelling shows
-pub redo_from-spelled : (r : Redo) → IsSpellable r → redo_from (head_in (spelled r)) (drop 45 (spelled r)) ≡ r
-redo_from-spelled r s = ap (λ h. redo_from h (drop 45 (spelled r))) (head_in-spelled r s) ∙ ap (redo_from (head_for r)) (drop-spelled r) ∙ redo_from-for r
+pub redo_in-spelled : (r : Redo) → IsSpellable r → redo_in (spelled r) ≡ r
+redo_in-spelled r s = ap (λ h. redo_from h (drop 45 (spelled r))) (head_in-spelled r s) ∙ ap (redo_from (head_for r)) (drop-spelled r) ∙ redo_from-for r
 
 passes : {A : Type 0} (test : Bool) (fault : Fault) (rest : Result A Fault) → test ≡ false → refuse_if test fault rest ≡ rest
 passes test fault rest e = rw e refl
@@ -125,4 +117,4 @@ decoded-spelled r s =
     let same : (head_in b).length ≡ length (drop 45 b) = ap (λ (h : Head). h.length) (head_in-spelled r s) ∙ ap length (sym (drop-spelled r)) in
     let t2 : nat_lt (length (drop 45 b)) (head_in b).length ≡ false = le-ltb (length (drop 45 b)) (head_in b).length (omega arith) in
     let t3 : nat_lt (head_in b).length (length (drop 45 b)) ≡ false = le-ltb (head_in b).length (length (drop 45 b)) (omega arith) in
-    passes _ Short _ t0 ∙ passes _ BadField _ t1 ∙ passes _ Short _ t2 ∙ passes _ Trailing _ t3 ∙ ap (λ x. Ok x) (redo_from-spelled r s)
+    passes _ Short _ t0 ∙ passes _ BadField _ t1 ∙ passes _ Short _ t2 ∙ passes _ Trailing _ t3 ∙ ap (λ x. Ok x) (redo_in-spelled r s)

@@ -42,3 +42,7 @@ redo_from h bytes = record {
   bytes = bytes;
   point = h.point == 1;
 }
+
+-- the record that the bytes show, right or wrong
+abbrev pub redo_in : List ℕ → Redo
+redo_in bytes = redo_from (head_in bytes) (drop 45 bytes)

@@ -1,9 +1,8 @@
 use Rattle.std.specs.Prelude.{◌+◌, ◌^◌, ◌<◌, ◌≤◌, length}
 use Rattle.volume_model.specs.Redo.{Redo}
 use Rattle.redo_record.specs.declared.«record».Record.{Record}
-use Rattle.redo_record.specs.declared.packet.Packet.{Packet}
 use Rattle.redo_record.specs.Record.{redo_of}
-use Rattle.redo_record.specs.Packet.{packet_redo}
+use Rattle.redo_record.specs.Payload.{HasRoom}
 
 -- what each record keeps
 pub record HasRanges (r : Redo) : Type 0 where
@@ -29,6 +28,9 @@ redo_of-ranges r = record {
   bytes_within = r.bytes_within;
 }
 
--- a packet's record keeps its ranges
-pub packet_redo-ranges : (packet : Packet) → HasRanges (packet_redo packet)
-packet_redo-ranges packet = redo_of-ranges packet.«record»
+-- what a record keeps, and what its types keep
+pub record IsSpellable (r : Redo) : Type 0 where
+  pub ranges : HasRanges r
+  pub room : HasRoom (length r.bytes)
+  pub volume : r.volume < 2 ^ 32
+  pub block : r.block < 2 ^ 32

@@ -4,6 +4,7 @@ ghost use Rattle.std.specs.Prelude.{◌≡◌, Ok, IfOk, IfErr};
 ghost use Rattle.volume_model.specs.declared.fault.Fault.TheVariants.{NoMemory};
 ghost use Rattle.redo_record.specs.Record.{redo_of};
 ghost use Rattle.redo_record.specs.Text.{text_bytes};
+ghost use Rattle.redo_record.specs.Ranges.{IsSpellable};
 ghost use Rattle.redo_record.specs.Spelling.{spelled, decoded};
 
 use crate::record::Record;
@@ -14,7 +15,7 @@ use volume_model::Fault;
 /// The spelling of a record, in place.
 pub fn spell(record: &Record) -> Text
     ensures spelled { text_bytes result ≡ spelled (redo_of «record».now) }
-    ensures decoded { decoded (text_bytes result) ≡ Ok (redo_of «record».now) }
+    ensures spellable { IsSpellable (redo_of «record».now) }
 {
     let written = record.bytes.as_slice();
     let mut text = Text::new();

@@ -4,8 +4,8 @@ use volume_model::Fault;
 
 /// The record of number 1, a consistency point, that writes 61 at the beginning of block 0 of group 0.
 const BYTES: [u8; 46] = [
-    0, 0, 0, 0, 0, 0, 0, 1, 0, 0, 0, 1, 0, 0, 0, 0, 0, 0, 0, 0, 0, 0, 0, 0, 0, 0, 0, 0, 0, 0, 0, 0, 0, 0,
-    0, 0, 0, 0, 0, 0, 0, 0, 0, 1, 1, 0x61,
+    0, 0, 0, 0, 0, 0, 0, 1, 0, 0, 0, 1, 0, 0, 0, 0, 0, 0, 0, 0, 0, 0, 0, 0, 0, 0, 0, 0, 0, 0, 0, 0,
+    0, 0, 0, 0, 0, 0, 0, 0, 0, 0, 0, 1, 1, 0x61,
 ];
 
 fn fault_of(bytes: &[u8]) -> Option<Fault> {
@@ -21,7 +21,10 @@ fn one_record(rt: HostRuntime) -> Result<(), Fail> {
     assert_eq!(rt; record.bytes.as_slice(), b"a".as_slice());
     let packet = Packet::pack(&record);
     assert!(rt; packet.is_same(&Packet::pack(&packet.record())));
-    assert_eq!(rt; encode(rt.alloc(), &packet.record())?.as_slice(), BYTES.as_slice());
+    assert_eq!(rt;
+        encode(rt.alloc(), &packet.record())?.as_slice(),
+        BYTES.as_slice()
+    );
     Ok(())
 }
 

@@ -2,13 +2,13 @@
 use Rattle.std.proofs.Common.{◌≡◌, ◌≢◌, ℕ, zero, suc, ◌<◌, ◌≤◌, ◌+◌, ◌-◌, min, true, false, nat_le, List, [], ◌∷◌, ◌++◌, length, set, take, drop, get_or, refl, sym, ap, ◌∙◌, subst, inl, inr, arith}
 use Rattle.std.proofs.lemmas.Bool.{cases_lt, or_cases, and_parts, leb-true, leb-false, ltb-true, eqb-true}
 use Rattle.std.proofs.lemmas.List.{get_or-map, get_or-set_same, get_or-set_other, get_or-take, get_or-drop, take-map, map-append, take-append-drop, length-map, length-take, length-drop}
-use Rattle.std.proofs.Math.Seq.{map-set_same, take-suc}
+use Rattle.std.proofs.Math.Seq.{map-set_same, take-length, take-suc}
 use Rattle.std.specs.List.Sorted.{IsNonDecreasingBy, IsPartitionPoint}
 use Rattle.volume_model.specs.Lists.{IsIn}
 use Rattle.volume_model.specs.Redo.{Redo, spelling, numbers_before, scl}
 use Rattle.redo_record.specs.declared.packet.Packet.{Packet}
-use Rattle.redo_record.specs.Packet.{packet_redo}
-use Rattle.redo_record.specs.Ranges.{HasRanges, packet_redo-ranges}
+use Rattle.redo_record.specs.Packet.{packet_redo, packet_redo-ranges}
+use Rattle.redo_record.specs.Ranges.{HasRanges}
 use Rattle.segment_core.specs.declared.held.Held.{Held}
 use Rattle.segment_core.specs.Held.{redo_held, redos_of, IsInOrder, IsReachedBelow, AreSettled}
 use Rattle.segment_core.proofs.Complete.{IsLinked, AreLinked, scl-chained, scl-unchained}
@@ -146,3 +146,10 @@ module _ (held : List Held) (k : ℕ) (x d : Held) (within : k < length held) (k
           let f : take k (redos_of held) ≡ redos_of (take k held) = take-map redo_held k held in
           let g : take (suc k) (redos_of (set held k x)) ≡ redos_of (take k held) ++ redo_held x ∷ [] = ap (take (suc k)) same-set ∙ b ∙ ap (λ z. take k (redos_of held) ++ z ∷ []) c ∙ ap (λ zs. zs ++ redo_held x ∷ []) f in
           ap (λ z. z.reached) a ∙ here ∙ ap scl (sym g)
+
+-- the last element knows the complete point of all records
+pub complete-last : (held : List Held) (x : Held) → 0 < length held → ((d : Held) → x ≡ get_or held (length held - 1) d) → IsReachedBelow (length held) held → x.reached ≡ scl (redos_of held)
+complete-last held x some last reached =
+    let n : suc (length held - 1) ≡ length held = omega arith in
+    let all : take (suc (length held - 1)) (redos_of held) ≡ redos_of held = ap (λ m. take m (redos_of held)) (n ∙ sym (length-map held redo_held)) ∙ take-length (redos_of held) in
+    ap (λ z. z.reached) (last x) ∙ reached (length held - 1) x (omega arith) ∙ ap scl all

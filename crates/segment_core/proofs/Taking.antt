@@ -1,6 +1,6 @@
 -- The step by which a node takes a record
-use Rattle.std.proofs.Common.{◌≡◌, ℕ, Bool, false, not, ◌&&◌, ◌==◌, nat_le, List, [], ◌∷◌, length, Ok, refl, sym, ap, ◌∙◌}
-use Rattle.std.proofs.lemmas.Bool.{eq-eqb}
+use Rattle.std.proofs.Common.{◌≡◌, ◌≢◌, ℕ, Bool, true, false, not, ◌&&◌, ◌==◌, nat_le, List, [], ◌∷◌, length, Ok, Err, refl, sym, ap, ◌∙◌}
+use Rattle.std.proofs.lemmas.Bool.{eq-eqb, ne_eqb}
 use Rattle.volume_model.specs.Redo.{Redo, with_record, holds_record}
 use Rattle.volume_model.specs.Message.{Label, Message}
 use Rattle.volume_model.specs.Node.{Node, NodeAnswer, label_checks, lineage_epoch, most_records, ack_of, take_record}
@@ -14,6 +14,10 @@ use Rattle.segment_core.specs.Prepared.{entered, step_of}
 -- a test that doesn't pass refuses nothing
 passes : (test : Bool) (fault : Fault) (rest : NodeAnswer) → test ≡ false → refuse_if test fault rest ≡ rest
 passes test fault rest e = rw e refl
+
+-- a test that passes refuses
+refused : (test : Bool) (fault : Fault) (rest : NodeAnswer) → test ≡ true → refuse_if test fault rest ≡ Err fault
+refused test fault rest e = rw e refl
 
 -- what a node answers that then holds these records
 abbrev answer : Node → List Redo → List Message → NodeAnswer
@@ -37,3 +41,13 @@ module _ (group member to : ℕ) (node : Node) (label : Label) (r : Redo) (prepa
       ∙ passes (not (holds_record r node.contents.records) && nat_le most_records (length node.contents.records)) Full after fits
       ∙ ap (λ rs. answer node rs (ack_of group member label (with_record r node.contents.records) ∷ [])) (sym records)
       ∙ ap (answer node (entered prepared.entrant node.contents.records)) (sym made)
+
+-- a record that comes before its lineage is installed
+pub not_installed : (group member to : ℕ) (node : Node) (label : Label) (r : Redo) → to ≡ group → r.group ≡ group → ((rest : NodeAnswer) → label_checks node label rest ≡ rest) → lineage_epoch node ≢ label.volume
+    → refuse_if (not (to == group && r.group == group)) NotAddressed (take_record group member node label r) ≡ Err NotInstalled
+not_installed group member to node label r here own checks apart =
+    let addressed : not (to == group && r.group == group) ≡ false = rw (eq-eqb to group here, eq-eqb r.group group own) refl in
+    let other : not (lineage_epoch node == label.volume) ≡ true = rw (ne_eqb (lineage_epoch node) label.volume apart) refl in
+    passes (not (to == group && r.group == group)) NotAddressed (take_record group member node label r) addressed
+    ∙ checks (refuse_if (not (lineage_epoch node == label.volume)) NotInstalled (refuse_if (not (holds_record r node.contents.records) && nat_le most_records (length node.contents.records)) Full (answer node (with_record r node.contents.records) (ack_of group member label (with_record r node.contents.records) ∷ []))))
+    ∙ refused (not (lineage_epoch node == label.volume)) NotInstalled (refuse_if (not (holds_record r node.contents.records) && nat_le most_records (length node.contents.records)) Full (answer node (with_record r node.contents.records) (ack_of group member label (with_record r node.contents.records) ∷ []))) other

@@ -8,3 +8,6 @@ mod segment;
 
 pub use prepared::Prepared;
 pub use segment::Segment;
+
+#[cfg(test)]
+mod tests;

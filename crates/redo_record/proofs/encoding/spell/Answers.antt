@@ -1,14 +1,12 @@
 use mir.Val.{bool_byte}
-use Rattle.std.proofs.Common.{Bool, true, false, subst, ◌≡◌, ◌<◌, ◌^◌, ◌∙◌, length, refl, sym, ap, arith, if◌then◌else◌}
+use Rattle.std.proofs.Common.{Bool, true, false, subst, ◌≡◌, ◌∙◌, length, refl, sym, ap, arith, if◌then◌else◌}
 use Rattle.std.specs.Int.{w16, w32, w64, to_be_bytes}
 use Rattle.volume_model.specs.Redo.{Redo}
 use Rattle.redo_record.specs.Payload.{HasRoom}
 use Rattle.redo_record.specs.Ranges.{redo_of-ranges}
 use Rattle.redo_record.specs.Record.{redo_of}
-use Rattle.redo_record.specs.Spelling.{decoded}
 use Rattle.redo_record.specs.Text.{text_bytes}
 use Rattle.redo_record.proofs.Spelled.{text, text-same, text-written, spelled-text}
-use Rattle.redo_record.proofs.Again.{decoded-spelled}
 use Rattle.redo_record.proofs.encoding.spell.Goals as goal
 
 -- a flag's byte
@@ -28,10 +26,12 @@ returns-clause-spelled c =
     c.to_be_bytes.ensures c.to_be_bytes-2.ensures c.to_be_bytes-3.ensures c.to_be_bytes-4.ensures c.to_be_bytes-5.ensures c.to_be_bytes-6.ensures c.to_be_bytes-7.ensures (c.from.ensures ∙ flag r.point) refl
     ∙ sym (spelled-text r)
 
-pub returns-clause-decoded : goal.returns-clause-decoded
-returns-clause-decoded c =
+pub returns-clause-spellable : goal.returns-clause-spellable
+returns-clause-spellable c =
     let r : Redo = redo_of c.args.«record».now in
-    let room : HasRoom (length r.bytes) = subst (λ xs. HasRoom (length xs)) c.as_slice-written.ensures.value c.as_slice-written.ensures.room in
-    let volume : r.volume < 2 ^ 32 = omega arith in
-    let block : r.block < 2 ^ 32 = omega arith in
-    ap decoded (returns-clause-spelled c) ∙ decoded-spelled r (record { ranges = redo_of-ranges c.args.«record».now; room = room; volume = volume; block = block })
+    record {
+      ranges = redo_of-ranges c.args.«record».now;
+      room = subst (λ xs. HasRoom (length xs)) c.as_slice-written.ensures.value c.as_slice-written.ensures.room;
+      volume = omega arith;
+      block = omega arith;
+    }

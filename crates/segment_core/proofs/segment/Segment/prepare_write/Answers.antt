@@ -1,4 +1,4 @@
-use Rattle.std.proofs.Common.{◌≡◌, ◌<◌, false, not, ◌&&◌, nat_le, [], ◌∷◌, length, ap, sym, ◌∙◌, arith}
+use Rattle.std.proofs.Common.{◌≡◌, ◌≢◌, ◌<◌, false, not, ◌&&◌, nat_le, [], ◌∷◌, length, ap, sym, ◌∙◌, arith}
 use Rattle.std.proofs.lemmas.Bool.{lt-leb}
 use Rattle.volume_model.specs.Redo.{Redo, with_record, holds_record, scl}
 use Rattle.volume_model.specs.Message as model
@@ -8,8 +8,17 @@ use Rattle.wire.specs.Message.{label_of}
 use Rattle.segment_core.specs.Prepared.{entered}
 use Rattle.segment_core.specs.Places.{IsHeldIn, IsPlaceFor}
 use Rattle.segment_core.specs.Segment.{node_of}
-use Rattle.segment_core.proofs.Taking.{takes}
+use Rattle.segment_core.proofs.Taking.{not_installed, takes}
 use Rattle.segment_core.proofs.segment.Segment.prepare_write.Goals as goal
+
+pub returns-then-last_epoch-write-clause-step : goal.returns-then-last_epoch-write-clause-step
+returns-then-last_epoch-write-clause-step c =
+    let node : Node = node_of c.args.self.now in
+    let r : Redo = packet_redo c.args.write.now.packet in
+    let own : r.group ≡ c.args.self.now.group = omega arith in
+    let here : c.args.write.now.group ≡ c.args.self.now.group = omega arith in
+    let apart : lineage_epoch node ≢ c.args.write.now.label.volume = (λ e. c.if-last_epoch-write.true (c.last_epoch.ensures ∙ e)) in
+    not_installed c.args.self.now.group c.args.self.now.member c.args.write.now.group node (label_of c.args.write.now.label) r here own c.in_ok-check_label.ensures apart
 
 pub returns-in_default-clause-step : goal.returns-in_default-clause-step
 returns-in_default-clause-step c =
