@@ -1,0 +1,5 @@
+pub mod OneNode
+pub mod Messages
+pub mod Low
+pub mod Steps
+pub mod Runs

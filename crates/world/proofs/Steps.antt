@@ -1,0 +1,156 @@
+-- The step of one actor, in the world.
+use Rattle.std.proofs.Common.{◌≡◌, ℕ, ◌+◌, ◌*◌, ◌/◌, ◌%◌, ◌<◌, ◌≤◌, Bool, true, false, not, ◌&&◌, nat_lt, nat_le, nat_eq, ◌⊎◌, if◌then◌else◌, List, [], ◌∷◌, Option, Some, None, Result, Ok, Err, length, map, option_map, set, refl, sym, ap, ap₂, ◌∙◌, subst, inl, inr, arith}
+use Rattle.std.specs.Prelude.{slice_get}
+use Rattle.std.proofs.Common.{get_or, length-set}
+use Rattle.std.proofs.lemmas.List.{length-map}
+use Rattle.std.proofs.lemmas.Option.{slice_get_read, slice_get_within}
+use Rattle.std.proofs.lemmas.Bool.{le-ltb, lt-ltb}
+use Rattle.std.proofs.lemmas.Bool.Decides.{nat_tests}
+use Rattle.volume_model.specs.declared.fault.Fault.{Fault}
+use Rattle.volume_model.specs.declared.fault.Fault.TheVariants.{NoMemory, NoActor}
+use Rattle.volume_model.specs.Lists.{added, some_below, put, put_at}
+use Rattle.volume_model.specs.Plan.{Plan, is_named, has_member}
+use Rattle.volume_model.specs.Message.{Message}
+use Rattle.volume_model.specs.Refusal.{refuse_if}
+use Rattle.volume_model.specs.Node.{Node, NodeAnswer, born_node}
+use Rattle.volume_model.specs.Client.{Client, Change, ClientAnswer, unborn, issued}
+use Rattle.volume_model.specs.World.{World, Step, of_node, of_client, if_named, after_step, told}
+use Rattle.segment_core.specs.declared.segment.Segment.{Segment}
+use Rattle.segment_core.specs.Segment.{node_of, segment_plan, segment_group, segment_member, IsSegmentOf, IsSameActor}
+use Rattle.world.specs.Slots.{members, slot_of, in_slot, node_or, node_at, FindsSlot}
+use Rattle.world.specs.Homes.{nodes_of, IsPlace, AreHomes}
+use Rattle.world.specs.Worlds.{world_with}
+use Rattle.world.specs.Moves.{Moves, Issues}
+use Rattle.world.specs.Actors.{Steps}
+use Rattle.world.proofs.OneNode.{node_at-set, put_at-same, slice_get-map, in_place, each-set, map-set, put-again}
+use Rattle.writer_core.specs.Writers.{Acts}
+
+-- the plan names no member whose number isn't below 64
+abbrev pub LowFor : Plan → Type 0
+LowFor plan = (group member : ℕ) → 64 ≤ member → is_named plan group member ≡ false
+
+-- a group that isn't there names nobody
+unnamed_group : (plan : Plan) (g m : ℕ) → plan.groups ≤ g → is_named plan g m ≡ false
+unnamed_group plan g m h = ap (λ (b : Bool). b && some_below (plan.configurations g) (λ c. has_member (plan.configuration g c) m)) (le-ltb g plan.groups h)
+
+-- no slot, no node
+pub unnamed : (plan : Plan) (slots : List (Option Segment)) (g m : ℕ) → AreHomes plan slots → ((group member : ℕ) → members ≤ member → is_named plan group member ≡ false) → FindsSlot None (length slots) g m → is_named plan g m ≡ false
+unnamed plan slots g m homes low (inl h) = low g m h
+unnamed plan slots g m homes low (inr h) =
+    let long : length slots ≡ plan.groups * 64 = homes.long in
+    elim (nat_le 64 m) as (λ (b : Bool). nat_le 64 m ≡ b → is_named plan g m ≡ false) [
+      | true ↦ λ t. low g m (let k : 64 ≤ m = grind (arith, nat_tests) in k)
+      | false ↦ λ t. let k : m < 64 = grind (arith, nat_tests) in unnamed_group plan g m (omega arith)
+    ] refl
+
+-- what stands in the slot of a member
+pub place_of_member : (plan : Plan) (slots : List (Option Segment)) (g m : ℕ) → AreHomes plan slots → m < 64 → (o : Option Segment) → slice_get slots (slot_of g m) ≡ Some o → IsPlace plan g m o
+place_of_member plan slots g m homes low o e =
+    let p = in_place g m low in
+    let h : IsPlace plan (slot_of g m / 64) (slot_of g m % 64) o = homes.place (slot_of g m) o e in
+    subst (λ (n : ℕ). IsPlace plan n m o) p.0 (subst (λ (n : ℕ). IsPlace plan (slot_of g m / 64) n o) p.1 h)
+
+-- the node of a member is the one in its slot
+pub node_in_slot : (plan : Plan) (slots : List (Option Segment)) (g m : ℕ) → m < 64 → (s : Segment) → slice_get slots (slot_of g m) ≡ Some (Some s) → node_at plan (nodes_of slots) g m ≡ node_of s
+node_in_slot plan slots g m low s e =
+    let l : nat_lt m 64 ≡ true = lt-ltb m 64 low in
+    ap (λ (b : Bool). if b then node_or (born_node plan g m) (in_slot (slice_get (nodes_of slots) (slot_of g m))) else born_node plan g m) l
+    ∙ ap (λ (o : Option (Option Node)). node_or (born_node plan g m) (in_slot o)) (slice_get-map (option_map node_of) slots (slot_of g m) ∙ ap (option_map (option_map node_of)) e)
+
+-- a node that the plan doesn't name is refused
+pub unnamed_steps : (plan : Plan) (world : World) (g m : ℕ) (defined : NodeAnswer) → is_named plan g m ≡ false → Steps (of_node world g m (if_named plan g m defined)) world (Err NoActor) world
+unnamed_steps plan world g m defined e =
+    let refused : of_node world g m (if_named plan g m defined) ≡ Err NoActor = ap (λ (b : Bool). of_node world g m (refuse_if (not b) NoActor defined)) e in
+    (ap told refused, ap (after_step world) refused)
+
+-- what a node's step leaves in the world
+module _ (plan : Plan) (slots : List (Option Node)) (writer : Client) (kept : List Message) (g m : ℕ) (low : m < 64) (within : slot_of g m < length slots) (old new : Node) (there : node_at plan slots g m ≡ old) (named : is_named plan g m ≡ true) (defined : NodeAnswer) where
+  abbrev pub before : World
+  before = world_with plan (node_at plan slots) writer kept
+
+  abbrev pub after : List Message → World
+  after now = world_with plan (node_at plan (set slots (slot_of g m) (Some new))) writer now
+
+  asked : of_node before g m (if_named plan g m defined) ≡ of_node before g m defined
+  asked = ap (λ (b : Bool). of_node before g m (refuse_if (not b) NoActor defined)) named
+
+  same : new ≡ old → (now : List Message) → now ≡ kept → before ≡ after now
+  same e now e' =
+      let nodes : node_at plan slots ≡ node_at plan (set slots (slot_of g m) (Some new)) =
+      sym (node_at-set plan slots g m new low within ∙ ap (put_at (node_at plan slots) g m) (e ∙ sym there) ∙ put_at-same (node_at plan slots) g m) in
+      ap₂ (λ (f : ℕ → ℕ → Node) (ms : List Message). world_with plan f writer ms) nodes (sym e')
+
+  pub node_steps : (result : Result ℕ Fault) (now : List Message) → Moves defined old kept result new now → Steps (of_node before g m (if_named plan g m defined)) before result (after now)
+  node_steps (Ok count) now (made, is, many, now_is) =
+      let moved : of_node before g m (if_named plan g m defined) ≡ Ok (record { made = made; world = record before { nodes = put_at (node_at plan slots) g m new; messages = added made kept } }) =
+      asked ∙ ap (of_node before g m) is in
+      (
+        ap told moved ∙ ap Ok many,
+        ap (after_step before) moved ∙ ap₂ (λ (f : ℕ → ℕ → Node) (ms : List Message). world_with plan f writer ms) (sym (node_at-set plan slots g m new low within)) now_is,
+      )
+  node_steps (Err NoMemory) now moves = tt
+  node_steps (Err fault) now moves =
+      let refused : of_node before g m (if_named plan g m defined) ≡ Err fault = asked ∙ ap (of_node before g m) moves.0 in
+      (ap told refused, ap (after_step before) refused ∙ same moves.1 now moves.2)
+
+-- what stands where a slot was found
+pub found_there : (slots : List (Option Segment)) (slot at : ℕ) (x o : Option Segment) → x ≡ get_or slots slot x → slot ≡ at → slot < length slots → x ≡ o → slice_get slots at ≡ Some o
+found_there slots slot at x o e same within is = ap (slice_get slots) (sym same) ∙ slice_get_read slots (length slots) slot x refl within e ∙ ap Some is
+
+-- a segment that stands in its slot takes a step
+module _ (plan : Plan) (slots : List (Option Segment)) (writer : Client) (kept : List Message) (homes : AreHomes plan slots) (g m : ℕ) (low : m < 64) (s new : Segment) (there : slice_get slots (slot_of g m) ≡ Some (Some s)) (actor : IsSameActor s new) where
+  home : (is_named plan g m ≡ true) × IsSegmentOf plan g m s
+  home = place_of_member plan slots g m homes low (Some s) there
+
+  pub segment_steps : (f : Plan → ℕ → ℕ → Node → NodeAnswer) (result : Result ℕ Fault) (now : List Message) → Moves (f (segment_plan s) (segment_group s) (segment_member s) (node_of s)) (node_of s) kept result (node_of new) now
+      → Steps (of_node (world_with plan (node_at plan (nodes_of slots)) writer kept) g m (if_named plan g m (f plan g m (node_at plan (nodes_of slots) g m)))) (world_with plan (node_at plan (nodes_of slots)) writer kept) result (world_with plan (node_at plan (nodes_of (set slots (slot_of g m) (Some new)))) writer now)
+  segment_steps f result now moves =
+      let at : node_at plan (nodes_of slots) g m ≡ node_of s = node_in_slot plan slots g m low s there in
+      let asked : f (segment_plan s) (segment_group s) (segment_member s) (node_of s) ≡ f plan g m (node_at plan (nodes_of slots) g m) = λ i. f (home.1.plan_is i) (home.1.group_is i) (home.1.member_is i) (sym at i) in
+      let here : slot_of g m < length slots = slice_get_within slots (slot_of g m) (Some s) there in
+      let within : slot_of g m < length (nodes_of slots) = omega (arith, length-map slots (option_map node_of)) in
+      subst (λ (ns : List (Option Node)). Steps (of_node (world_with plan (node_at plan (nodes_of slots)) writer kept) g m (if_named plan g m (f plan g m (node_at plan (nodes_of slots) g m)))) (world_with plan (node_at plan (nodes_of slots)) writer kept) result (world_with plan (node_at plan ns) writer now))
+          (sym (map-set (option_map node_of) slots (slot_of g m) (Some new)))
+          (node_steps plan (nodes_of slots) writer kept g m low within (node_of s) (node_of new) at home.0 (f plan g m (node_at plan (nodes_of slots) g m)) result now
+              (subst (λ (d : NodeAnswer). Moves d (node_of s) kept result (node_of new) now) asked moves))
+
+  pub homes_on : AreHomes plan (set slots (slot_of g m) (Some new))
+  homes_on = record {
+    long = length-set slots (slot_of g m) (Some new) ∙ homes.long;
+    place = each-set (λ k o. IsPlace plan (k / 64) (k % 64) o) slots (slot_of g m) (Some new) homes.place (
+        let p = in_place g m low in
+        let moved : IsPlace plan g m (Some new) = (home.0, record { plan_is = actor.plan_is ∙ home.1.plan_is; group_is = actor.group_is ∙ home.1.group_is; member_is = actor.member_is ∙ home.1.member_is }) in
+        subst (λ (n : ℕ). IsPlace plan n (slot_of g m % 64) (Some new)) (sym p.0) (subst (λ (n : ℕ). IsPlace plan g n (Some new)) (sym p.1) moved));
+  }
+
+-- what a writer's refusal leaves
+pub refused_issue : (defined : ClientAnswer) (old new : Client) (kept : List Message) (fault : Fault) → Acts defined old (Err fault) new → Issues defined old kept (Err fault) new kept
+refused_issue defined old new kept NoMemory acts = tt
+refused_issue defined old new kept fault acts = (acts.0, acts.1, refl)
+
+-- what a writer's step leaves in the world
+module _ (plan : Plan) (slots : List (Option Node)) (old new : Client) (kept : List Message) (changes : List Change) where
+  abbrev pub begun : World
+  begun = world_with plan (node_at plan slots) old kept
+
+  abbrev pub ended : List Message → World
+  ended now = world_with plan (node_at plan slots) new now
+
+  issue_at_one : (result : Result ℕ Fault) (now : List Message) → Issues (issued plan 1 old changes) old kept result new now → Steps (of_client begun 1 (issued plan 1 old changes)) begun result (ended now)
+  issue_at_one (Ok count) now (made, is, many, now_is) =
+      let moved : of_client begun 1 (issued plan 1 old changes) ≡ Ok (record { made = made; world = record begun { clients = put begun.clients 1 new; messages = added made kept } }) = ap (of_client begun 1) is in
+      (
+        ap told moved ∙ ap Ok many,
+        ap (after_step begun) moved ∙ ap₂ (λ (clients : ℕ → Client) (ms : List Message). record begun { clients = clients; messages = ms }) (put-again old new) now_is,
+      )
+  issue_at_one (Err NoMemory) now issues = tt
+  issue_at_one (Err fault) now issues =
+      let refused : of_client begun 1 (issued plan 1 old changes) ≡ Err fault = ap (of_client begun 1) issues.0 in
+      (ap told refused, ap (after_step begun) refused ∙ ap₂ (λ (client : Client) (ms : List Message). world_with plan (node_at plan slots) client ms) (sym issues.1) (sym issues.2))
+
+  pub issue_steps : (later : Plan) → later ≡ plan → (v w : ℕ) → v ≡ 1 → w ≡ 1 → (result : Result ℕ Fault) (now : List Message) → Issues (issued plan w old changes) old kept result new now
+      → Steps (of_client begun v (issued plan v (put (λ volume. unborn) 1 old v) changes)) begun result (world_with later (node_at later slots) new now)
+  issue_steps later same v w v_is w_is result now issues =
+      subst (λ (p : Plan). Steps (of_client begun v (issued plan v (put (λ volume. unborn) 1 old v) changes)) begun result (world_with p (node_at p slots) new now)) (sym same)
+          (subst (λ (n : ℕ). Steps (of_client begun n (issued plan n (put (λ volume. unborn) 1 old n) changes)) begun result (ended now)) (sym v_is)
+              (issue_at_one result now (subst (λ (n : ℕ). Issues (issued plan n old changes) old kept result new now) w_is issues)))

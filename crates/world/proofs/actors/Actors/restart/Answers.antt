@@ -1,0 +1,57 @@
+use Rattle.std.proofs.Common.{◌≡◌, ℕ, ◌<◌, List, Option, Some, None, set, length, ap, ◌∙◌, sym, rules, Ok, [], refl}
+use Rattle.std.specs.Prelude.{slice_get}
+use Rattle.volume_model.specs.Node.{Node, NodeAnswer, restarted}
+use Rattle.volume_model.specs.Plan.{Plan}
+use Rattle.writer_core.specs.Writers.{client_of}
+use Rattle.segment_core.specs.declared.segment.Segment.{Segment}
+use Rattle.world.specs.Slots.{slot_of, node_at}
+use Rattle.world.specs.Homes.{nodes_of}
+use Rattle.world.specs.Worlds.{world_with}
+use Rattle.world.specs.Actors.{plan_of, world_of, messages_in}
+use Rattle.world.proofs.OneNode.{set-read}
+use Rattle.world.proofs.Steps.{found_there, segment_steps, homes_on, place_of_member, unnamed_steps}
+use Rattle.world.proofs.actors.Actors.restart.Goals as goal
+
+-- a node's step that makes no message
+abbrev again-as : Node → NodeAnswer
+again-as node = Ok (record { made = []; node = node })
+
+-- a node that starts again
+abbrev again : Node → NodeAnswer
+again node = Ok (record { made = []; node = restarted node })
+
+pub returns-in-Some-index_mut-clause-good : goal.returns-in-Some-index_mut-clause-good
+returns-in-Some-index_mut-clause-good c =
+    let self = c.args.self.now in
+    let found = c.in-Some.ensures in
+    let s : Segment = c.in-Some-index_mut.segment in
+    let at : ℕ = slot_of c.args.group c.args.member in
+    let within : c.in-Some.slot < length self.nodes.items = search rules in
+    let there : slice_get self.nodes.items at ≡ Some (Some s) = found_there self.nodes.items c.in-Some.slot at c.index_mut.result.now (Some s) c.index_mut.ensures.value found.0 within c.in-Some-index_mut.is in
+    record {
+      homes = rw found.0 (homes_on (plan_of self) self.nodes.items (client_of self.writer) (messages_in self) c.requires.homes c.args.group c.args.member found.2 s c.restart.new.self there c.restart.ensures.actor);
+      low = c.requires.low;
+      volume = c.requires.volume;
+    }
+
+pub returns-in-Some-index_mut-clause-steps : goal.returns-in-Some-index_mut-clause-steps
+returns-in-Some-index_mut-clause-steps c =
+    let self = c.args.self.now in
+    let found = c.in-Some.ensures in
+    let s : Segment = c.in-Some-index_mut.segment in
+    let at : ℕ = slot_of c.args.group c.args.member in
+    let within : c.in-Some.slot < length self.nodes.items = search rules in
+    let there : slice_get self.nodes.items at ≡ Some (Some s) = found_there self.nodes.items c.in-Some.slot at c.index_mut.result.now (Some s) c.index_mut.ensures.value found.0 within c.in-Some-index_mut.is in
+    rw found.0 (segment_steps (plan_of self) self.nodes.items (client_of self.writer) (messages_in self) c.requires.homes c.args.group c.args.member found.2 s c.restart.new.self there c.restart.ensures.actor
+      (λ (plan : Plan) (group member : ℕ) (node : Node). again node) (Ok 0) (messages_in self) ([], ap again-as (sym c.restart.ensures.node), refl, refl))
+
+pub returns-in-None-clause-steps : goal.returns-in-None-clause-steps
+returns-in-None-clause-steps c =
+    let self = c.args.self.now in
+    let found = c.in-Some.ensures in
+    let at : ℕ = slot_of c.args.group c.args.member in
+    let within : c.in-Some.slot < length self.nodes.items = search rules in
+    let there : slice_get self.nodes.items at ≡ Some None = found_there self.nodes.items c.in-Some.slot at c.index_mut.result.now None c.index_mut.ensures.value found.0 within c.in-None.is in
+    let refused = unnamed_steps (plan_of self) (world_of self) c.args.group c.args.member (again (node_at (plan_of self) (nodes_of self.nodes.items) c.args.group c.args.member)) (place_of_member (plan_of self) self.nodes.items c.args.group c.args.member c.requires.homes found.2 None there) in
+    let kept : set self.nodes.items c.in-Some.slot c.index_mut.result.now ≡ self.nodes.items = set-read self.nodes.items c.in-Some.slot c.index_mut.result.now c.index_mut.ensures.value within in
+    (refused.0, refused.1 ∙ ap (λ (slots : List (Option Segment)). world_with (plan_of self) (node_at (plan_of self) (nodes_of slots)) (client_of self.writer) (messages_in self)) (sym kept))

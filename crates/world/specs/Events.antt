@@ -1,0 +1,45 @@
+-- The events of the model that a program's events are.
+use Rattle.std.specs.Prelude.{ℕ, zero, suc, ◌+◌, ◌&&◌, nat_le, if◌then◌else◌, List, [], ◌∷◌, ◌++◌, map, Result, Ok, Err}
+use Rattle.volume_model.specs.declared.fault.Fault.{Fault}
+use Rattle.volume_model.specs.Plan.{Plan}
+use Rattle.volume_model.specs.World as model
+use Rattle.volume_model.specs.World.{World, step, after, told}
+use Rattle.writer_core.specs.Changes.{changes_of}
+use Rattle.world.specs.declared.event.Event.{Event}
+use Rattle.world.specs.declared.event.Event.TheVariants as events
+use Rattle.world.specs.declared.event.Order.{Order}
+use Rattle.world.specs.declared.event.Order.TheVariants as orders
+
+-- the event that a program's event is
+abbrev pub event_of : Event → model.Event
+event_of (events.Issue volume changes) = model.Event.Issue volume (changes_of changes.items)
+event_of (events.Deliver group member message) = model.Event.Deliver group member message
+event_of (events.Restart group member) = model.Event.Restart group member
+
+-- the events that these are, in their order
+abbrev pub events_of : List Event → List model.Event
+events_of = map event_of
+
+-- how many messages an event has made
+abbrev pub made_by : Result ℕ Fault → ℕ
+made_by (Ok made) = made
+made_by (Err fault) = 0
+
+-- The number of the message that was made as the so-manieth by the event with an index, where the messages from a
+-- number on are those of these events; 0, which no message has, where it made fewer.
+abbrev pub number_from : ℕ → List (Result ℕ Fault) → ℕ → ℕ → ℕ
+number_from first [] index place = 0
+number_from first (result ∷ later) zero place = if nat_le 1 place && nat_le place (made_by result) then first + place else 0
+number_from first (result ∷ later) (suc index) place = number_from (first + made_by result) later index place
+
+-- the event that an order is, after these results
+abbrev pub ordered : List (Result ℕ Fault) → Order → model.Event
+ordered results (orders.Event event) = event_of event
+ordered results (orders.DeliverFrom group member event place) = model.Event.Deliver group member (number_from 0 results event place)
+
+-- the events that orders are, from a world on, after these results
+abbrev pub events_from : Plan → World → List (Result ℕ Fault) → List Order → List model.Event
+events_from plan world results [] = []
+events_from plan world results (order ∷ orders) =
+    let event = ordered results order in
+    event ∷ events_from plan (after plan world event) (results ++ told (step plan world event) ∷ []) orders

@@ -1,0 +1,62 @@
+//! Whole runs.
+
+ghost use Rattle.std.specs.Prelude.{◌≡◌, ◌≢◌, [], IfOk, IfErr, OnOk};
+ghost use Rattle.std.specs.Arc.{arc_value};
+ghost use Rattle.volume_model.specs.declared.fault.Fault.TheVariants.{NoMemory};
+ghost use Rattle.volume_model.specs.World as model;
+ghost use Rattle.volume_model.specs.World.{opening};
+ghost use Rattle.volume_model.specs.Headline.{KeepsCommits, SaysTruePages};
+ghost use Rattle.plan.specs.CheckedModel.{checked_model};
+ghost use Rattle.world.specs.Events.{events_of, events_from};
+ghost use Rattle.world.specs.Outcomes.{TellsRun};
+
+use crate::actors::Actors;
+use crate::event::{Event, Order};
+use crate::outcome::Outcome;
+use plan::CheckedPlan;
+use std::alloc::Global;
+use std::sync::Arc;
+use volume_model::{Fault, pages_are_true, volume_keeps_commits};
+
+/// What is told of an event; want of memory ends the run.
+fn told(step: Result<u64, Fault>) -> Result<Result<u64, Fault>, Fault>
+    ensures same { IfOk result (λ told. told ≡ step) }
+    ensures some { IfOk result (λ told. told ≢ Err NoMemory) }
+    ensures memory { IfErr result (λ e. e ≡ NoMemory) }
+{
+    match step {
+        Err(Fault::NoMemory) => Err(Fault::NoMemory),
+        told => Ok(told),
+    }
+}
+
+/// Makes events happen one after the other, from the birth of a checked plan's volume on. A refused event changes nothing.
+/// Want of memory ends the run.
+pub fn run(
+    alloc: Global,
+    plan: &Arc<CheckedPlan>,
+    events: &[Event],
+) -> Result<Outcome, Fault>
+    // The outcome is exactly that of the model.
+    ensures tells { IfOk result (TellsRun (checked_model (arc_value plan.now)) (events_of events.now)) }
+
+    // Whatever the events: every commit that any writer acknowledges stands, with the whole log before it, in the log found by
+    // every recovery of a later volume epoch, and no two records are acknowledged under one LSN.
+    ensures commits { OnOk result (KeepsCommits (model.run (checked_model (arc_value plan.now)) (opening (checked_model (arc_value plan.now))) (events_of events.now))) }
+
+    // Every page that any node made is that of its writer's log at the point asked.
+    ensures pages { OnOk result (SaysTruePages (model.run (checked_model (arc_value plan.now)) (opening (checked_model (arc_value plan.now))) (events_of events.now))) }
+    ensures memory { IfErr result (λ e. e ≡ NoMemory) }
+{
+    plan.certified();
+    volume_keeps_commits();
+    pages_are_true();
+    let mut actors = Actors::open(alloc, plan)?;
+    let mut results = Vec::new(alloc);
+    for event in events {
+        let result = told(actors.step(alloc, event))?;
+        results.push(result)?;
+    }
+    let writers = actors.writers(alloc)?;
+    Ok(Outcome { results, writers })
+}
