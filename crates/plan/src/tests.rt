@@ -61,19 +61,24 @@ fn plan_text(alloc: Global, configurations: &str) -> Result<String, AllocError> 
     )
 }
 
+/// The plan of a text, checked.
+fn checked(alloc: Global, text: &str) -> Result<CheckedPlan, PlanFault> {
+    let plan = read_plan(alloc, text.as_bytes())?;
+    match check_plan(alloc, plan) {
+        Ok(checked) => Ok(checked),
+        Err((fault, _plan)) => Err(fault),
+    }
+}
+
 /// What a check of the text says.
 fn said(alloc: Global, text: &str) -> Result<String, AllocError> {
-    let plan = match read_plan(alloc, text.as_bytes()) {
-        Ok(plan) => plan,
-        Err(fault) => return fault.to_string(alloc),
-    };
-    match check_plan(alloc, plan) {
-        Ok(checked) => {
-            let groups = checked.groups();
-            let configurations = checked.configurations(0);
+    match checked(alloc, text) {
+        Ok(plan) => {
+            let groups = plan.groups();
+            let configurations = plan.configurations(0);
             format!(in alloc; "yes {groups} {configurations}")
         }
-        Err((fault, _)) => fault.to_string(alloc),
+        Err(fault) => format!(in alloc; "{fault}"),
     }
 }
 
