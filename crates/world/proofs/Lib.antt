@@ -2,4 +2,5 @@ pub mod OneNode
 pub mod Messages
 pub mod Low
 pub mod Steps
+pub mod Numbers
 pub mod Runs

@@ -1,11 +1,13 @@
 -- One event more of a run.
-use Rattle.std.proofs.Common.{◌≡◌, ◌≢◌, ℕ, ◌+◌, List, [], ◌∷◌, ◌++◌, Result, Ok, Err, length, refl, sym, ap, ap₂, ◌∙◌, append_assoc, arith}
+use Rattle.std.proofs.Common.{◌≡◌, ◌≢◌, ℕ, ◌+◌, List, [], ◌∷◌, ◌++◌, Result, Ok, Err, length, refl, sym, ap, ap₂, ◌∙◌, append_assoc, arith, drop, get_or, ◌<◌, drop-cons, add-one}
 use Rattle.volume_model.specs.declared.fault.Fault.{Fault}
 use Rattle.volume_model.specs.declared.fault.Fault.TheVariants.{NoMemory}
-use Rattle.volume_model.specs.Lists.{added}
 use Rattle.volume_model.specs.Plan.{Plan}
-use Rattle.volume_model.specs.World.{World, Event, Step, step, after, after_step, told, run, results}
+use Rattle.volume_model.specs.World.{World, Event, Step, step, after_step, told, run, results}
+use Rattle.world.specs.declared.event.Order.{Order}
+use Rattle.world.specs.Events.{made_by, total_made, ordered, events_from}
 use Rattle.world.specs.Actors.{Steps}
+use Rattle.world.proofs.Numbers.{grows, total_made-push}
 
 -- what is told where memory didn't run out
 pub steps_told : (defined : Result Step Fault) (old new : World) (result : Result ℕ Fault) → result ≢ Err NoMemory → Steps defined old result new → (told defined ≡ result) × (after_step old defined ≡ new)
@@ -22,3 +24,20 @@ module _ (plan : Plan) (old new : World) (event : Event) (result : Result ℕ Fa
 
   pub run_on : run plan new later ≡ run plan old (event ∷ later)
   run_on = sym (ap (λ (w : World). run plan w later) both.1)
+
+-- what is left of orders, when one was followed
+pub order_rest : (plan : Plan) (old new : World) (results : List (Result ℕ Fault)) (orders : List Order) (i : ℕ) (order : Order) → i < length orders → order ≡ get_or orders i order → (result : Result ℕ Fault) → result ≢ Err NoMemory → Steps (step plan old (ordered results order)) old result new
+    → events_from plan old results (drop i orders) ≡ ordered results order ∷ events_from plan new (results ++ result ∷ []) (drop (i + 1) orders)
+order_rest plan old new results orders i order within is result ne steps =
+    let told_is = steps_told (step plan old (ordered results order)) old new result ne steps in
+    ap (events_from plan old results) (drop-cons orders i order within)
+    ∙ ap₂ (λ (x : Order) (n : ℕ). events_from plan old results (x ∷ drop n orders)) (sym is) (sym (add-one i))
+    ∙ ap₂ (λ (r : Result ℕ Fault) (w : World). ordered results order ∷ events_from plan w (results ++ r ∷ []) (drop (i + 1) orders)) told_is.0 told_is.1
+
+-- how many messages were made, when one event more has happened
+pub total_on : (plan : Plan) (old new : World) (event : Event) (result : Result ℕ Fault) → result ≢ Err NoMemory → Steps (step plan old event) old result new → (so_far : List (Result ℕ Fault)) → total_made so_far ≡ length old.messages → total_made (so_far ++ result ∷ []) ≡ length new.messages
+total_on plan old new event result ne steps so_far total =
+    let told_is = steps_told (step plan old event) old new result ne steps in
+    let more : length new.messages ≡ length old.messages + made_by result =
+    ap (λ (w : World). length w.messages) (sym told_is.1) ∙ grows plan old event ∙ ap (λ (r : Result ℕ Fault). length old.messages + made_by r) told_is.0 in
+    total_made-push so_far result ∙ omega (arith, more, total)

@@ -1,5 +1,5 @@
 -- The step of one actor, in the world.
-use Rattle.std.proofs.Common.{◌≡◌, ℕ, ◌+◌, ◌*◌, ◌/◌, ◌%◌, ◌<◌, ◌≤◌, Bool, true, false, not, ◌&&◌, nat_lt, nat_le, nat_eq, ◌⊎◌, if◌then◌else◌, List, [], ◌∷◌, Option, Some, None, Result, Ok, Err, length, map, option_map, set, refl, sym, ap, ap₂, ◌∙◌, subst, inl, inr, arith}
+use Rattle.std.proofs.Common.{◌≡◌, ℕ, ◌*◌, ◌/◌, ◌%◌, ◌<◌, ◌≤◌, Bool, true, false, not, ◌&&◌, nat_lt, nat_le, if◌then◌else◌, List, Option, Some, None, Result, Ok, Err, length, option_map, set, refl, sym, ap, ap₂, ◌∙◌, subst, inl, inr, arith}
 use Rattle.std.specs.Prelude.{slice_get}
 use Rattle.std.proofs.Common.{get_or, length-set}
 use Rattle.std.proofs.lemmas.List.{length-map}
@@ -14,7 +14,7 @@ use Rattle.volume_model.specs.Message.{Message}
 use Rattle.volume_model.specs.Refusal.{refuse_if}
 use Rattle.volume_model.specs.Node.{Node, NodeAnswer, born_node}
 use Rattle.volume_model.specs.Client.{Client, Change, ClientAnswer, unborn, issued}
-use Rattle.volume_model.specs.World.{World, Step, of_node, of_client, if_named, after_step, told}
+use Rattle.volume_model.specs.World.{World, of_node, of_client, if_named, after_step, told}
 use Rattle.segment_core.specs.declared.segment.Segment.{Segment}
 use Rattle.segment_core.specs.Segment.{node_of, segment_plan, segment_group, segment_member, IsSegmentOf, IsSameActor}
 use Rattle.world.specs.Slots.{members, slot_of, in_slot, node_or, node_at, FindsSlot}
@@ -83,8 +83,7 @@ module _ (plan : Plan) (slots : List (Option Node)) (writer : Client) (kept : Li
   pub node_steps : (result : Result ℕ Fault) (now : List Message) → Moves defined old kept result new now → Steps (of_node before g m (if_named plan g m defined)) before result (after now)
   node_steps (Ok count) now (made, is, many, now_is) =
       let moved : of_node before g m (if_named plan g m defined) ≡ Ok (record { made = made; world = record before { nodes = put_at (node_at plan slots) g m new; messages = added made kept } }) =
-      asked ∙ ap (of_node before g m) is in
-      (
+      asked ∙ ap (of_node before g m) is in (
         ap told moved ∙ ap Ok many,
         ap (after_step before) moved ∙ ap₂ (λ (f : ℕ → ℕ → Node) (ms : List Message). world_with plan f writer ms) (sym (node_at-set plan slots g m new low within)) now_is,
       )
@@ -110,9 +109,9 @@ module _ (plan : Plan) (slots : List (Option Segment)) (writer : Client) (kept :
       let here : slot_of g m < length slots = slice_get_within slots (slot_of g m) (Some s) there in
       let within : slot_of g m < length (nodes_of slots) = omega (arith, length-map slots (option_map node_of)) in
       subst (λ (ns : List (Option Node)). Steps (of_node (world_with plan (node_at plan (nodes_of slots)) writer kept) g m (if_named plan g m (f plan g m (node_at plan (nodes_of slots) g m)))) (world_with plan (node_at plan (nodes_of slots)) writer kept) result (world_with plan (node_at plan ns) writer now))
-          (sym (map-set (option_map node_of) slots (slot_of g m) (Some new)))
-          (node_steps plan (nodes_of slots) writer kept g m low within (node_of s) (node_of new) at home.0 (f plan g m (node_at plan (nodes_of slots) g m)) result now
-              (subst (λ (d : NodeAnswer). Moves d (node_of s) kept result (node_of new) now) asked moves))
+      (sym (map-set (option_map node_of) slots (slot_of g m) (Some new)))
+      (node_steps plan (nodes_of slots) writer kept g m low within (node_of s) (node_of new) at home.0 (f plan g m (node_at plan (nodes_of slots) g m)) result now
+      (subst (λ (d : NodeAnswer). Moves d (node_of s) kept result (node_of new) now) asked moves))
 
   pub homes_on : AreHomes plan (set slots (slot_of g m) (Some new))
   homes_on = record {
@@ -138,8 +137,7 @@ module _ (plan : Plan) (slots : List (Option Node)) (old new : Client) (kept : L
 
   issue_at_one : (result : Result ℕ Fault) (now : List Message) → Issues (issued plan 1 old changes) old kept result new now → Steps (of_client begun 1 (issued plan 1 old changes)) begun result (ended now)
   issue_at_one (Ok count) now (made, is, many, now_is) =
-      let moved : of_client begun 1 (issued plan 1 old changes) ≡ Ok (record { made = made; world = record begun { clients = put begun.clients 1 new; messages = added made kept } }) = ap (of_client begun 1) is in
-      (
+      let moved : of_client begun 1 (issued plan 1 old changes) ≡ Ok (record { made = made; world = record begun { clients = put begun.clients 1 new; messages = added made kept } }) = ap (of_client begun 1) is in (
         ap told moved ∙ ap Ok many,
         ap (after_step begun) moved ∙ ap₂ (λ (clients : ℕ → Client) (ms : List Message). record begun { clients = clients; messages = ms }) (put-again old new) now_is,
       )
@@ -152,5 +150,5 @@ module _ (plan : Plan) (slots : List (Option Node)) (old new : Client) (kept : L
       → Steps (of_client begun v (issued plan v (put (λ volume. unborn) 1 old v) changes)) begun result (world_with later (node_at later slots) new now)
   issue_steps later same v w v_is w_is result now issues =
       subst (λ (p : Plan). Steps (of_client begun v (issued plan v (put (λ volume. unborn) 1 old v) changes)) begun result (world_with p (node_at p slots) new now)) (sym same)
-          (subst (λ (n : ℕ). Steps (of_client begun n (issued plan n (put (λ volume. unborn) 1 old n) changes)) begun result (ended now)) (sym v_is)
-              (issue_at_one result now (subst (λ (n : ℕ). Issues (issued plan n old changes) old kept result new now) w_is issues)))
+      (subst (λ (n : ℕ). Steps (of_client begun n (issued plan n (put (λ volume. unborn) 1 old n) changes)) begun result (ended now)) (sym v_is)
+      (issue_at_one result now (subst (λ (n : ℕ). Issues (issued plan n old changes) old kept result new now) w_is issues)))

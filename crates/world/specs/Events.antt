@@ -32,6 +32,16 @@ number_from first [] index place = 0
 number_from first (result ∷ later) zero place = if nat_le 1 place && nat_le place (made_by result) then first + place else 0
 number_from first (result ∷ later) (suc index) place = number_from (first + made_by result) later index place
 
+-- how many messages events have made
+abbrev pub total_made : List (Result ℕ Fault) → ℕ
+total_made [] = 0
+total_made (result ∷ later) = made_by result + total_made later
+
+-- how many messages were made before each event, where so many were made before the first
+abbrev pub firsts_of : ℕ → List (Result ℕ Fault) → List ℕ
+firsts_of first [] = []
+firsts_of first (result ∷ later) = first ∷ firsts_of (first + made_by result) later
+
 -- the event that an order is, after these results
 abbrev pub ordered : List (Result ℕ Fault) → Order → model.Event
 ordered results (orders.Event event) = event_of event

@@ -1,6 +1,5 @@
 -- What a program's outcome tells.
-use Rattle.std.specs.Prelude.{◌≡◌, ℕ, List, [], map, Result}
-use Rattle.volume_model.specs.declared.fault.Fault.{Fault}
+use Rattle.std.specs.Prelude.{◌≡◌, List, [], map}
 use Rattle.volume_model.specs.Plan.{Plan}
 use Rattle.volume_model.specs.World.{Event, opening, run, results}
 use Rattle.volume_model.specs.Outcome as model

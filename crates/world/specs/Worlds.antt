@@ -1,5 +1,5 @@
 -- The world of the model.
-use Rattle.std.specs.Prelude.{◌≡◌, ℕ, List, [], replicate}
+use Rattle.std.specs.Prelude.{ℕ, List, replicate}
 use Rattle.volume_model.specs.Lists.{put}
 use Rattle.volume_model.specs.Plan.{Plan}
 use Rattle.volume_model.specs.Message as model

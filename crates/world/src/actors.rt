@@ -67,13 +67,7 @@ impl Actors {
     }
 
     /// A delivery to a node. `NoActor` where the plan doesn't name the node.
-    fn deliver(
-        &mut self,
-        alloc: Global,
-        group: u8,
-        member: u8,
-        message: u64,
-    ) -> Result<u64, Fault>
+    fn deliver(&mut self, alloc: Global, group: u8, member: u8, message: u64) -> Result<u64, Fault>
         requires { AreActors self.old }
         ensures steps { Steps (step (plan_of self.old) (world_of self.old) (model.Event.Deliver group member message)) (world_of self.old) result (world_of self.new) }
         ensures good { AreActors self.new }

@@ -8,11 +8,7 @@ pub enum Event {
     /// A writer gives a transaction's changes their records.
     Issue { volume: u32, changes: Vec<Change> },
     /// A node of a group takes the message with this number, counted from 1 in the order of making.
-    Deliver {
-        group: u8,
-        member: u8,
-        message: u64,
-    },
+    Deliver { group: u8, member: u8, message: u64 },
     /// A node starts again.
     Restart { group: u8, member: u8 },
 }

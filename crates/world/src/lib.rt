@@ -5,9 +5,10 @@ mod actors;
 mod delivery;
 mod event;
 mod nodes;
+mod orders;
 mod outcome;
 mod running;
 
 pub use event::{Event, Order};
 pub use outcome::{Outcome, WriterEnd};
-pub use running::run;
+pub use running::{run, run_orders};

@@ -12,6 +12,7 @@ ghost use Rattle.world.specs.Outcomes.{TellsRun};
 
 use crate::actors::Actors;
 use crate::event::{Event, Order};
+use crate::orders::follow;
 use crate::outcome::Outcome;
 use plan::CheckedPlan;
 use std::alloc::Global;
@@ -32,11 +33,7 @@ fn told(step: Result<u64, Fault>) -> Result<Result<u64, Fault>, Fault>
 
 /// Makes events happen one after the other, from the birth of a checked plan's volume on. A refused event changes nothing.
 /// Want of memory ends the run.
-pub fn run(
-    alloc: Global,
-    plan: &Arc<CheckedPlan>,
-    events: &[Event],
-) -> Result<Outcome, Fault>
+pub fn run(alloc: Global, plan: &Arc<CheckedPlan>, events: &[Event]) -> Result<Outcome, Fault>
     // The outcome is exactly that of the model.
     ensures tells { IfOk result (TellsRun (checked_model (arc_value plan.now)) (events_of events.now)) }
 
@@ -55,6 +52,40 @@ pub fn run(
     let mut results = Vec::new(alloc);
     for event in events {
         let result = told(actors.step(alloc, event))?;
+        results.push(result)?;
+    }
+    let writers = actors.writers(alloc)?;
+    Ok(Outcome { results, writers })
+}
+
+/// `run`, of events whose messages may be named by the events that made them.
+pub fn run_orders(
+    alloc: Global,
+    plan: &Arc<CheckedPlan>,
+    orders: &[Order],
+) -> Result<Outcome, Fault>
+    ensures tells { IfOk result (TellsRun (checked_model (arc_value plan.now)) (events_from (checked_model (arc_value plan.now)) (opening (checked_model (arc_value plan.now))) [] orders.now)) }
+    ensures commits { OnOk result (KeepsCommits (model.run (checked_model (arc_value plan.now)) (opening (checked_model (arc_value plan.now))) (events_from (checked_model (arc_value plan.now)) (opening (checked_model (arc_value plan.now))) [] orders.now))) }
+    ensures pages { OnOk result (SaysTruePages (model.run (checked_model (arc_value plan.now)) (opening (checked_model (arc_value plan.now))) (events_from (checked_model (arc_value plan.now)) (opening (checked_model (arc_value plan.now))) [] orders.now))) }
+    ensures memory { IfErr result (λ e. e ≡ NoMemory) }
+{
+    plan.certified();
+    volume_keeps_commits();
+    pages_are_true();
+    let mut actors = Actors::open(alloc, plan)?;
+    let mut firsts = Vec::new(alloc);
+    let mut results = Vec::new(alloc);
+    for order in orders {
+        let made = actors.made();
+        let step = follow(
+            alloc,
+            &mut actors,
+            order,
+            firsts.as_slice(),
+            results.as_slice(),
+        );
+        let result = told(step)?;
+        firsts.push(made)?;
         results.push(result)?;
     }
     let writers = actors.writers(alloc)?;

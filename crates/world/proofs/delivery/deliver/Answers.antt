@@ -17,8 +17,7 @@ returns-in_ok-push-in-Some-answer-clause-moves c =
     let node : Node = node_of c.args.segment.now in
     let reacts : reaction plan group member node (message_of c.in-Some.message.now) ≡ Ok (record { made = made_of (Some c.in-Some-answer.answer); node = node_of c.deliver.new.self }) =
     rw c.in-Some-answer.is at c.in_ok-answer-in-Some.ensures.reacts in
-    let found : Some (message_of c.in-Some.message.now) ≡ numbered (added (messages_of c.args.messages.now.items) []) c.args.number = rw c.as_slice.ensures.value at c.in-Some.ensures in
-    (
+    let found : Some (message_of c.in-Some.message.now) ≡ numbered (added (messages_of c.args.messages.now.items) []) c.args.number = rw c.as_slice.ensures.value at c.in-Some.ensures in (
       message_of c.in-Some-answer.answer ∷ [],
       ap (λ (found : Option model.Message). deliver plan group member node found) (sym found) ∙ reacts,
       refl,

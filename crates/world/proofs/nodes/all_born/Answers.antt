@@ -1,4 +1,4 @@
-use Rattle.std.proofs.Common.{List, ◌≡◌, ℕ, ◌+◌, ◌/◌, ◌%◌, ◌++◌, ◌∷◌, [], Option, length, length-append, sym, subst, arith}
+use Rattle.std.proofs.Common.{List, ◌≡◌, ℕ, ◌/◌, ◌%◌, ◌++◌, ◌∷◌, [], Option, length, length-append, sym, subst, arith}
 use Rattle.std.specs.Arc.{arc_value}
 use Rattle.volume_model.specs.Plan.{Plan}
 use Rattle.plan.specs.CheckedModel.{checked_model}

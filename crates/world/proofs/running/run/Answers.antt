@@ -1,4 +1,4 @@
-use Rattle.std.proofs.Common.{◌≡◌, ◌≢◌, ℕ, ◌+◌, ◌++◌, ◌∷◌, [], ◌<◌, List, Result, Ok, Err, drop, get_or, length, sym, ap, ap₂, ◌∙◌, subst, drop-cons, add-one, rules}
+use Rattle.std.proofs.Common.{◌≡◌, ◌≢◌, ℕ, ◌+◌, ◌++◌, ◌∷◌, List, Result, Err, drop, sym, ap, ap₂, ◌∙◌, subst, drop-cons, add-one}
 use Rattle.std.specs.Arc.{arc_value}
 use Rattle.volume_model.specs.declared.fault.Fault.{Fault}
 use Rattle.volume_model.specs.declared.fault.Fault.TheVariants.{NoMemory}
@@ -7,7 +7,7 @@ use Rattle.volume_model.specs.World as model
 use Rattle.plan.specs.declared.checked.CheckedPlan.{CheckedPlan}
 use Rattle.plan.specs.CheckedModel.{checked_model}
 use Rattle.world.specs.declared.event.Event.{Event}
-use Rattle.world.specs.Actors.{plan_of, world_of, AreActors, Steps}
+use Rattle.world.specs.Actors.{world_of, Steps}
 use Rattle.world.specs.Events.{event_of, events_of}
 use Rattle.world.proofs.Runs.{told_on, run_on}
 use Rattle.world.proofs.running.run.Goals as goal

@@ -37,7 +37,7 @@ returns-in-Some-index_mut-clause-steps c =
     let within : c.in-Some.slot < length self.nodes.items = search rules in
     let there : slice_get self.nodes.items at ≡ Some (Some s) = found_there self.nodes.items c.in-Some.slot at c.index_mut.result.now (Some s) c.index_mut.ensures.value found.0 within c.in-Some-index_mut.is in
     rw found.0 (segment_steps (plan_of self) self.nodes.items (client_of self.writer) (messages_in self) c.requires.homes c.args.group c.args.member found.2 s c.deliver.new.segment there c.deliver.ensures.actor
-      (λ (plan : Plan) (group member : ℕ) (node : Node). model.deliver plan group member node (numbered (messages_in self) c.args.message)) c.deliver.result _ c.deliver.ensures.moves)
+    (λ (plan : Plan) (group member : ℕ) (node : Node). model.deliver plan group member node (numbered (messages_in self) c.args.message)) c.deliver.result _ c.deliver.ensures.moves)
 
 pub returns-in-None-clause-steps : goal.returns-in-None-clause-steps
 returns-in-None-clause-steps c =

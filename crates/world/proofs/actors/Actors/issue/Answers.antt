@@ -1,6 +1,6 @@
-use Rattle.std.proofs.Common.{◌≡◌, ℕ, ◌≤◌, ◌++◌, false, List, [], Ok, Err, length, refl, sym, ap, ◌∙◌, subst, rules}
+use Rattle.std.proofs.Common.{◌≡◌, ◌++◌, List, [], Ok, Err, length, sym, ◌∙◌, subst, rules}
 use Rattle.volume_model.specs.Lists.{added}
-use Rattle.volume_model.specs.Plan.{Plan, is_named}
+use Rattle.volume_model.specs.Plan.{Plan}
 use Rattle.volume_model.specs.Message as model
 use Rattle.volume_model.specs.Client.{issued}
 use Rattle.wire.specs.Message.{message_of, messages_of}
@@ -8,7 +8,7 @@ use Rattle.std.proofs.lemmas.List.{length-map}
 use Rattle.writer_core.specs.Changes.{changes_of}
 use Rattle.writer_core.specs.Writers.{client_of, writer_plan, writer_volume}
 use Rattle.world.specs.Homes.{nodes_of, AreHomes}
-use Rattle.world.specs.Actors.{plan_of, messages_in, AreActors}
+use Rattle.world.specs.Actors.{plan_of, messages_in}
 use Rattle.world.proofs.Messages.{added-messages}
 use Rattle.world.proofs.Steps.{LowFor, refused_issue, issue_steps}
 use Rattle.world.proofs.actors.Actors.issue.Goals as goal
@@ -17,7 +17,7 @@ pub returns-in-Err-clause-steps : goal.returns-in-Err-clause-steps
 returns-in-Err-clause-steps c =
     let self = c.args.self.now in
     issue_steps (plan_of self) (nodes_of self.nodes.items) (client_of self.writer) (client_of c.issue.new.self) (messages_in self) (changes_of c.args.changes.now) (writer_plan c.issue.new.self) c.issue.ensures.plan c.args.volume (writer_volume self.writer) c.if-volume-ne1.false c.requires.volume (Err c.in-Err.fault) (messages_in self)
-        (refused_issue (issued (plan_of self) (writer_volume self.writer) (client_of self.writer) (changes_of c.args.changes.now)) (client_of self.writer) (client_of c.issue.new.self) (messages_in self) c.in-Err.fault c.in-Err.ensures.acts)
+    (refused_issue (issued (plan_of self) (writer_volume self.writer) (client_of self.writer) (changes_of c.args.changes.now)) (client_of self.writer) (client_of c.issue.new.self) (messages_in self) c.in-Err.fault c.in-Err.ensures.acts)
 
 pub returns-in-Err-clause-good : goal.returns-in-Err-clause-good
 returns-in-Err-clause-good c =
@@ -54,4 +54,4 @@ returns-clause-steps c =
     let items : length c.in-Ok.made.items ≡ c.len-count.result = search rules in
     let count : length made ≡ c.len-count.result = length-map c.in-Ok.made.items message_of ∙ items in
     issue_steps (plan_of self) (nodes_of self.nodes.items) (client_of self.writer) (client_of c.issue.new.self) (messages_in self) (changes_of c.args.changes.now) (writer_plan c.issue.new.self) c.issue.ensures.plan c.args.volume (writer_volume self.writer) c.if-volume-ne1.false c.requires.volume (Ok c.len-count.result) (added (messages_of c.append.new.self.items) [])
-        (made, c.in-Ok.ensures.acts, count, sym (rw now (added-messages self.messages.items c.in-Ok.made.items)))
+    (made, c.in-Ok.ensures.acts, count, sym (rw now (added-messages self.messages.items c.in-Ok.made.items)))

@@ -43,7 +43,7 @@ returns-in-Some-index_mut-clause-steps c =
     let within : c.in-Some.slot < length self.nodes.items = search rules in
     let there : slice_get self.nodes.items at ≡ Some (Some s) = found_there self.nodes.items c.in-Some.slot at c.index_mut.result.now (Some s) c.index_mut.ensures.value found.0 within c.in-Some-index_mut.is in
     rw found.0 (segment_steps (plan_of self) self.nodes.items (client_of self.writer) (messages_in self) c.requires.homes c.args.group c.args.member found.2 s c.restart.new.self there c.restart.ensures.actor
-      (λ (plan : Plan) (group member : ℕ) (node : Node). again node) (Ok 0) (messages_in self) ([], ap again-as (sym c.restart.ensures.node), refl, refl))
+    (λ (plan : Plan) (group member : ℕ) (node : Node). again node) (Ok 0) (messages_in self) ([], ap again-as (sym c.restart.ensures.node), refl, refl))
 
 pub returns-in-None-clause-steps : goal.returns-in-None-clause-steps
 returns-in-None-clause-steps c =

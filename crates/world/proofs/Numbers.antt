@@ -1,0 +1,90 @@
+-- The numbers of messages that are named by the events that made them.
+use Rattle.std.proofs.Common.{◌≡◌, ℕ, zero, suc, ◌+◌, ◌<◌, ◌≤◌, ◌&&◌, nat_le, if◌then◌else◌, List, [], ◌∷◌, ◌++◌, Result, Ok, Err, length, get_or, refl, sym, ap, ◌∙◌, arith}
+use Rattle.std.proofs.Common.{Bool, true, false, ◌⊎◌, inl, inr}
+use Rattle.std.proofs.lemmas.Bool.Decides.{nat_tests}
+use Rattle.volume_model.specs.declared.fault.Fault.{Fault}
+use Rattle.volume_model.specs.Plan.{Plan}
+use Rattle.volume_model.specs.World.{World, Event, AuthorityStep, step, after, after_step, told, of_authority, of_client, of_node}
+use Rattle.volume_model.specs.World.Event.{Assign, Advance, Refresh, Issue, Take, Cut, Open, Resend, Read, Deliver, Hydrate, Restart, Offer}
+use Rattle.volume_model.specs.Node.{NodeAnswer}
+use Rattle.volume_model.specs.Client.{ClientAnswer}
+use Rattle.world.specs.Events.{made_by, total_made, firsts_of, number_from}
+use Rattle.world.proofs.Messages.{length-added}
+
+pub number_at : (first : ℕ) (results : List (Result ℕ Fault)) (i place : ℕ) (d : Result ℕ Fault) → i < length results → number_from first results i place ≡ (if nat_le 1 place && nat_le place (made_by (get_or results i d)) then get_or (firsts_of first results) i 0 + place else 0)
+number_at first [] i place d h = absurd (omega arith)
+number_at first (r ∷ later) zero place d h = refl
+number_at first (r ∷ later) (suc i) place d h = number_at (first + made_by r) later i place d (omega arith)
+
+pub number_past : (first : ℕ) (results : List (Result ℕ Fault)) (i place : ℕ) → length results ≤ i → number_from first results i place ≡ 0
+number_past first [] i place h = refl
+number_past first (r ∷ later) zero place h = absurd (omega arith)
+number_past first (r ∷ later) (suc i) place h = number_past (first + made_by r) later i place (omega arith)
+
+pub within_total : (first : ℕ) (results : List (Result ℕ Fault)) (i : ℕ) (d : Result ℕ Fault) → i < length results → get_or (firsts_of first results) i 0 + made_by (get_or results i d) ≤ first + total_made results
+within_total first [] i d h = absurd (omega arith)
+within_total first (r ∷ later) zero d h = omega arith
+within_total first (r ∷ later) (suc i) d h = let inner = within_total (first + made_by r) later i d (omega arith) in omega (arith, inner)
+
+pub length-firsts_of : (first : ℕ) (results : List (Result ℕ Fault)) → length (firsts_of first results) ≡ length results
+length-firsts_of first [] = refl
+length-firsts_of first (r ∷ later) = ap suc (length-firsts_of (first + made_by r) later)
+
+pub firsts_of-push : (first : ℕ) (results : List (Result ℕ Fault)) (r : Result ℕ Fault) → firsts_of first (results ++ r ∷ []) ≡ firsts_of first results ++ (first + total_made results) ∷ []
+firsts_of-push first [] r = let e : first ≡ first + 0 = omega arith in ap (λ (n : ℕ). n ∷ []) e
+firsts_of-push first (s ∷ later) r =
+    let e : first + made_by s + total_made later ≡ first + (made_by s + total_made later) = omega arith in
+    ap (λ ns. first ∷ ns) (firsts_of-push (first + made_by s) later r ∙ ap (λ (n : ℕ). firsts_of (first + made_by s) later ++ n ∷ []) e)
+
+pub total_made-push : (results : List (Result ℕ Fault)) (r : Result ℕ Fault) → total_made (results ++ r ∷ []) ≡ total_made results + made_by r
+total_made-push [] r = omega arith
+total_made-push (s ∷ later) r = omega (arith, total_made-push later r)
+
+-- the messages of a world grow by those that are told of
+authority_grows : (w : World) (answer : Result AuthorityStep Fault) → length (after_step w (of_authority w answer)).messages ≡ length w.messages + made_by (told (of_authority w answer))
+authority_grows w (Ok s) = omega arith
+authority_grows w (Err fault) = omega arith
+
+client_grows : (w : World) (volume : ℕ) (answer : ClientAnswer) → length (after_step w (of_client w volume answer)).messages ≡ length w.messages + made_by (told (of_client w volume answer))
+client_grows w volume (Ok s) = length-added s.made w.messages ∙ omega arith
+client_grows w volume (Err fault) = omega arith
+
+node_grows : (w : World) (group member : ℕ) (answer : NodeAnswer) → length (after_step w (of_node w group member answer)).messages ≡ length w.messages + made_by (told (of_node w group member answer))
+node_grows w group member (Ok s) = length-added s.made w.messages ∙ omega arith
+node_grows w group member (Err fault) = omega arith
+
+pub grows : (plan : Plan) (w : World) (event : Event) → length (after plan w event).messages ≡ length w.messages + made_by (told (step plan w event))
+grows plan w Assign = authority_grows w _
+grows plan w (Advance group c) = authority_grows w _
+grows plan w (Refresh volume) = authority_grows w _
+grows plan w (Issue volume changes) = client_grows w volume _
+grows plan w (Take volume number) = client_grows w volume _
+grows plan w (Cut volume) = client_grows w volume _
+grows plan w (Open volume) = client_grows w volume _
+grows plan w (Resend volume lsn) = client_grows w volume _
+grows plan w (Read volume group block) = client_grows w volume _
+grows plan w (Deliver group member number) = node_grows w group member _
+grows plan w (Hydrate group member) = node_grows w group member _
+grows plan w (Restart group member) = node_grows w group member _
+grows plan w (Offer group member lsn) = node_grows w group member _
+
+-- the number, from what the program read
+pub number_is : (results : List (Result ℕ Fault)) (firsts : List ℕ) (i place made : ℕ) (d : Result ℕ Fault) → firsts ≡ firsts_of 0 results → i < length results → made ≡ made_by (get_or results i d) → (place ≡ 0 → ⊥) → place ≤ made → get_or firsts i 0 + place ≡ number_from 0 results i place
+number_is results firsts i place made d is within reads some most =
+    let high : place ≤ made_by (get_or results i d) = omega arith in
+    let test : (nat_le 1 place && nat_le place (made_by (get_or results i d))) ≡ true = grind (arith, nat_tests) in
+    ap (λ (ns : List ℕ). get_or ns i 0 + place) is ∙ sym (number_at 0 results i place d within ∙ ap (λ (b : Bool). if b then get_or (firsts_of 0 results) i 0 + place else 0) test)
+
+pub number_none : (results : List (Result ℕ Fault)) (i place made : ℕ) (d : Result ℕ Fault) → i < length results → made ≡ made_by (get_or results i d) → (place ≡ 0) ⊎ (made < place) → 0 ≡ number_from 0 results i place
+number_none results i place made d within reads why =
+    sym (number_at 0 results i place d within ∙ ap (λ (b : Bool). if b then get_or (firsts_of 0 results) i 0 + place else 0) (test why))
+  where
+    test : (place ≡ 0) ⊎ (made < place) → (nat_le 1 place && nat_le place (made_by (get_or results i d))) ≡ false
+    test (inl e) = grind (arith, nat_tests)
+    test (inr h) = let low : made_by (get_or results i d) < place = omega arith in grind (arith, nat_tests)
+
+pub number_fits : (results : List (Result ℕ Fault)) (firsts : List ℕ) (i place made bound : ℕ) (d : Result ℕ Fault) → firsts ≡ firsts_of 0 results → i < length results → made ≡ made_by (get_or results i d) → place ≤ made → total_made results < bound → get_or firsts i 0 + place < bound
+number_fits results firsts i place made bound d is within reads most total =
+    let e : get_or firsts i 0 ≡ get_or (firsts_of 0 results) i 0 = ap (λ (ns : List ℕ). get_or ns i 0) is in
+    let all = within_total 0 results i d within in
+    omega (arith, all)

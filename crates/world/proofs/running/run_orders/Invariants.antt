@@ -1,0 +1,19 @@
+use Rattle.std.proofs.Common.{◌≡◌, ◌++◌, [], drop, length}
+use Rattle.std.specs.Arc.{arc_value}
+use Rattle.volume_model.specs.World as model
+use Rattle.plan.specs.CheckedModel.{checked_model}
+use Rattle.world.specs.Actors.{plan_of, world_of, messages_in, AreActors}
+use Rattle.world.specs.Events.{events_from, firsts_of, total_made}
+use Rattle.world.proofs.running.run_orders.Given as goal
+
+abbrev pub invariant-loop-order : goal.invariant-loop-order
+invariant-loop-order l =
+    let plan = checked_model (arc_value l.plan) in
+    record {
+      good : AreActors l.actors;
+      plan_is : plan_of l.actors ≡ plan;
+      told : l.results.items ++ model.results plan (world_of l.actors) (events_from plan (world_of l.actors) l.results.items (drop l.order-index l.orders)) ≡ model.results plan (model.opening plan) (events_from plan (model.opening plan) [] l.orders);
+      rest : model.run plan (world_of l.actors) (events_from plan (world_of l.actors) l.results.items (drop l.order-index l.orders)) ≡ model.run plan (model.opening plan) (events_from plan (model.opening plan) [] l.orders);
+      firsts : l.firsts.items ≡ firsts_of 0 l.results.items;
+      total : total_made l.results.items ≡ length (messages_in l.actors);
+    }
