@@ -6,6 +6,7 @@ ghost use Rattle.refutation.specs.Refutation.{rule_of};
 ghost use Rattle.refutation.specs.Limits.{is_certificate};
 
 use crate::Refutation;
+use crate::copying::copy_tree;
 use crate::limits::{is_shallow, keep_lists, room_after};
 use std::alloc::Allocator;
 use volume_model::Fault;
@@ -25,7 +26,8 @@ pub struct Certificate<A: Allocator> {
 }
 
 impl<A: Allocator> Certificate<A> {
-    ghost use Rattle.std.specs.Prelude.{IfOk};
+    ghost use Rattle.std.specs.Prelude.{IfOk, Ok};
+    ghost use Rattle.volume_model.specs.Answer.{Gives};
     ghost use Rattle.refutation.specs.Certificate.{certificate_rule};
 
     /// The certificate that a refutation is. `OverLimit`, with the refutation, where it passes a limit.
@@ -52,5 +54,13 @@ impl<A: Allocator> Certificate<A> {
         ensures within { is_certificate (certificate_rule self.now) ≡ true }
     {
         &self.tree
+    }
+
+    /// The same certificate in other memory.
+    pub fn copy_in<B: Allocator + Clone>(&self, alloc: B) -> Result<Certificate<B>, Fault>
+        ensures { Gives certificate_rule result (Ok (certificate_rule self.now)) }
+    {
+        let tree = copy_tree(&self.tree, &alloc)?;
+        Ok(Certificate { tree })
     }
 }
