@@ -59,8 +59,8 @@ fn next_record(span: Span, log: &[Record], change: &Change, point: bool) -> Reco
 
 /// The message that gives a record to the nodes of its group.
 pub fn write_of(volume: u32, standings: &[Standing], record: &Record) -> Message
-    requires { record.now.group < length standings.now }
-    ensures { message_of result ≡ model.Message.Write record.now.group (label_of volume (place_of (groups_of standings.now)) record.now.group) (redo_of record.now) }
+    requires { «record».now.group < length standings.now }
+    ensures { message_of result ≡ model.Message.Write «record».now.group (label_of volume (place_of (groups_of standings.now)) «record».now.group) (redo_of «record».now) }
 {
     Message::Write(Write {
         group: record.group,
