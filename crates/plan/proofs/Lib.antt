@@ -7,3 +7,4 @@ pub mod KeepsClaims
 pub mod OwnMembers
 pub mod Text
 pub mod Loop
+pub mod Listed

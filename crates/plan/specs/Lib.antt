@@ -5,3 +5,5 @@ pub mod CheckedModel
 pub mod PlanText
 pub mod TextForms
 pub mod FaultKinds
+pub mod PlanClaims
+pub mod NamedClaims

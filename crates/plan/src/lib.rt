@@ -6,13 +6,17 @@ mod checking;
 mod configurations;
 mod fault;
 mod fields;
+mod listing;
 mod parents;
+mod placed;
 mod reading;
 
 pub use checked::CheckedPlan;
 pub use checking::check_plan;
 pub use configurations::{Configuration, Group, Plan};
 pub use fault::{PlanFault, Quorum};
+pub use listing::claims;
+pub use placed::NamedClaim;
 pub use reading::read_plan;
 
 #[cfg(test)]

@@ -1,0 +1,54 @@
+-- The claims of configurations, listed one after the other.
+use Rattle.std.proofs.Common.{◌≡◌, ◌≢◌, ℕ, zero, suc, ◌+◌, ◌<◌, List, [], ◌∷◌, ◌++◌, arith, ap, ◌∙◌, add-one, inl, inr}
+use Rattle.std.specs.Prelude.{true, false, Option, Some, None, Result, Ok, Err}
+use Rattle.std.proofs.lemmas.Bool.{cases_lt}
+use Rattle.std.specs.FinSet.{empty, difference}
+use Rattle.volume_model.specs.declared.fault.Fault.TheVariants.{NoMemory}
+use Rattle.volume_model.specs.Formula.{dual_of}
+use Rattle.quorum_checker.specs.Refutes.{State, claim_state}
+use Rattle.plan.specs.declared.fault.PlanFault.{PlanFault}
+use Rattle.plan.specs.declared.fault.PlanFault.TheVariants.{Text}
+use Rattle.plan.specs.PlanData.{ConfigurationData, configuration_at, by_parent}
+use Rattle.plan.specs.PlanFaults.{shape_fault, meets_claim}
+use Rattle.plan.specs.PlanText.{◌>=>◌}
+use Rattle.plan.specs.PlanClaims.{PlacedClaim, unless, configuration_claims, claims_below}
+
+-- the claims of x, where its parent is q
+abbrev claims-of : ℕ → List ConfigurationData → ℕ → ConfigurationData → Option ℕ → List PlacedClaim
+claims-of g group c x q =
+    record { group = g; configuration = c; step = false; claim = meets_claim x }
+    ∷ by_parent q [] (λ p. record {
+      group = g;
+      configuration = c;
+      step = true;
+      claim = claim_state x.read (dual_of (configuration_at group p).read) (by_parent q empty (λ m. difference x.members (configuration_at group m).members));
+    } ∷ [])
+
+pub root-claims : (g c : ℕ) (group : List ConfigurationData) (x : ConfigurationData) (meets : State) → shape_fault g group c ≡ None → configuration_at group c ≡ x → x.parent ≡ None → meets_claim x ≡ meets
+    → configuration_claims g group c ≡ Ok (record { group = g; configuration = c; step = false; claim = meets } ∷ [])
+root-claims g c group x meets shape here parent claim =
+    (λ i. unless (shape i) (claims-of g group c (here i) (here i).parent)) ∙ (λ i. Ok (claims-of g group c x (parent i))) ∙ (λ i. Ok (record { group = g; configuration = c; step = false; claim = claim i } ∷ []))
+
+pub child-claims : (g c : ℕ) (group : List ConfigurationData) (x y : ConfigurationData) (p : ℕ) (meets step : State) → shape_fault g group c ≡ None → configuration_at group c ≡ x → configuration_at group p ≡ y → x.parent ≡ Some p → meets_claim x ≡ meets
+    → claim_state x.read (dual_of y.read) (difference x.members y.members) ≡ step
+    → configuration_claims g group c ≡ Ok (record { group = g; configuration = c; step = false; claim = meets } ∷ record { group = g; configuration = c; step = true; claim = step } ∷ [])
+child-claims g c group x y p meets step shape here there parent claim stepped =
+    (λ i. unless (shape i) (claims-of g group c (here i) (here i).parent)) ∙ (λ i. Ok (claims-of g group c x (parent i)))
+    ∙ (λ i. Ok (record { group = g; configuration = c; step = false; claim = meets_claim x } ∷ record { group = g; configuration = c; step = true; claim = claim_state x.read (dual_of (there i).read) (difference x.members (there i).members) } ∷ []))
+    ∙ (λ i. Ok (record { group = g; configuration = c; step = false; claim = claim i } ∷ record { group = g; configuration = c; step = true; claim = stepped i } ∷ []))
+
+pub claims-more : (i : ℕ) (f : ℕ → Result (List PlacedClaim) PlanFault) (xs ys : List PlacedClaim) → claims_below i f ≡ Ok xs → f i ≡ Ok ys → claims_below (i + 1) f ≡ Ok (xs ++ ys)
+claims-more i f xs ys before here = ap (λ n. claims_below n f) (add-one i) ∙ (λ j. before j >=> λ b. here j >=> λ h. Ok (b ++ h))
+
+claims-fault : (n i : ℕ) (f : ℕ → Result (List PlacedClaim) PlanFault) (xs : List PlacedClaim) (fault : PlanFault) → i < n → claims_below i f ≡ Ok xs → f i ≡ Err fault → claims_below n f ≡ Err fault
+claims-fault zero i f xs fault h before here = absurd (omega arith)
+claims-fault (suc n) i f xs fault h before here =
+    elim (cases_lt i n) [
+      | inl below ↦ ap (λ r. r >=> λ b. f n >=> λ k. Ok (b ++ k)) (claims-fault n i f xs fault below before here)
+      | inr past ↦ (let same : n ≡ i = omega arith in
+          (λ j. (ap (λ m. claims_below m f) same ∙ before) j >=> λ b. (ap f same ∙ here) j >=> λ k. Ok (b ++ k)))
+    ]
+
+-- the fault of a number below the bound, where those before have none
+pub Reads-below : (n i : ℕ) (f : ℕ → Result (List PlacedClaim) PlanFault) (xs : List PlacedClaim) (fault : PlanFault) → i < n → claims_below i f ≡ Ok xs → (fault ≢ Text NoMemory → f i ≡ Err fault) → fault ≢ Text NoMemory → claims_below n f ≡ Err fault
+Reads-below n i f xs fault h before here other = claims-fault n i f xs fault h before (here other)
