@@ -7,8 +7,6 @@ mod reply;
 mod script;
 mod streams;
 mod told;
-#[cfg(test)]
-mod tests;
 
 use command_line::job;
 use files::Source;

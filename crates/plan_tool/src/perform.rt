@@ -3,27 +3,30 @@
 ghost use Rattle.std.specs.Prelude.{◌≤◌};
 
 use crate::reply::{Reply, Stop};
-use crate::script::{SCRIPT_BYTES, ScriptFault, read_script};
+use crate::script::{ScriptFault, read_script};
 use crate::streams::{emit, read_all};
 use crate::told::{checked_line, run_lines};
 use command_line::{Action, Job};
-use plan::{CheckedPlan, check_plan, read_plan};
+use plan::{CheckedPlan, Plan, check_plan, read_plan};
 use std::alloc::Global;
 use std::io::{Read, Write};
 use std::sync::Arc;
 use world::run_orders;
 
-/// The most bytes of a plan's text.
-const PLAN_BYTES: u64 = 16_777_216;
+/// The most bytes that are read of a plan's text: one more than it may have.
+const PLAN_BYTES: u64 = 16_777_217;
 
-/// The bytes of a file, but for those past one more than `most`.
+/// The most bytes that are read of a script: one more than it may have.
+const SCRIPT_BYTES: u64 = 16_777_217;
+
+/// The bytes of a file, but no more than `most` of them.
 fn contents<R: Read>(
     alloc: Global,
     name: &str,
     reader: &mut R,
     most: u64,
 ) -> Result<Vec<u8>, Stop> {
-    match read_all(alloc, reader, most + 1) {
+    match read_all(alloc, reader, most) {
         Ok(bytes) => Ok(bytes),
         Err(_) => Err(Stop::Reply(Reply {
             status: 2,
@@ -32,17 +35,29 @@ fn contents<R: Read>(
     }
 }
 
-/// The plan of a file, where it is read and has no fault.
-fn checked<P: Read>(alloc: Global, job: &Job<'_>, plan: &mut P) -> Result<CheckedPlan, Stop> {
-    let text = contents(alloc, job.plan, plan, PLAN_BYTES)?;
-    let plan = match read_plan(alloc, text.as_slice()) {
-        Ok(plan) => plan,
-        Err(fault) => return Err(Stop::of_plan(alloc, &fault)),
-    };
-    match check_plan(alloc, plan) {
+/// The plan that a text spells.
+fn plan_of(alloc: Global, text: &[u8]) -> Result<Plan, Stop> {
+    match read_plan(alloc, text) {
         Ok(plan) => Ok(plan),
-        Err((fault, _)) => Err(Stop::of_plan(alloc, &fault)),
+        Err(fault) => Err(Stop::of_plan(alloc, fault)),
     }
+}
+
+/// The plan, where it has no fault.
+fn checked_plan(alloc: Global, plan: Plan) -> Result<CheckedPlan, Stop> {
+    check_plan(alloc, plan).map_err(|refused| Stop::of_plan(alloc, refused.0))
+}
+
+/// The plan that a text spells, where it has no fault.
+fn checked_text(alloc: Global, text: &[u8]) -> Result<CheckedPlan, Stop> {
+    let plan = plan_of(alloc, text)?;
+    checked_plan(alloc, plan)
+}
+
+/// The plan of a file, where it is read and has no fault.
+fn checked<P: Read>(alloc: Global, name: &str, plan: &mut P) -> Result<CheckedPlan, Stop> {
+    let text = contents(alloc, name, plan, PLAN_BYTES)?;
+    checked_text(alloc, text.as_slice())
 }
 
 /// What `run` says: the plan is checked, then the whole script is read, then it is run.
@@ -52,8 +67,8 @@ fn run<P: Read, S: Read>(
     plan: &mut P,
     script: &mut S,
 ) -> Result<Reply, Stop> {
-    let plan = Arc::new(alloc, checked(alloc, job, plan)?)?;
-    let text = contents(alloc, job.script, script, SCRIPT_BYTES as u64)?;
+    let plan = Arc::new(alloc, checked(alloc, job.plan, plan)?)?;
+    let text = contents(alloc, job.script, script, SCRIPT_BYTES)?;
     let script = match read_script(alloc, text.as_slice()) {
         Ok(script) => script,
         Err(ScriptFault::NoMemory) => return Err(Stop::NoMemory),
@@ -80,7 +95,7 @@ fn reply<P: Read, S: Read>(
     match job.action {
         Action::Check => Ok(Reply {
             status: 0,
-            text: checked_line(alloc, &checked(alloc, job, plan)?)?,
+            text: checked_line(alloc, &checked(alloc, job.plan, plan)?)?,
         }),
         Action::Run => run(alloc, job, plan, script),
     }

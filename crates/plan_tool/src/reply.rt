@@ -38,12 +38,11 @@ impl<T: Drop> From<AllocFailed<T>> for Stop {
 
 impl Stop {
     /// The answer to a plan with a fault: a text that isn't one of a plan is an input fault.
-    pub fn of_plan(alloc: Global, fault: &PlanFault) -> Stop {
-        let status = match fault {
-            PlanFault::Text(Fault::NoMemory) => return Stop::NoMemory,
-            PlanFault::Text(Fault::Malformed) => 2,
-            _ => 1,
-        };
+    pub fn of_plan(alloc: Global, fault: PlanFault) -> Stop {
+        if let PlanFault::Text(Fault::NoMemory) = &fault {
+            return Stop::NoMemory;
+        }
+        let status = if fault.is_input() { 2 } else { 1 };
         match format!(in alloc; "{fault}\n") {
             Ok(text) => Stop::Reply(Reply { status, text }),
             Err(_) => Stop::NoMemory,

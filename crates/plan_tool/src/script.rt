@@ -11,7 +11,7 @@ use volume_model::Fault;
 use world::Order;
 
 /// The most bytes of a script.
-pub const SCRIPT_BYTES: usize = 16_777_216;
+const SCRIPT_BYTES: usize = 16_777_216;
 
 /// The most lines of a script.
 const SCRIPT_LINES: usize = 100_000;

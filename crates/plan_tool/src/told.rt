@@ -20,13 +20,19 @@ pub fn checked_line(alloc: Global, plan: &CheckedPlan) -> Result<String, AllocEr
     let groups = u64::from(plan.groups());
     let configurations = configurations(plan);
     let certificates = configurations.saturating_mul(2).saturating_sub(groups);
-    format!(in alloc; "yes: {groups} groups, {configurations} configurations, {certificates} certificates\n")
+    format!(in alloc;
+        "yes: {groups} groups, {configurations} configurations, {certificates} certificates\n"
+    )
+}
+
+/// Whether an event was refused.
+fn has_refusal(outcome: &Outcome) -> bool {
+    outcome.results.iter().any(|told| told.is_err())
 }
 
 /// A line for each step of a script, then one for each opened writer. The status is 1 where a step was refused.
 pub fn run_lines(alloc: Global, steps: &[Step], outcome: &Outcome) -> Result<Reply, Stop> {
     let mut text = String::new(alloc);
-    let mut status = 0;
     let mut results = outcome.results.iter();
     for step in steps {
         let line = step.line;
@@ -34,10 +40,7 @@ pub fn run_lines(alloc: Global, steps: &[Step], outcome: &Outcome) -> Result<Rep
         match result {
             None => write!(text, "{line} ok 0\n")?,
             Some(Ok(made)) => write!(text, "{line} ok {made}\n")?,
-            Some(Err(fault)) => {
-                status = 1;
-                write!(text, "{line} refused {fault}\n")?
-            }
+            Some(Err(fault)) => write!(text, "{line} refused {fault}\n")?,
         }
     }
     for writer in &outcome.writers {
@@ -46,7 +49,10 @@ pub fn run_lines(alloc: Global, steps: &[Step], outcome: &Outcome) -> Result<Rep
         let next = next_lsn(writer);
         write!(text, "writer {volume} durable {durable} next {next}\n")?;
     }
-    Ok(Reply { status, text })
+    Ok(Reply {
+        status: u8::from(has_refusal(outcome)),
+        text,
+    })
 }
 
 /// The LSN of the writer's next record: one above the greater of its log's last LSN, else 0, and its span's start.
