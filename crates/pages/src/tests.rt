@@ -1,0 +1,38 @@
+use crate::{BLOCK, page_of};
+use redo_record::{Packet, Payload, Record};
+use std::test::Fail;
+
+/// A chained record that writes one byte at its own place.
+fn packet(lsn: u64, byte: u8) -> Result<Packet, Fail> {
+    let Some(bytes) = Payload::new(&[byte]) else {
+        return Err(Fail::from("one byte"));
+    };
+    if lsn == 0 || lsn > 9 {
+        return Err(Fail::from("a small number"));
+    }
+    Ok(Packet::pack(&Record {
+        lsn,
+        volume_epoch: 1,
+        prev_volume: lsn - 1,
+        prev_group: lsn - 1,
+        prev_block: lsn - 1,
+        group: 0,
+        block: 0,
+        offset: (lsn - 1) as u16,
+        bytes,
+        point: lsn == 3,
+    }))
+}
+
+#[test]
+fn three_bytes(rt: HostRuntime) -> Result<(), Fail> {
+    let packets = [packet(1, 0x61)?, packet(2, 0x62)?, packet(3, 0x63)?];
+    let mut page = [0; BLOCK];
+    assert_eq!(rt; page_of(&packets, 1, 3).as_slice(), page.as_slice());
+    page[0] = 0x61;
+    page[1] = 0x62;
+    assert_eq!(rt; page_of(&packets, 0, 2).as_slice(), page.as_slice());
+    page[2] = 0x63;
+    assert_eq!(rt; page_of(&packets, 0, 3).as_slice(), page.as_slice());
+    Ok(())
+}
