@@ -1,0 +1,32 @@
+use Rattle.std.proofs.Common.{◌≡◌, ◌∙◌, ap, sym, subst, map, IfOk}
+use Rattle.serde_json.specs.View.{view, items_of}
+use Rattle.refutation.specs.Rule.{branches_of, branch_depth}
+use Rattle.refutation.specs.Refutation.{rule_of}
+use Rattle.refutation.specs.Writing.{certificate_data, numbers_data, pairs_data, branches_data, pick_data, match_data}
+use Rattle.refutation.proofs.Rules.{rule_of-Pick, rule_of-Match, depth_step}
+use Rattle.refutation.proofs.Copied.{pushed}
+use Rattle.refutation.proofs.Written.{finish, branches-are}
+use Rattle.refutation.proofs.writing.+write.Goals as goal
+
+pub branches_json-loop-branch-preserved : goal.branches_json-loop-branch-preserved
+branches_json-loop-branch-preserved g t c = record {
+  written = pushed view (λ r. certificate_data (rule_of r)) c.args.then.now c.loop-branch.branch-index c.branch-item.result _ _ _ _ c.in_ok-push.ensures.items c.in_ok-tree_json.ensures c.loop-branch-test.true c.branch-item.is c.loop-branch.invariant.written;
+  depth = (depth_step c.args.then.now c.loop-branch.branch-index (branch_depth (branches_of (map rule_of c.args.then.now))) c.branch-item.result c.loop-branch-test.true c.branch-item.is c.loop-branch.invariant.depth).1;
+}
+
+pub branches_json-returns : goal.branches_json-returns
+branches_json-returns g t c = ap items_of (finish (λ r. certificate_data (rule_of r)) c.args.then.now c.loop-branch.branch-index _ _ c.loop-branch-test.false c.loop-branch.invariant.written) ∙ branches-are c.args.then.now
+
+pub tree_json-returns-in_ok-numbers-in-Pick : goal.tree_json-returns-in_ok-numbers-in-Pick
+tree_json-returns-in_ok-numbers-in-Pick g t c =
+    subst (λ d. IfOk c.pick_json.result (λ v. view v ≡ d))
+    ((λ i. pick_data c.in-Pick.side c.in-Pick.item ((c.in_ok-numbers-in-Pick.ensures ∙ ap numbers_data c.deref-in-Pick-2.ensures.value) i) ((c.in_ok-branches-in-Pick.ensures ∙ ap (λ rs. branches_data (branches_of (map rule_of rs))) c.deref-in-Pick.ensures.value) i))
+    ∙ sym (ap (λ r. certificate_data (rule_of r)) c.in-Pick.is ∙ ap certificate_data (rule_of-Pick c.in-Pick.side c.in-Pick.item c.in-Pick.children c.in-Pick.then)))
+    c.pick_json.ensures
+
+pub tree_json-returns-in_ok-numbers-in-Match : goal.tree_json-returns-in_ok-numbers-in-Match
+tree_json-returns-in_ok-numbers-in-Match g t c =
+    subst (λ d. IfOk c.match_json.result (λ v. view v ≡ d))
+    ((λ i. match_data c.in-Match.left c.in-Match.right ((c.in_ok-numbers-in-Match.ensures ∙ ap pairs_data c.deref-in-Match-2.ensures.value) i) ((c.in_ok-branches-in-Match.ensures ∙ ap (λ rs. branches_data (branches_of (map rule_of rs))) c.deref-in-Match.ensures.value) i))
+    ∙ sym (ap (λ r. certificate_data (rule_of r)) c.in-Match.is ∙ ap certificate_data (rule_of-Match c.in-Match.left c.in-Match.right c.in-Match.pairs c.in-Match.then)))
+    c.match_json.ensures

@@ -1,0 +1,175 @@
+//! From certificates to JSON.
+
+ghost use Rattle.std.specs.Prelude.{◌≡◌, IfOk, Ok, map};
+ghost use Rattle.volume_model.specs.Answer.{Gives};
+ghost use Rattle.serde_json.specs.View.{view, items_view};
+ghost use Rattle.refutation.specs.Rule.{branches_of};
+ghost use Rattle.refutation.specs.Refutation.{rule_of};
+ghost use Rattle.refutation.specs.Certificate.{certificate_rule};
+ghost use Rattle.refutation.specs.Writing.{side_text, numbers_data, pair_data, pairs_data, dead_data, clash_data, open_data, pick_data, match_data, split_data, certificate_data, branches_data};
+
+use crate::certificate::Certificate;
+use crate::{Refutation, Side};
+use serde_json::{Value, json};
+use std::alloc::{AllocError, Allocator, Global};
+use volume_model::Fault;
+
+fn side_name(side: Side) -> &'static str
+    ensures { result.now ≡ side_text side }
+{
+    match side {
+        Side::Left => "left",
+        Side::Right => "right",
+    }
+}
+
+fn dead_json(alloc: Global, side: Side, item: u16) -> Result<Value, AllocError>
+    ensures { IfOk result (λ v. view v ≡ dead_data side item) }
+{
+    let side = side_name(side);
+    json!(in alloc; {"rule": "dead", "side": side, "item": item})
+}
+
+fn clash_json(alloc: Global, left: u16, right: u16) -> Result<Value, AllocError>
+    ensures { IfOk result (λ v. view v ≡ clash_data left right) }
+{
+    json!(in alloc; {"rule": "clash", "left": left, "right": right})
+}
+
+fn open_json(alloc: Global, side: Side, item: u16, then: Value) -> Result<Value, AllocError>
+    ensures { IfOk result (λ v. view v ≡ open_data side item (view then)) }
+{
+    let side = side_name(side);
+    json!(in alloc; {"rule": "open", "side": side, "item": item, "then": then})
+}
+
+fn pick_json(
+    alloc: Global,
+    side: Side,
+    item: u16,
+    children: Vec<Value>,
+    then: Vec<Value>,
+) -> Result<Value, AllocError>
+    ensures { IfOk result (λ v. view v ≡ pick_data side item (items_view children.items) (items_view then.items)) }
+{
+    let side = side_name(side);
+    let children = Value::Array(children);
+    let then = Value::Array(then);
+    json!(in alloc; {"rule": "pick", "side": side, "item": item, "children": children, "then": then})
+}
+
+fn match_json(
+    alloc: Global,
+    left: u16,
+    right: u16,
+    pairs: Vec<Value>,
+    then: Vec<Value>,
+) -> Result<Value, AllocError>
+    ensures { IfOk result (λ v. view v ≡ match_data left right (items_view pairs.items) (items_view then.items)) }
+{
+    let pairs = Value::Array(pairs);
+    let then = Value::Array(then);
+    json!(in alloc; {"rule": "match", "left": left, "right": right, "pairs": pairs, "then": then})
+}
+
+fn split_json(alloc: Global, member: u8, left: Value, right: Value) -> Result<Value, AllocError>
+    ensures { IfOk result (λ v. view v ≡ split_data member (view left) (view right)) }
+{
+    json!(in alloc; {"rule": "split", "member": member, "left": left, "right": right})
+}
+
+fn pair_json(alloc: Global, pair: (u8, u8)) -> Result<Value, AllocError>
+    ensures { IfOk result (λ v. view v ≡ pair_data pair) }
+{
+    let mut list = Vec::new(alloc);
+    list.push(Value::from(u64::from(pair.0)))?;
+    list.push(Value::from(u64::from(pair.1)))?;
+    Ok(Value::Array(list))
+}
+
+fn numbers_json(alloc: Global, numbers: &[u8]) -> Result<Vec<Value>, AllocError>
+    ensures { IfOk result (λ v. items_view v.items ≡ numbers_data numbers.now) }
+{
+    let mut list = Vec::new(alloc);
+    for number in numbers {
+        list.push(Value::from(u64::from(*number)))?;
+    }
+    Ok(list)
+}
+
+fn pairs_json(alloc: Global, pairs: &[(u8, u8)]) -> Result<Vec<Value>, AllocError>
+    ensures { IfOk result (λ v. items_view v.items ≡ pairs_data pairs.now) }
+{
+    let mut list = Vec::new(alloc);
+    for pair in pairs {
+        list.push(pair_json(alloc, *pair)?)?;
+    }
+    Ok(list)
+}
+
+#[cycle(write)]
+fn tree_json<A: Allocator>(alloc: Global, rule: &Refutation<A>) -> Result<Value, AllocError>
+    ensures { IfOk result (λ v. view v ≡ certificate_data (rule_of rule.now)) }
+{
+    match rule {
+        Refutation::Dead { side, item } => dead_json(alloc, *side, *item),
+        Refutation::Clash { left, right } => clash_json(alloc, *left, *right),
+        Refutation::Open { side, item, then } => {
+            let branch = tree_json(alloc, then)?;
+            open_json(alloc, *side, *item, branch)
+        }
+        Refutation::Pick {
+            side,
+            item,
+            children,
+            then,
+        } => {
+            let branches = branches_json(alloc, then)?;
+            let numbers = numbers_json(alloc, children)?;
+            pick_json(alloc, *side, *item, numbers, branches)
+        }
+        Refutation::Match {
+            left,
+            right,
+            pairs,
+            then,
+        } => {
+            let branches = branches_json(alloc, then)?;
+            let numbers = pairs_json(alloc, pairs)?;
+            match_json(alloc, *left, *right, numbers, branches)
+        }
+        Refutation::Split {
+            member,
+            left,
+            right,
+        } => {
+            let first = tree_json(alloc, left)?;
+            let second = tree_json(alloc, right)?;
+            split_json(alloc, *member, first, second)
+        }
+    }
+}
+
+#[cycle(write)]
+fn branches_json<A: Allocator>(
+    alloc: Global,
+    then: &[Refutation<A>],
+) -> Result<Vec<Value>, AllocError>
+    ensures { IfOk result (λ v. items_view v.items ≡ branches_data (branches_of (map rule_of then.now))) }
+{
+    let mut list = Vec::new(alloc);
+    for branch in then {
+        list.push(tree_json(alloc, branch)?)?;
+    }
+    Ok(list)
+}
+
+/// The JSON of a certificate.
+pub fn write_certificate<A: Allocator>(
+    alloc: Global,
+    certificate: &Certificate<A>,
+) -> Result<Value, Fault>
+    ensures { Gives view result (Ok (certificate_data (certificate_rule certificate.now))) }
+{
+    Ok(tree_json(alloc, certificate.tree())?)
+}
