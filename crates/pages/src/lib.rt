@@ -1,11 +1,12 @@
 //! The bytes of a block, made from redo records.
 #![tactic(auto)]
 
-ghost use Rattle.std.specs.Prelude.{◌≡◌, ◌+◌, ◌≤◌, ◌++◌, length, map, take, drop};
-ghost use Rattle.volume_model.specs.Node.{page_of};
+ghost use Rattle.std.specs.Prelude.{◌≡◌, ◌+◌, ◌≤◌, ◌++◌, ◌==◌, ◌&&◌, nat_le, if◌then◌else◌, length, map, take, drop};
+ghost use Rattle.volume_model.specs.Node.{written, page_of};
+ghost use Rattle.redo_record.specs.Record.{redo_of};
 ghost use Rattle.redo_record.specs.Packet.{packet_redo};
 
-use redo_record::Packet;
+use redo_record::{Packet, Record};
 
 /// The bytes of a block.
 pub const BLOCK: usize = 512;
@@ -19,6 +20,16 @@ fn write_at(page: &mut [u8], offset: usize, bytes: &[u8])
     page[offset..end].copy_from_slice(bytes);
 }
 
+/// Applies a record that is one of the block's, and isn't past the point.
+fn apply(page: &mut [u8], entry: &Record, block: u32, point: u64)
+    requires { length page.old ≡ 512 }
+    ensures { page.new ≡ (if entry.now.block == block && nat_le entry.now.lsn point then written (redo_of entry.now) page.old else page.old) }
+{
+    if entry.block == block && entry.lsn <= point {
+        write_at(page, usize::from(entry.offset), entry.bytes.as_slice());
+    }
+}
+
 /// The bytes of a block at a point: the writes of the block's records up to the point, in the order of the packets, over zeros.
 /// The packets are those of one group, in order of LSN.
 pub fn page_of(packets: &[Packet], block: u32, point: u64) -> [u8; BLOCK]
@@ -26,14 +37,8 @@ pub fn page_of(packets: &[Packet], block: u32, point: u64) -> [u8; BLOCK]
 {
     let mut page = [0; BLOCK];
     for packet in packets {
-        let record = packet.record();
-        if record.block == block && record.lsn <= point {
-            write_at(
-                &mut page,
-                usize::from(record.offset),
-                record.bytes.as_slice(),
-            );
-        }
+        let entry = packet.record();
+        apply(&mut page, &entry, block, point);
     }
     page
 }
