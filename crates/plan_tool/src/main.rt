@@ -6,6 +6,8 @@ mod perform;
 mod reply;
 mod script;
 mod streams;
+#[cfg(test)]
+mod tests;
 mod told;
 
 use command_line::job;

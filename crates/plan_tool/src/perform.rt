@@ -1,9 +1,17 @@
 //! A job, done on the contents of its files.
 
-ghost use Rattle.std.specs.Prelude.{◌≤◌};
+ghost use Rattle.std.specs.Prelude.{◌≡◌, ◌≤◌, ◌<◌, None, Some, Ok, Err, IfOk, IfErr, IfSome, take};
+ghost use Rattle.volume_model.specs.Plan.{IsCertified};
+ghost use Rattle.plan.specs.CheckedModel.{checked_model};
+ghost use Rattle.plan.specs.Plan.{plan_data};
+ghost use Rattle.plan.specs.PlanFaults.{plan_fault};
+ghost use Rattle.plan.specs.PlanText.{plan_of};
+ghost use Rattle.plan.specs.declared.fault.PlanFault.{PlanFault};
+ghost use Rattle.command_line.specs.declared.action.Action.TheVariants.{Check};
+ghost use Rattle.plan_tool.specs.Verdict.{IsCertifiedText, IsFaultyText, Judges, StopsOnly};
 
 use crate::reply::{Reply, Stop};
-use crate::script::{ScriptFault, read_script};
+use crate::script::{Script, ScriptFault, read_script};
 use crate::streams::{emit, read_all};
 use crate::told::{checked_line, run_lines};
 use command_line::{Action, Job};
@@ -20,12 +28,10 @@ const PLAN_BYTES: u64 = 16_777_217;
 const SCRIPT_BYTES: u64 = 16_777_217;
 
 /// The bytes of a file, but no more than `most` of them.
-fn contents<R: Read>(
-    alloc: Global,
-    name: &str,
-    reader: &mut R,
-    most: u64,
-) -> Result<Vec<u8>, Stop> {
+fn contents<R: Read>(alloc: Global, name: &str, reader: &mut R, most: u64) -> Result<Vec<u8>, Stop>
+    ensures bytes { IfOk result (λ v. IfSome (R.remaining reader.old) (λ bytes. v.items ≡ take most bytes)) }
+    ensures stop { IfErr result (StopsOnly ⊥) }
+{
     match read_all(alloc, reader, most) {
         Ok(bytes) => Ok(bytes),
         Err(_) => Err(Stop::Reply(Reply {
@@ -36,7 +42,10 @@ fn contents<R: Read>(
 }
 
 /// The plan that a text spells.
-fn plan_of(alloc: Global, text: &[u8]) -> Result<Plan, Stop> {
+fn plan_in(alloc: Global, text: &[u8]) -> Result<Plan, Stop>
+    ensures plan { IfOk result (λ plan. plan_of text.now ≡ Ok (plan_data plan)) }
+    ensures stop { IfErr result (StopsOnly ((fault : PlanFault) × (plan_of text.now ≡ Err fault))) }
+{
     match read_plan(alloc, text) {
         Ok(plan) => Ok(plan),
         Err(fault) => Err(Stop::of_plan(alloc, fault)),
@@ -44,20 +53,96 @@ fn plan_of(alloc: Global, text: &[u8]) -> Result<Plan, Stop> {
 }
 
 /// The plan, where it has no fault.
-fn checked_plan(alloc: Global, plan: Plan) -> Result<CheckedPlan, Stop> {
-    check_plan(alloc, plan).map_err(|refused| Stop::of_plan(alloc, refused.0))
+fn checked_plan(alloc: Global, plan: Plan) -> Result<CheckedPlan, Stop>
+    ensures plan { IfOk result (λ checked. checked.plan ≡ plan) }
+    ensures faultless { IfOk result (λ checked. plan_fault (plan_data plan) ≡ None) }
+    ensures certified { IfOk result (λ checked. IsCertified (checked_model checked)) }
+    ensures stop { IfErr result (StopsOnly ((fault : PlanFault) × (plan_fault (plan_data plan) ≡ Some fault))) }
+{
+    match check_plan(alloc, plan) {
+        Ok(plan) => {
+            plan.certified();
+            Ok(plan)
+        }
+        Err(refused) => Err(Stop::of_plan(alloc, refused.0)),
+    }
 }
 
 /// The plan that a text spells, where it has no fault.
-fn checked_text(alloc: Global, text: &[u8]) -> Result<CheckedPlan, Stop> {
-    let plan = plan_of(alloc, text)?;
+fn checked_text(alloc: Global, text: &[u8]) -> Result<CheckedPlan, Stop>
+    ensures { Judges result text.now }
+{
+    let plan = plan_in(alloc, text)?;
     checked_plan(alloc, plan)
 }
 
 /// The plan of a file, where it is read and has no fault.
-fn checked<P: Read>(alloc: Global, name: &str, plan: &mut P) -> Result<CheckedPlan, Stop> {
-    let text = contents(alloc, name, plan, PLAN_BYTES)?;
-    checked_text(alloc, text.as_slice())
+fn checked<P: Read>(alloc: Global, name: &str, plan: &mut P) -> Result<CheckedPlan, Stop>
+    ensures { IfSome (P.remaining plan.old) (λ bytes. Judges result (take 16777217 bytes)) }
+{
+    match contents(alloc, name, plan, PLAN_BYTES) {
+        Ok(text) => checked_text(alloc, text.as_slice()),
+        Err(stop) => Err(stop),
+    }
+}
+
+/// The script of a file, where it is read and is one.
+fn script_of<S: Read>(alloc: Global, name: &str, script: &mut S) -> Result<Script, Stop>
+    ensures { IfErr result (StopsOnly ⊥) }
+{
+    let text = contents(alloc, name, script, SCRIPT_BYTES)?;
+    match read_script(alloc, text.as_slice()) {
+        Ok(script) => Ok(script),
+        Err(ScriptFault::NoMemory) => Err(Stop::NoMemory),
+        Err(ScriptFault::Line(line)) => Err(Stop::Reply(Reply {
+            status: 2,
+            text: format!(in alloc; "input: line {line}\n")?,
+        })),
+    }
+}
+
+/// What is told of a script's run.
+fn ran(alloc: Global, plan: &Arc<CheckedPlan>, script: &Script) -> Result<Reply, Stop>
+    ensures { IfErr result (StopsOnly ⊥) }
+{
+    match run_orders(alloc, plan, script.orders.as_slice()) {
+        Ok(outcome) => Ok(run_lines(alloc, script.steps.as_slice(), &outcome)?),
+        Err(_) => Err(Stop::NoMemory),
+    }
+}
+
+/// What is told of a checked plan.
+fn plan_told(alloc: Global, plan: &CheckedPlan) -> Result<Reply, Stop>
+    ensures yes { IfOk result (λ reply. reply.status ≡ 0) }
+    ensures stop { IfErr result (StopsOnly ⊥) }
+{
+    let text = checked_line(alloc, plan)?;
+    Ok(Reply { status: 0, text })
+}
+
+/// What `check` says.
+fn check<P: Read>(alloc: Global, job: &Job<'_>, plan: &mut P) -> Result<Reply, Stop>
+    ensures judges { IfSome (P.remaining plan.old) (λ bytes. Judges result (take 16777217 bytes)) }
+    ensures yes { IfOk result (λ reply. reply.status ≡ 0) }
+{
+    match checked(alloc, job.plan, plan) {
+        Ok(plan) => plan_told(alloc, &plan),
+        Err(stop) => Err(stop),
+    }
+}
+
+/// What is told of the run of a file's script over a checked plan.
+fn script_told<S: Read>(
+    alloc: Global,
+    plan: CheckedPlan,
+    name: &str,
+    script: &mut S,
+) -> Result<Reply, Stop>
+    ensures { IfErr result (StopsOnly ⊥) }
+{
+    let plan = Arc::new(alloc, plan)?;
+    let script = script_of(alloc, name, script)?;
+    ran(alloc, &plan, &script)
 }
 
 /// What `run` says: the plan is checked, then the whole script is read, then it is run.
@@ -66,22 +151,12 @@ fn run<P: Read, S: Read>(
     job: &Job<'_>,
     plan: &mut P,
     script: &mut S,
-) -> Result<Reply, Stop> {
-    let plan = Arc::new(alloc, checked(alloc, job.plan, plan)?)?;
-    let text = contents(alloc, job.script, script, SCRIPT_BYTES)?;
-    let script = match read_script(alloc, text.as_slice()) {
-        Ok(script) => script,
-        Err(ScriptFault::NoMemory) => return Err(Stop::NoMemory),
-        Err(ScriptFault::Line(line)) => {
-            return Err(Stop::Reply(Reply {
-                status: 2,
-                text: format!(in alloc; "input: line {line}\n")?,
-            }));
-        }
-    };
-    match run_orders(alloc, &plan, script.orders.as_slice()) {
-        Ok(outcome) => run_lines(alloc, script.steps.as_slice(), &outcome),
-        Err(_) => Err(Stop::NoMemory),
+) -> Result<Reply, Stop>
+    ensures { IfSome (P.remaining plan.old) (λ bytes. Judges result (take 16777217 bytes)) }
+{
+    match checked(alloc, job.plan, plan) {
+        Ok(plan) => script_told(alloc, plan, job.script, script),
+        Err(stop) => Err(stop),
     }
 }
 
@@ -91,12 +166,12 @@ fn reply<P: Read, S: Read>(
     job: &Job<'_>,
     plan: &mut P,
     script: &mut S,
-) -> Result<Reply, Stop> {
+) -> Result<Reply, Stop>
+    ensures judges { IfSome (P.remaining plan.old) (λ bytes. Judges result (take 16777217 bytes)) }
+    ensures yes { job.now.action ≡ Check → IfOk result (λ reply. reply.status ≡ 0) }
+{
     match job.action {
-        Action::Check => Ok(Reply {
-            status: 0,
-            text: checked_line(alloc, &checked(alloc, job.plan, plan)?)?,
-        }),
+        Action::Check => check(alloc, job, plan),
         Action::Run => run(alloc, job, plan, script),
     }
 }
@@ -111,7 +186,14 @@ pub fn perform<P: Read, S: Read, O: Write, E: Write>(
     out: &mut O,
     err: &mut E,
 ) -> u8
-    ensures { result ≤ 2 }
+    ensures status { result ≤ 2 }
+
+    // The status 0 says that the plan's text spells a plan without a fault, whose quorums all meet.
+    ensures yes { result ≡ 0 → IfSome (P.remaining plan.old) (λ bytes. IsCertifiedText (take 16777217 bytes)) }
+
+    // A check answers 1 only where the text has a fault.
+    ensures no { job.now.action ≡ Check → result ≡ 1 → IfSome (P.remaining plan.old) (λ bytes. IsFaultyText (take 16777217 bytes)) }
+    ensures quiet { result < 2 → err.new ≡ err.old }
 {
     match reply(alloc, job, plan, script) {
         Ok(reply) | Err(Stop::Reply(reply)) => {

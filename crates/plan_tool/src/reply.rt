@@ -25,20 +25,37 @@ pub enum Stop {
 }
 
 impl From<AllocError> for Stop {
+    ghost use Rattle.std.specs.Prelude.{◌≡◌};
+    ghost use Rattle.plan_tool.specs.declared.reply.Stop.TheVariants.{NoMemory};
+
+    ghost from_gives = { λ _ e. e ≡ NoMemory };
+
     fn from(_e: AllocError) -> Stop {
         Stop::NoMemory
     }
 }
 
 impl<T: Drop> From<AllocFailed<T>> for Stop {
+    ghost use Rattle.std.specs.Prelude.{◌≡◌};
+    ghost use Rattle.plan_tool.specs.declared.reply.Stop.TheVariants.{NoMemory};
+
+    ghost from_gives = { λ _ e. e ≡ NoMemory };
+
     fn from(_e: AllocFailed<T>) -> Stop {
         Stop::NoMemory
     }
 }
 
 impl Stop {
+    ghost use Rattle.std.specs.Prelude.{◌≢◌};
+    ghost use Rattle.volume_model.specs.declared.fault.Fault.TheVariants.{NoMemory};
+    ghost use Rattle.plan.specs.declared.fault.PlanFault.TheVariants.{Text};
+    ghost use Rattle.plan_tool.specs.Verdict.{StopsOnly};
+
     /// The answer to a plan with a fault: a text that isn't one of a plan is an input fault.
-    pub fn of_plan(alloc: Global, fault: PlanFault) -> Stop {
+    pub fn of_plan(alloc: Global, fault: PlanFault) -> Stop
+        ensures { StopsOnly (fault ≢ Text NoMemory) result }
+    {
         if let PlanFault::Text(Fault::NoMemory) = &fault {
             return Stop::NoMemory;
         }

@@ -1,6 +1,6 @@
 //! The lines that the program prints.
 
-use crate::reply::{Reply, Stop};
+use crate::reply::Reply;
 use crate::script::Step;
 use plan::CheckedPlan;
 use std::alloc::{AllocError, Global};
@@ -31,7 +31,7 @@ fn has_refusal(outcome: &Outcome) -> bool {
 }
 
 /// A line for each step of a script, then one for each opened writer. The status is 1 where a step was refused.
-pub fn run_lines(alloc: Global, steps: &[Step], outcome: &Outcome) -> Result<Reply, Stop> {
+pub fn run_lines(alloc: Global, steps: &[Step], outcome: &Outcome) -> Result<Reply, AllocError> {
     let mut text = String::new(alloc);
     let mut results = outcome.results.iter();
     for step in steps {
