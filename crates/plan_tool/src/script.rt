@@ -1,6 +1,7 @@
 //! Scripts: one event a line.
 
-ghost use Rattle.std.specs.Prelude.{◌<◌, length};
+ghost use Rattle.std.specs.Prelude.{◌<◌, IfOk, OnOk, length};
+ghost use Rattle.plan_tool.specs.Script.{IsPaired};
 
 mod line;
 mod word;
@@ -54,12 +55,16 @@ fn first_line(text: &[u8]) -> (&[u8], &[u8])
 }
 
 /// Adds what a line does. `events` has the index of each earlier line's event.
+#[tactic(auto, using(crate::proofs::Scripts::one_more, crate::proofs::Scripts::none_more))]
 fn add_line(
     alloc: Global,
     script: &mut Script,
     events: &mut Vec<Option<usize>>,
     text: &[u8],
-) -> Result<(), Fault> {
+) -> Result<(), Fault>
+    requires { IsPaired script.old }
+    ensures { OnOk result (IsPaired script.new) }
+{
     let text = str::from_utf8(text).map_err(|_| Fault::Malformed)?;
     let line = events.len() + 1;
     match line_of(alloc, text, events.as_slice())? {
@@ -85,7 +90,9 @@ fn add_line(
 
 /// What a text does as a script, or its first line that isn't one of a script: at most 100,000 lines in 16,777,216 bytes,
 /// each of them UTF-8.
-pub fn read_script(alloc: Global, text: &[u8]) -> Result<Script, ScriptFault> {
+pub fn read_script(alloc: Global, text: &[u8]) -> Result<Script, ScriptFault>
+    ensures { IfOk result IsPaired }
+{
     let mut script = Script {
         steps: Vec::new(alloc),
         orders: Vec::new(alloc),
