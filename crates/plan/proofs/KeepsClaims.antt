@@ -35,11 +35,11 @@ use Rattle.plan.proofs.FreshMembers.{above, GoodParents, parent-there, parent_at
 
 -- ---- no fault in any part
 
-neither : (a b : Option PlanFault) → or_then a b ≡ None → (a ≡ None) × (b ≡ None)
+pub neither : (a b : Option PlanFault) → or_then a b ≡ None → (a ≡ None) × (b ≡ None)
 neither None b h = (refl, h)
 neither (Some fault) b h = absurd (cc)
 
-none-at : (n i : ℕ) (f : ℕ → Option PlanFault) → first_below n f ≡ None → i < n → f i ≡ None
+pub none-at : (n i : ℕ) (f : ℕ → Option PlanFault) → first_below n f ≡ None → i < n → f i ≡ None
 none-at zero i f h lt = absurd (omega arith)
 none-at (suc n) i f h lt =
     let parts = neither (first_below n f) (f n) h in
@@ -48,20 +48,20 @@ none-at (suc n) i f h lt =
       | inr past ↦ (let same : i ≡ n = omega arith in ap f same ∙ parts.1)
     ]
 
-no-fault : (plan : PlanData) (g c : ℕ) → plan_fault plan ≡ None → g < length plan.groups → c < length (group_at plan g) → configuration_fault g (group_at plan g) c ≡ None
+pub no-fault : (plan : PlanData) (g c : ℕ) → plan_fault plan ≡ None → g < length plan.groups → c < length (group_at plan g) → configuration_fault g (group_at plan g) c ≡ None
 unfolding plan_fault
 no-fault plan g c h there below =
     none-at (length (group_at plan g)) c (configuration_fault g (group_at plan g)) (none-at (length plan.groups) g (λ k. group_fault k (group_at plan k)) h there) below
 
-passes : (b : Bool) (fault : PlanFault) → (if b then None else Some fault) ≡ None → b ≡ true
+pub passes : (b : Bool) (fault : PlanFault) → (if b then None else Some fault) ≡ None → b ≡ true
 passes true fault h = refl
 passes false fault h = absurd (cc)
 
-no-reuse : (g c : ℕ) (found : Option ℕ) → reused_member g c found ≡ None → found ≡ None
+pub no-reuse : (g c : ℕ) (found : Option ℕ) → reused_member g c found ≡ None → found ≡ None
 no-reuse g c None h = refl
 no-reuse g c (Some x) h = absurd (cc)
 
-no-certificate_fault : (g c : ℕ) (step : Bool) (found : Option FaultAt) → certificate_fault g c step found ≡ None → found ≡ None
+pub no-certificate_fault : (g c : ℕ) (step : Bool) (found : Option FaultAt) → certificate_fault g c step found ≡ None → found ≡ None
 no-certificate_fault g c step None h = refl
 no-certificate_fault g c step (Some at) h = absurd (cc)
 

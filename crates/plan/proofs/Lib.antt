@@ -4,6 +4,7 @@ pub mod FreshMembers
 pub mod Lookups
 pub mod Named
 pub mod KeepsClaims
+pub mod BothWays
 pub mod OwnMembers
 pub mod Text
 pub mod Loop

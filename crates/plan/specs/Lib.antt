@@ -1,5 +1,6 @@
 pub mod PlanData
 pub mod PlanFaults
+pub mod Certified
 pub mod Plan
 pub mod CheckedModel
 pub mod PlanText
