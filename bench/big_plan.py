@@ -1,22 +1,24 @@
-"""Prints the largest plan: 16 groups of 64 configurations, each the root or a child of it, all of six full copies."""
+"""Prints a plan of so many groups (16 where none are given) of 64 configurations each, the root and its children, all of six full copies."""
 import json
+import sys
 
 ALL = [0, 1, 2, 3, 4, 5]
 CLASH = {"rule": "clash", "left": 0, "right": 0}
-MATCH = {"rule": "match", "left": 0, "right": 0, "pairs": [[n, n] for n in ALL], "then": [CLASH] * 6}
+MATCH = {"rule": "match", "left": 0, "right": 0, "pairs": [[i, i] for i in ALL], "then": [CLASH] * 6}
 
 
-def configuration(number):
+def configuration(parent):
     return {
-        "parent": None if number == 0 else 0,
+        "parent": parent,
         "members": ALL,
         "full": ALL,
         "read": {"k": 3, "of": "all"},
         "write": {"k": 4, "of": "all"},
         "meets": MATCH,
-        "step": None if number == 0 else MATCH,
+        "step": None if parent is None else MATCH,
     }
 
 
-group = {"configurations": [configuration(number) for number in range(64)]}
-print(json.dumps({"format": 1, "lal": 10, "groups": [group] * 16}, separators=(",", ":")))
+groups = int(sys.argv[1]) if len(sys.argv) > 1 else 16
+group = {"configurations": [configuration(None)] + [configuration(0)] * 63}
+print(json.dumps({"format": 1, "lal": 10, "groups": [group] * groups}, separators=(",", ":")))
