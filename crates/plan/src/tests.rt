@@ -1,4 +1,5 @@
 use super::*;
+use refutation::write_certificate;
 use std::alloc::{AllocError, Global};
 use std::test::*;
 
@@ -171,5 +172,38 @@ fn steps(rt: HostRuntime) -> Result<(), AllocError> {
         let text = plan_text(alloc, configurations)?;
         assert_eq!(rt; said(alloc, &text)?.as_str(), *want);
     }
+    Ok(())
+}
+
+/// How many claims a plan has, and the certificate of its first claim, copied and written.
+fn claims_and_first(alloc: Global, text: &str) -> Result<(usize, String), PlanFault> {
+    let plan = read_plan(alloc, text.as_bytes())?;
+    let claims = claims(alloc, &plan)?;
+    let mut written = String::new(alloc);
+    for group in &plan.groups {
+        for configuration in &group.configurations {
+            if let Some(certificate) = &configuration.meets {
+                let copy = certificate.copy_in(alloc)?;
+                written = write_certificate(alloc, &copy)?.to_string(alloc)?;
+            }
+        }
+    }
+    Ok((claims.len(), written))
+}
+
+#[test]
+fn claims_and_certificates(rt: HostRuntime) -> Result<(), Fail> {
+    let alloc = rt.alloc();
+    let meets = pairs(alloc, 0, CLASH, CLASH)?;
+    let root = root(alloc, 3, 4, meets.as_str())?;
+    let text = plan_text(alloc, root.as_str())?;
+    let Ok((claims, written)) = claims_and_first(alloc, text.as_str()) else {
+        return Err(Fail::from("the plan of six copies"));
+    };
+    assert_eq!(rt; claims, 1);
+    assert_eq!(rt;
+        written.as_str(),
+        "{\"left\":0,\"pairs\":[[0,0],[1,1],[2,2],[3,3],[4,4],[5,5]],\"right\":0,\"rule\":\"match\",\"then\":[{\"left\":0,\"right\":0,\"rule\":\"clash\"},{\"left\":0,\"right\":0,\"rule\":\"clash\"},{\"left\":0,\"right\":0,\"rule\":\"clash\"},{\"left\":0,\"right\":0,\"rule\":\"clash\"},{\"left\":0,\"right\":0,\"rule\":\"clash\"},{\"left\":0,\"right\":0,\"rule\":\"clash\"}]}"
+    );
     Ok(())
 }
