@@ -1,11 +1,13 @@
 //! From certificates to JSON.
 
-ghost use Rattle.std.specs.Prelude.{◌≡◌, IfOk, Ok, map};
+ghost use Rattle.std.specs.Prelude.{◌≡◌, ◌≤◌, All, IfOk, OnOk, Ok, map};
 ghost use Rattle.volume_model.specs.Answer.{Gives};
 ghost use Rattle.serde_json.specs.View.{view, items_view};
 ghost use Rattle.refutation.specs.Rule.{branches_of};
 ghost use Rattle.refutation.specs.Refutation.{rule_of};
 ghost use Rattle.refutation.specs.Certificate.{certificate_rule};
+ghost use Rattle.refutation.specs.Ranges.{IsPairInRange, HasRanges, EachHasRanges};
+ghost use Rattle.refutation.specs.Reading.{certificate_in};
 ghost use Rattle.refutation.specs.Writing.{side_text, numbers_data, pair_data, pairs_data, dead_data, clash_data, open_data, pick_data, match_data, split_data, certificate_data, branches_data};
 
 use crate::certificate::Certificate;
@@ -24,20 +26,24 @@ fn side_name(side: Side) -> &'static str
 }
 
 fn dead_json(alloc: Global, side: Side, item: u16) -> Result<Value, AllocError>
-    ensures { IfOk result (λ v. view v ≡ dead_data side item) }
+    ensures written { IfOk result (λ v. view v ≡ dead_data side item) }
+    ensures range { item ≤ 65535 }
 {
     let side = side_name(side);
     json!(in alloc; {"rule": "dead", "side": side, "item": item})
 }
 
 fn clash_json(alloc: Global, left: u16, right: u16) -> Result<Value, AllocError>
-    ensures { IfOk result (λ v. view v ≡ clash_data left right) }
+    ensures written { IfOk result (λ v. view v ≡ clash_data left right) }
+    ensures left_range { left ≤ 65535 }
+    ensures right_range { right ≤ 65535 }
 {
     json!(in alloc; {"rule": "clash", "left": left, "right": right})
 }
 
 fn open_json(alloc: Global, side: Side, item: u16, then: Value) -> Result<Value, AllocError>
-    ensures { IfOk result (λ v. view v ≡ open_data side item (view then)) }
+    ensures written { IfOk result (λ v. view v ≡ open_data side item (view then)) }
+    ensures range { item ≤ 65535 }
 {
     let side = side_name(side);
     json!(in alloc; {"rule": "open", "side": side, "item": item, "then": then})
@@ -50,7 +56,8 @@ fn pick_json(
     children: Vec<Value>,
     then: Vec<Value>,
 ) -> Result<Value, AllocError>
-    ensures { IfOk result (λ v. view v ≡ pick_data side item (items_view children.items) (items_view then.items)) }
+    ensures written { IfOk result (λ v. view v ≡ pick_data side item (items_view children.items) (items_view then.items)) }
+    ensures range { item ≤ 65535 }
 {
     let side = side_name(side);
     let children = Value::Array(children);
@@ -65,7 +72,9 @@ fn match_json(
     pairs: Vec<Value>,
     then: Vec<Value>,
 ) -> Result<Value, AllocError>
-    ensures { IfOk result (λ v. view v ≡ match_data left right (items_view pairs.items) (items_view then.items)) }
+    ensures written { IfOk result (λ v. view v ≡ match_data left right (items_view pairs.items) (items_view then.items)) }
+    ensures left_range { left ≤ 65535 }
+    ensures right_range { right ≤ 65535 }
 {
     let pairs = Value::Array(pairs);
     let then = Value::Array(then);
@@ -79,7 +88,8 @@ fn split_json(alloc: Global, member: u8, left: Value, right: Value) -> Result<Va
 }
 
 fn pair_json(alloc: Global, pair: (u8, u8)) -> Result<Value, AllocError>
-    ensures { IfOk result (λ v. view v ≡ pair_data pair) }
+    ensures written { IfOk result (λ v. view v ≡ pair_data pair) }
+    ensures range { IsPairInRange pair }
 {
     let mut list = Vec::new(alloc);
     list.push(Value::from(u64::from(pair.0)))?;
@@ -88,7 +98,8 @@ fn pair_json(alloc: Global, pair: (u8, u8)) -> Result<Value, AllocError>
 }
 
 fn numbers_json(alloc: Global, numbers: &[u8]) -> Result<Vec<Value>, AllocError>
-    ensures { IfOk result (λ v. items_view v.items ≡ numbers_data numbers.now) }
+    ensures written { IfOk result (λ v. items_view v.items ≡ numbers_data numbers.now) }
+    ensures ranges { OnOk result (All (λ n. n ≤ 255) numbers.now) }
 {
     let mut list = Vec::new(alloc);
     for number in numbers {
@@ -98,7 +109,8 @@ fn numbers_json(alloc: Global, numbers: &[u8]) -> Result<Vec<Value>, AllocError>
 }
 
 fn pairs_json(alloc: Global, pairs: &[(u8, u8)]) -> Result<Vec<Value>, AllocError>
-    ensures { IfOk result (λ v. items_view v.items ≡ pairs_data pairs.now) }
+    ensures written { IfOk result (λ v. items_view v.items ≡ pairs_data pairs.now) }
+    ensures ranges { OnOk result (All IsPairInRange pairs.now) }
 {
     let mut list = Vec::new(alloc);
     for pair in pairs {
@@ -109,7 +121,8 @@ fn pairs_json(alloc: Global, pairs: &[(u8, u8)]) -> Result<Vec<Value>, AllocErro
 
 #[cycle(write)]
 fn tree_json<A: Allocator>(alloc: Global, rule: &Refutation<A>) -> Result<Value, AllocError>
-    ensures { IfOk result (λ v. view v ≡ certificate_data (rule_of rule.now)) }
+    ensures written { IfOk result (λ v. view v ≡ certificate_data (rule_of rule.now)) }
+    ensures ranges { OnOk result (HasRanges (rule_of rule.now)) }
 {
     match rule {
         Refutation::Dead { side, item } => dead_json(alloc, *side, *item),
@@ -155,7 +168,8 @@ fn branches_json<A: Allocator>(
     alloc: Global,
     then: &[Refutation<A>],
 ) -> Result<Vec<Value>, AllocError>
-    ensures { IfOk result (λ v. items_view v.items ≡ branches_data (branches_of (map rule_of then.now))) }
+    ensures written { IfOk result (λ v. items_view v.items ≡ branches_data (branches_of (map rule_of then.now))) }
+    ensures ranges { OnOk result (EachHasRanges (branches_of (map rule_of then.now))) }
 {
     let mut list = Vec::new(alloc);
     for branch in then {
@@ -164,12 +178,13 @@ fn branches_json<A: Allocator>(
     Ok(list)
 }
 
-/// The JSON of a certificate.
+/// The JSON of a certificate, which is read back as that certificate.
 pub fn write_certificate<A: Allocator>(
     alloc: Global,
     certificate: &Certificate<A>,
 ) -> Result<Value, Fault>
-    ensures { Gives view result (Ok (certificate_data (certificate_rule certificate.now))) }
+    ensures written { Gives view result (Ok (certificate_data (certificate_rule certificate.now))) }
+    ensures read_back { IfOk result (λ v. certificate_in (view v) ≡ Ok (certificate_rule certificate.now)) }
 {
     Ok(tree_json(alloc, certificate.tree())?)
 }

@@ -4,5 +4,5 @@ use Rattle.refutation.specs.Writing.{number_data}
 use Rattle.refutation.proofs.Written.{finish, numbers-are}
 use Rattle.refutation.proofs.writing.numbers_json.Goals as goal
 
-pub returns : goal.returns
-returns c = ap items_of (finish number_data c.args.numbers.now c.loop-number.number-index _ _ c.loop-number-test.false c.loop-number.invariant) ∙ numbers-are c.args.numbers.now
+pub returns-clause-written : goal.returns-clause-written
+returns-clause-written c = ap items_of (finish number_data c.args.numbers.now c.loop-number.number-index _ _ c.loop-number-test.false c.loop-number.invariant.written) ∙ numbers-are c.args.numbers.now

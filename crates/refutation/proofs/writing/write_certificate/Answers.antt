@@ -1,0 +1,12 @@
+use Rattle.std.proofs.Common.{◌∙◌, ap, subst}
+use Rattle.refutation.specs.Certificate.{certificate_rule}
+use Rattle.refutation.specs.Ranges.{HasRanges}
+use Rattle.refutation.specs.Reading.{certificate_in}
+use Rattle.refutation.specs.Writing.{certificate_data}
+use Rattle.refutation.proofs.ReadBack.{certificate_in-written}
+use Rattle.refutation.proofs.writing.write_certificate.Goals as goal
+
+pub returns-clause-read_back : goal.returns-clause-read_back
+returns-clause-read_back g c =
+    ap certificate_in (c.in_ok-tree_json.ensures.written ∙ ap certificate_data c.tree.ensures.rule)
+    ∙ certificate_in-written (certificate_rule c.args.certificate.now) c.tree.ensures.within (subst HasRanges c.tree.ensures.rule c.in_ok-tree_json.ensures.ranges)
