@@ -2,6 +2,7 @@ pub mod Formula
 pub mod FormulaLaws
 pub mod Meets
 pub mod Numbers
+pub mod Names
 pub mod Answer
 pub mod Lists
 pub mod Sets

@@ -1,6 +1,7 @@
 //! Why calls refuse, each reason with its number.
 
 ghost use Rattle.std.specs.Prelude.{◌≡◌};
+ghost use Rattle.volume_model.specs.Names.{fault_text, name_of};
 ghost use Rattle.volume_model.specs.Numbers.{number_of};
 ghost use Rattle.volume_model.specs.declared.fault.Fault.TheVariants.{NoMemory};
 
@@ -116,13 +117,74 @@ impl Fault {
     {
         self as u8
     }
+
+    /// The name that is printed of the fault.
+    fn name(self) -> &'static str
+        ensures { result.now ≡ name_of self }
+    {
+        match self {
+            Fault::Short => "Short",
+            Fault::BadField => "BadField",
+            Fault::Trailing => "Trailing",
+            Fault::NoMemory => "NoMemory",
+            Fault::BadCount => "BadCount",
+            Fault::TooDeep => "TooDeep",
+            Fault::NotAMember => "NotAMember",
+            Fault::Malformed => "Malformed",
+            Fault::NoSuchItem => "NoSuchItem",
+            Fault::NotDead => "NotDead",
+            Fault::NoClash => "NoClash",
+            Fault::NotAll => "NotAll",
+            Fault::TooFewPicked => "TooFewPicked",
+            Fault::BadPair => "BadPair",
+            Fault::CountTooSmall => "CountTooSmall",
+            Fault::BranchCount => "BranchCount",
+            Fault::BadParent => "BadParent",
+            Fault::MemberReused => "MemberReused",
+            Fault::NoCertificate => "NoCertificate",
+            Fault::Certificate => "Certificate",
+            Fault::OverLimit => "OverLimit",
+            Fault::Superseded => "Superseded",
+            Fault::NotInPlan => "NotInPlan",
+            Fault::NoGroup => "NoGroup",
+            Fault::EpochsSpent => "EpochsSpent",
+            Fault::StaleVolume => "StaleVolume",
+            Fault::StaleMember => "StaleMember",
+            Fault::AheadMember => "AheadMember",
+            Fault::NotInstalled => "NotInstalled",
+            Fault::NotWhole => "NotWhole",
+            Fault::Full => "Full",
+            Fault::AlreadyWhole => "AlreadyWhole",
+            Fault::NotEnough => "NotEnough",
+            Fault::NoRecord => "NoRecord",
+            Fault::TailSegment => "TailSegment",
+            Fault::PointAhead => "PointAhead",
+            Fault::NotOpen => "NotOpen",
+            Fault::LimitReached => "LimitReached",
+            Fault::BadTransaction => "BadTransaction",
+            Fault::LsnSpent => "LsnSpent",
+            Fault::NotReady => "NotReady",
+            Fault::AlreadyDone => "AlreadyDone",
+            Fault::NoLogRecord => "NoLogRecord",
+            Fault::NoMessage => "NoMessage",
+            Fault::NotAddressed => "NotAddressed",
+            Fault::NoActor => "NoActor",
+            Fault::NoSlot => "NoSlot",
+            Fault::JournalFull => "JournalFull",
+        }
+    }
 }
 
 /// The number and the name.
 impl fmt::Display for Fault {
+    ghost use Rattle.std.specs.Prelude.{Some};
+
+    ghost output = { λ fault. Some (fault_text fault) };
+
     fn fmt<W: fmt::Write>(&self, f: &mut fmt::Formatter<W>) -> fmt::Result {
         let number = self.number();
-        write!(f, "{number} {self:?}")
+        let name = self.name();
+        write!(f, "{number} {name}")
     }
 }
 
