@@ -42,7 +42,7 @@ found-below (suc n) i f fault h before here =
 pub Finds-below : (n i : ℕ) (f : ℕ → Option PlanFault) (fault : PlanFault) → i < n → first_below i f ≡ None → Finds (Err fault) (f i) → Finds (Err fault) (first_below n f)
 Finds-below n i f fault h before here = λ other. found-below n i f fault h before (here other)
 
-passes : (b : Bool) (fault : PlanFault) (next : Option PlanFault) → or_then (if b then None else Some fault) next ≡ None → (b ≡ true) × (next ≡ None)
+pub passes : (b : Bool) (fault : PlanFault) (next : Option PlanFault) → or_then (if b then None else Some fault) next ≡ None → (b ≡ true) × (next ≡ None)
 passes true fault next h = (refl, h)
 passes false fault next h = absurd (cc)
 

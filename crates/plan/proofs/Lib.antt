@@ -9,3 +9,8 @@ pub mod OwnMembers
 pub mod Text
 pub mod Loop
 pub mod Listed
+pub mod Reread
+pub mod RereadPlan
+pub mod GoodParents
+pub mod Rewrites
+pub mod GroupsMore

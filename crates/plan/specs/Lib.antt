@@ -8,3 +8,8 @@ pub mod TextForms
 pub mod FaultKinds
 pub mod PlanClaims
 pub mod NamedClaims
+pub mod FaultText
+pub mod PlanFaultText
+pub mod WithCertificates
+pub mod Rewriting
+pub mod Written

@@ -1,5 +1,8 @@
 //! Why a plan is refused.
 
+ghost use Rattle.std.specs.Prelude.{◌≡◌};
+ghost use Rattle.plan.specs.FaultText.{claim_text, verdict_text};
+
 use quorum_checker::FaultAt;
 use std::alloc::{AllocError, AllocFailed};
 use std::error::Error;
@@ -64,6 +67,11 @@ impl PlanFault {
 }
 
 impl fmt::Display for Quorum {
+    ghost use Rattle.std.specs.Prelude.{Some};
+    ghost use Rattle.plan.specs.FaultText.{quorum_text};
+
+    ghost output = { λ quorum. Some (quorum_text quorum) };
+
     fn fmt<W: fmt::Write>(&self, f: &mut fmt::Formatter<W>) -> fmt::Result {
         match self {
             Quorum::Read => f.write_str("read"),
@@ -72,34 +80,75 @@ impl fmt::Display for Quorum {
     }
 }
 
+/// A configuration's group and number.
+#[derive(Clone, Copy)]
+struct Place {
+    group: u8,
+    configuration: u8,
+}
+
+impl fmt::Display for Place {
+    ghost use Rattle.std.specs.Prelude.{Some};
+    ghost use Rattle.plan.specs.FaultText.{place_text};
+
+    ghost output = { λ place. Some (place_text place.group place.configuration) };
+
+    fn fmt<W: fmt::Write>(&self, f: &mut fmt::Formatter<W>) -> fmt::Result {
+        let group = self.group;
+        let configuration = self.configuration;
+        write!(f, "group {group} configuration {configuration}")
+    }
+}
+
 /// The name of a claim: that of a step, or that read sets meet write sets.
-fn claim_name(step: bool) -> &'static str {
+fn claim_name(step: bool) -> &'static str
+    ensures { result.now ≡ claim_text step }
+{
     if step { "step" } else { "meets" }
+}
+
+/// How the line of a fault of the text begins.
+fn verdict_name(input: bool) -> &'static str
+    ensures { result.now ≡ verdict_text input }
+{
+    if input { "input" } else { "no" }
 }
 
 /// The line that a check of the plan prints.
 impl fmt::Display for PlanFault {
+    ghost use Rattle.std.specs.Prelude.{Some};
+    ghost use Rattle.plan.specs.PlanFaultText.{plan_fault_text};
+
+    ghost output = { λ fault. Some (plan_fault_text fault) };
+
     fn fmt<W: fmt::Write>(&self, f: &mut fmt::Formatter<W>) -> fmt::Result {
         match self {
             PlanFault::Text(fault) => {
-                let kind = if self.is_input() { "input" } else { "no" };
-                write!(f, "{kind}: {fault}")
+                let verdict = verdict_name(self.is_input());
+                write!(f, "{verdict}: {fault}")
             }
             PlanFault::Expression {
                 fault,
                 group,
                 configuration,
                 quorum,
-            } => write!(
-                f,
-                "no: {fault} group {group} configuration {configuration} {quorum}"
-            ),
+            } => {
+                let place = Place {
+                    group: *group,
+                    configuration: *configuration,
+                };
+                write!(f, "no: {fault} {place} {quorum}")
+            }
             PlanFault::BadParent {
                 group,
                 configuration,
             } => {
                 let fault = Fault::BadParent;
-                write!(f, "no: {fault} group {group} configuration {configuration}")
+                let place = Place {
+                    group: *group,
+                    configuration: *configuration,
+                };
+                write!(f, "no: {fault} {place}")
             }
             PlanFault::MemberReused {
                 group,
@@ -107,10 +156,11 @@ impl fmt::Display for PlanFault {
                 member,
             } => {
                 let fault = Fault::MemberReused;
-                write!(
-                    f,
-                    "no: {fault} group {group} configuration {configuration} member {member}"
-                )
+                let place = Place {
+                    group: *group,
+                    configuration: *configuration,
+                };
+                write!(f, "no: {fault} {place} member {member}")
             }
             PlanFault::NoCertificate {
                 group,
@@ -118,11 +168,12 @@ impl fmt::Display for PlanFault {
                 step,
             } => {
                 let fault = Fault::NoCertificate;
+                let place = Place {
+                    group: *group,
+                    configuration: *configuration,
+                };
                 let claim = claim_name(*step);
-                write!(
-                    f,
-                    "no: {fault} group {group} configuration {configuration} {claim}"
-                )
+                write!(f, "no: {fault} {place} {claim}")
             }
             PlanFault::Certificate {
                 group,
@@ -131,11 +182,12 @@ impl fmt::Display for PlanFault {
                 at,
             } => {
                 let number = Fault::Certificate.number();
+                let place = Place {
+                    group: *group,
+                    configuration: *configuration,
+                };
                 let claim = claim_name(*step);
-                write!(
-                    f,
-                    "no: {number} group {group} configuration {configuration} {claim}: {at}"
-                )
+                write!(f, "no: {number} {place} {claim}: {at}")
             }
         }
     }

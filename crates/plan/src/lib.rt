@@ -11,6 +11,7 @@ mod listing;
 mod parents;
 mod placed;
 mod reading;
+mod writing;
 
 pub use checked::CheckedPlan;
 pub use checking::check_plan;
@@ -20,6 +21,7 @@ pub use laws::no_fault_is_certified;
 pub use listing::claims;
 pub use placed::NamedClaim;
 pub use reading::read_plan;
+pub use writing::write_plan;
 
 #[cfg(test)]
 mod tests;

@@ -34,7 +34,7 @@ const MAX_LAL: u64 = 10_000_000;
 
 /// The values of a configuration. `Malformed` for another object.
 #[tactic(auto, unfolding(crate::specs::PlanText::fields_of))]
-fn fields(value: &Value) -> Result<Fields<'_>, Fault>
+pub(crate) fn fields(value: &Value) -> Result<Fields<'_>, Fault>
     ensures { Gives fields_data result (fields_of (view value.now)) }
 {
     has_keys(value, 7)?;
@@ -212,7 +212,7 @@ fn configurations(
 
 /// The values of a group's configurations.
 #[tactic(auto, unfolding(crate::specs::PlanText::group_items))]
-fn group_values(value: &Value) -> Result<&Vec<Value>, Fault>
+pub(crate) fn group_values(value: &Value) -> Result<&Vec<Value>, Fault>
     ensures read { Gives (λ v. items_view v.now.items) result (group_items (view value.now)) }
     ensures some { IfOk result (λ v. 1 ≤ length v.now.items) }
     ensures few { IfOk result (λ v. length v.now.items ≤ 64) }
@@ -293,7 +293,7 @@ fn group_list(value: &Value) -> Result<&Vec<Value>, Fault>
 
 /// How far numbers may run ahead, and the values of the groups.
 #[tactic(auto, unfolding(crate::specs::PlanText::header_of))]
-fn header(value: &Value) -> Result<Header<'_>, Fault>
+pub(crate) fn header(value: &Value) -> Result<Header<'_>, Fault>
     ensures read { Gives header_data result (header_of (view value.now)) }
     ensures lal_some { IfOk result (λ h. 1 ≤ h.lal) }
     ensures lal_few { IfOk result (λ h. h.lal ≤ 10000000) }
@@ -312,7 +312,7 @@ fn header(value: &Value) -> Result<Header<'_>, Fault>
 
 /// The plan that a value spells.
 #[tactic(auto, unfolding(crate::specs::PlanText::plan_in))]
-fn plan(alloc: Global, value: &Value) -> Result<Plan, PlanFault>
+pub(crate) fn plan(alloc: Global, value: &Value) -> Result<Plan, PlanFault>
     ensures { Reads plan_data result (plan_in (view value.now)) }
 {
     let header = header(value)?;
@@ -341,7 +341,7 @@ fn json(alloc: Global, text: &[u8]) -> Result<Value, Fault>
 
 /// The value that a text spells.
 #[tactic(auto, unfolding(crate::specs::PlanText::value_of))]
-fn value(alloc: Global, text: &[u8]) -> Result<Value, Fault>
+pub(crate) fn value(alloc: Global, text: &[u8]) -> Result<Value, Fault>
     ensures { Gives view result (value_of text.now) }
 {
     if text.len() > MAX_TEXT {

@@ -2,6 +2,7 @@
 
 ghost use Rattle.std.specs.Prelude.{◌≡◌, ◌≤◌, All, IfOk, OnOk, Ok, map};
 ghost use Rattle.volume_model.specs.Answer.{Gives};
+ghost use Rattle.serde_json.specs.Data.{depth};
 ghost use Rattle.serde_json.specs.View.{view, items_view};
 ghost use Rattle.refutation.specs.Rule.{branches_of};
 ghost use Rattle.refutation.specs.Refutation.{rule_of};
@@ -178,13 +179,14 @@ fn branches_json<A: Allocator>(
     Ok(list)
 }
 
-/// The JSON of a certificate, which is read back as that certificate.
+/// The JSON of a certificate, which is read back as that certificate. It nests at most 81 deep.
 pub fn write_certificate<A: Allocator>(
     alloc: Global,
     certificate: &Certificate<A>,
 ) -> Result<Value, Fault>
     ensures written { Gives view result (Ok (certificate_data (certificate_rule certificate.now))) }
     ensures read_back { IfOk result (λ v. certificate_in (view v) ≡ Ok (certificate_rule certificate.now)) }
+    ensures nests { IfOk result (λ v. depth (view v) ≤ 81) }
 {
     Ok(tree_json(alloc, certificate.tree())?)
 }

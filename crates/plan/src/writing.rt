@@ -1,0 +1,213 @@
+//! From plans to JSON, with other certificates.
+
+ghost use Rattle.std.specs.Prelude.{◌≡◌, ◌-◌, ◌*◌, ◌<◌, ◌≤◌, All, IfOk, Ok, drop, length, map, option_map};
+ghost use Rattle.serde_json.specs.Data.{depth};
+ghost use Rattle.serde_json.specs.View.{view, items_view};
+ghost use Rattle.volume_model.specs.Answer.{Gives};
+ghost use Rattle.refutation.specs.Certificate.{certificate_rule};
+ghost use Rattle.plan.specs.PlanText.{certificate_or_null};
+ghost use Rattle.plan.specs.TextForms.{fields_data};
+ghost use Rattle.plan.specs.Rewriting.{value_or_null, fields_object, step_value, configuration_written, configurations_written, group_object, group_written, groups_written, plan_object, plan_written};
+ghost use Rattle.plan.specs.Written.{rewritten, HasPlaces, Writes, IsCompact};
+
+use crate::fault::PlanFault;
+use crate::fields::Fields;
+use crate::listing::claims;
+use crate::reading::{fields, group_values, header, plan, value};
+use refutation::{Certificate, write_certificate};
+use serde_json::{Value, json};
+use std::alloc::{AllocError, Global};
+use volume_model::Fault;
+
+/// The JSON of a certificate, and null where there is none.
+fn certificate_value(
+    alloc: Global,
+    certificate: &Option<Certificate<Global>>,
+) -> Result<Value, Fault>
+    ensures read { Gives (λ v. certificate_or_null (view v)) result (Ok (Ok (option_map certificate_rule certificate.now))) }
+    ensures nests { IfOk result (λ v. depth (view v) ≤ 81) }
+{
+    match certificate {
+        None => Ok(Value::Null),
+        Some(certificate) => write_certificate(alloc, certificate),
+    }
+}
+
+/// The JSON of certificates, in order.
+fn certificate_values(
+    alloc: Global,
+    certificates: &[Option<Certificate<Global>>],
+) -> Result<Vec<Value>, Fault>
+    ensures read { Gives (λ v. map (λ x. certificate_or_null (view x)) v.items) result (Ok (map (λ c. Ok (option_map certificate_rule c)) certificates.now)) }
+    ensures nests { IfOk result (λ v. All (λ x. depth (view x) ≤ 81) v.items) }
+{
+    let mut values = Vec::new(alloc);
+    for certificate in certificates {
+        values.push(certificate_value(alloc, certificate)?)?;
+    }
+    Ok(values)
+}
+
+/// The value at a place, or null.
+fn value_or_null(values: &[Value], place: usize) -> Result<Value, AllocError>
+    ensures { IfOk result (λ v. view v ≡ value_or_null (map view values.now) place) }
+{
+    match values.get(place) {
+        Some(value) => value.clone(),
+        None => Ok(Value::Null),
+    }
+}
+
+/// The values after so many of them.
+fn after(values: &[Value], places: usize) -> &[Value]
+    ensures { result.now ≡ drop places values.now }
+{
+    if places < values.len() {
+        &values[places..]
+    } else {
+        &[]
+    }
+}
+
+/// The certificate of a configuration's step, which configuration 0 doesn't have.
+fn step_value(number: usize, certificates: &[Value]) -> Result<Value, AllocError>
+    requires { number < 64 }
+    ensures { IfOk result (λ v. view v ≡ step_value number (map view certificates.now)) }
+{
+    if number == 0 {
+        return Ok(Value::Null);
+    }
+    value_or_null(certificates, 2 * number)
+}
+
+/// A configuration's values with other certificates.
+fn fields_json(
+    alloc: Global,
+    fields: &Fields<'_>,
+    meets: Value,
+    step: Value,
+) -> Result<Value, AllocError>
+    ensures { IfOk result (λ v. view v ≡ fields_object (fields_data fields.now) (view meets) (view step)) }
+{
+    let full = fields.full;
+    let members = fields.members;
+    let parent = fields.parent;
+    let read = fields.read;
+    let write = fields.write;
+    json!(in alloc; {
+        "full": full,
+        "meets": meets,
+        "members": members,
+        "parent": parent,
+        "read": read,
+        "step": step,
+        "write": write
+    })
+}
+
+/// The configuration of a value, with its certificates of a group's.
+#[tactic(auto, unfolding(crate::specs::Rewriting::configuration_written))]
+fn configuration_json(
+    alloc: Global,
+    number: usize,
+    value: &Value,
+    certificates: &[Value],
+) -> Result<Value, Fault>
+    requires { number < 64 }
+    ensures { Gives view result (configuration_written number (view value.now) (map view certificates.now)) }
+{
+    let fields = fields(value)?;
+    let meets = value_or_null(certificates, (2 * number).saturating_sub(1))?;
+    let step = step_value(number, certificates)?;
+    Ok(fields_json(alloc, &fields, meets, step)?)
+}
+
+/// The configurations of values, in order, with a group's certificates.
+fn configurations_json(
+    alloc: Global,
+    values: &[Value],
+    certificates: &[Value],
+) -> Result<Vec<Value>, Fault>
+    requires { length values.now ≤ 64 }
+    ensures { Gives (λ v. map view v.items) result (configurations_written 0 (items_view values.now) (map view certificates.now)) }
+{
+    let mut list = Vec::new(alloc);
+    for (number, value) in values.iter().enumerate() {
+        list.push(configuration_json(alloc, number, value, certificates)?)?;
+    }
+    Ok(list)
+}
+
+fn group_object(alloc: Global, configurations: Vec<Value>) -> Result<Value, AllocError>
+    ensures { IfOk result (λ v. view v ≡ group_object (map view configurations.items)) }
+{
+    let configurations = Value::Array(configurations);
+    json!(in alloc; {"configurations": configurations})
+}
+
+/// A group of these configurations, with its certificates.
+#[tactic(auto, unfolding(crate::specs::Rewriting::group_written))]
+fn group_json(alloc: Global, values: &[Value], certificates: &[Value]) -> Result<Value, Fault>
+    requires { length values.now ≤ 64 }
+    ensures { Gives view result (group_written (items_view values.now) (map view certificates.now)) }
+{
+    let configurations = configurations_json(alloc, values, certificates)?;
+    Ok(group_object(alloc, configurations)?)
+}
+
+/// The groups of values, in order, with a plan's certificates.
+fn groups_json(alloc: Global, values: &[Value], certificates: &[Value]) -> Result<Vec<Value>, Fault>
+    ensures { Gives (λ v. map view v.items) result (groups_written (items_view values.now) (map view certificates.now)) }
+{
+    let mut list = Vec::new(alloc);
+    let mut rest = certificates;
+    for value in values {
+        let configurations = group_values(value)?;
+        list.push(group_json(alloc, configurations, rest)?)?;
+        rest = after(rest, 2 * configurations.len() - 1);
+    }
+    Ok(list)
+}
+
+fn plan_object(alloc: Global, lal: u64, groups: Vec<Value>) -> Result<Value, AllocError>
+    ensures { IfOk result (λ v. view v ≡ plan_object lal (map view groups.items)) }
+{
+    let groups = Value::Array(groups);
+    json!(in alloc; {"format": 1, "groups": groups, "lal": lal})
+}
+
+/// The plan of a value, with other certificates.
+#[tactic(auto, unfolding(crate::specs::Rewriting::plan_written))]
+fn plan_json(alloc: Global, value: &Value, certificates: &[Value]) -> Result<Value, Fault>
+    ensures { Gives view result (plan_written (view value.now) (map view certificates.now)) }
+{
+    let header = header(value)?;
+    let groups = groups_json(alloc, header.groups, certificates)?;
+    Ok(plan_object(alloc, header.lal, groups)?)
+}
+
+/// The text of a plan, as compact JSON, with these certificates for its claims in their order, and null for a claim
+/// without one. Its own certificates are dropped, and all else is as it was read. There is one place for each claim.
+///
+/// # Errors
+/// The fault of the text, as [`read_plan`](crate::read_plan) gives it, then that of its claims, as
+/// [`claims`](crate::claims()) does.
+#[tactic(auto, unfolding(crate::specs::Written::rewritten, crate::specs::PlanText::plan_of))]
+pub fn write_plan(
+    alloc: Global,
+    text: &[u8],
+    certificates: &[Option<Certificate<Global>>],
+) -> Result<Vec<u8>, PlanFault>
+    requires { HasPlaces text.now (length certificates.now) }
+    ensures written { Writes result (rewritten text.now (map (option_map certificate_rule) certificates.now)) }
+    ensures compact { IfOk result (λ bytes. IsCompact bytes.items) }
+{
+    let value = value(alloc, text)?;
+    let plan = plan(alloc, &value)?;
+    claims(alloc, &plan)?;
+    let values = certificate_values(alloc, certificates)?;
+    match plan_json(alloc, &value, &values) {
+        Ok(written) => Ok(written.to_vec(alloc)?),
+        Err(fault) => Err(PlanFault::Text(fault)),
+    }
+}
