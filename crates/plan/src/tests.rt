@@ -1,7 +1,8 @@
 use super::*;
-use refutation::write_certificate;
+use refutation::{Certificate, read_certificate, write_certificate};
 use std::alloc::{AllocError, Global};
 use std::test::*;
+use volume_model::Fault;
 
 const CLASH: &str = "{\"rule\":\"clash\",\"left\":0,\"right\":0}";
 
@@ -63,8 +64,8 @@ fn plan_text(alloc: Global, configurations: &str) -> Result<String, AllocError> 
 }
 
 /// The plan of a text, checked.
-fn checked(alloc: Global, text: &str) -> Result<CheckedPlan, PlanFault> {
-    let plan = read_plan(alloc, text.as_bytes())?;
+fn checked(alloc: Global, text: &[u8]) -> Result<CheckedPlan, PlanFault> {
+    let plan = read_plan(alloc, text)?;
     match check_plan(alloc, plan) {
         Ok(checked) => Ok(checked),
         Err((fault, _plan)) => Err(fault),
@@ -73,6 +74,11 @@ fn checked(alloc: Global, text: &str) -> Result<CheckedPlan, PlanFault> {
 
 /// What a check of the text says.
 fn said(alloc: Global, text: &str) -> Result<String, AllocError> {
+    said_of(alloc, text.as_bytes())
+}
+
+/// What a check of the bytes says.
+fn said_of(alloc: Global, text: &[u8]) -> Result<String, AllocError> {
     match checked(alloc, text) {
         Ok(plan) => {
             let groups = plan.groups();
@@ -175,7 +181,7 @@ fn steps(rt: HostRuntime) -> Result<(), AllocError> {
     Ok(())
 }
 
-/// How many claims a plan has, and the certificate of its first claim, copied and written.
+/// How many claims a plan has, and the certificate of its first claim, copied, written, read and written again.
 fn claims_and_first(alloc: Global, text: &str) -> Result<(usize, String), PlanFault> {
     let plan = read_plan(alloc, text.as_bytes())?;
     let claims = claims(alloc, &plan)?;
@@ -184,7 +190,8 @@ fn claims_and_first(alloc: Global, text: &str) -> Result<(usize, String), PlanFa
         for configuration in &group.configurations {
             if let Some(certificate) = &configuration.meets {
                 let copy = certificate.copy_in(alloc)?;
-                written = write_certificate(alloc, &copy)?.to_string(alloc)?;
+                let again = read_certificate(alloc, &write_certificate(alloc, &copy)?)?;
+                written = write_certificate(alloc, &again)?.to_string(alloc)?;
             }
         }
     }
@@ -205,5 +212,122 @@ fn claims_and_certificates(rt: HostRuntime) -> Result<(), Fail> {
         written.as_str(),
         "{\"left\":0,\"pairs\":[[0,0],[1,1],[2,2],[3,3],[4,4],[5,5]],\"right\":0,\"rule\":\"match\",\"then\":[{\"left\":0,\"right\":0,\"rule\":\"clash\"},{\"left\":0,\"right\":0,\"rule\":\"clash\"},{\"left\":0,\"right\":0,\"rule\":\"clash\"},{\"left\":0,\"right\":0,\"rule\":\"clash\"},{\"left\":0,\"right\":0,\"rule\":\"clash\"},{\"left\":0,\"right\":0,\"rule\":\"clash\"}]}"
     );
+    Ok(())
+}
+
+/// A certificate in a place of its own, if it is kept.
+fn kept_copy(
+    alloc: Global,
+    certificate: &Option<Certificate<Global>>,
+    kept: bool,
+) -> Result<Option<Certificate<Global>>, Fault> {
+    match certificate {
+        Some(certificate) if kept => Ok(Some(certificate.copy_in(alloc)?)),
+        _ => Ok(None),
+    }
+}
+
+/// The certificates of a plan in order of its claims, or none in the place of each.
+fn own_certificates(
+    alloc: Global,
+    plan: &Plan,
+    kept: bool,
+) -> Result<Vec<Option<Certificate<Global>>>, Fault> {
+    let mut list = Vec::new(alloc);
+    for group in &plan.groups {
+        for configuration in &group.configurations {
+            list.push(kept_copy(alloc, &configuration.meets, kept)?)?;
+            if configuration.parent.is_some() {
+                list.push(kept_copy(alloc, &configuration.step, kept)?)?;
+            }
+        }
+    }
+    Ok(list)
+}
+
+/// The text of a plan with its own certificates, or with none.
+fn written(alloc: Global, text: &[u8], kept: bool) -> Result<Vec<u8>, PlanFault> {
+    let plan = read_plan(alloc, text)?;
+    let claims = claims(alloc, &plan)?;
+    let certificates = own_certificates(alloc, &plan, kept)?;
+    if certificates.len() != claims.len() {
+        return Err(PlanFault::Text(Fault::OverLimit));
+    }
+    write_plan(alloc, text, &certificates)
+}
+
+/// A text written with no certificates and with its own, and what a check says of both.
+fn told(alloc: Global, text: &[u8]) -> Result<(Vec<u8>, String, Vec<u8>, String), PlanFault> {
+    let bare = written(alloc, text, false)?;
+    let whole = written(alloc, text, true)?;
+    let said_of_bare = said_of(alloc, &bare)?;
+    let said_of_whole = said_of(alloc, &whole)?;
+    Ok((bare, said_of_bare, whole, said_of_whole))
+}
+
+/// The first example's plan as it is written, with this certificate.
+fn six_written(alloc: Global, meets: &str) -> Result<String, AllocError> {
+    format!(in alloc;
+        "{{\"format\":1,\"groups\":[{{\"configurations\":[{{\"full\":{ALL},\"meets\":{meets},\"members\":{ALL},\"parent\":null,\"read\":{{\"k\":3,\"of\":\"all\"}},\"step\":null,\"write\":{{\"k\":4,\"of\":\"all\"}}}}]}}],\"lal\":10}}"
+    )
+}
+
+const MATCH_WRITTEN: &str =
+    "{\"left\":0,\"pairs\":[[0,0],[1,1],[2,2],[3,3],[4,4],[5,5]],\"right\":0,\"rule\":\"match\",\"then\":[{\"left\":0,\"right\":0,\"rule\":\"clash\"},{\"left\":0,\"right\":0,\"rule\":\"clash\"},{\"left\":0,\"right\":0,\"rule\":\"clash\"},{\"left\":0,\"right\":0,\"rule\":\"clash\"},{\"left\":0,\"right\":0,\"rule\":\"clash\"},{\"left\":0,\"right\":0,\"rule\":\"clash\"}]}";
+
+#[test]
+fn plans_are_written(rt: HostRuntime) -> Result<(), Fail> {
+    let alloc = rt.alloc();
+    let meets = pairs(alloc, 0, CLASH, CLASH)?;
+    let text = plan_text(alloc, &root(alloc, 3, 4, &meets)?)?;
+    let Ok((bare, said_of_bare, whole, said_of_whole)) = told(alloc, text.as_bytes()) else {
+        return Err(Fail::from("the plan of six copies"));
+    };
+    assert_eq!(rt; bare.as_slice(), six_written(alloc, "null")?.as_bytes());
+    assert_eq!(rt;
+        said_of_bare.as_str(),
+        "no: 32 NoCertificate group 0 configuration 0 meets"
+    );
+    assert_eq!(rt;
+        whole.as_slice(),
+        six_written(alloc, MATCH_WRITTEN)?.as_bytes()
+    );
+    assert_eq!(rt; said_of_whole.as_str(), "yes 1 1");
+    Ok(())
+}
+
+/// A root, and its child with member 6, all certified.
+fn two_configurations(alloc: Global) -> Result<String, AllocError> {
+    let plain = pairs(alloc, 0, CLASH, CLASH)?;
+    let first = pairs(alloc, 0, CLASH_WITH_1, CLASH_WITH_1)?;
+    let second = pairs(alloc, 1, CLASH_WITH_1, CLASH_WITH_1)?;
+    let met = opened(alloc, &both(alloc, &first, &second)?)?;
+    let fresh = pairs(alloc, 0, CLASH, DEAD)?;
+    let stepped = both(alloc, &plain, &fresh)?;
+    let old = root(alloc, 3, 4, &plain)?;
+    let new = child(alloc, 0, &met, &stepped)?;
+    plan_text(alloc, &format!(in alloc; "{old},{new}")?)
+}
+
+#[test]
+fn steps_are_written(rt: HostRuntime) -> Result<(), Fail> {
+    let alloc = rt.alloc();
+    let text = two_configurations(alloc)?;
+    let Ok((bare, said_of_bare, whole, said_of_whole)) = told(alloc, text.as_bytes()) else {
+        return Err(Fail::from("the plan of two configurations"));
+    };
+    assert_eq!(rt;
+        said_of_bare.as_str(),
+        "no: 32 NoCertificate group 0 configuration 0 meets"
+    );
+    assert_eq!(rt; said_of_whole.as_str(), "yes 1 2");
+    let Ok(again) = written(alloc, &whole, true) else {
+        return Err(Fail::from("the plan that was written"));
+    };
+    assert_eq!(rt; again.as_slice(), whole.as_slice());
+    let Ok(none) = written(alloc, &whole, false) else {
+        return Err(Fail::from("the plan that was written"));
+    };
+    assert_eq!(rt; none.as_slice(), bare.as_slice());
     Ok(())
 }
