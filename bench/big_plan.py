@@ -19,6 +19,10 @@ def configuration(parent):
     }
 
 
-groups = int(sys.argv[1]) if len(sys.argv) > 1 else 16
-group = {"configurations": [configuration(None)] + [configuration(0)] * 63}
-print(json.dumps({"format": 1, "lal": 10, "groups": [group] * groups}, separators=(",", ":")))
+def plan_text(groups):
+    group = {"configurations": [configuration(None)] + [configuration(0)] * 63}
+    return json.dumps({"format": 1, "lal": 10, "groups": [group] * groups}, separators=(",", ":"))
+
+
+if __name__ == "__main__":
+    print(plan_text(int(sys.argv[1]) if len(sys.argv) > 1 else 16))
