@@ -1,5 +1,5 @@
 -- A certificate that was written is read back.
-use Rattle.std.proofs.Common.{◌≡◌, ℕ, zero, suc, ◌+◌, ◌≤◌, ◌∙◌, List, [], ◌∷◌, length, Ok, refl, ap, sym, arith, codes}
+use Rattle.std.proofs.Common.{◌≡◌, ℕ, zero, suc, ◌≤◌, ◌∙◌, List, [], ◌∷◌, length, Ok, refl, ap, arith, codes}
 use Rattle.std.specs.Prelude.{true, ◌&&◌, nat_le, nat_lt, All}
 use Rattle.std.proofs.lemmas.List.Elements.{All-head, All-tail}
 use Rattle.std.proofs.lemmas.Bool.{and_parts}
@@ -7,12 +7,11 @@ use Rattle.std.proofs.lemmas.Bool.Decides.{nat_tests}
 use Rattle.serde_json.specs.Data as json
 use Rattle.serde_json.specs.Data.{Data, Items}
 use Rattle.serde_json.specs.Events.{items_len}
-use Rattle.volume_model.specs.Answer.{◌>>=◌}
 use Rattle.quorum_expr.specs.Reading.{at_key}
 use Rattle.refutation.specs.declared.Side.{Side}
 use Rattle.refutation.specs.declared.Side.TheVariants.{Left, Right}
 use Rattle.refutation.specs.Rule.{Rule, Branches, dead, clash, open_all, pick, pair_up, split, no_branch, branch, branches_of, branch_count, depth_of, branch_depth}
-use Rattle.refutation.specs.Limits.{keeps_lists, each_keeps_lists, nodes_of, is_certificate}
+use Rattle.refutation.specs.Limits.{keeps_lists, each_keeps_lists, is_certificate}
 use Rattle.refutation.specs.Ranges.{IsPairInRange, HasRanges, EachHasRanges}
 use Rattle.refutation.specs.Writing.{side_text, number_data, numbers_data, pair_data, pairs_data, dead_data, clash_data, open_data, pick_data, match_data, split_data, certificate_data, branches_data}
 use Rattle.refutation.specs.Reading.{number_to, number_at, side_of, numbers_of, pair_of, pairs_of, Form, dead_form, clash_form, open_form, pick_form, match_form, split_form, dead_in, clash_in, open_in, pick_in, match_in, split_in, form_of, is_short, each_rule, rule_from, rule_level, rule_at, certificate_in}

@@ -1,4 +1,4 @@
-use Rattle.std.proofs.Common.{◌∙◌, ap, sym, rules, length, take, ◌≤◌, arith}
+use Rattle.std.proofs.Common.{◌∙◌, ap, sym, length, take, ◌≤◌, arith}
 use Rattle.std.proofs.lemmas.Grind.{common_steps}
 use Rattle.std.proofs.lemmas.List.{take_all}
 use Rattle.std.proofs.lemmas.List.Elements.{All-more, All-same}
