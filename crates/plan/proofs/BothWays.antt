@@ -1,5 +1,5 @@
 -- A plan has no fault exactly where it is certified.
-use Rattle.std.proofs.Common.{◌≡◌, ℕ, zero, suc, ◌<◌, List, [], ◌∷◌, length, refl, ap, ◌∙◌, arith}
+use Rattle.std.proofs.Common.{◌≡◌, ℕ, zero, suc, ◌<◌, List, [], ◌∷◌, length, refl, ap, arith}
 use Rattle.std.specs.Prelude.{Bool, true, false, if◌then◌else◌, Option, Some, None, slice_get}
 use Rattle.volume_model.specs.Sets.{listed}
 use Rattle.refutation.specs.Rule.{Rule}

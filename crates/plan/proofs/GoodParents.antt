@@ -1,11 +1,11 @@
 -- Where a plan has claims, its parents are good.
-use Rattle.std.proofs.Common.{◌≡◌, ℕ, zero, suc, ◌+◌, ◌<◌, ◌∙◌, List, [], ◌∷◌, ◌++◌, length, get_or, refl, ap, sym, subst, arith, add-zero, inl, inr}
-use Rattle.std.specs.Prelude.{true, Option, Some, None, Result, Ok, Err, slice_index_or}
+use Rattle.std.proofs.Common.{◌≡◌, ℕ, zero, suc, ◌+◌, ◌<◌, ◌∙◌, List, [], ◌∷◌, ◌++◌, length, refl, ap, subst, arith, add-zero, inl, inr}
+use Rattle.std.specs.Prelude.{true, Option, Some, None, Result, Ok, slice_index_or}
 use Rattle.std.proofs.lemmas.Bool.{cases_lt}
 use Rattle.plan.specs.declared.fault.PlanFault.{PlanFault}
 use Rattle.plan.specs.declared.fault.PlanFault.TheVariants.{BadParent}
-use Rattle.plan.specs.PlanData.{ConfigurationData, PlanData, configuration_at, no_configuration}
-use Rattle.plan.specs.PlanFaults.{is_good_parent, parent_fault, reuse_fault, shape_fault}
+use Rattle.plan.specs.PlanData.{ConfigurationData, PlanData, configuration_at}
+use Rattle.plan.specs.PlanFaults.{is_good_parent, reuse_fault, shape_fault}
 use Rattle.plan.specs.PlanText.{◌>=>◌}
 use Rattle.plan.specs.PlanClaims.{PlacedClaim, claims_at, unless, configuration_claims, claims_below, group_claims, claims_in}
 use Rattle.plan.proofs.Found.{passes}

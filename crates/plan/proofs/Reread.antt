@@ -1,30 +1,22 @@
 -- A plan that was written with other certificates is read as that plan.
-use Rattle.std.proofs.Common.{◌≡◌, ℕ, zero, suc, ◌+◌, ◌-◌, ◌*◌, ◌<◌, ◌≤◌, ◌∙◌, max, List, [], ◌∷◌, length, get_or, map, drop, codes, refl, ap, sym, subst, arith, Option, Some, None, Result, Ok, Err, Ordering, Less, Equal, Greater}
-use Rattle.std.specs.Prelude.{Bool, true, false, ◌==◌, ◌&&◌, nat_lt, nat_le, All, slice_index_or, if◌then◌else◌}
+use Rattle.std.proofs.Common.{◌≡◌, ℕ, ◌<◌, ◌≤◌, ◌∙◌, max, List, codes, refl, ap, subst, arith, Option, Some, None, Result, Ok, Err, Ordering, Less, Equal, Greater}
+use Rattle.std.specs.Prelude.{Bool, true, false, if◌then◌else◌}
 use Rattle.std.specs.Ordering.{nat_cmp, match_ordering}
 use Rattle.std.specs.Cmp.Lexicographic.{slice_cmp}
-use Rattle.std.proofs.lemmas.List.{drop-map, drop-drop, get_or-drop}
-use Rattle.std.proofs.lemmas.Bool.Decides.{nat_tests}
-use Rattle.serde_json.specs.Data as json
-use Rattle.serde_json.specs.Data.{Data, null, boolean, number, string, array, object, Items, no_items, item, Members, no_members, member, depth, items_depth, members_depth}
-use Rattle.serde_json.specs.Events.{items_len}
+use Rattle.serde_json.specs.Data.{Data, null, boolean, number, string, array, object, Items, Members, no_members, member, depth, items_depth, members_depth}
 use Rattle.serde_json.specs.Find.{get, get_member}
-use Rattle.serde_json.specs.View.{items_of}
 use Rattle.volume_model.specs.declared.fault.Fault.{Fault}
 use Rattle.volume_model.specs.Formula.{Formula}
 use Rattle.volume_model.specs.Answer.{◌>>=◌}
 use Rattle.quorum_expr.specs.declared.form.Lists.{Lists}
 use Rattle.quorum_expr.specs.Reading.{found_or_malformed, at_key, expression_in}
 use Rattle.refutation.specs.Rule.{Rule}
-use Rattle.refutation.specs.Reading.{has_keys, array_of, form_of, certificate_in}
-use Rattle.plan.specs.declared.fault.Quorum.{Quorum}
+use Rattle.refutation.specs.Reading.{has_keys, array_of}
 use Rattle.plan.specs.declared.fault.Quorum.TheVariants.{Read, Write}
 use Rattle.plan.specs.declared.fault.PlanFault.{PlanFault}
-use Rattle.plan.specs.PlanData.{ConfigurationData, PlanData, configuration_at, no_configuration, by_parent}
-use Rattle.plan.specs.PlanFaults.{is_good_parent}
-use Rattle.plan.specs.PlanText.{◌>=>◌, in_text, in_quorum, Fields, fields_of, parent_of, lists_of, certificate_or_null, step_of, configuration_in, configurations_in, is_from_1, group_items, group_in, groups_in, Header, group_list, lal_of, format_of, header_of, plan_in}
-use Rattle.plan.specs.WithCertificates.{certificate_at, claim_count, claim_counts, configuration_with, configurations_with, groups_with, with_certificates}
-use Rattle.plan.specs.Rewriting.{value_or_null, fields_object, meets_value, step_value, configuration_written, configurations_written, group_object, group_written, groups_written, plan_object, plan_written}
+use Rattle.plan.specs.PlanData.{ConfigurationData}
+use Rattle.plan.specs.PlanText.{◌>=>◌, in_text, in_quorum, Fields, fields_of, parent_of, lists_of, certificate_or_null, step_of, configuration_in}
+use Rattle.plan.specs.Rewriting.{fields_object, meets_value, step_value, configuration_written}
 
 -- ---- what steps that went well gave
 

@@ -1,23 +1,22 @@
 -- The configurations, groups and the whole of a plan that was written with other certificates are read as that plan's.
-use Rattle.std.proofs.Common.{◌≡◌, ℕ, zero, suc, ◌+◌, ◌-◌, ◌*◌, ◌<◌, ◌≤◌, ◌∙◌, List, [], ◌∷◌, length, get_or, map, drop, codes, refl, ap, sym, subst, arith, add-zero, Option, Some, None, Result, Ok, Err}
-use Rattle.std.specs.Prelude.{Bool, true, false, ◌==◌, ◌&&◌, nat_lt, nat_le, if◌then◌else◌}
+use Rattle.std.proofs.Common.{◌≡◌, ℕ, zero, suc, ◌+◌, ◌-◌, ◌*◌, ◌<◌, ◌≤◌, ◌∙◌, List, [], ◌∷◌, length, map, drop, codes, refl, ap, sym, subst, arith, add-zero, Option, Some, None, Result, Ok, Err}
+use Rattle.std.specs.Prelude.{Bool, true, false, ◌==◌, nat_lt, if◌then◌else◌}
 use Rattle.std.proofs.lemmas.List.{drop-map, drop-drop, get_or-drop}
 use Rattle.std.proofs.lemmas.Bool.Decides.{nat_tests}
 use Rattle.serde_json.specs.Data.{Data, null, Items, no_items, item, depth, items_depth}
 use Rattle.serde_json.specs.Events.{items_len}
 use Rattle.serde_json.specs.View.{items_of}
 use Rattle.volume_model.specs.declared.fault.Fault.{Fault}
-use Rattle.volume_model.specs.declared.fault.Fault.TheVariants.{OverLimit, Malformed}
+use Rattle.volume_model.specs.declared.fault.Fault.TheVariants.{OverLimit}
 use Rattle.volume_model.specs.Answer.{◌>>=◌}
 use Rattle.quorum_expr.specs.Reading.{at_key, whole_of}
 use Rattle.refutation.specs.Rule.{Rule}
 use Rattle.refutation.specs.Reading.{has_keys, array_of}
-use Rattle.plan.specs.declared.fault.PlanFault.{PlanFault}
-use Rattle.plan.specs.PlanData.{ConfigurationData, PlanData, configuration_at, no_configuration, by_parent}
+use Rattle.plan.specs.PlanData.{ConfigurationData, PlanData, by_parent}
 use Rattle.plan.specs.PlanFaults.{is_good_parent}
 use Rattle.plan.specs.PlanText.{◌>=>◌, in_text, certificate_or_null, step_of, configuration_in, configurations_in, is_from_1, group_items, group_in, groups_in, Header, group_list, lal_of, format_of, header_of, plan_in}
 use Rattle.plan.specs.WithCertificates.{certificate_at, claim_count, claim_counts, configuration_with, configurations_with, groups_with, with_certificates}
-use Rattle.plan.specs.Rewriting.{value_or_null, meets_value, step_value, configuration_written, configurations_written, group_object, group_written, groups_written, plan_object, plan_written}
+use Rattle.plan.specs.Rewriting.{value_or_null, meets_value, step_value, configurations_written, group_object, group_written, groups_written, plan_object, plan_written}
 use Rattle.plan.proofs.Reread.{then_ok, bind_ok, text_ok, ok_is, if_ok, key-nests, array-nests, Rewritten, configuration-reread}
 
 -- ---- certificates

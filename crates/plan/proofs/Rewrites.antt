@@ -1,6 +1,6 @@
 -- Writing a plan with other certificates, from text to text.
-use Rattle.std.proofs.Common.{◌≡◌, ◌≢◌, ℕ, zero, suc, ◌<◌, ◌≤◌, ◌∙◌, List, [], ◌∷◌, length, map, refl, ap, sym, subst, arith, Option, Some, None, Result, Ok, Err, Vec}
-use Rattle.std.specs.Prelude.{Bool, true, false, All, IfOk, IsOkAnd, nat_le, option_map, slice_index_or, if◌then◌else◌}
+use Rattle.std.proofs.Common.{◌≡◌, ◌≢◌, ℕ, zero, suc, ◌≤◌, ◌∙◌, List, [], ◌∷◌, length, map, refl, ap, sym, subst, arith, Option, Some, Result, Ok, Err}
+use Rattle.std.specs.Prelude.{Bool, true, false, All, IfOk, IsOkAnd, nat_le, option_map, if◌then◌else◌}
 use Rattle.std.specs.declared.alloc.Global.{Global}
 use Rattle.std.specs.Str.{IsUtf8, is_utf8}
 use Rattle.std.proofs.lemmas.List.Elements.{All-head, All-tail}
@@ -18,16 +18,15 @@ use Rattle.refutation.specs.Rule.{Rule}
 use Rattle.refutation.specs.declared.certificate.Certificate.{Certificate}
 use Rattle.refutation.specs.Certificate.{certificate_rule}
 use Rattle.refutation.specs.Reading.{form_of, certificate_in}
-use Rattle.plan.specs.declared.fault.PlanFault.{PlanFault}
 use Rattle.plan.specs.declared.fault.PlanFault.TheVariants.{Text}
 use Rattle.plan.specs.PlanData.{PlanData}
 use Rattle.plan.specs.PlanText.{◌>=>◌, in_text, certificate_or_null, json_of, value_of, plan_in, plan_of}
 use Rattle.plan.specs.PlanClaims.{PlacedClaim, claims_in}
 use Rattle.plan.specs.WithCertificates.{with_certificates}
 use Rattle.plan.specs.Rewriting.{value_or_null, plan_written}
-use Rattle.plan.specs.Written.{spelt, rewritten, IsCompact, Writes}
+use Rattle.plan.specs.Written.{spelt, rewritten, IsCompact}
 use Rattle.plan.proofs.Text.{is_json}
-use Rattle.plan.proofs.Reread.{found_ok, ok_is, Rewritten}
+use Rattle.plan.proofs.Reread.{found_ok, ok_is}
 use Rattle.plan.proofs.RereadPlan.{AreRead, plan-reread}
 use Rattle.plan.proofs.GoodParents.{parents-good}
 

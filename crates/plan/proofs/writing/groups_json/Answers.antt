@@ -1,4 +1,4 @@
-use Rattle.std.proofs.Common.{◌∙◌, map, ap, sym, subst, Ok}
+use Rattle.std.proofs.Common.{◌∙◌, map, ap, sym}
 use Rattle.serde_json.specs.View.{view, items_view}
 use Rattle.plan.specs.Rewriting.{group_written}
 use Rattle.plan.proofs.GroupsMore.{groups-more}
