@@ -1,6 +1,5 @@
 -- What a job has of the words that named it.
-use Rattle.std.specs.Prelude.{◌≡◌, ◌≤◌, ℕ, List, [], Option, Some, None, codes, unwrap_or}
-use Rattle.std.specs.Str.Parse.{IsNumeral, digits_value, without_leading_plus}
+use Rattle.std.specs.Prelude.{◌≡◌, List, [], Option, Some, codes, unwrap_or}
 use Rattle.clap.specs.Words.{Row, Text, first_of}
 use Rattle.command_line.specs.declared.action.Action.{Action}
 use Rattle.command_line.specs.declared.action.Action.TheVariants.{Check, Run}
@@ -10,7 +9,6 @@ abbrev pub name_of : Action → Text
 name_of Check = codes "check"
 name_of Run = codes "run"
 
--- the option's number, in 1..16, else 4
 -- the subcommand that clap entered, and what it has for each id
 pub record IsJob (found : Option (Text × List Row)) (j : Job) : Type 0 where
   pub rows : List Row

@@ -1,7 +1,5 @@
 //! Why the words of a command line aren't a job.
 
-ghost use Rattle.std.specs.Prelude.{◌≡◌};
-
 use std::alloc::AllocError;
 use thiserror::Error;
 
@@ -19,8 +17,13 @@ pub enum Usage {
 }
 
 impl Usage {
+    ghost use Rattle.std.specs.Prelude.{◌↔◌, IsTrue};
+    ghost use Rattle.command_line.specs.Usage.{IsAskedFor};
+
     /// Whether the words asked for this text, so that it goes to the standard output and is no mistake.
-    pub fn is_asked_for(&self) -> bool {
+    pub fn is_asked_for(&self) -> bool
+        ensures { IsTrue result ↔ IsAskedFor self.now }
+    {
         match self {
             Usage::Words(error) => !error.use_stderr(),
             _ => false,

@@ -1,9 +1,11 @@
 //! What a command line asks for.
 
-ghost use Rattle.std.specs.Prelude.{◌≡◌, [], IfOk, IfSome, codes, map, option_map, unwrap_or};
+ghost use Rattle.std.specs.Prelude.{◌≡◌, ◌≢◌, [], IfErr, IfNone, IfOk, IfSome, codes, map, option_map, unwrap_or};
 ghost use Rattle.clap.specs.Words.{first_of, found_of, rows_of, subcommand_of, subcommand_rows_of};
 ghost use Rattle.command_line.specs.CommandLine.{tool};
 ghost use Rattle.command_line.specs.Jobs.{IsJob, name_of};
+ghost use Rattle.command_line.specs.Usage.{IsMissing, IsRightFor};
+ghost use Rattle.command_line.specs.declared.action.Action.{Action as ActionName};
 
 use crate::action::{Action, Job};
 use crate::commands::command_line;
@@ -13,10 +15,17 @@ use std::alloc::Global;
 
 /// The job that the words of a command line name; the first is the program's own name.
 pub fn job<'a>(alloc: Global, words: &'a [&'a str]) -> Result<Job<'a>, Usage>
-    ensures { IfOk result (IsJob (subcommand_of tool (map (λ w. w.now) words.entry.now))) }
+    ensures job { IfOk result (IsJob (subcommand_of tool (map (λ w. w.now) words.entry.now))) }
+    ensures refused { IfErr result (IsRightFor (map (λ w. w.now) words.entry.now)) }
 {
-    let matches = command_line(alloc)?.try_get_matches_from(words)?;
-    job_of(&matches)
+    let command = match command_line(alloc) {
+        Ok(command) => command,
+        Err(error) => return Err(Usage::Memory(error)),
+    };
+    match command.try_get_matches_from(words) {
+        Ok(matches) => job_of(&matches),
+        Err(error) => Err(Usage::Words(error)),
+    }
 }
 
 /// The first value of an id.
@@ -27,7 +36,8 @@ fn text_of<'a>(matches: &ArgMatches<'a>, id: &str) -> Option<&'a str>
 }
 
 fn action_of(name: &str) -> Option<Action>
-    ensures { IfSome result (λ action. name.now ≡ name_of action) }
+    ensures named { IfSome result (λ action. name.now ≡ name_of action) }
+    ensures others { IfNone result ((action : ActionName) → name.now ≢ name_of action) }
 {
     match name {
         "check" => Some(Action::Check),
@@ -46,7 +56,8 @@ fn script_of<'a>(matches: &ArgMatches<'a>) -> &'a str
 }
 
 fn job_of<'a>(matches: &ArgMatches<'a>) -> Result<Job<'a>, Usage>
-    ensures { IfOk result (IsJob (subcommand_rows_of matches.now)) }
+    ensures job { IfOk result (IsJob (subcommand_rows_of matches.now)) }
+    ensures refused { IfErr result (IsMissing (subcommand_rows_of matches.now)) }
 {
     let Some((name, inner)) = matches.subcommand() else {
         return Err(Usage::Missing("no subcommand"));

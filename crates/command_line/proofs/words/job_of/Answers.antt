@@ -4,12 +4,12 @@ use Rattle.clap.specs.declared.parser.matches.ArgMatches.TheViews.{out-ArgMatche
 use Rattle.command_line.proofs.Entered.{is_entered}
 use Rattle.command_line.proofs.words.job_of.Goals as goal
 
-pub returns : goal.returns
-returns c =
+pub returns-clause-job : goal.returns-clause-job
+returns-clause-job c =
     let rows = rows_of (found_of c.in-Some.inner.now) in
     record {
       rows = rows;
-      entered = rw (← c.in-Some-action_of.ensures) (is_entered (out-ArgMatches c.args.matches.now).subcommand c.in-Some.name.now rows c.in-Some.ensures.name c.in-Some.ensures.rows);
+      entered = rw (← c.in-Some-action_of.ensures.named) (is_entered (out-ArgMatches c.args.matches.now).subcommand c.in-Some.name.now rows c.in-Some.ensures.name c.in-Some.ensures.rows);
       plan = sym c.in-Some-text_of.ensures;
       script = c.script_of-script.ensures;
     }

@@ -1,0 +1,53 @@
+use crate::perform::perform;
+use command_line::{Action, Job};
+use std::alloc::Global;
+use std::io::Read;
+
+/// A plan of six copies, as it is written by hand.
+pub const SIX_COPIES: &str = "{\"format\":1,\"lal\":10,\"groups\":[{\"configurations\":[
+ {\"parent\":null,\"members\":[0,1,2,3,4,5],\"full\":[0,1,2,3,4,5],
+  \"read\":{\"k\":3,\"of\":\"all\"},\"write\":{\"k\":4,\"of\":\"all\"},
+  \"meets\":{\"rule\":\"match\",\"left\":0,\"right\":0,
+   \"pairs\":[[0,0],[1,1],[2,2],[3,3],[4,4],[5,5]],\"then\":[
+    {\"rule\":\"clash\",\"left\":0,\"right\":0},{\"rule\":\"clash\",\"left\":0,\"right\":0},
+    {\"rule\":\"clash\",\"left\":0,\"right\":0},{\"rule\":\"clash\",\"left\":0,\"right\":0},
+    {\"rule\":\"clash\",\"left\":0,\"right\":0},{\"rule\":\"clash\",\"left\":0,\"right\":0}]},
+  \"step\":null}]}]}";
+
+/// What the program says: its status and its two outputs.
+#[derive(Drop)]
+pub struct Outputs {
+    pub status: u8,
+    pub out: Vec<u8>,
+    pub err: Vec<u8>,
+}
+
+impl Outputs {
+    /// Whether it is this status, and this line on its output alone.
+    pub fn is(&self, status: u8, line: &str) -> bool {
+        let (full, empty) = if status == 2 {
+            (&self.err, &self.out)
+        } else {
+            (&self.out, &self.err)
+        };
+        self.status == status && empty.is_empty() && full.as_slice() == line.as_bytes()
+    }
+}
+
+/// What is said of these files.
+pub fn said<P: Read + Drop, S: Read + Drop>(
+    alloc: Global,
+    action: Action,
+    mut plan: P,
+    mut script: S,
+) -> Outputs {
+    let job = Job {
+        action,
+        plan: "p.json",
+        script: "s.txt",
+    };
+    let mut out = Vec::new(alloc);
+    let mut err = Vec::new(alloc);
+    let status = perform(alloc, &job, &mut plan, &mut script, &mut out, &mut err);
+    Outputs { status, out, err }
+}
