@@ -1,2 +1,5 @@
 pub mod Stops
 pub mod Scripts
+pub mod Numerals
+pub mod Lines
+pub mod Parsing

@@ -1,13 +1,16 @@
 //! Scripts: one event a line.
 
-ghost use Rattle.std.specs.Prelude.{◌<◌, IfOk, OnOk, length};
-ghost use Rattle.plan_tool.specs.Script.{IsPaired};
+ghost use Rattle.std.specs.Prelude.{◌≡◌, OnOk};
+ghost use Rattle.plan_tool.specs.Seen.{seen};
+ghost use Rattle.plan_tool.specs.Script.{AddsLine, ReadsScript, kept_in, stop_at, with_line};
 
 mod line;
+mod pieces;
 mod word;
 
 use line::{Line, line_of};
-use std::alloc::Global;
+use pieces::first_line;
+use std::alloc::{AllocError, Global};
 use volume_model::Fault;
 use world::Order;
 
@@ -44,35 +47,17 @@ pub enum ScriptFault {
     NoMemory,
 }
 
-/// The first line of a text without its newline, and what comes after it.
-fn first_line(text: &[u8]) -> (&[u8], &[u8])
-    ensures { 0 < length text.now → length result.1.now < length text.now }
+/// Adds a line. `events` has the index of each earlier line's event.
+fn keep(script: &mut Script, events: &mut Vec<Option<usize>>, line: Line) -> Result<(), AllocError>
+    ensures { OnOk result (kept_in script.new events.new.items ≡ with_line (kept_in script.old events.old.items) (seen line)) }
 {
-    match text.iter().position(|byte| *byte == b'\n') {
-        Some(end) => (&text[..end], &text[end + 1..]),
-        None => (text, &[]),
-    }
-}
-
-/// Adds what a line does. `events` has the index of each earlier line's event.
-#[tactic(auto, using(crate::proofs::Scripts::one_more, crate::proofs::Scripts::none_more))]
-fn add_line(
-    alloc: Global,
-    script: &mut Script,
-    events: &mut Vec<Option<usize>>,
-    text: &[u8],
-) -> Result<(), Fault>
-    requires { IsPaired script.old }
-    ensures { OnOk result (IsPaired script.new) }
-{
-    let text = str::from_utf8(text).map_err(|_| Fault::Malformed)?;
-    let line = events.len() + 1;
-    match line_of(alloc, text, events.as_slice())? {
+    let number = events.len() + 1;
+    match line {
         Line::Empty => events.push(None)?,
         Line::Wait => {
             events.push(None)?;
             script.steps.push(Step {
-                line,
+                line: number,
                 has_event: false,
             })?;
         }
@@ -80,7 +65,7 @@ fn add_line(
             events.push(Some(script.orders.len()))?;
             script.orders.push(order)?;
             script.steps.push(Step {
-                line,
+                line: number,
                 has_event: true,
             })?;
         }
@@ -88,10 +73,42 @@ fn add_line(
     Ok(())
 }
 
+/// Adds what a line says.
+fn add_line(
+    alloc: Global,
+    script: &mut Script,
+    events: &mut Vec<Option<usize>>,
+    line: &[u8],
+) -> Result<(), Fault>
+    ensures { AddsLine line.now (kept_in script.old events.old.items) result (kept_in script.new events.new.items) }
+{
+    let text = match str::from_utf8(line) {
+        Ok(text) => text,
+        Err(_) => return Err(Fault::Malformed),
+    };
+    match line_of(alloc, text, events.as_slice()) {
+        Ok(line) => {
+            keep(script, events, line)?;
+            Ok(())
+        }
+        Err(fault) => Err(fault),
+    }
+}
+
+/// Why a script can't be run whose line with this number was refused.
+fn stop_at(fault: Fault, line: usize) -> ScriptFault
+    ensures { result ≡ stop_at fault line }
+{
+    match fault {
+        Fault::NoMemory => ScriptFault::NoMemory,
+        _ => ScriptFault::Line(line),
+    }
+}
+
 /// What a text does as a script, or its first line that isn't one of a script: at most 100,000 lines in 16,777,216 bytes,
 /// each of them UTF-8.
 pub fn read_script(alloc: Global, text: &[u8]) -> Result<Script, ScriptFault>
-    ensures { IfOk result IsPaired }
+    ensures { ReadsScript text.now result }
 {
     let mut script = Script {
         steps: Vec::new(alloc),
@@ -109,8 +126,7 @@ pub fn read_script(alloc: Global, text: &[u8]) -> Result<Script, ScriptFault>
         }
         match add_line(alloc, &mut script, &mut events, line) {
             Ok(()) => {}
-            Err(Fault::NoMemory) => return Err(ScriptFault::NoMemory),
-            Err(_) => return Err(ScriptFault::Line(number)),
+            Err(fault) => return Err(stop_at(fault, number)),
         }
         room -= bytes;
         rest = after;
