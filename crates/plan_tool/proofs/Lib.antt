@@ -3,3 +3,5 @@ pub mod Scripts
 pub mod Numerals
 pub mod Lines
 pub mod Parsing
+pub mod Telling
+pub mod Answering

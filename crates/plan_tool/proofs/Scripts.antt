@@ -90,7 +90,7 @@ reads_bad text rest line later room bytes number now numbered so_far next refuse
       first = numbered ∙ ap suc so_far.lines;
       there = there.0;
       bad = λ deed does. refused deed (omega (arith, upto, so_far.bytes, does.within)) (omega (arith, so_far.lines, does.few)) (subst IsUtf8 here does.utf8)
-      (ap (λ n. deed_of n line) so_far.lines ∙ (ap (deed_of k) (sym here) ∙ does.says));
+          (ap (λ n. deed_of n line) so_far.lines ∙ (ap (deed_of k) (sym here) ∙ does.says));
     }
 
 -- a line that was refused ends the reading

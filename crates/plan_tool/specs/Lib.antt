@@ -5,3 +5,6 @@ pub mod Words
 pub mod Grammar
 pub mod Seen
 pub mod Script
+pub mod Told
+pub mod ToldLines
+pub mod Answers

@@ -1,13 +1,17 @@
 //! A job, done on the contents of its files.
 
-ghost use Rattle.std.specs.Prelude.{◌≡◌, ◌≤◌, ◌<◌, None, Some, Ok, Err, IfOk, IfErr, IfSome, take};
+ghost use Rattle.std.specs.Prelude.{◌≡◌, ◌≤◌, ◌<◌, None, Some, Ok, Err, IfOk, IfErr, IfSome, string_bytes, take};
 ghost use Rattle.volume_model.specs.Plan.{IsCertified};
 ghost use Rattle.plan.specs.CheckedModel.{checked_model};
 ghost use Rattle.plan.specs.Plan.{plan_data};
 ghost use Rattle.plan.specs.PlanFaults.{plan_fault};
 ghost use Rattle.plan.specs.PlanText.{plan_of};
 ghost use Rattle.plan.specs.declared.fault.PlanFault.{PlanFault};
-ghost use Rattle.command_line.specs.declared.action.Action.TheVariants.{Check};
+ghost use Rattle.command_line.specs.declared.action.Action.TheVariants.{Check, Run};
+ghost use Rattle.std.specs.Arc.{arc_value};
+ghost use Rattle.std.specs.Io.KnownBytes.{Appends};
+ghost use Rattle.plan_tool.specs.Answers.{IsPlanOf, IsScriptOf, Prints, PrintsCheck, TellsCheck, TellsOrders, TellsRun, TellsScript};
+ghost use Rattle.plan_tool.specs.Told.{plan_line};
 ghost use Rattle.plan_tool.specs.Verdict.{IsCertifiedText, IsFaultyText, Judges, StopsOnly};
 
 use crate::reply::{Reply, Stop};
@@ -70,7 +74,8 @@ fn checked_plan(alloc: Global, plan: Plan) -> Result<CheckedPlan, Stop>
 
 /// The plan that a text spells, where it has no fault.
 fn checked_text(alloc: Global, text: &[u8]) -> Result<CheckedPlan, Stop>
-    ensures { Judges result text.now }
+    ensures judges { Judges result text.now }
+    ensures plan { IfOk result (IsPlanOf text.now) }
 {
     let plan = plan_in(alloc, text)?;
     checked_plan(alloc, plan)
@@ -78,7 +83,8 @@ fn checked_text(alloc: Global, text: &[u8]) -> Result<CheckedPlan, Stop>
 
 /// The plan of a file, where it is read and has no fault.
 fn checked<P: Read>(alloc: Global, name: &str, plan: &mut P) -> Result<CheckedPlan, Stop>
-    ensures { IfSome (P.remaining plan.old) (λ bytes. Judges result (take 16777217 bytes)) }
+    ensures judges { IfSome (P.remaining plan.old) (λ bytes. Judges result (take 16777217 bytes)) }
+    ensures plan { IfOk result (λ checked. IfSome (P.remaining plan.old) (λ bytes. IsPlanOf (take 16777217 bytes) checked)) }
 {
     match contents(alloc, name, plan, PLAN_BYTES) {
         Ok(text) => checked_text(alloc, text.as_slice()),
@@ -88,7 +94,8 @@ fn checked<P: Read>(alloc: Global, name: &str, plan: &mut P) -> Result<CheckedPl
 
 /// The script of a file, where it is read and is one.
 fn script_of<S: Read>(alloc: Global, name: &str, script: &mut S) -> Result<Script, Stop>
-    ensures { IfErr result (StopsOnly ⊥) }
+    ensures script { IfOk result (λ read. IfSome (S.remaining script.old) (λ bytes. IsScriptOf (take 16777217 bytes) read)) }
+    ensures stop { IfErr result (StopsOnly ⊥) }
 {
     let text = contents(alloc, name, script, SCRIPT_BYTES)?;
     match read_script(alloc, text.as_slice()) {
@@ -103,7 +110,8 @@ fn script_of<S: Read>(alloc: Global, name: &str, script: &mut S) -> Result<Scrip
 
 /// What is told of a script's run.
 fn ran(alloc: Global, plan: &Arc<CheckedPlan>, script: &Script) -> Result<Reply, Stop>
-    ensures { IfErr result (StopsOnly ⊥) }
+    ensures told { IfOk result (λ reply. TellsOrders (checked_model (arc_value plan.now)) script.now.steps.items script.now.orders.items reply.status (string_bytes reply.text)) }
+    ensures stop { IfErr result (StopsOnly ⊥) }
 {
     match run_orders(alloc, plan, script.orders.as_slice()) {
         Ok(outcome) => Ok(run_lines(alloc, script.steps.as_slice(), &outcome)?),
@@ -114,6 +122,7 @@ fn ran(alloc: Global, plan: &Arc<CheckedPlan>, script: &Script) -> Result<Reply,
 /// What is told of a checked plan.
 fn plan_told(alloc: Global, plan: &CheckedPlan) -> Result<Reply, Stop>
     ensures yes { IfOk result (λ reply. reply.status ≡ 0) }
+    ensures line { IfOk result (λ reply. string_bytes reply.text ≡ plan_line (checked_model plan.now)) }
     ensures stop { IfErr result (StopsOnly ⊥) }
 {
     let text = checked_line(alloc, plan)?;
@@ -124,6 +133,7 @@ fn plan_told(alloc: Global, plan: &CheckedPlan) -> Result<Reply, Stop>
 fn check<P: Read>(alloc: Global, job: &Job<'_>, plan: &mut P) -> Result<Reply, Stop>
     ensures judges { IfSome (P.remaining plan.old) (λ bytes. Judges result (take 16777217 bytes)) }
     ensures yes { IfOk result (λ reply. reply.status ≡ 0) }
+    ensures told { IfOk result (λ reply. IfSome (P.remaining plan.old) (λ bytes. TellsCheck (take 16777217 bytes) reply.status (string_bytes reply.text))) }
 {
     match checked(alloc, job.plan, plan) {
         Ok(plan) => plan_told(alloc, &plan),
@@ -138,7 +148,8 @@ fn script_told<S: Read>(
     name: &str,
     script: &mut S,
 ) -> Result<Reply, Stop>
-    ensures { IfErr result (StopsOnly ⊥) }
+    ensures told { IfOk result (λ reply. IfSome (S.remaining script.old) (λ bytes. TellsScript (checked_model plan) (take 16777217 bytes) reply.status (string_bytes reply.text))) }
+    ensures stop { IfErr result (StopsOnly ⊥) }
 {
     let plan = Arc::new(alloc, plan)?;
     let script = script_of(alloc, name, script)?;
@@ -152,7 +163,8 @@ fn run<P: Read, S: Read>(
     plan: &mut P,
     script: &mut S,
 ) -> Result<Reply, Stop>
-    ensures { IfSome (P.remaining plan.old) (λ bytes. Judges result (take 16777217 bytes)) }
+    ensures judges { IfSome (P.remaining plan.old) (λ bytes. Judges result (take 16777217 bytes)) }
+    ensures told { IfOk result (λ reply. IfSome (P.remaining plan.old) (λ bytes. IfSome (S.remaining script.old) (λ lines. TellsRun (take 16777217 bytes) (take 16777217 lines) reply.status (string_bytes reply.text)))) }
 {
     match checked(alloc, job.plan, plan) {
         Ok(plan) => script_told(alloc, plan, job.script, script),
@@ -169,11 +181,29 @@ fn reply<P: Read, S: Read>(
 ) -> Result<Reply, Stop>
     ensures judges { IfSome (P.remaining plan.old) (λ bytes. Judges result (take 16777217 bytes)) }
     ensures yes { job.now.action ≡ Check → IfOk result (λ reply. reply.status ≡ 0) }
+    ensures checks { job.now.action ≡ Check → IfOk result (λ reply. IfSome (P.remaining plan.old) (λ bytes. TellsCheck (take 16777217 bytes) reply.status (string_bytes reply.text))) }
+    ensures runs { job.now.action ≡ Run → IfOk result (λ reply. IfSome (P.remaining plan.old) (λ bytes. IfSome (S.remaining script.old) (λ lines. TellsRun (take 16777217 bytes) (take 16777217 lines) reply.status (string_bytes reply.text)))) }
 {
     match job.action {
         Action::Check => check(alloc, job, plan),
         Action::Run => run(alloc, job, plan, script),
     }
+}
+
+/// Writes a reply to its output, and gives the exit status: 2 where it can't be written.
+fn answer<O: Write, E: Write>(reply: &Reply, out: &mut O, err: &mut E) -> u8
+    ensures status { result ≤ 2 }
+    ensures same { result < 2 → result ≡ reply.now.status }
+    ensures printed { result < 2 → Appends (O.contents out.old) (O.contents out.new) (string_bytes reply.now.text) }
+    ensures quiet { result < 2 → err.new ≡ err.old }
+{
+    let text = reply.text.as_str();
+    let written = if reply.status == 2 {
+        emit(err, text)
+    } else {
+        emit(out, text)
+    };
+    if written.is_err() { 2 } else { reply.status }
 }
 
 /// Does a job on the contents of its files, writes what it says, and gives the exit status: 0 for yes, 1 for a refusal, 2 for
@@ -194,17 +224,17 @@ pub fn perform<P: Read, S: Read, O: Write, E: Write>(
     // A check answers 1 only where the text has a fault.
     ensures no { job.now.action ≡ Check → result ≡ 1 → IfSome (P.remaining plan.old) (λ bytes. IsFaultyText (take 16777217 bytes)) }
     ensures quiet { result < 2 → err.new ≡ err.old }
+
+    // What is printed for the status 0 of a check is the line of the plan that the text spells.
+    ensures checks { job.now.action ≡ Check → result ≡ 0 → IfSome (P.remaining plan.old) (λ bytes. PrintsCheck (take 16777217 bytes) result (O.contents out.old) (O.contents out.new)) }
+
+    // What a run prints is what the model's run of the script that the text spells tells, over the plan that the other text spells;
+    // or that text has a fault.
+    ensures runs { job.now.action ≡ Run → result < 2 → IfSome (P.remaining plan.old) (λ bytes. IfSome (S.remaining script.old) (λ lines. Prints (take 16777217 bytes) (take 16777217 lines) result (O.contents out.old) (O.contents out.new))) }
 {
     match reply(alloc, job, plan, script) {
-        Ok(reply) | Err(Stop::Reply(reply)) => {
-            let text = reply.text.as_str();
-            let written = if reply.status == 2 {
-                emit(err, text)
-            } else {
-                emit(out, text)
-            };
-            if written.is_err() { 2 } else { reply.status }
-        }
+        Ok(reply) => answer(&reply, out, err),
+        Err(Stop::Reply(reply)) => answer(&reply, out, err),
         Err(Stop::NoMemory) => {
             let _ = emit(err, "input: 9 NoMemory\n");
             2

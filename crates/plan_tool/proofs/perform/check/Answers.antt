@@ -3,4 +3,4 @@ use Rattle.plan_tool.proofs.Stops.{goes_on}
 use Rattle.plan_tool.proofs.perform.check.Goals as goal
 
 pub returns-in-Ok-clause-judges : goal.returns-in-Ok-clause-judges
-returns-in-Ok-clause-judges g c = goes_on c.plan_told.result (g.P.Read.remaining c.args.plan.now) (take 16777217) c.in-Ok.ensures c.plan_told.ensures.stop
+returns-in-Ok-clause-judges g c = goes_on c.plan_told.result (g.P.Read.remaining c.args.plan.now) (take 16777217) c.in-Ok.ensures.judges c.plan_told.ensures.stop

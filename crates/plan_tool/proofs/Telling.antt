@@ -1,0 +1,89 @@
+-- A text that grows by lines.
+use Rattle.std.proofs.Common.{◌≡◌, ◌∙◌, ap, sym, subst, ℕ, zero, suc, ◌+◌, ◌-◌, ◌<◌, List, [], ◌∷◌, ◌++◌, Option, Some, None, Result, Ok, Err, OnOk, length, drop, get_or, map, arith, refl, add-one, drop-cons}
+use Rattle.std.specs.Option.{option_map_or}
+use Rattle.std.specs.List.{slice_get}
+use Rattle.std.proofs.lemmas.List.{append_assoc, append-nil}
+use Rattle.volume_model.specs.declared.fault.Fault.{Fault}
+use Rattle.volume_model.specs.Lists.{added}
+use Rattle.volume_model.specs.Outcome.{Opened}
+use Rattle.volume_model.specs.Redo.{Redo, last_lsn}
+use Rattle.redo_record.specs.declared.«record».Record.{Record}
+use Rattle.redo_record.specs.Record.{redo_of}
+use Rattle.world.specs.Outcomes.{opened_of}
+use Rattle.world.specs.declared.outcome.WriterEnd.{WriterEnd}
+use Rattle.plan_tool.specs.Told.{AreLinesOf, IsLineOf, Telling, Told, counts_line, first_if, refused_line, rest_if, tellings, writer_line, writer_lines}
+use Rattle.plan_tool.specs.Told.AreLinesOf.{none, more}
+use Rattle.plan_tool.specs.ToldLines.{AppendsLine, AppendsLines}
+use Rattle.plan_tool.specs.declared.script.Step.{Step}
+
+-- Of the steps the first have their lines, after what stood there; these results are those of the later ones.
+pub record IsTelling (steps : List Step) (results left : List Told) (i : ℕ) (old now : List ℕ) : Type 0 where
+  pub done : List Telling
+  pub lines : List ℕ
+  pub are : AreLinesOf done lines
+  pub now_is : now ≡ old ++ lines
+  pub left_are : tellings steps results ≡ done ++ tellings (drop i steps) left
+
+pub tells_none : (steps : List Step) (results : List Told) (old : List ℕ) → IsTelling steps results results 0 old old
+tells_none steps results old = record { done = []; lines = []; are = none; now_is = sym (append-nil old); left_are = refl }
+
+-- one line more
+pub tells_more : (steps : List Step) (results left later : List Told) (i : ℕ) (step other : Step) (told : Option Told) (old now new : List ℕ) → IsTelling steps results left i old now → i < length steps → step ≡ get_or steps i other
+    → told ≡ first_if step.has_event left → later ≡ rest_if step.has_event left → AppendsLine step.line told now new → IsTelling steps results later (i + 1) old new
+tells_more steps results left later i step other told old now new so_far within item first rest (line, is_line, is_new) =
+    let front : drop i steps ≡ step ∷ drop (i + 1) steps = drop-cons steps i other within ∙ rw (← item, add-one) refl in
+    let telling : Telling = record { line = step.line; told = told } in
+    let next : tellings (drop i steps) left ≡ telling ∷ tellings (drop (i + 1) steps) later = rw (front, first, rest) refl in
+    record {
+      done = so_far.done ++ telling ∷ [];
+      lines = so_far.lines ++ line;
+      are = more so_far.done telling so_far.lines line so_far.are is_line;
+      now_is = is_new ∙ (ap (λ t. t ++ line) so_far.now_is ∙ append_assoc old so_far.lines line);
+      left_are = so_far.left_are ∙ (ap (λ t. so_far.done ++ t) next ∙ sym (append_assoc so_far.done (telling ∷ []) (tellings (drop (i + 1) steps) later)));
+    }
+
+-- a refusal's line is one of its telling
+pub refusal_told : {E : Type 0} (r : Result (Unit {0}) E) (line : ℕ) (told : Option Told) (fault : Fault) (reason old new : List ℕ) → told ≡ Some (Err fault) → OnOk r (new ≡ old ++ refused_line line reason)
+    → OnOk r (AppendsLine line told old new)
+refusal_told (Err e) line told fault reason old new is_told h = tt
+refusal_told (Ok u) line told fault reason old new is_told h =
+    let is_line : IsLineOf line (Some (Err fault)) (refused_line line reason) = (reason, refl) in
+    (refused_line line reason, subst (λ (t : Option Told). IsLineOf line t (refused_line line reason)) (sym is_told) is_line, h)
+
+drop_all : {A : Type 0} (xs : List A) → drop (length xs) xs ≡ []
+drop_all [] = refl
+drop_all (x ∷ xs) = drop_all xs
+
+pub tells_all : (steps : List Step) (results left : List Told) (i : ℕ) (old now : List ℕ) → i ≡ length steps → IsTelling steps results left i old now → AppendsLines steps results old now
+tells_all steps results left i old now end so_far =
+    let nothing : tellings (drop i steps) left ≡ [] = rw (end, drop_all steps) refl in
+    let all : tellings steps results ≡ so_far.done = so_far.left_are ∙ (ap (λ t. so_far.done ++ t) nothing ∙ append-nil so_far.done) in
+    (so_far.lines, rw all so_far.are, so_far.now_is)
+
+-- one writer more
+pub writers_more : (writers : List WriterEnd) (i : ℕ) (writer : WriterEnd) (old now new : List ℕ) → old ++ writer_lines (map opened_of writers) ≡ now ++ writer_lines (map opened_of (drop i writers)) → i < length writers → writer ≡ get_or writers i writer
+    → new ≡ now ++ writer_line (opened_of writer) → old ++ writer_lines (map opened_of writers) ≡ new ++ writer_lines (map opened_of (drop (i + 1) writers))
+writers_more writers i writer old now new so_far within item is_new =
+    let front : drop i writers ≡ writer ∷ drop (i + 1) writers = drop-cons writers i writer within ∙ rw (← item, add-one) refl in
+    so_far ∙ (ap (λ ws. now ++ writer_lines (map opened_of ws)) front ∙ (sym (append_assoc now (writer_line (opened_of writer)) (writer_lines (map opened_of (drop (i + 1) writers)))) ∙ ap (λ t. t ++ writer_lines (map opened_of (drop (i + 1) writers))) (sym is_new)))
+
+pub writers_all : (writers : List WriterEnd) (i : ℕ) (old now : List ℕ) → i ≡ length writers → old ++ writer_lines (map opened_of writers) ≡ now ++ writer_lines (map opened_of (drop i writers)) → now ≡ old ++ writer_lines (map opened_of writers)
+writers_all writers i old now end so_far = let nothing : drop i writers ≡ [] = rw end (drop_all writers) in sym (so_far ∙ (ap (λ ws. now ++ writer_lines (map opened_of ws)) nothing ∙ append-nil now))
+
+-- the last of a list of records, after this one
+last_after : ℕ → List Record → ℕ
+last_after lsn [] = lsn
+last_after lsn (r ∷ later) = last_after r.lsn later
+
+last_added : (records : List Record) (kept : List Redo) → last_lsn (added (map redo_of records) kept) ≡ last_after (last_lsn kept) records
+unfolding last_after
+last_added [] kept = refl
+last_added (r ∷ later) kept = last_added later (redo_of r ∷ kept)
+
+last_got : (r : Record) (later : List Record) → option_map_or (λ (s : Record). s.lsn) (slice_get (r ∷ later) (length later)) 0 ≡ last_after r.lsn later
+unfolding last_after
+last_got r [] = refl
+last_got r (s ∷ later) = last_got s later
+
+pub same_counts : {a b c x y z : ℕ} → a ≡ x → b ≡ y → c ≡ z → counts_line a b c ≡ counts_line x y z
+same_counts p q r = rw (p, q, r) refl

@@ -1,0 +1,88 @@
+-- What the program prints of a run.
+use Rattle.std.specs.Prelude.{◌≡◌, ℕ, zero, suc, ◌+◌, ◌-◌, ◌*◌, Bool, true, false, if◌then◌else◌, List, [], ◌∷◌, ◌++◌, Option, Some, None, Result, Ok, Err, codes, is_err, max, min}
+use Rattle.std.specs.Fmt.{decimal}
+use Rattle.std.specs.List.{list_any}
+use Rattle.volume_model.specs.declared.fault.Fault.{Fault}
+use Rattle.volume_model.specs.Outcome.{Opened}
+use Rattle.volume_model.specs.Plan.{Plan}
+use Rattle.volume_model.specs.Redo.{last_lsn}
+use Rattle.plan_tool.specs.declared.script.Step.{Step}
+
+-- what is told of an event: the number of messages that it made, or why it was refused
+abbrev pub Told : Type 0
+Told = Result ℕ Fault
+
+-- a line's number, and what is told of its event, if it has one
+pub record Telling : Type 0 where
+  pub line : ℕ
+  pub told : Option Told
+
+-- the line of a refusal with this reason
+abbrev pub refused_line : ℕ → List ℕ → List ℕ
+refused_line line reason = decimal line ++ codes " refused " ++ reason ++ codes "\n"
+
+-- A line of what is printed: the number and the messages made, or the number and the reason of a refusal, in the fault's own words.
+abbrev pub IsLineOf : ℕ → Option Told → List ℕ → Type 0
+IsLineOf line None text = text ≡ decimal line ++ codes " ok 0\n"
+IsLineOf line (Some (Ok made)) text = text ≡ decimal line ++ codes " ok " ++ decimal made ++ codes "\n"
+IsLineOf line (Some (Err fault)) text = (reason : List ℕ) × (text ≡ refused_line line reason)
+
+-- the text has a line for each telling, in order
+pub data AreLinesOf : List Telling → List ℕ → Type 0 where
+  none : AreLinesOf [] []
+  more : (tellings : List Telling) (telling : Telling) (text line : List ℕ) → AreLinesOf tellings text → IsLineOf telling.line telling.told line → AreLinesOf (tellings ++ telling ∷ []) (text ++ line)
+
+-- the first of what is told, for a step that has an event, and the rest
+abbrev pub first_if : Bool → List Told → Option Told
+first_if true (told ∷ later) = Some told
+first_if true [] = None
+first_if false all = None
+
+abbrev pub rest_if : Bool → List Told → List Told
+rest_if true (told ∷ later) = later
+rest_if true [] = []
+rest_if false all = all
+
+-- What is told of each step: the results are those of the steps that have an event, in order.
+abbrev pub tellings : List Step → List Told → List Telling
+tellings [] results = []
+tellings (step ∷ steps) results = (record { line = step.line; told = first_if step.has_event results }) ∷ tellings steps (rest_if step.has_event results)
+
+-- the LSN after the greater of the log's last and the start of the writer's span, or the greatest number there is
+abbrev pub next_lsn : Opened → ℕ
+next_lsn opened = min (max (last_lsn opened.log) opened.start + 1) 18446744073709551615
+
+-- the line of an opened writer
+abbrev pub writer_line : Opened → List ℕ
+writer_line opened =
+    codes "writer " ++ decimal opened.volume ++ codes " durable " ++ decimal opened.durable ++ codes " next " ++ decimal (next_lsn opened) ++ codes "\n"
+
+abbrev pub writer_lines : List Opened → List ℕ
+writer_lines [] = []
+writer_lines (opened ∷ later) = writer_line opened ++ writer_lines later
+
+-- 1 where an event was refused
+abbrev pub status_of : List Told → ℕ
+status_of results = if list_any (λ told. is_err told) results then 1 else 0
+
+-- A status and a text tell of these steps, results and opened writers: a line for each step, one for each writer, and whether an
+-- event was refused.
+pub record TellsOf (steps : List Step) (results : List Told) (writers : List Opened) (status : ℕ) (text : List ℕ) : Type 0 where
+  pub lines : List ℕ
+  pub lines_are : AreLinesOf (tellings steps results) lines
+  pub text_is : text ≡ lines ++ writer_lines writers
+  pub status_is : status ≡ status_of results
+
+-- the sum of what f gives for the numbers below a bound
+abbrev pub sum_below : (ℕ → ℕ) → ℕ → ℕ
+sum_below f zero = 0
+sum_below f (suc n) = sum_below f n + f n
+
+-- the line of a plan without a fault that has so many groups, configurations and certificates
+abbrev pub counts_line : ℕ → ℕ → ℕ → List ℕ
+counts_line groups configurations certificates =
+    codes "yes: " ++ decimal groups ++ codes " groups, " ++ decimal configurations ++ codes " configurations, " ++ decimal certificates ++ codes " certificates\n"
+
+-- The line of a plan without a fault: it has a certificate a configuration, and one more for each that isn't a root.
+abbrev pub plan_line : Plan → List ℕ
+plan_line plan = let configurations = sum_below plan.configurations plan.groups in counts_line plan.groups configurations (2 * configurations - plan.groups)
