@@ -4,4 +4,3 @@ pub mod Numerals
 pub mod Lines
 pub mod Parsing
 pub mod Telling
-pub mod Answering

@@ -1,5 +1,5 @@
 -- What numerals and digits spell.
-use Rattle.std.proofs.Common.{◌≡◌, ◌∙◌, ap, sym, ℕ, List, [], ◌∷◌, ◌++◌, ◌&&◌, ◌<◌, ◌≤◌, ◌^◌, Bool, true, false, Option, Some, None, Result, Ok, Err, length, drop, take, ◌-◌, get_or, arith, rules, refl, option_map, nat_le}
+use Rattle.std.proofs.Common.{◌≡◌, ap, sym, ℕ, List, [], ◌∷◌, ◌++◌, ◌&&◌, ◌<◌, ◌≤◌, ◌^◌, Bool, true, false, Option, Some, None, Err, length, drop, take, ◌-◌, get_or, arith, rules, refl, option_map, nat_le}
 use Rattle.std.specs.Char.{is_ascii_digit}
 use Rattle.std.specs.List.{list_all}
 use Rattle.std.specs.Str.Parse.{ParsesUnsigned, digits_value}

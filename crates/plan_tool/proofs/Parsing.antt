@@ -1,5 +1,5 @@
 -- What the words of a line spell, part by part.
-use Rattle.std.proofs.Common.{◌≡◌, ◌≢◌, ◌∙◌, ap, sym, ℕ, ◌+◌, ◌<◌, ◌≤◌, suc, List, [], ◌∷◌, ◌++◌, Option, Some, None, length, drop, get_or, map, option_map, option_and_then, arith, refl, Bor, add-one, drop-cons}
+use Rattle.std.proofs.Common.{◌≡◌, ◌≢◌, ◌∙◌, ap, sym, ℕ, ◌+◌, ◌<◌, List, [], ◌∷◌, ◌++◌, Option, Some, None, length, drop, get_or, map, option_map, arith, refl, Bor, add-one, drop-cons}
 use Rattle.std.proofs.lemmas.List.{append_assoc, map-append}
 use Rattle.volume_model.specs.Client as model
 use Rattle.writer_core.specs.Changes.{change_of, changes_of}

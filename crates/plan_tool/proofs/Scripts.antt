@@ -1,8 +1,6 @@
 -- A script that is read line by line.
-use Rattle.std.proofs.Common.{◌≡◌, ◌≢◌, ◌∙◌, ap, sym, subst, ℕ, zero, suc, ◌+◌, ◌-◌, ◌<◌, ◌≤◌, ◌⊎◌, inl, inr, List, [], ◌∷◌, ◌++◌, Option, Some, None, Result, Ok, Err, length, drop, take, get_or, arith, refl, map, sum_by, drop-cons, length-drop, add-one}
-use Rattle.std.specs.List.{fold}
+use Rattle.std.proofs.Common.{◌≡◌, ◌∙◌, ap, sym, subst, ℕ, zero, suc, ◌+◌, ◌-◌, ◌<◌, ◌≤◌, List, [], ◌∷◌, ◌++◌, Option, Some, None, Ok, Err, length, drop, take, get_or, arith, refl, sum_by, length-drop}
 use Rattle.std.specs.Str.{IsUtf8}
-use Rattle.std.proofs.lemmas.Grind.{common_steps}
 use Rattle.std.proofs.lemmas.List.{length-take-le, length_push}
 use Rattle.std.proofs.lemmas.List.Sums.{fold-append, sum_by_push}
 use Rattle.std.proofs.Math.Seq.{take-suc}
@@ -10,7 +8,7 @@ use Rattle.volume_model.specs.declared.fault.Fault.{Fault}
 use Rattle.volume_model.specs.declared.fault.Fault.TheVariants.{NoMemory}
 use Rattle.plan_tool.specs.Grammar.{Deed, deed_of}
 use Rattle.plan_tool.specs.Pieces.{pieces, before_newline}
-use Rattle.plan_tool.specs.Seen.{Seen, asked_by, seen_deed}
+use Rattle.plan_tool.specs.Seen.{Seen, seen_deed}
 use Rattle.plan_tool.specs.Seen.Seen.{Silent, Pause, Asks}
 use Rattle.plan_tool.specs.Script.{AddsLine, AreDeeds, Does, IsFirstBad, IsScript, Keeps, Kept, ReadsScript, kept_in, kept_of, line_at, nothing_kept, stop_at, with_deed, with_line}
 use Rattle.plan_tool.specs.Script.AreDeeds.{none, more}

@@ -1,11 +1,10 @@
 -- A text that grows by lines.
-use Rattle.std.proofs.Common.{◌≡◌, ◌∙◌, ap, sym, subst, ℕ, zero, suc, ◌+◌, ◌-◌, ◌<◌, List, [], ◌∷◌, ◌++◌, Option, Some, None, Result, Ok, Err, OnOk, length, drop, get_or, map, arith, refl, add-one, drop-cons}
+use Rattle.std.proofs.Common.{◌≡◌, ◌∙◌, ap, sym, subst, ℕ, ◌+◌, ◌<◌, List, [], ◌∷◌, ◌++◌, Option, Some, Result, Ok, Err, OnOk, length, drop, get_or, map, refl, add-one, drop-cons}
 use Rattle.std.specs.Option.{option_map_or}
 use Rattle.std.specs.List.{slice_get}
 use Rattle.std.proofs.lemmas.List.{append_assoc, append-nil}
 use Rattle.volume_model.specs.declared.fault.Fault.{Fault}
 use Rattle.volume_model.specs.Lists.{added}
-use Rattle.volume_model.specs.Outcome.{Opened}
 use Rattle.volume_model.specs.Redo.{Redo, last_lsn}
 use Rattle.redo_record.specs.declared.«record».Record.{Record}
 use Rattle.redo_record.specs.Record.{redo_of}

@@ -8,3 +8,4 @@ pub mod Script
 pub mod Told
 pub mod ToldLines
 pub mod Answers
+pub mod Examples

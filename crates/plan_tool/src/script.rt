@@ -4,6 +4,7 @@ ghost use Rattle.std.specs.Prelude.{◌≡◌, OnOk};
 ghost use Rattle.plan_tool.specs.Seen.{seen};
 ghost use Rattle.plan_tool.specs.Script.{AddsLine, ReadsScript, kept_in, stop_at, with_line};
 
+mod examples;
 mod line;
 mod pieces;
 mod word;

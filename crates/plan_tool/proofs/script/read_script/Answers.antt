@@ -1,5 +1,5 @@
-use Rattle.std.proofs.Common.{rules, ◌≡◌, ◌∙◌, arith, length, suc, ◌+◌, ◌-◌, ◌<◌, subst, sym, Err}
-use Rattle.plan_tool.specs.Script.{Kept, ReadsScript, kept_in}
+use Rattle.std.proofs.Common.{rules, ◌≡◌, arith, length, suc, ◌+◌, ◌-◌, ◌<◌, subst, sym, Err}
+use Rattle.plan_tool.specs.Script.{ReadsScript, kept_in}
 use Rattle.plan_tool.specs.declared.script.ScriptFault.{ScriptFault}
 use Rattle.plan_tool.proofs.Scripts.{next_line, reads_all, reads_bad, reads_fault, reads_more, starts_empty}
 use Rattle.plan_tool.proofs.script.read_script.Goals as goal

@@ -1,4 +1,4 @@
-use Rattle.std.proofs.Common.{arith, sym, ◌∙◌, ap, true, ◌≡◌, ℕ, List}
+use Rattle.std.proofs.Common.{arith, sym, ◌∙◌, ap}
 use Rattle.plan_tool.specs.Words.{is_numeral}
 use Rattle.plan_tool.proofs.Numerals.{number_too_large}
 use Rattle.plan_tool.proofs.script.word.number.Goals as goal
