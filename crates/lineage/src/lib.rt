@@ -3,6 +3,11 @@
 
 mod entry;
 mod lineage;
+mod selection;
 
 pub use entry::Entry;
 pub use lineage::Lineage;
+pub use selection::newest;
+
+#[cfg(test)]
+mod tests;

@@ -5,6 +5,10 @@ ghost use Rattle.lineage.specs.Entries.{entries_of, is_lineage};
 
 use crate::entry::Entry;
 use std::alloc::{AllocError, Global};
+use volume_model::Fault;
+
+/// The greatest log sequence number.
+const LAST_LSN: u64 = 1 << 62;
 
 /// The entries of the recoveries that a volume went through, of growing volume epochs and starts.
 #[derive(Drop)]
@@ -15,9 +19,10 @@ pub struct Lineage {
 }
 
 impl Lineage {
-    ghost use Rattle.std.specs.Prelude.{[], IfOk};
-    ghost use Rattle.volume_model.specs.Lineage.{birth, last_epoch, last_start};
-    ghost use Rattle.lineage.specs.Lineage.{lineage_of};
+    ghost use Rattle.std.specs.Prelude.{◌<◌, ◌≤◌, [], IfOk};
+    ghost use Rattle.volume_model.specs.Answer.{Gives};
+    ghost use Rattle.volume_model.specs.Lineage.{birth, is_live, last_epoch, last_start};
+    ghost use Rattle.lineage.specs.Lineage.{lineage_of, extension};
 
     /// No entry: what a segment has that was told nothing yet.
     pub fn empty(alloc: Global) -> Lineage
@@ -60,6 +65,45 @@ impl Lineage {
             Some(entry) => entry.start,
             None => 0,
         }
+    }
+
+    /// Whether a record of this volume epoch and number is live: the epoch has an entry, the number is above its start, and no later
+    /// entry's cut is below it.
+    pub fn is_live(&self, volume_epoch: u32, lsn: u64) -> bool
+        ensures { result ≡ is_live (lineage_of self.now) volume_epoch lsn }
+    {
+        for entry in self.entries.iter().rev() {
+            if entry.volume_epoch == volume_epoch {
+                return entry.start < lsn;
+            }
+            if entry.cut < lsn {
+                return false;
+            }
+        }
+        false
+    }
+
+    /// The lineage with the entry that a recovery of a later volume epoch adds, whose own numbers begin `lal` above all that its log
+    /// can have. Refused 73 where they would begin above the greatest number, 9 where there is no memory.
+    pub fn extend(&self, volume_epoch: u32, cut: u64, lal: u64) -> Result<Lineage, Fault>
+        requires later { last_epoch (lineage_of self.now) < volume_epoch }
+        requires allowance { 1 ≤ lal }
+        ensures { Gives lineage_of result (extension (lineage_of self.now) volume_epoch cut lal) }
+    {
+        let Some(start) = cut.max(self.last_start()).checked_add(lal) else {
+            return Err(Fault::LsnSpent);
+        };
+        if start > LAST_LSN {
+            return Err(Fault::LsnSpent);
+        }
+        let entry = Entry {
+            volume_epoch,
+            cut,
+            start,
+        };
+        let mut extended = self.clone()?;
+        extended.entries.push(entry)?;
+        Ok(extended)
     }
 }
 

@@ -1,0 +1,53 @@
+use crate::{Lineage, newest};
+use std::alloc::Global;
+use std::test::Fail;
+use volume_model::Fault;
+
+/// The lineage of a volume's first recovery, of this epoch and cut, over a plan with an allowance of 10.
+fn recovered(alloc: Global, volume_epoch: u32, cut: u64) -> Result<Lineage, Fault> {
+    let birth = Lineage::birth(alloc)?;
+    if volume_epoch <= birth.last_epoch() {
+        return Err(Fault::NoActor);
+    }
+    birth.extend(volume_epoch, cut, 10)
+}
+
+#[test]
+fn starts(rt: HostRuntime) -> Result<(), Fail> {
+    let birth = Lineage::birth(rt.alloc())?;
+    assert_eq!(rt; birth.last_epoch(), 1);
+    let long = birth.extend(2, 1000, 10_000_000)?;
+    assert_eq!(rt; long.last_start(), 10_001_000);
+    assert_eq!(rt; birth.last_start(), 0);
+    assert_eq!(rt; birth.extend(2, 1 << 62, 1).err(), Some(Fault::LsnSpent));
+    assert_eq!(rt; birth.extend(2, u64::MAX, 10).err(), Some(Fault::LsnSpent));
+    Ok(())
+}
+
+#[test]
+fn two_recoveries(rt: HostRuntime) -> Result<(), Fail> {
+    let alloc = rt.alloc();
+    let second = recovered(alloc, 2, 5)?;
+    assert_eq!(rt; second.last_epoch(), 2);
+    assert_eq!(rt; second.last_start(), 15);
+    assert_eq!(rt; second.extend(4, 5, 10)?.last_start(), 25);
+    let third = recovered(alloc, 3, 3)?;
+    assert_eq!(rt; third.last_epoch(), 3);
+    assert_eq!(rt; third.last_start(), 13);
+    assert_eq!(rt; third.extend(4, 3, 10)?.last_start(), 23);
+    assert_eq!(rt; third.is_live(1, 3), true);
+    assert_eq!(rt; third.is_live(1, 4), false);
+    assert_eq!(rt; third.is_live(2, 16), false);
+    assert_eq!(rt; third.is_live(3, 13), false);
+    assert_eq!(rt; third.is_live(3, 14), true);
+    Ok(())
+}
+
+#[test]
+fn newest_of_three(rt: HostRuntime) -> Result<(), Fail> {
+    let alloc = rt.alloc();
+    let third = recovered(alloc, 3, 3)?;
+    let lineages = [Lineage::birth(alloc)?, third.clone()?, third];
+    assert_eq!(rt; newest(&lineages), 1);
+    Ok(())
+}
