@@ -5,3 +5,7 @@ pub mod Ranges
 pub mod Head
 pub mod Spelling
 pub mod Text
+pub mod Order
+pub mod Places
+pub mod Union
+pub mod RecordSet

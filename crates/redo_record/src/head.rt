@@ -38,7 +38,7 @@ pub fn u64_at(bytes: &[u8], at: usize) -> u64
 }
 
 /// The number of four bytes that stands there.
-fn u32_at(bytes: &[u8], at: usize) -> u32
+pub fn u32_at(bytes: &[u8], at: usize) -> u32
     requires { at + 4 ≤ length bytes.now }
     ensures { result ≡ number_at w32 at bytes.now }
 {

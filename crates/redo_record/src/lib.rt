@@ -7,6 +7,7 @@ mod head;
 mod packet;
 mod payload;
 mod record;
+mod record_set;
 mod text;
 
 pub use decoding::decode;
@@ -14,6 +15,7 @@ pub use encoding::encode;
 pub use packet::Packet;
 pub use payload::Payload;
 pub use record::Record;
+pub use record_set::RecordSet;
 
 #[cfg(test)]
 mod tests;

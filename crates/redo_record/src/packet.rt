@@ -8,7 +8,7 @@ ghost use Rattle.redo_record.specs.Text.{text_bytes};
 
 use crate::decoding::decode;
 use crate::encoding::spell;
-use crate::head::u64_at;
+use crate::head::{u32_at, u64_at};
 use crate::record::Record;
 use crate::text::Text;
 use std::cmp::Ordering;
@@ -61,6 +61,14 @@ impl Packet {
         ensures { result ≡ (packet_redo self.now).lsn }
     {
         u64_at(self.bytes(), 0)
+    }
+
+    /// The volume epoch of its record's writer.
+    #[tactic(auto, unfolding(crate::specs::Packet::packet_redo))]
+    pub fn volume_epoch(&self) -> u32
+        ensures { result ≡ (packet_redo self.now).volume }
+    {
+        u32_at(self.bytes(), 8)
     }
 
     /// The number before its record's in the group, 0 where there is none.
