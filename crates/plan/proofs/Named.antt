@@ -1,16 +1,19 @@
 -- Whether a plan names a member.
-use Rattle.std.proofs.Common.{◌≡◌, ℕ, zero, suc, ◌<◌, ◌≤◌, List, [], ◌∷◌, length, get_or, map, arith, ap, ◌∙◌, sym, inl, inr}
+use Rattle.std.proofs.Common.{◌≡◌, ℕ, zero, suc, ◌<◌, ◌≤◌, List, [], ◌∷◌, length, get_or, map, arith, refl, ap, ◌∙◌, sym, inl, inr}
 use Rattle.std.specs.Prelude.{Bool, true, false, ◌&&◌, ◌==◌, nat_lt}
 use Rattle.std.proofs.lemmas.Bool.{cases_lt}
 use Rattle.std.proofs.lemmas.Bool.Decides.{nat_tests}
-use Rattle.std.proofs.lemmas.List.{length-map}
-use Rattle.std.specs.FinSet.{contains}
+use Rattle.std.proofs.lemmas.List.{length-map, get_or_past}
+use Rattle.std.specs.Ordering.{nat_cmp}
+use Rattle.std.specs.FinSet.{FinSet, contains, empty, contains-empty}
 use Rattle.volume_model.specs.Lists.{any, some_below}
-use Rattle.volume_model.specs.Plan.{has_member, is_named}
+use Rattle.volume_model.specs.Sets.{listed}
+use Rattle.volume_model.specs.Plan as model
+use Rattle.volume_model.specs.Plan.{has_member, is_full, is_named}
 use Rattle.plan.specs.declared.configurations.Group.{Group}
 use Rattle.plan.specs.declared.configurations.Plan.{Plan}
 use Rattle.plan.specs.declared.configurations.Configuration.{Configuration}
-use Rattle.plan.specs.PlanData.{configuration_at, group_at, model_of, shown}
+use Rattle.plan.specs.PlanData.{PlanData, no_configuration, configuration_at, group_at, model_of, shown, epoch_within}
 use Rattle.plan.specs.Plan.{configuration_data, group_data, plan_data}
 use Rattle.plan.specs.CheckedModel.{Shows}
 use Rattle.plan.proofs.Lookups.{item-at, any-listed, contains-below}
@@ -33,10 +36,16 @@ names-in plan xs i g m x same is h at =
     let within : nat_lt g (length (map group_data plan.groups.items)) ≡ true = lt_true g _ (omega (arith, length-map plan.groups.items group_data, ap length same)) in
     λ j. sym within j && some_below (length (sym there j)) (λ c. sym (any-listed (configuration_at (sym there j) c).members m) j)
 
+pub member-shown : (x : Configuration) (y : model.Configuration) (m : ℕ) (b : Bool) → Shows x y → b ≡ contains x.members m → ((z : ℕ) → contains x.members z ≡ true → z < 64) → b ≡ has_member y m
+member-shown x y m b shows is below = is ∙ contains-below x.members m below ∙ sym (any-listed x.members m) ∙ ap (any (λ z. z == m)) shows.members
+
+pub full-shown : (x : Configuration) (y : model.Configuration) (m : ℕ) (b : Bool) → Shows x y → b ≡ contains x.full m → ((z : ℕ) → contains x.full z ≡ true → z < 64) → b ≡ is_full y m
+full-shown x y m b shows is below = is ∙ contains-below x.full m below ∙ sym (any-listed x.full m) ∙ ap (any (λ z. z == m)) shows.full
+
 pub shown-member : (plan : Plan) (g m : ℕ) (epoch : ℕ) (x : Configuration) (b : Bool) → g < length (map group_data plan.groups.items) → Shows x (shown epoch (configuration_at (group_at (plan_data plan) g) 0)) → b ≡ contains x.members m → ((y : ℕ) → contains x.members y ≡ true → y < 64)
     → b ≡ (nat_lt g (length (map group_data plan.groups.items)) && has_member (shown epoch (configuration_at (group_at (plan_data plan) g) 0)) m)
 shown-member plan g m epoch x b h shows is below =
-    is ∙ contains-below x.members m below ∙ sym (any-listed x.members m) ∙ ap (any (λ y. y == m)) shows.members
+    member-shown x (shown epoch (configuration_at (group_at (plan_data plan) g) 0)) m b shows is below
     ∙ ap (λ t. t && has_member (shown epoch (configuration_at (group_at (plan_data plan) g) 0)) m) (sym (lt_true g _ h))
 
 -- each group has a root
@@ -54,3 +63,27 @@ no-root plan g b none =
       | inl h ↦ absurd (none h (root-of plan g h))
       | inr past ↦ ap (λ t. t && b) (sym (lt_false g _ past))
     ]
+
+-- where there is no such group or no such configuration
+pub not-there : (plan : PlanData) (g c : ℕ) → (g < length plan.groups → c < length (group_at plan g) → ⊥) → configuration_at (group_at plan g) c ≡ no_configuration
+not-there plan g c none =
+    elim (cases_lt g (length plan.groups)) [
+      | inl there ↦ elim (cases_lt c (length (group_at plan g))) [
+        | inl within ↦ absurd (none there within)
+        | inr past ↦ get_or_past (group_at plan g) c no_configuration past
+      ]
+      | inr past ↦ ap (λ group. configuration_at group c) (get_or_past plan.groups g [] past)
+    ]
+
+and_false : (b : Bool) → (b && false) ≡ false
+and_false true = refl
+and_false false = refl
+
+none_listed : (m : ℕ) → false ≡ any (λ z. z == m) (listed (empty {R = nat_cmp}))
+none_listed m = sym (any-listed (empty {R = nat_cmp}) m ∙ ap (λ b. nat_lt m 64 && b) (contains-empty nat_cmp m) ∙ and_false (nat_lt m 64))
+
+pub no-member : (plan : Plan) (g c m : ℕ) → (g < length (map group_data plan.groups.items) → c < length (group_at (plan_data plan) g) → ⊥) → false ≡ has_member ((model_of (plan_data plan)).configuration g c) m
+no-member plan g c m none = none_listed m ∙ ap (λ x. any (λ z. z == m) (listed x.members)) (sym (not-there (plan_data plan) g c none))
+
+pub no-full : (plan : Plan) (g c m : ℕ) → (g < length (map group_data plan.groups.items) → c < length (group_at (plan_data plan) g) → ⊥) → false ≡ is_full ((model_of (plan_data plan)).configuration g c) m
+no-full plan g c m none = none_listed m ∙ ap (λ x. any (λ z. z == m) (listed x.full)) (sym (not-there (plan_data plan) g c none))

@@ -4,7 +4,7 @@ ghost use Rattle.std.specs.Prelude.{◌≡◌, None};
 ghost use Rattle.plan.specs.PlanFaults.{plan_fault};
 ghost use Rattle.plan.specs.Plan.{plan_data};
 
-use crate::configurations::{Configuration, Plan};
+use crate::configurations::{Configuration, Group, Plan};
 use quorum_checker::{no_fault_refutes, refuted_claim_meets};
 use volume_model::claims_certify;
 
@@ -16,8 +16,10 @@ pub struct CheckedPlan {
 }
 
 impl CheckedPlan {
-    ghost use Rattle.std.specs.Prelude.{◌&&◌, ◌≤◌, nat_lt};
-    ghost use Rattle.volume_model.specs.Plan.{IsCertified, has_member, is_named};
+    ghost use Rattle.std.specs.Prelude.{[], ◌&&◌, ◌≤◌, MatchOption, nat_lt};
+    ghost use Rattle.plan.specs.Plan.{group_data};
+    ghost use Rattle.plan.specs.PlanData.{group_at};
+    ghost use Rattle.volume_model.specs.Plan.{IsCertified, has_member, is_full, is_named};
     ghost use Rattle.plan.specs.CheckedModel.{checked_model, ShowsConfiguration};
 
     /// A plan without a fault, as a checked one.
@@ -26,6 +28,13 @@ impl CheckedPlan {
         ensures { result.plan ≡ plan }
     {
         CheckedPlan { plan }
+    }
+
+    /// A group by its number.
+    pub(crate) fn group(&self, number: u8) -> Option<&Group>
+        ensures { MatchOption result (group_at (plan_data self.now.plan) number ≡ []) (λ group. group_at (plan_data self.now.plan) number ≡ group_data group.now) }
+    {
+        self.plan.groups.get(usize::from(number))
     }
 
     /// How far log sequence numbers may run ahead of the durable point.
@@ -67,6 +76,26 @@ impl CheckedPlan {
     {
         match self.plan.groups.get(usize::from(group)) {
             Some(group) => group.names(member),
+            None => false,
+        }
+    }
+
+    /// Whether a configuration of a group has the member.
+    pub fn has_member(&self, group: u8, configuration: u8, member: u8) -> bool
+        ensures { result ≡ has_member ((checked_model self.now).configuration group configuration) member }
+    {
+        match self.configuration(group, configuration) {
+            Some(configuration) => configuration.members.contains(member),
+            None => false,
+        }
+    }
+
+    /// Whether a configuration of a group has the member, and the member keeps whole pages there.
+    pub fn is_full(&self, group: u8, configuration: u8, member: u8) -> bool
+        ensures { result ≡ is_full ((checked_model self.now).configuration group configuration) member }
+    {
+        match self.configuration(group, configuration) {
+            Some(configuration) => configuration.full.contains(member),
             None => false,
         }
     }

@@ -12,6 +12,7 @@ mod parents;
 mod placed;
 mod reading;
 mod writing;
+mod tree;
 
 pub use checked::CheckedPlan;
 pub use checking::check_plan;

@@ -48,7 +48,7 @@ fn members_at(configurations: &[Configuration], number: u64) -> MemberSet
 }
 
 /// The parent of the configuration with a number, where it stands before it.
-fn parent_of(configurations: &[Configuration], number: u64) -> Option<u64>
+pub fn parent_of(configurations: &[Configuration], number: u64) -> Option<u64>
     ensures { result ≡ parent_at (map configuration_data configurations.now) number }
 {
     let parent = configurations.get(number as usize)?.parent?;
