@@ -1,8 +1,13 @@
 //! What actors say to one another.
 #![tactic(auto)]
 
+mod contents;
 mod label;
 mod message;
 
-pub use label::Label;
-pub use message::{Ack, Message, Write};
+pub use contents::Contents;
+pub use label::{Label, Place};
+pub use message::{
+    Ack, CopyAsk, CopyReport, Fence, Gossip, Install, Message, Page, PageAsk, Report, StepTo, View,
+    Write,
+};

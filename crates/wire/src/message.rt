@@ -1,7 +1,62 @@
-//! What clients and nodes say to one another.
+//! What actors say to one another.
 
-use crate::label::Label;
+ghost use Rattle.std.specs.Prelude.{◌≡◌, ◌==◌, ◌&&◌};
+ghost use Rattle.redo_record.specs.Packet.{packet_redo};
+
+use crate::contents::Contents;
+use crate::label::{Label, Place};
 use redo_record::Packet;
+
+/// Where the groups stand, for the client of a volume epoch.
+#[derive(Drop)]
+pub struct View {
+    /// The volume epoch.
+    pub volume: u32,
+    /// The place of each group, in their order.
+    pub places: Vec<Place>,
+}
+
+/// Where a group now stands, for its nodes.
+#[derive(Clone, Copy, Debug, PartialEq, Eq)]
+pub struct StepTo {
+    /// The group.
+    pub group: u8,
+    /// Where it now stands.
+    pub place: Place,
+}
+
+/// A recovery's volume epoch, for the nodes of a group.
+#[derive(Clone, Copy, Debug, PartialEq, Eq)]
+pub struct Fence {
+    /// The group.
+    pub group: u8,
+    /// The epochs under which the recovery speaks.
+    pub label: Label,
+}
+
+/// What a node holds, told to the recovery that fenced it.
+#[derive(Drop)]
+pub struct Report {
+    /// The group.
+    pub group: u8,
+    /// The label of the fence.
+    pub label: Label,
+    /// The member that holds the segment.
+    pub from: u8,
+    /// What it holds.
+    pub contents: Contents,
+}
+
+/// What the nodes of a group are to hold.
+#[derive(Drop)]
+pub struct Install {
+    /// The group.
+    pub group: u8,
+    /// The epochs under which the recovery speaks.
+    pub label: Label,
+    /// What they are to hold.
+    pub contents: Contents,
+}
 
 /// A record of a writer's log, for the nodes of a group.
 #[derive(Clone, Copy)]
@@ -14,7 +69,18 @@ pub struct Write {
     pub packet: Packet,
 }
 
-/// What a node holds, told to the client whose message it answers.
+/// A record that a node holds, for the other nodes of its group.
+#[derive(Clone, Copy)]
+pub struct Gossip {
+    /// The group.
+    pub group: u8,
+    /// The epochs of the node.
+    pub label: Label,
+    /// The record.
+    pub packet: Packet,
+}
+
+/// How far a node holds the log, told to the client whose message it answers.
 #[derive(Clone, Copy, Debug, PartialEq, Eq)]
 pub struct Ack {
     /// The group.
@@ -27,11 +93,113 @@ pub struct Ack {
     pub scl: u64,
 }
 
+/// A node that isn't whole asks the others of its group what they hold.
+#[derive(Clone, Copy, Debug, PartialEq, Eq)]
+pub struct CopyAsk {
+    /// The group.
+    pub group: u8,
+    /// The membership epoch of the node.
+    pub epoch: u32,
+}
+
+/// What a node holds, told to one that isn't whole.
+#[derive(Drop)]
+pub struct CopyReport {
+    /// The group.
+    pub group: u8,
+    /// The membership epoch of both.
+    pub epoch: u32,
+    /// The member that holds the segment.
+    pub from: u8,
+    /// What it holds.
+    pub contents: Contents,
+}
+
+/// A writer asks for a block's bytes.
+#[derive(Clone, Copy, Debug, PartialEq, Eq)]
+pub struct PageAsk {
+    /// The group.
+    pub group: u8,
+    /// The epochs under which the writer speaks.
+    pub label: Label,
+    /// The block.
+    pub block: u32,
+    /// The LSN up to which its records count.
+    pub point: u64,
+}
+
+/// A block's bytes.
+#[derive(Drop)]
+pub struct Page {
+    /// The group.
+    pub group: u8,
+    /// The label of the question.
+    pub label: Label,
+    /// The member that holds the segment.
+    pub from: u8,
+    /// The block.
+    pub block: u32,
+    /// The LSN up to which its records count.
+    pub point: u64,
+    /// The bytes.
+    pub bytes: Box<[u8; 512]>,
+}
+
 /// What an actor says to another.
 #[derive(Drop)]
 pub enum Message {
+    /// Where the groups stand.
+    View(View),
+    /// Where a group now stands.
+    StepTo(StepTo),
+    /// A recovery's volume epoch.
+    Fence(Fence),
+    /// What a node holds, told to a recovery.
+    Report(Report),
+    /// What nodes are to hold.
+    Install(Install),
     /// A record of a writer's log.
     Write(Write),
-    /// What a node holds.
+    /// A record of another node.
+    Gossip(Gossip),
+    /// How far a node holds the log.
     Ack(Ack),
+    /// A question for copies.
+    CopyAsk(CopyAsk),
+    /// What a node holds, told to one that isn't whole.
+    CopyReport(CopyReport),
+    /// A question for a block's bytes.
+    PageAsk(PageAsk),
+    /// A block's bytes.
+    Page(Page),
+}
+
+impl Write {
+    /// Whether it is for the nodes of the group: it speaks of the group, and its record is one of the group.
+    pub fn is_for(&self, group: u8) -> bool
+        ensures { result ≡ (self.now.group == group && (packet_redo self.now.packet).group == group) }
+    {
+        self.group == group && self.packet.group() == group
+    }
+}
+
+impl Gossip {
+    /// Whether it is for the nodes of the group: it speaks of the group, and its record is one of the group.
+    pub fn is_for(&self, group: u8) -> bool
+        ensures { result ≡ (self.now.group == group && (packet_redo self.now.packet).group == group) }
+    {
+        self.packet.group() == group && self.group == group
+    }
+}
+
+impl Install {
+    ghost use Rattle.volume_model.specs.Node.{in_group};
+    ghost use Rattle.wire.specs.Contents.{contents_of};
+
+    /// Whether it is for the nodes of the group: it speaks of the group, and its records are those of the group.
+    pub fn is_for(&self, group: u8) -> bool
+        ensures { result ≡ (self.now.group == group && in_group group (contents_of self.now.contents)) }
+    {
+        self.group == group && self.contents.is_of(group)
+    }
 }

@@ -1,0 +1,8 @@
+use Rattle.volume_model.specs.Lineage as model
+use Rattle.lineage.specs.Lineage.{lineage_of}
+use Rattle.redo_record.specs.RecordSet.{records_of}
+use Rattle.wire.specs.declared.contents.Contents.{Contents}
+
+-- the contents of the model that contents are
+abbrev pub contents_of : Contents → model.Contents
+contents_of contents = record { lineage = lineage_of contents.lineage; records = records_of contents.records }
