@@ -30,6 +30,13 @@ fn apply(page: &mut [u8], entry: &Record, block: u32, point: u64)
     }
 }
 
+/// Applies a packet's record that is one of the block's, and isn't past the point.
+pub fn write_packet(page: &mut [u8; BLOCK], packet: &Packet, block: u32, point: u64)
+    ensures { page.new ≡ (if (packet_redo packet.now).block == block && nat_le (packet_redo packet.now).lsn point then written (packet_redo packet.now) page.old else page.old) }
+{
+    apply(page, &packet.record(), block, point);
+}
+
 /// The bytes of a block at a point: the writes of the block's records up to the point, in the order of the packets, over zeros.
 /// The packets are those of one group, in order of LSN.
 pub fn page_of(packets: &[Packet], block: u32, point: u64) -> [u8; BLOCK]
@@ -37,8 +44,7 @@ pub fn page_of(packets: &[Packet], block: u32, point: u64) -> [u8; BLOCK]
 {
     let mut page = [0; BLOCK];
     for packet in packets {
-        let entry = packet.record();
-        apply(&mut page, &entry, block, point);
+        write_packet(&mut page, packet, block, point);
     }
     page
 }

@@ -1,5 +1,6 @@
 pub mod Complete
 pub mod Settled
-pub mod Order
 pub mod Edits
 pub mod Taking
+pub mod Sets
+pub mod Paging

@@ -10,7 +10,9 @@ use Rattle.redo_record.specs.declared.packet.Packet.{Packet}
 use Rattle.redo_record.specs.Packet.{packet_redo, packet_redo-ranges}
 use Rattle.redo_record.specs.Ranges.{HasRanges}
 use Rattle.segment_core.specs.declared.held.Held.{Held}
-use Rattle.segment_core.specs.Held.{redo_held, redos_of, IsInOrder, IsReachedBelow, AreSettled}
+use Rattle.redo_record.specs.Order.{IsInOrder}
+use Rattle.redo_record.proofs.Places.{shown-all}
+use Rattle.segment_core.specs.Held.{redo_held, redos_of, IsReachedBelow, AreSettled}
 use Rattle.segment_core.proofs.Complete.{IsLinked, AreLinked, scl-chained, scl-unchained}
 
 -- a shorter beginning of a beginning
@@ -20,19 +22,13 @@ take-within (suc m) zero xs h = absurd (omega arith)
 take-within (suc m) (suc n) [] h = refl
 take-within (suc m) (suc n) (x ∷ xs) h = ap (λ ys. x ∷ ys) (take-within m n xs (omega arith))
 
--- what holds of each element holds of each record
-pub redos-all : (P : Redo → Type 0) (held : List Held) → ((k : ℕ) (d : Held) → k < length held → P (redo_held (get_or held k d))) → (s : Redo) → IsIn s (redos_of held) → P s
-redos-all P [] h s i = absurd i
-redos-all P (x ∷ rest) h s (inl e) = subst P (sym e) (h 0 x (omega arith))
-redos-all P (x ∷ rest) h s (inr i) = redos-all P rest (λ k d l. h (suc k) d (omega arith)) s i
-
 pub packet_redo-linked : (packet : Packet) → IsLinked (packet_redo packet)
 packet_redo-linked packet =
     let ranges : HasRanges (packet_redo packet) = packet_redo-ranges packet in
     record { positive = ranges.lsn_positive; back = omega (arith, ranges.prev_volume_before, ranges.prev_group_in_volume) }
 
 pub redos-linked : (held : List Held) → AreLinked (redos_of held)
-redos-linked held = redos-all IsLinked held (λ k d l. packet_redo-linked (get_or held k d).packet)
+redos-linked held = shown-all redo_held IsLinked held (λ k d l. packet_redo-linked (get_or held k d).packet)
 
 -- an earlier record has no greater number
 pub before-lsn : (r s : Redo) → numbers_before (spelling r) (spelling s) ≡ true → r.lsn ≤ s.lsn
@@ -94,14 +90,14 @@ module _ (held : List Held) (r : Redo) (link : IsLinked r) (count : ℕ)
 
   low : (s : Redo) → IsIn s ys → s.lsn ≤ r.prev_group
   unfolding ys
-  low = redos-all (λ s. s.lsn ≤ r.prev_group) (take count held) (λ k d h.
+  low = shown-all redo_held (λ s. s.lsn ≤ r.prev_group) (take count held) (λ k d h.
       let m : k < min count (length held) = simp length-take at h in
       let a : get_or (take count held) k d ≡ get_or held k d = get_or-take count held k d (omega arith) in
       subst (λ z. (redo_held z).lsn ≤ r.prev_group) (sym a) (leb-true _ _ (point.0 k d (omega arith) (omega arith))))
 
   high : (s : Redo) → IsIn s zs → r.prev_group < s.lsn
   unfolding zs
-  high = redos-all (λ s. r.prev_group < s.lsn) (drop count held) (λ k d h.
+  high = shown-all redo_held (λ s. r.prev_group < s.lsn) (drop count held) (λ k d h.
       let m : k < length held - count = simp length-drop at h in
       let a : get_or (drop count held) k d ≡ get_or held (count + k) d = get_or-drop count held k d in
       subst (λ z. r.prev_group < (redo_held z).lsn) (sym a) (leb-false _ _ (point.1 (count + k) d (omega arith) (omega arith))))
@@ -110,7 +106,7 @@ module _ (held : List Held) (r : Redo) (link : IsLinked r) (count : ℕ)
   linked = subst AreLinked (sym both) (redos-linked held)
 
   most : (s : Redo) → IsIn s (ys ++ zs) → s.lsn ≤ r.lsn
-  most s i = redos-all (λ z. z.lsn ≤ r.lsn) held last s (subst (IsIn s) both i)
+  most s i = shown-all redo_held (λ z. z.lsn ≤ r.lsn) held last s (subst (IsIn s) both i)
 
   pub complete-chained : scl (redos_of (take count held)) ≡ r.prev_group → scl (redos_of held ++ r ∷ []) ≡ r.lsn
   unfolding ys

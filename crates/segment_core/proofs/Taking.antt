@@ -6,10 +6,10 @@ use Rattle.volume_model.specs.Message.{Label, Message}
 use Rattle.volume_model.specs.Node.{Node, NodeAnswer, label_checks, lineage_epoch, most_records, ack_of, take_record}
 use Rattle.volume_model.specs.Refusal.{refuse_if}
 use Rattle.volume_model.specs.declared.fault.Fault.{Fault}
-use Rattle.volume_model.specs.declared.fault.Fault.TheVariants.{Full, NotAddressed, NotInstalled}
+use Rattle.volume_model.specs.declared.fault.Fault.TheVariants.{Full, NotInstalled}
 use Rattle.wire.specs.Message.{made_of}
 use Rattle.segment_core.specs.declared.prepared.Prepared.{Prepared}
-use Rattle.segment_core.specs.Prepared.{entered, step_of}
+use Rattle.segment_core.specs.Prepared.{effected, step_of}
 
 -- a test that doesn't pass refuses nothing
 passes : (test : Bool) (fault : Fault) (rest : NodeAnswer) → test ≡ false → refuse_if test fault rest ≡ rest
@@ -23,31 +23,25 @@ refused test fault rest e = rw e refl
 abbrev answer : Node → List Redo → List Message → NodeAnswer
 answer node records made = Ok (record { made = made; node = record node { contents = record { lineage = node.contents.lineage; records = records } } })
 
-module _ (group member to : ℕ) (node : Node) (label : Label) (r : Redo) (prepared : Prepared)
-    (here : to ≡ group) (own : r.group ≡ group)
+module _ (group member : ℕ) (node : Node) (label : Label) (r : Redo) (prepared : Prepared)
     (checks : (rest : NodeAnswer) → label_checks node label rest ≡ rest)
     (installed : lineage_epoch node ≡ label.volume)
     (fits : (not (holds_record r node.contents.records) && nat_le most_records (length node.contents.records)) ≡ false)
     (made : made_of prepared.answer ≡ ack_of group member label (with_record r node.contents.records) ∷ [])
-    (records : entered prepared.entrant node.contents.records ≡ with_record r node.contents.records) where
-  pub takes : refuse_if (not (to == group && r.group == group)) NotAddressed (take_record group member node label r) ≡ Ok (step_of node prepared)
+    (same : effected prepared.effect node ≡ record node { contents = record { lineage = node.contents.lineage; records = with_record r node.contents.records } }) where
+  pub takes : take_record group member node label r ≡ Ok (step_of node prepared)
   takes =
       let after : NodeAnswer = answer node (with_record r node.contents.records) (ack_of group member label (with_record r node.contents.records) ∷ []) in
-      let addressed : not (to == group && r.group == group) ≡ false = rw (eq-eqb to group here, eq-eqb r.group group own) refl in
       let told : not (lineage_epoch node == label.volume) ≡ false = rw (eq-eqb (lineage_epoch node) label.volume installed) refl in
-      passes (not (to == group && r.group == group)) NotAddressed (take_record group member node label r) addressed
-      ∙ checks (refuse_if (not (lineage_epoch node == label.volume)) NotInstalled (refuse_if (not (holds_record r node.contents.records) && nat_le most_records (length node.contents.records)) Full after))
+      checks (refuse_if (not (lineage_epoch node == label.volume)) NotInstalled (refuse_if (not (holds_record r node.contents.records) && nat_le most_records (length node.contents.records)) Full after))
       ∙ passes (not (lineage_epoch node == label.volume)) NotInstalled (refuse_if (not (holds_record r node.contents.records) && nat_le most_records (length node.contents.records)) Full after) told
       ∙ passes (not (holds_record r node.contents.records) && nat_le most_records (length node.contents.records)) Full after fits
-      ∙ ap (λ rs. answer node rs (ack_of group member label (with_record r node.contents.records) ∷ [])) (sym records)
-      ∙ ap (answer node (entered prepared.entrant node.contents.records)) (sym made)
+      ∙ ap (λ (n : Node). Ok (record { made = ack_of group member label (with_record r node.contents.records) ∷ []; node = n })) (sym same)
+      ∙ ap (λ (ms : List Message). Ok (record { made = ms; node = effected prepared.effect node })) (sym made)
 
 -- a record that comes before its lineage is installed
-pub not_installed : (group member to : ℕ) (node : Node) (label : Label) (r : Redo) → to ≡ group → r.group ≡ group → ((rest : NodeAnswer) → label_checks node label rest ≡ rest) → lineage_epoch node ≢ label.volume
-    → refuse_if (not (to == group && r.group == group)) NotAddressed (take_record group member node label r) ≡ Err NotInstalled
-not_installed group member to node label r here own checks apart =
-    let addressed : not (to == group && r.group == group) ≡ false = rw (eq-eqb to group here, eq-eqb r.group group own) refl in
+pub not_installed : (group member : ℕ) (node : Node) (label : Label) (r : Redo) → ((rest : NodeAnswer) → label_checks node label rest ≡ rest) → lineage_epoch node ≢ label.volume → take_record group member node label r ≡ Err NotInstalled
+not_installed group member node label r checks apart =
     let other : not (lineage_epoch node == label.volume) ≡ true = rw (ne_eqb (lineage_epoch node) label.volume apart) refl in
-    passes (not (to == group && r.group == group)) NotAddressed (take_record group member node label r) addressed
-    ∙ checks (refuse_if (not (lineage_epoch node == label.volume)) NotInstalled (refuse_if (not (holds_record r node.contents.records) && nat_le most_records (length node.contents.records)) Full (answer node (with_record r node.contents.records) (ack_of group member label (with_record r node.contents.records) ∷ []))))
+    checks (refuse_if (not (lineage_epoch node == label.volume)) NotInstalled (refuse_if (not (holds_record r node.contents.records) && nat_le most_records (length node.contents.records)) Full (answer node (with_record r node.contents.records) (ack_of group member label (with_record r node.contents.records) ∷ []))))
     ∙ refused (not (lineage_epoch node == label.volume)) NotInstalled (refuse_if (not (holds_record r node.contents.records) && nat_le most_records (length node.contents.records)) Full (answer node (with_record r node.contents.records) (ack_of group member label (with_record r node.contents.records) ∷ []))) other

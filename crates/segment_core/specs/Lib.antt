@@ -1,5 +1,4 @@
 pub mod Held
-pub mod Places
 pub mod Records
 pub mod Prepared
 pub mod Segment

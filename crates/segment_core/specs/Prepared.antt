@@ -1,24 +1,36 @@
-use Rattle.std.specs.Prelude.{List, Option, Some, None}
+use Rattle.std.specs.Prelude.{List, [], ◌∷◌, ◌++◌, Option}
 use Rattle.volume_model.specs.Redo.{Redo, with_record}
-use Rattle.volume_model.specs.Node.{Node, NodeStep}
+use Rattle.volume_model.specs.Node.{Node, NodeStep, From}
 use Rattle.redo_record.specs.Packet.{packet_redo}
+use Rattle.lineage.specs.Lineage.{lineage_of}
 use Rattle.wire.specs.declared.message.Message.{Message}
-use Rattle.wire.specs.Message.{made_of}
-use Rattle.segment_core.specs.declared.prepared.Entrant.{Entrant}
+use Rattle.wire.specs.Contents.{contents_of}
+use Rattle.wire.specs.Message.{made_of, place_of}
+use Rattle.segment_core.specs.declared.prepared.Copied.{Copied}
+use Rattle.segment_core.specs.declared.prepared.Effect.{Effect}
+use Rattle.segment_core.specs.declared.prepared.Effect.TheVariants.{Nothing, Enter, Promise, Move, Replace, Keep}
 use Rattle.segment_core.specs.declared.prepared.Prepared.{Prepared}
+use Rattle.segment_core.specs.Records.{records_of}
 
 -- the message that the step makes
 abbrev pub answer_of : Prepared → Option Message
 answer_of prepared = prepared.answer
 
--- the records with the one that enters
-abbrev pub entered : Option Entrant → List Redo → List Redo
-entered None records = records
-entered (Some entrant) records = with_record (packet_redo entrant.packet) records
+-- what the model's node keeps of a copy
+abbrev pub copy_of : Copied → From
+copy_of copied = record { sender = copied.from; contents = contents_of copied.contents }
 
--- what the step makes of a node: it takes the record that enters
+-- what the effect makes of a node
+abbrev pub effected : Effect → Node → Node
+effected Nothing node = node
+effected (Enter entrant) node =
+    record node { contents = record { lineage = node.contents.lineage; records = with_record (packet_redo entrant.packet) node.contents.records } }
+effected (Promise volume) node = record node { volume = volume }
+effected (Move place) node = record node { place = place_of place; copies = [] }
+effected (Replace volume lineage records) node =
+    record node { volume = volume; contents = record { lineage = lineage_of lineage; records = records_of records } }
+effected (Keep copied) node = record node { copies = node.copies ++ copy_of copied ∷ [] }
+
+-- what the step makes of a node
 abbrev pub step_of : Node → Prepared → NodeStep
-step_of node prepared = record {
-  made = made_of prepared.answer;
-  node = record node { contents = record { lineage = node.contents.lineage; records = entered prepared.entrant node.contents.records } };
-}
+step_of node prepared = record { made = made_of prepared.answer; node = effected prepared.effect node }

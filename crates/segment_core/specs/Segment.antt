@@ -1,19 +1,25 @@
-use Rattle.std.specs.Prelude.{◌≡◌, ℕ, not, [], Option, Some, None, Result, Ok, Err}
+use Rattle.std.specs.Prelude.{◌≡◌, ℕ, ◌<◌, not, ◌&&◌, ◌==◌, nat_lt, List, [], ◌∷◌, map, length, vec_capacity, Option, Result, Ok, Err}
 use Rattle.std.specs.Arc.{arc_value}
 use Rattle.volume_model.specs.Plan as model
-use Rattle.volume_model.specs.Node.{Node, NodeAnswer, born_node}
+use Rattle.volume_model.specs.Redo.{scl}
+use Rattle.volume_model.specs.Node.{Node, NodeAnswer, born_node, has_configuration, lineage_epoch, page_of}
+use Rattle.volume_model.specs.Message.{Label}
+use Rattle.volume_model.specs.Message.Message.{Page}
+use Rattle.volume_model.specs.Answer.{◌>>=◌}
 use Rattle.volume_model.specs.Refusal.{refuse_if}
 use Rattle.volume_model.specs.declared.fault.Fault.{Fault}
-use Rattle.volume_model.specs.declared.fault.Fault.TheVariants.{NoActor, NoMemory}
+use Rattle.volume_model.specs.declared.fault.Fault.TheVariants.{NoActor, NoMemory, NotInstalled, NotWhole, PointAhead, TailSegment}
 use Rattle.plan.specs.CheckedModel.{checked_model}
 use Rattle.redo_record.specs.Packet.{packet_redo}
 use Rattle.lineage.specs.Lineage.{lineage_of}
 use Rattle.wire.specs.declared.message.Message.{Message}
 use Rattle.wire.specs.Message.{made_of}
-use Rattle.segment_core.specs.declared.prepared.Entrant.{Entrant}
+use Rattle.segment_core.specs.declared.prepared.Effect.{Effect}
+use Rattle.segment_core.specs.declared.prepared.Effect.TheVariants.{Enter, Keep}
 use Rattle.segment_core.specs.declared.prepared.Prepared.{Prepared}
 use Rattle.segment_core.specs.declared.segment.Segment.{Segment}
-use Rattle.segment_core.specs.Places.{IsPlaceFor}
+use Rattle.redo_record.specs.Places.{IsPlaceFor}
+use Rattle.segment_core.specs.Prepared.{copy_of}
 use Rattle.segment_core.specs.Records.{records_of, HasRoom}
 
 -- the node of the model that a segment is
@@ -23,7 +29,7 @@ node_of s = record {
   place = record { configuration = s.configuration; epoch = s.epoch };
   whole = s.whole;
   contents = record { lineage = lineage_of s.lineage; records = records_of s.records };
-  copies = [];
+  copies = map copy_of s.copies.items;
 }
 
 -- the plan over which it was made
@@ -54,14 +60,33 @@ pub record IsSameActor (old new : Segment) : Type 0 where
 abbrev pub born : model.Plan → ℕ → ℕ → Result Node Fault
 born plan group member = refuse_if (not (model.is_named plan group member)) NoActor (Ok (born_node plan group member))
 
--- there is room for the record that enters, and its place is right
-abbrev pub CanEnter : Segment → Option Entrant → Type 0
-CanEnter s None = Unit {0}
-CanEnter s (Some entrant) = HasRoom s.records × IsPlaceFor (records_of s.records) (packet_redo entrant.packet) entrant.place
+-- a page of a node that keeps whole pages, or the first refusal
+unfoldable pub full_page : model.Plan → ℕ → ℕ → Node → ℕ → ℕ → Result (List ℕ) Fault
+full_page plan group member node block point =
+    refuse_if (not (has_configuration plan group member node && model.is_full (plan.configuration group node.place.configuration) member)) TailSegment (
+    refuse_if (nat_lt (scl node.contents.records) point) PointAhead (
+    Ok (page_of node.contents.records block point)))
+
+-- the page of a whole node
+abbrev pub paged : model.Plan → ℕ → ℕ → Node → ℕ → ℕ → Result (List ℕ) Fault
+paged plan group member node block point = refuse_if (not node.whole) NotWhole (full_page plan group member node block point)
+
+-- what a node answers to a question for a page whose label is right
+unfoldable pub page_answer : model.Plan → ℕ → ℕ → Node → Label → ℕ → ℕ → NodeAnswer
+page_answer plan group member node label block point =
+    refuse_if (not (lineage_epoch node == label.volume)) NotInstalled (
+    full_page plan group member node block point >>= λ bytes.
+    Ok (record { made = Page group label member block point bytes ∷ []; node = node }))
+
+-- there is room for what enters or is kept, and the place of what enters is right
+abbrev pub CanTake : Segment → Effect → Type 0
+CanTake s (Enter entrant) = HasRoom s.records × IsPlaceFor (records_of s.records) (packet_redo entrant.packet) entrant.place
+CanTake s (Keep copied) = length s.copies.items < vec_capacity s.copies
+CanTake s effect = Unit {0}
 
 -- the segment is ready to take the step
 pub record IsReady (s : Segment) (prepared : Prepared) : Type 0 where
-  pub can_enter : CanEnter s prepared.entrant
+  pub can_take : CanTake s prepared.effect
 
 -- a refused node stays as it was, and so does one that is refused memory; otherwise it makes its answer and becomes what the
 -- definition says

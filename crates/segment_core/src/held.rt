@@ -1,18 +1,33 @@
 //! Records in order, each with the complete point of those up to it.
 
-ghost use Rattle.std.specs.Prelude.{◌≡◌, ℕ, ◌<◌, ◌≤◌, List, [], ◌∷◌, ◌++◌, length, slice_index_or};
+ghost use Rattle.std.specs.Prelude.{◌≡◌, ℕ, ◌<◌, ◌≤◌, List, [], ◌∷◌, ◌++◌, length, slice_index_or, map, IfOk};
 ghost use Rattle.volume_model.specs.Redo.{scl};
 ghost use Rattle.redo_record.specs.Packet.{packet_redo};
 ghost use Rattle.segment_core.specs.declared.held.Held.{Held};
-ghost use Rattle.segment_core.specs.Held.{redo_held, redos_of, IsInOrder, IsReachedBelow, AreSettled};
+ghost use Rattle.redo_record.specs.Order.{IsInOrder};
+ghost use Rattle.segment_core.specs.Held.{redo_held, redos_of, unsettled_held, IsReachedBelow, AreSettled};
 
 use redo_record::Packet;
+use std::alloc::{AllocError, Global};
 
 /// A record, and the complete point of the records up to it.
 #[derive(Clone, Copy)]
 pub struct Held {
     pub packet: Packet,
     pub reached: u64,
+}
+
+/// Records that know no complete point yet.
+pub fn unsettled(alloc: Global, packets: &[Packet]) -> Result<Vec<Held>, AllocError>
+    ensures { IfOk result (λ held. held.items ≡ map unsettled_held packets.now) }
+{
+    packets
+        .iter()
+        .map(|packet| Held {
+            packet: *packet,
+            reached: 0,
+        })
+        .collect(alloc)
 }
 
 /// The complete point of these records.

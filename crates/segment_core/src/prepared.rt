@@ -1,7 +1,9 @@
 //! Steps that a segment is ready to take.
 
+use crate::records::Records;
+use lineage::Lineage;
 use redo_record::Packet;
-use wire::Message;
+use wire::{Contents, Message, Place};
 
 /// A record that a segment is ready to take, and where it will stand.
 #[derive(Clone, Copy)]
@@ -10,11 +12,40 @@ pub struct Entrant {
     pub packet: Packet,
 }
 
+/// What another node holds, as it said.
+#[derive(Drop)]
+pub struct Copied {
+    /// The member that holds it.
+    pub from: u8,
+    pub contents: Contents,
+}
+
+/// What a step changes of a segment.
+#[derive(Drop)]
+pub enum Effect {
+    /// Nothing.
+    Nothing,
+    /// A record enters.
+    Enter(Entrant),
+    /// A volume epoch is promised.
+    Promise(u32),
+    /// The group stands elsewhere, and the copies are dropped.
+    Move(Place),
+    /// A volume epoch is promised, and the lineage and the records are replaced.
+    Replace {
+        volume: u32,
+        lineage: Lineage,
+        records: Records,
+    },
+    /// A copy is kept.
+    Keep(Copied),
+}
+
 /// A step that a segment is ready to take.
 #[derive(Drop)]
 pub struct Prepared {
     pub(crate) answer: Option<Message>,
-    pub(crate) entrant: Option<Entrant>,
+    pub(crate) effect: Effect,
 }
 
 impl Prepared {

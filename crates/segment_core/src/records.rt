@@ -2,8 +2,9 @@
 
 ghost use Rattle.segment_core.specs.Held.{AreSettled};
 
-use crate::held::{Held, complete_point, settle};
-use redo_record::Packet;
+use crate::held::{Held, complete_point, settle, unsettled};
+use pages::{BLOCK, write_packet};
+use redo_record::{Packet, RecordSet};
 use std::alloc::{AllocError, Global};
 
 /// The records that a segment holds, each once, in the order of their bytes.
@@ -14,11 +15,13 @@ pub struct Records {
 }
 
 impl Records {
-    ghost use Rattle.std.specs.Prelude.{◌≡◌, ◌<◌, [], length, OnOk, MatchOption};
+    ghost use Rattle.std.specs.Prelude.{◌≡◌, ◌<◌, [], length, IfOk, OnOk, MatchOption};
     ghost use Rattle.std.specs.List.{remove};
     ghost use Rattle.volume_model.specs.Redo.{scl, with_record};
+    ghost use Rattle.volume_model.specs.Node.{page_of};
     ghost use Rattle.redo_record.specs.Packet.{packet_redo};
-    ghost use Rattle.segment_core.specs.Places.{IsHeldIn, IsPlaceFor};
+    ghost use Rattle.redo_record.specs.Places.{IsHeldIn, IsPlaceFor};
+    ghost use Rattle.redo_record.specs.RecordSet as sets;
     ghost use Rattle.segment_core.specs.Records.{records_of, room_of, HasRoom};
 
     /// No record.
@@ -28,6 +31,37 @@ impl Records {
         Records {
             held: Vec::new(alloc),
         }
+    }
+
+    /// The records of a set.
+    pub fn from_set(alloc: Global, set: &RecordSet) -> Result<Records, AllocError>
+        ensures { IfOk result (λ records. records_of records ≡ sets.records_of set.now) }
+    {
+        let mut held = unsettled(alloc, set.as_slice())?;
+        settle(&mut held, 0);
+        Ok(Records { held })
+    }
+
+    /// The set of the records.
+    pub fn to_set(&self, alloc: Global) -> Result<RecordSet, AllocError>
+        ensures { IfOk result (λ set. sets.records_of set ≡ records_of self.now) }
+    {
+        let mut set = RecordSet::new(alloc);
+        for held in &self.held {
+            set.push(&held.packet)?;
+        }
+        Ok(set)
+    }
+
+    /// The bytes of a block, made from the records up to the point.
+    pub fn page(&self, block: u32, point: u64) -> [u8; BLOCK]
+        ensures { result ≡ page_of (records_of self.now) block point }
+    {
+        let mut page = [0; BLOCK];
+        for held in &self.held {
+            write_packet(&mut page, &held.packet, block, point);
+        }
+        page
     }
 
     /// How many records are held.

@@ -1,13 +1,18 @@
 //! A segment of a protection group, on one node.
 
-use crate::prepared::{Entrant, Prepared};
+use crate::prepared::{Copied, Effect, Entrant, Prepared};
 use crate::records::Records;
 use lineage::Lineage;
+use pages::BLOCK;
 use plan::CheckedPlan;
-use std::alloc::Global;
+use redo_record::Packet;
+use std::alloc::{AllocError, Global};
 use std::sync::Arc;
 use volume_model::Fault;
-use wire::{Ack, Label, Message, Write};
+use wire::{
+    Ack, Contents, CopyAsk, CopyReport, Fence, Install, Label, Message, Page, PageAsk, Report,
+    StepTo,
+};
 
 /// How many records a segment holds at most.
 const MOST_RECORDS: usize = 1_048_576;
@@ -27,20 +32,25 @@ pub struct Segment {
     whole: bool,
     lineage: Lineage,
     records: Records,
+    /// What it was sent while it wasn't whole, at most one a sender.
+    copies: Vec<Copied>,
 }
 
 impl Segment {
-    ghost use Rattle.std.specs.Prelude.{◌≡◌, [], ◌∷◌, Ok, Err, IfOk, OnOk, OnErr, MatchResult};
+    ghost use Rattle.std.specs.Prelude.{◌≡◌, ◌==◌, not, [], ◌∷◌, Ok, Err, IfOk, OnOk, OnErr, MatchResult};
     ghost use Rattle.std.specs.Arc.{arc_value};
     ghost use Rattle.volume_model.specs.Answer.{Gives};
+    ghost use Rattle.volume_model.specs.Refusal.{refuse_if};
+    ghost use Rattle.volume_model.specs.declared.fault.Fault.TheVariants.{NotAddressed};
     ghost use Rattle.volume_model.specs.Redo.{scl};
-    ghost use Rattle.volume_model.specs.Node.{NodeAnswer, label_checks, reaction, restarted, take_record};
+    ghost use Rattle.volume_model.specs.Node.{NodeAnswer, label_checks, reaction, restarted, senders, take_record};
     ghost use Rattle.plan.specs.CheckedModel.{checked_model};
     ghost use Rattle.redo_record.specs.Packet.{packet_redo};
     ghost use Rattle.volume_model.specs.Message as model;
+    ghost use Rattle.wire.specs.Contents.{contents_of};
     ghost use Rattle.wire.specs.Message.{label_of, message_of, made_of};
-    ghost use Rattle.segment_core.specs.Prepared.{answer_of, step_of};
-    ghost use Rattle.segment_core.specs.Segment.{node_of, segment_plan, segment_group, segment_member, born, IsSegmentOf, IsSameActor, IsReady, Reacts};
+    ghost use Rattle.segment_core.specs.Prepared.{answer_of, effected, step_of};
+    ghost use Rattle.segment_core.specs.Segment.{node_of, segment_plan, segment_group, segment_member, born, full_page, page_answer, paged, CanTake, IsSegmentOf, IsSameActor, IsReady, Reacts};
 
     /// The segment of a member of a group, as it is born. Refused 82 where the plan names no such member.
     pub fn new(
@@ -67,6 +77,7 @@ impl Segment {
                 whole: true,
                 lineage,
                 records: Records::new(alloc),
+                copies: Vec::new(alloc),
             })
         } else {
             Ok(Segment {
@@ -79,6 +90,7 @@ impl Segment {
                 whole: false,
                 lineage: Lineage::empty(alloc),
                 records: Records::new(alloc),
+                copies: Vec::new(alloc),
             })
         }
     }
@@ -90,11 +102,23 @@ impl Segment {
         self.records.complete_point()
     }
 
-    /// Starts anew with what it keeps.
+    /// Starts anew with what it keeps: all but the copies.
     pub fn restart(&mut self)
         ensures node { node_of self.new ≡ restarted (node_of self.old) }
         ensures actor { IsSameActor self.old self.new }
-    {}
+    {
+        self.copies.clear();
+    }
+
+    /// What it holds, for another.
+    fn contents(&self, alloc: Global) -> Result<Contents, AllocError>
+        ensures { IfOk result (λ contents. contents_of contents ≡ (node_of self.now).contents) }
+    {
+        Ok(Contents {
+            lineage: self.lineage.clone()?,
+            records: self.records.to_set(alloc)?,
+        })
+    }
 
     /// The tests of a message's label.
     fn check_label(&self, label: Label) -> Result<(), Fault>
@@ -115,62 +139,324 @@ impl Segment {
         Ok(())
     }
 
-    /// The step that acknowledges what is held.
-    fn acknowledged(&self, label: Label, scl: u64, entrant: Option<Entrant>) -> Prepared
+    /// The step that acknowledges what is held after it.
+    fn acknowledged(&self, label: Label, scl: u64, effect: Effect) -> Prepared
         ensures made { made_of (answer_of result) ≡ model.Message.Ack (segment_group self.now) (label_of label) (segment_member self.now) scl ∷ [] }
-        ensures entrant { result.entrant ≡ entrant }
+        ensures effect { result.effect ≡ effect }
     {
+        let from = self.member;
         Prepared {
             answer: Some(Message::Ack(Ack {
                 group: self.group,
                 label,
-                from: self.member,
+                from,
                 scl,
             })),
-            entrant,
+            effect,
         }
     }
 
-    /// Makes ready to take a record.
-    fn prepare_write(&mut self, write: &Write) -> Result<Prepared, Fault>
-        ensures step { Gives (step_of (node_of self.old)) result (reaction (segment_plan self.old) (segment_group self.old) (segment_member self.old) (node_of self.old) (message_of (Message.Write write.now))) }
+    /// Makes ready to promise a recovery its volume epoch.
+    fn prepare_fence(&self, alloc: Global, fence: &Fence) -> Result<Prepared, Fault>
+        ensures step { Gives (step_of (node_of self.now)) result (reaction (segment_plan self.now) (segment_group self.now) (segment_member self.now) (node_of self.now) (message_of (Message.Fence fence.now))) }
+        ensures ready { IfOk result (λ prepared. IsReady self.now prepared) }
+    {
+        if fence.group != self.group {
+            return Err(Fault::NotAddressed);
+        }
+        self.check_label(fence.label)?;
+        let report = Report {
+            group: self.group,
+            label: fence.label,
+            from: self.member,
+            contents: self.contents(alloc)?,
+        };
+        Ok(Prepared {
+            answer: Some(Message::Report(report)),
+            effect: Effect::Promise(fence.label.volume),
+        })
+    }
+
+    /// Makes ready to hold what a recovery found.
+    fn prepare_install(&self, alloc: Global, install: &Install) -> Result<Prepared, Fault>
+        ensures step { Gives (step_of (node_of self.now)) result (reaction (segment_plan self.now) (segment_group self.now) (segment_member self.now) (node_of self.now) (message_of (Message.Install install.now))) }
+        ensures ready { IfOk result (λ prepared. IsReady self.now prepared) }
+    {
+        if !install.is_for(self.group) {
+            return Err(Fault::NotAddressed);
+        }
+        self.check_label(install.label)?;
+        if install.contents.records.len() > MOST_RECORDS {
+            return Err(Fault::Full);
+        }
+        let volume = install.label.volume;
+        if self.lineage.last_epoch() == volume {
+            let scl = self.records.complete_point();
+            return Ok(self.acknowledged(install.label, scl, Effect::Promise(volume)));
+        }
+        let lineage = install.contents.lineage.clone()?;
+        let records = Records::from_set(alloc, &install.contents.records)?;
+        let scl = records.complete_point();
+        let effect = Effect::Replace {
+            volume,
+            lineage,
+            records,
+        };
+        Ok(self.acknowledged(install.label, scl, effect))
+    }
+
+    /// Makes ready to take a record of its group.
+    fn prepare_record(&mut self, label: Label, packet: &Packet) -> Result<Prepared, Fault>
+        ensures step { Gives (step_of (node_of self.old)) result (take_record (segment_group self.old) (segment_member self.old) (node_of self.old) (label_of label) (packet_redo packet.now)) }
         ensures ready { IfOk result (λ prepared. IsReady self.new prepared) }
         ensures node { node_of self.new ≡ node_of self.old }
         ensures actor { IsSameActor self.old self.new }
     {
-        if write.group != self.group || write.packet.group() != self.group {
-            return Err(Fault::NotAddressed);
-        }
-        self.check_label(write.label)?;
-        if self.lineage.last_epoch() != write.label.volume {
+        self.check_label(label)?;
+        if self.lineage.last_epoch() != label.volume {
             return Err(Fault::NotInstalled);
         }
-        let Some(place) = self.records.place_for(&write.packet) else {
+        let Some(place) = self.records.place_for(packet) else {
             let scl = self.records.complete_point();
-            return Ok(self.acknowledged(write.label, scl, None));
+            return Ok(self.acknowledged(label, scl, Effect::Nothing));
         };
         if self.records.len() >= MOST_RECORDS {
             return Err(Fault::Full);
         }
         self.records.make_room()?;
-        let scl = self.records.complete_point_with(place, &write.packet);
+        let scl = self.records.complete_point_with(place, packet);
         let entrant = Entrant {
             place,
-            packet: write.packet,
+            packet: *packet,
         };
-        Ok(self.acknowledged(write.label, scl, Some(entrant)))
+        Ok(self.acknowledged(label, scl, Effect::Enter(entrant)))
+    }
+
+    /// Makes ready to stand elsewhere.
+    fn prepare_step(&self, step: &StepTo) -> Result<Prepared, Fault>
+        ensures step { Gives (step_of (node_of self.now)) result (reaction (segment_plan self.now) (segment_group self.now) (segment_member self.now) (node_of self.now) (message_of (Message.StepTo step.now))) }
+        ensures ready { IfOk result (λ prepared. IsReady self.now prepared) }
+    {
+        if step.group != self.group {
+            return Err(Fault::NotAddressed);
+        }
+        let place = step.place;
+        if place.epoch <= self.epoch {
+            return Err(Fault::StaleMember);
+        }
+        if !self
+            .plan
+            .is_configuration(self.group, place.configuration, place.epoch)
+        {
+            return Err(Fault::NotInPlan);
+        }
+        let ask = CopyAsk {
+            group: self.group,
+            epoch: place.epoch,
+        };
+        Ok(Prepared {
+            answer: if self.whole {
+                None
+            } else {
+                Some(Message::CopyAsk(ask))
+            },
+            effect: Effect::Move(place),
+        })
+    }
+
+    /// Makes ready to say what it holds to a node that isn't whole.
+    fn prepare_copy(&self, alloc: Global, ask: &CopyAsk) -> Result<Prepared, Fault>
+        ensures step { Gives (step_of (node_of self.now)) result (reaction (segment_plan self.now) (segment_group self.now) (segment_member self.now) (node_of self.now) (message_of (Message.CopyAsk ask.now))) }
+        ensures ready { IfOk result (λ prepared. IsReady self.now prepared) }
+    {
+        if ask.group != self.group {
+            return Err(Fault::NotAddressed);
+        }
+        if ask.epoch < self.epoch {
+            return Err(Fault::StaleMember);
+        }
+        if self.epoch < ask.epoch {
+            return Err(Fault::AheadMember);
+        }
+        if self.whole {
+            let report = CopyReport {
+                group: self.group,
+                epoch: ask.epoch,
+                from: self.member,
+                contents: self.contents(alloc)?,
+            };
+            Ok(Prepared {
+                answer: Some(Message::CopyReport(report)),
+                effect: Effect::Nothing,
+            })
+        } else {
+            Err(Fault::NotWhole)
+        }
+    }
+
+    /// Makes ready to keep what another node holds.
+    fn prepare_copied(&mut self, report: &CopyReport) -> Result<Prepared, Fault>
+        ensures step { Gives (step_of (node_of self.old)) result (reaction (segment_plan self.old) (segment_group self.old) (segment_member self.old) (node_of self.old) (message_of (Message.CopyReport report.now))) }
+        ensures ready { IfOk result (λ prepared. IsReady self.new prepared) }
+        ensures node { node_of self.new ≡ node_of self.old }
+        ensures actor { IsSameActor self.old self.new }
+    {
+        if !report.is_for(self.group) {
+            return Err(Fault::NotAddressed);
+        }
+        if self.whole {
+            return Err(Fault::AlreadyWhole);
+        }
+        if report.epoch < self.epoch {
+            return Err(Fault::StaleMember);
+        }
+        if self.epoch < report.epoch {
+            return Err(Fault::AheadMember);
+        }
+        if self.has_copy(report.from) {
+            return Ok(Prepared {
+                answer: None,
+                effect: Effect::Nothing,
+            });
+        }
+        self.copies.reserve(1)?;
+        let copied = Copied {
+            from: report.from,
+            contents: report.contents.clone()?,
+        };
+        Ok(Prepared {
+            answer: None,
+            effect: Effect::Keep(copied),
+        })
+    }
+
+    /// Whether it was sent a copy by the member.
+    fn has_copy(&self, member: u8) -> bool
+        ensures { result ≡ senders (node_of self.now).copies member }
+    {
+        self.copies.iter().any(|copied| copied.from == member)
+    }
+
+    /// The page of a block at a point, of a member that keeps whole pages. Refused 60 where it keeps none, 61 where the segment isn't
+    /// complete up to the point.
+    #[tactic(auto, unfolding(crate::specs::Segment::full_page))]
+    fn full_page(&self, block: u32, point: u64) -> Result<[u8; BLOCK], Fault>
+        ensures { Gives (λ page. page) result (full_page (segment_plan self.now) (segment_group self.now) (segment_member self.now) (node_of self.now) block point) }
+    {
+        let is_member = self.epoch > 0
+            && self
+                .plan
+                .has_member(self.group, self.configuration, self.member);
+        if !is_member
+            || !self
+                .plan
+                .is_full(self.group, self.configuration, self.member)
+        {
+            return Err(Fault::TailSegment);
+        }
+        if self.records.complete_point() < point {
+            return Err(Fault::PointAhead);
+        }
+        Ok(self.records.page(block, point))
+    }
+
+    /// The page of a block at a point. Refused 54 before the segment is whole, 60 where the member keeps no whole pages, 61 where the
+    /// segment isn't complete up to the point.
+    pub fn page_at(&self, block: u32, point: u64) -> Result<[u8; BLOCK], Fault>
+        ensures { Gives (λ page. page) result (paged (segment_plan self.now) (segment_group self.now) (segment_member self.now) (node_of self.now) block point) }
+    {
+        if self.whole {
+            self.full_page(block, point)
+        } else {
+            Err(Fault::NotWhole)
+        }
+    }
+
+    /// The step that answers a question with a page.
+    #[tactic(auto, unfolding(crate::specs::Segment::page_answer))]
+    fn answer_page(&self, alloc: Global, ask: &PageAsk) -> Result<Prepared, Fault>
+        ensures step { Gives (step_of (node_of self.now)) result (page_answer (segment_plan self.now) (segment_group self.now) (segment_member self.now) (node_of self.now) (label_of ask.now.label) ask.now.block ask.now.point) }
+        ensures ready { IfOk result (λ prepared. IsReady self.now prepared) }
+    {
+        if self.lineage.last_epoch() != ask.label.volume {
+            return Err(Fault::NotInstalled);
+        }
+        let bytes = self.full_page(ask.block, ask.point)?;
+        let page = Page {
+            group: self.group,
+            label: ask.label,
+            from: self.member,
+            block: ask.block,
+            point: ask.point,
+            bytes: Box::new(alloc, bytes)?,
+        };
+        Ok(Prepared {
+            answer: Some(Message::Page(page)),
+            effect: Effect::Nothing,
+        })
+    }
+
+    /// Makes ready to answer with a page.
+    fn prepare_page(&self, alloc: Global, ask: &PageAsk) -> Result<Prepared, Fault>
+        ensures step { Gives (step_of (node_of self.now)) result (refuse_if (not (ask.now.group == segment_group self.now)) NotAddressed (label_checks (node_of self.now) (label_of ask.now.label) (page_answer (segment_plan self.now) (segment_group self.now) (segment_member self.now) (node_of self.now) (label_of ask.now.label) ask.now.block ask.now.point))) }
+        ensures ready { IfOk result (λ prepared. IsReady self.now prepared) }
+    {
+        if ask.group != self.group {
+            return Err(Fault::NotAddressed);
+        }
+        self.check_label(ask.label)?;
+        self.answer_page(alloc, ask)
     }
 
     /// Makes ready to take a message: gives every refusal, makes every growth, and works out the answer.
-    pub fn prepare(&mut self, _alloc: Global, message: &Message) -> Result<Prepared, Fault>
+    pub fn prepare(&mut self, alloc: Global, message: &Message) -> Result<Prepared, Fault>
         ensures step { Gives (step_of (node_of self.old)) result (reaction (segment_plan self.old) (segment_group self.old) (segment_member self.old) (node_of self.old) (message_of message.now)) }
         ensures ready { IfOk result (λ prepared. IsReady self.new prepared) }
         ensures node { node_of self.new ≡ node_of self.old }
         ensures actor { IsSameActor self.old self.new }
     {
         match message {
-            Message::Write(write) => self.prepare_write(write),
-            Message::Ack(_) => Err(Fault::NotAddressed),
+            Message::Fence(fence) => self.prepare_fence(alloc, fence),
+            Message::Install(install) => self.prepare_install(alloc, install),
+            Message::Write(write) if write.is_for(self.group) => {
+                self.prepare_record(write.label, &write.packet)
+            }
+            Message::Gossip(gossip) if gossip.is_for(self.group) => {
+                self.prepare_record(gossip.label, &gossip.packet)
+            }
+            Message::StepTo(step) => self.prepare_step(step),
+            Message::CopyAsk(ask) => self.prepare_copy(alloc, ask),
+            Message::CopyReport(report) => self.prepare_copied(report),
+            Message::PageAsk(ask) => self.prepare_page(alloc, ask),
+            _ => Err(Fault::NotAddressed),
+        }
+    }
+
+    /// Takes the effect of a step.
+    fn take(&mut self, effect: Effect)
+        requires { CanTake self.old effect }
+        ensures node { node_of self.new ≡ effected effect (node_of self.old) }
+        ensures actor { IsSameActor self.old self.new }
+    {
+        match effect {
+            Effect::Nothing => {}
+            Effect::Enter(entrant) => self.records.insert(entrant.place, &entrant.packet),
+            Effect::Promise(volume) => self.volume = volume,
+            Effect::Move(place) => {
+                self.configuration = place.configuration;
+                self.epoch = place.epoch;
+                self.copies.truncate(0);
+            }
+            Effect::Replace {
+                volume,
+                lineage,
+                records,
+            } => {
+                self.volume = volume;
+                self.lineage = lineage;
+                self.records = records;
+            }
+            Effect::Keep(copied) => self.copies.push(copied).unwrap(),
         }
     }
 
@@ -181,10 +467,8 @@ impl Segment {
         ensures node { node_of self.new ≡ (step_of (node_of self.old) prepared).node }
         ensures actor { IsSameActor self.old self.new }
     {
-        let Prepared { answer, entrant } = prepared;
-        if let Some(entrant) = entrant {
-            self.records.insert(entrant.place, &entrant.packet);
-        }
+        let Prepared { answer, effect } = prepared;
+        self.take(effect);
         answer
     }
 

@@ -200,6 +200,19 @@ impl Install {
     pub fn is_for(&self, group: u8) -> bool
         ensures { result ≡ (self.now.group == group && in_group group (contents_of self.now.contents)) }
     {
-        self.group == group && self.contents.is_of(group)
+        self.contents.is_of(group) && self.group == group
+    }
+}
+
+impl CopyReport {
+    ghost use Rattle.std.specs.Prelude.{nat_lt};
+    ghost use Rattle.volume_model.specs.Node.{in_group};
+    ghost use Rattle.wire.specs.Contents.{contents_of};
+
+    /// Whether it is for the nodes of the group: it speaks of the group, its records are those of the group, and its sender is a member.
+    pub fn is_for(&self, group: u8) -> bool
+        ensures { result ≡ (self.now.group == group && in_group group (contents_of self.now.contents) && nat_lt self.now.from 64) }
+    {
+        self.group == group && self.contents.is_of(group) && self.from < 64
     }
 }

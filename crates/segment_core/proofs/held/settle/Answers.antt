@@ -2,7 +2,8 @@ use Rattle.std.proofs.Common.{◌≡◌, ℕ, ◌<◌, ◌≤◌, ◌∙◌, Lis
 use Rattle.std.proofs.lemmas.List.{get_or-take, get_or_default, length-take}
 use Rattle.volume_model.specs.Redo.{scl}
 use Rattle.segment_core.specs.declared.held.Held.{Held}
-use Rattle.segment_core.specs.Held.{redo_held, redos_of, IsInOrder}
+use Rattle.redo_record.specs.Order.{IsInOrder}
+use Rattle.segment_core.specs.Held.{redo_held, redos_of}
 use Rattle.segment_core.proofs.Settled.{held-rising, settled-beginning, same-set, reached-set}
 use Rattle.segment_core.proofs.held.settle.Goals as goal
 

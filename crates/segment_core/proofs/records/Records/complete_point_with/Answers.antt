@@ -2,7 +2,7 @@ use Rattle.std.proofs.Common.{◌≡◌, length, ap, ◌∙◌, arith}
 use Rattle.std.specs.List.{remove}
 use Rattle.redo_record.specs.Packet.{packet_redo}
 use Rattle.segment_core.specs.Records.{records_of, room_of}
-use Rattle.segment_core.proofs.Edits.{remove-insert}
+use Rattle.redo_record.proofs.Places.{remove-insert}
 use Rattle.segment_core.proofs.records.Records.complete_point_with.Goals as goal
 
 pub returns-clause-same : goal.returns-clause-same

@@ -2,8 +2,10 @@ use Rattle.std.proofs.Common.{◌≡◌, ◌<◌, ℕ, ◌∙◌, List, length, 
 use Rattle.std.proofs.lemmas.List.{length-map, with_items_is}
 use Rattle.std.specs.List.{remove}
 use Rattle.segment_core.specs.declared.held.Held.{Held}
-use Rattle.segment_core.specs.Held.{redos_of, IsInOrder, IsReachedBelow}
-use Rattle.segment_core.proofs.Edits.{in_order-remove, redos-remove, reached-remove}
+use Rattle.redo_record.specs.Order.{IsInOrder}
+use Rattle.segment_core.specs.Held.{redo_held, redos_of, IsReachedBelow}
+use Rattle.redo_record.proofs.Places.{in_order-remove, shown-remove}
+use Rattle.segment_core.proofs.Edits.{reached-remove}
 use Rattle.segment_core.proofs.records.Records.remove.Goals as goal
 
 pub settle-requires-clause-in_order : goal.settle-requires-clause-in_order
@@ -11,7 +13,7 @@ settle-requires-clause-in_order c =
     let old : List Held = c.args.self.now.held.items in
     let p : ℕ = c.args.place in
     let e : c.deref_mut.result.now ≡ remove old p = c.deref_mut.ensures.value ∙ c.remove.ensures.items in
-    let f : redos_of c.deref_mut.result.now ≡ remove (redos_of old) p = ap redos_of e ∙ redos-remove old p in
+    let f : redos_of c.deref_mut.result.now ≡ remove (redos_of old) p = ap redos_of e ∙ shown-remove redo_held old p in
     subst IsInOrder (sym f) (in_order-remove (redos_of old) p c.args.self.now.settled.in_order)
 
 pub settle-requires-clause-reached : goal.settle-requires-clause-reached
@@ -28,4 +30,4 @@ returns-clause-dropped c =
     let p : ℕ = c.args.place in
     let e : c.deref_mut.result.now ≡ remove old p = c.deref_mut.ensures.value ∙ c.remove.ensures.items in
     let long : length c.settle.new.held ≡ c.remove.new.self.len = omega arith in
-    ap redos_of (with_items_is c.remove.new.self c.settle.new.held long) ∙ c.settle.ensures.same ∙ ap redos_of e ∙ redos-remove old p
+    ap redos_of (with_items_is c.remove.new.self c.settle.new.held long) ∙ c.settle.ensures.same ∙ ap redos_of e ∙ shown-remove redo_held old p
