@@ -1,3 +1,5 @@
 pub mod Logs
+pub mod Counting
 pub mod Growing
 pub mod OneMore
+pub mod Placing

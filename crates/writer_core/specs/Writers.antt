@@ -48,3 +48,9 @@ abbrev pub Acts : ClientAnswer → Client → Result (Vec Message Global) Fault 
 Acts defined old (Ok messages) new = defined ≡ Ok (record { made = messages_of messages.items; client = new })
 Acts defined old (Err NoMemory) new = new ≡ old
 Acts defined old (Err fault) new = (defined ≡ Err fault) × (new ≡ old)
+
+-- The same of an answer that makes no message.
+abbrev pub Takes : ClientAnswer → Client → Result (Unit {0}) Fault → Client → Type 0
+Takes defined old (Ok u) new = defined ≡ Ok (record { made = []; client = new })
+Takes defined old (Err NoMemory) new = new ≡ old
+Takes defined old (Err fault) new = (defined ≡ Err fault) × (new ≡ old)

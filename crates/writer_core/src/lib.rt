@@ -2,6 +2,8 @@
 #![tactic(auto)]
 
 mod change;
+mod count;
+mod counts;
 mod issuing;
 mod log;
 mod standing;
@@ -10,3 +12,6 @@ mod writer;
 
 pub use change::Change;
 pub use writer::Writer;
+
+#[cfg(test)]
+mod tests;

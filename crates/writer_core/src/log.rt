@@ -2,7 +2,7 @@
 
 ghost use Rattle.std.specs.Prelude.{◌≡◌, ℕ};
 ghost use Rattle.volume_model.specs.Redo.{last_lsn, last_of_group, last_of_block};
-ghost use Rattle.volume_model.specs.Client.{complete_of, point_below, point_of};
+ghost use Rattle.volume_model.specs.Client.{complete_of, is_point_of, point_below, point_of};
 ghost use Rattle.writer_core.specs.Logs.{log_of};
 ghost use Rattle.writer_core.specs.Standings.{groups_of};
 
@@ -77,4 +77,17 @@ fn point(groups: &[Standing], group: u8) -> u64
     groups
         .get(usize::from(group))
         .map_or(0, |standing| standing.point)
+}
+
+/// Whether a record of this LSN is a consistency point.
+pub fn is_point(log: &[Record], lsn: u64) -> bool
+    ensures { result ≡ is_point_of lsn (log_of log.now) }
+{
+    let mut found = false;
+    for record in log {
+        if record.lsn == lsn && record.point {
+            found = true;
+        }
+    }
+    found
 }

@@ -1,0 +1,65 @@
+//! The acknowledgements of a group that a client counts.
+
+ghost use Rattle.std.specs.Prelude.{◌≡◌, ◌<◌, OnOk, OnErr, MatchOption};
+ghost use Rattle.std.specs.FinSet as set;
+ghost use Rattle.volume_model.specs.Client.{best, reaching, with_count};
+ghost use Rattle.quorum_expr.specs.Expr.{formula_of};
+ghost use Rattle.writer_core.specs.Counts.{counts_of, IsNew, IsPlaceOf};
+
+use crate::count::Count;
+use quorum_expr::{Expr, MemberSet, holds};
+use std::alloc::{AllocFailed, Global};
+
+/// The members whose counted complete point is at least `limit`.
+fn reaching(counts: &[Count], limit: u64) -> MemberSet
+    ensures { set.contains result ≡ reaching (counts_of counts.now) limit }
+{
+    let mut members = MemberSet::empty();
+    for count in counts {
+        if limit <= count.reached {
+            members = members.with(count.sender);
+        }
+    }
+    members
+}
+
+/// The greatest counted number that a set of members has reached which satisfies the expression, else 0.
+pub fn best(write: &Expr<Global>, counts: &[Count]) -> u64
+    ensures { result ≡ best (formula_of write.now) (counts_of counts.now) (counts_of counts.now) }
+{
+    let mut best = 0;
+    for count in counts {
+        if holds(write, reaching(counts, count.reached)) {
+            best = count.reached.max(best);
+        }
+    }
+    best
+}
+
+/// The place of a sender's count, where there is one.
+fn place_of(counts: &[Count], sender: u8) -> Option<usize>
+    ensures { MatchOption result (IsNew sender counts.now) (IsPlaceOf sender counts.now) }
+{
+    for place in 0..counts.len() {
+        if counts[place].sender == sender {
+            return Some(place);
+        }
+    }
+    None
+}
+
+/// Counts an acknowledgement: the greatest complete point of its sender is kept.
+pub fn add(counts: &mut Vec<Count>, sender: u8, reached: u64) -> Result<(), AllocFailed<Count>>
+    requires { sender < 64 }
+    ensures counted { OnOk result (counts_of counts.new.items ≡ with_count sender reached (counts_of counts.old.items)) }
+    ensures same { OnErr result (counts.new.items ≡ counts.old.items) }
+{
+    match place_of(counts.as_slice(), sender) {
+        Some(place) => {
+            let kept = counts[place].reached;
+            counts[place].reached = kept.max(reached);
+            Ok(())
+        }
+        None => counts.push(Count { sender, reached }),
+    }
+}
