@@ -1,3 +1,4 @@
 pub mod Entries
 pub mod Lineage
 pub mod Newest
+pub mod Live

@@ -3,6 +3,7 @@
 
 mod entry;
 mod lineage;
+mod live;
 mod selection;
 
 pub use entry::Entry;

@@ -1,4 +1,5 @@
 use crate::{Lineage, newest};
+use redo_record::{Packet, Payload, Record, RecordSet};
 use std::alloc::Global;
 use std::test::Fail;
 use volume_model::Fault;
@@ -49,5 +50,41 @@ fn newest_of_three(rt: HostRuntime) -> Result<(), Fail> {
     let third = recovered(alloc, 3, 3)?;
     let lineages = [Lineage::birth(alloc)?, third.clone()?, third];
     assert_eq!(rt; newest(&lineages), 1);
+    Ok(())
+}
+
+/// The set of records with these volume epochs and numbers.
+fn set(alloc: Global, records: &[(u32, u64)]) -> Result<RecordSet, Fail> {
+    let mut set = RecordSet::new(alloc);
+    for (epoch, number) in records {
+        let record = Record {
+            lsn: (*number).clamp(1, 100),
+            volume_epoch: (*epoch).max(1),
+            prev_volume: 0,
+            prev_group: 0,
+            prev_block: 0,
+            group: 0,
+            block: 0,
+            offset: 0,
+            bytes: Payload::new(b"a").ok_or("one byte is a payload")?,
+            point: true,
+        };
+        set.insert(&Packet::pack(&record))?;
+    }
+    Ok(set)
+}
+
+#[test]
+fn live_records(rt: HostRuntime) -> Result<(), Fail> {
+    let alloc = rt.alloc();
+    let lineage = recovered(alloc, 3, 3)?;
+    let reported = set(alloc, &[(1, 3), (1, 4), (2, 14), (3, 13), (3, 14)])?;
+    let kept = set(alloc, &[(1, 2), (1, 3)])?;
+    let live = lineage.with_live(alloc, &reported, &kept)?;
+    let numbers = [(1, 2), (1, 3), (3, 14)];
+    assert_eq!(rt; live.len(), numbers.len());
+    for (packet, number) in live.as_slice().iter().zip(numbers) {
+        assert_eq!(rt; (packet.volume_epoch(), packet.lsn()), number);
+    }
     Ok(())
 }
