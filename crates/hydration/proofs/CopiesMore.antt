@@ -1,0 +1,34 @@
+-- Copies, one after the other.
+use Rattle.std.proofs.Common.{◌≡◌, ℕ, ◌+◌, ◌<◌, Bool, List, [], ◌∷◌, length, drop, get_or, map, if◌then◌else◌, nat_le, nat_eq, refl, sym, ap, ap₂, ◌∙◌, arith, drop-cons, add-one}
+use Rattle.std.specs.Prelude.{◌||◌}
+use Rattle.std.proofs.lemmas.Bool.Decides.{nat_tests}
+use Rattle.std.specs.Ordering.{nat_cmp}
+use Rattle.std.specs.FinSet.{FinSet, contains, insert}
+use Rattle.volume_model.specs.Sets.{contains-put}
+use Rattle.volume_model.specs.Lineage.{last_epoch, newest}
+use Rattle.volume_model.specs.Node.{contents_of, senders}
+use Rattle.lineage.specs.Lineage.{lineage_of}
+use Rattle.lineage.specs.Newest.{holding}
+use Rattle.hydration.specs.declared.copied.Copied.{Copied}
+use Rattle.hydration.specs.Copies.{copy_of, copies_in, copied_lineages}
+
+-- the copy at hand, before the rest
+rest_is : (copies : List Copied) (i : ℕ) (c : Copied) → i < length copies → c ≡ get_or copies i c → copies_in (drop i copies) ≡ copy_of c ∷ copies_in (drop (i + 1) copies)
+rest_is copies i c within is = ap copies_in (drop-cons copies i c within) ∙ ap₂ (λ x n. copy_of x ∷ copies_in (drop n copies)) (sym is) (sym (add-one i))
+
+joins : (x sender : ℕ) (a rest : Bool) → ((nat_eq x sender || a) || rest) ≡ (a || (nat_eq sender x || rest))
+joins x sender a rest = grind (arith, nat_tests)
+
+-- one sender more
+pub senders-more : (copies : List Copied) (i : ℕ) (c : Copied) (s : FinSet nat_cmp) (whole : ℕ → Bool) → i < length copies → c ≡ get_or copies i c
+    → ((x : ℕ) → (contains s x || senders (copies_in (drop i copies)) x) ≡ whole x)
+    → (x : ℕ) → (contains (insert s c.from) x || senders (copies_in (drop (i + 1) copies)) x) ≡ whole x
+senders-more copies i c s whole within is h x =
+    ap (λ b. b || senders (copies_in (drop (i + 1) copies)) x) (contains-put s c.from x)
+    ∙ joins x c.from (contains s x) (senders (copies_in (drop (i + 1) copies)) x)
+    ∙ sym (ap (λ l. contains s x || senders l x) (rest_is copies i c within is)) ∙ h x
+
+-- the newest lineage doesn't hang on the records
+pub newest-lineages : (copies : List Copied) → newest (map holding (copied_lineages copies)) ≡ newest (contents_of (copies_in copies))
+newest-lineages [] = refl
+newest-lineages (c ∷ rest) = ap (λ l. if nat_le (last_epoch l) (last_epoch (lineage_of c.contents.lineage)) then lineage_of c.contents.lineage else l) (newest-lineages rest)

@@ -1,0 +1,18 @@
+use Rattle.std.specs.Prelude.{List, map}
+use Rattle.volume_model.specs.Lineage as model
+use Rattle.volume_model.specs.Node.{From}
+use Rattle.lineage.specs.Lineage.{lineage_of}
+use Rattle.wire.specs.Contents.{contents_of}
+use Rattle.hydration.specs.declared.copied.Copied.{Copied}
+
+-- the copy of the model that a copy is
+abbrev pub copy_of : Copied → From
+copy_of copied = record { sender = copied.from; contents = contents_of copied.contents }
+
+-- the copies, in the order in which they came
+abbrev pub copies_in : List Copied → List From
+copies_in copies = map copy_of copies
+
+-- the lineages of copies, in their order
+abbrev pub copied_lineages : List Copied → List model.Lineage
+copied_lineages copies = map (λ copied. lineage_of copied.contents.lineage) copies

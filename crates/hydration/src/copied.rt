@@ -1,0 +1,24 @@
+//! Copies, and what becomes of them.
+
+ghost use Rattle.std.specs.Prelude.{◌<◌};
+
+use wire::Contents;
+
+/// What a member holds, as it said.
+#[derive(Drop)]
+pub struct Copied {
+    /// The member.
+    pub from: u8,
+    /// What it holds.
+    pub contents: Contents,
+    pub ghost member: { from < 64 },
+}
+
+/// What a node becomes that is made whole.
+#[derive(Drop)]
+pub struct State {
+    /// The volume epoch of the lineage's last entry.
+    pub volume: u32,
+    /// The newest lineage, and the records that are live in it.
+    pub contents: Contents,
+}
