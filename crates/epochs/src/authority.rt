@@ -1,0 +1,122 @@
+//! The authority of a volume.
+
+ghost use Rattle.std.specs.Prelude.{◌≡◌, length};
+ghost use Rattle.std.specs.Arc.{arc_value};
+ghost use Rattle.plan.specs.CheckedModel.{checked_model};
+
+use plan::CheckedPlan;
+use std::alloc::{AllocError, Global};
+use std::sync::Arc;
+use volume_model::Fault;
+use wire::{Message, Place, StepTo, View};
+
+/// The authority of a volume: it knows the last volume epoch that it has assigned, and where it has each group.
+#[derive(Drop)]
+pub struct Authority {
+    plan: Arc<CheckedPlan>,
+    last_volume: u32,
+    /// The configuration of each group.
+    configurations: Vec<u8>,
+    ghost each_group: { length configurations.items ≡ (checked_model (arc_value plan)).groups },
+}
+
+impl Authority {
+    ghost use Rattle.std.specs.Prelude.{Ok, IfOk, map};
+    ghost use Rattle.volume_model.specs.Answer.{Gives};
+    ghost use Rattle.volume_model.specs.World.{opening, places_now, place_now, assigned, advanced, refreshed};
+    ghost use Rattle.wire.specs.Message.{place_of};
+    ghost use Rattle.epochs.specs.Authority.{authority_of, authority_plan, Answers, Tells};
+
+    /// The authority of a new volume: volume epoch 1 is assigned, and each group stands at its root.
+    pub fn new(alloc: Global, plan: Arc<CheckedPlan>) -> Result<Authority, Fault>
+        ensures authority { Gives authority_of result (Ok (opening (checked_model (arc_value plan))).authority) }
+        ensures plan { IfOk result (λ a. authority_plan a ≡ checked_model (arc_value plan)) }
+    {
+        let mut configurations = Vec::new(alloc);
+        'groups: for _ in 0..plan.groups() {
+            configurations.push(0)?;
+        }
+        Ok(Authority {
+            plan,
+            last_volume: 1,
+            configurations,
+        })
+    }
+
+    /// Where it has a group.
+    fn place(&self, group: u8) -> Place
+        ensures { place_of result ≡ place_now (authority_plan self.now) (authority_of self.now) group }
+    {
+        let configuration = match self.configurations.get(usize::from(group)) {
+            Some(configuration) => *configuration,
+            None => 0,
+        };
+        Place {
+            configuration,
+            epoch: self.plan.epoch(group, configuration),
+        }
+    }
+
+    /// Where it has each group, in their order.
+    fn places(&self, alloc: Global) -> Result<Vec<Place>, AllocError>
+        ensures { IfOk result (λ places. map place_of places.items ≡ places_now (authority_plan self.now) (authority_of self.now)) }
+    {
+        let mut places = Vec::new(alloc);
+        for group in 0..self.plan.groups() {
+            places.push(self.place(group))?;
+        }
+        Ok(places)
+    }
+
+    /// Assigns the next volume epoch, and makes the View that begins its recovery. `EpochsSpent` where no volume epoch is left.
+    pub fn assign(&mut self, alloc: Global) -> Result<Message, Fault>
+        ensures answers { Answers (assigned (authority_plan self.old) (authority_of self.old)) (authority_of self.old) result (authority_of self.new) }
+        ensures plan { authority_plan self.new ≡ authority_plan self.old }
+    {
+        if self.last_volume == u32::MAX {
+            return Err(Fault::EpochsSpent);
+        }
+        let places = self.places(alloc)?;
+        self.last_volume += 1;
+        Ok(Message::View(View {
+            volume: self.last_volume,
+            places,
+        }))
+    }
+
+    /// Leads a group to a child of its configuration, and makes the message that tells its nodes. `NoGroup` where the volume has no such
+    /// group, `NotInPlan` where the group's configuration has no such child.
+    pub fn advance(&mut self, group: u8, configuration: u32) -> Result<Message, Fault>
+        ensures answers { Answers (advanced (authority_plan self.old) (authority_of self.old) group configuration) (authority_of self.old) result (authority_of self.new) }
+        ensures plan { authority_plan self.new ≡ authority_plan self.old }
+    {
+        let Some(present) = self.configurations.get(usize::from(group)) else {
+            return Err(Fault::NoGroup);
+        };
+        if configuration >= u32::from(self.plan.configurations(group)) {
+            return Err(Fault::NotInPlan);
+        }
+        let child = configuration as u8;
+        if !self.plan.is_child(group, child, *present) {
+            return Err(Fault::NotInPlan);
+        }
+        self.configurations[usize::from(group)] = child;
+        Ok(Message::StepTo(StepTo {
+            group,
+            place: self.place(group),
+        }))
+    }
+
+    /// Tells the client of the last volume epoch where the groups stand now. `Superseded` for any other volume epoch.
+    pub fn refresh(&self, alloc: Global, volume: u32) -> Result<Message, Fault>
+        ensures { Tells (refreshed (authority_plan self.now) (authority_of self.now) volume) (authority_of self.now) result }
+    {
+        if volume != self.last_volume {
+            return Err(Fault::Superseded);
+        }
+        Ok(Message::View(View {
+            volume,
+            places: self.places(alloc)?,
+        }))
+    }
+}
