@@ -1,5 +1,6 @@
 mod certificates;
 mod configurations;
+mod faults;
 mod files;
 mod plans;
 mod said;
