@@ -42,12 +42,12 @@ tells_more steps results left later i step other told old now new so_far within 
     }
 
 -- a refusal's line is one of its telling
-pub refusal_told : {E : Type 0} (r : Result (Unit {0}) E) (line : ℕ) (told : Option Told) (fault : Fault) (reason old new : List ℕ) → told ≡ Some (Err fault) → OnOk r (new ≡ old ++ refused_line line reason)
+pub refusal_told : {E : Type 0} (r : Result (Unit {0}) E) (line : ℕ) (told : Option Told) (fault : Fault) (old new : List ℕ) → told ≡ Some (Err fault) → OnOk r (new ≡ old ++ refused_line line fault)
     → OnOk r (AppendsLine line told old new)
-refusal_told (Err e) line told fault reason old new is_told h = tt
-refusal_told (Ok u) line told fault reason old new is_told h =
-    let is_line : IsLineOf line (Some (Err fault)) (refused_line line reason) = (reason, refl) in
-    (refused_line line reason, subst (λ (t : Option Told). IsLineOf line t (refused_line line reason)) (sym is_told) is_line, h)
+refusal_told (Err e) line told fault old new is_told h = tt
+refusal_told (Ok u) line told fault old new is_told h =
+    let is_line : IsLineOf line (Some (Err fault)) (refused_line line fault) = refl in
+    (refused_line line fault, subst (λ (t : Option Told). IsLineOf line t (refused_line line fault)) (sym is_told) is_line, h)
 
 drop_all : {A : Type 0} (xs : List A) → drop (length xs) xs ≡ []
 drop_all [] = refl

@@ -3,6 +3,7 @@ use Rattle.std.specs.Prelude.{◌≡◌, ℕ, zero, suc, ◌+◌, ◌-◌, ◌*�
 use Rattle.std.specs.Fmt.{decimal}
 use Rattle.std.specs.List.{list_any}
 use Rattle.volume_model.specs.declared.fault.Fault.{Fault}
+use Rattle.volume_model.specs.Names.{fault_text}
 use Rattle.volume_model.specs.Outcome.{Opened}
 use Rattle.volume_model.specs.Plan.{Plan}
 use Rattle.volume_model.specs.Redo.{last_lsn}
@@ -17,15 +18,15 @@ pub record Telling : Type 0 where
   pub line : ℕ
   pub told : Option Told
 
--- the line of a refusal with this reason
-abbrev pub refused_line : ℕ → List ℕ → List ℕ
-refused_line line reason = decimal line ++ codes " refused " ++ reason ++ codes "\n"
+-- the line of a refusal
+abbrev pub refused_line : ℕ → Fault → List ℕ
+refused_line line fault = decimal line ++ codes " refused " ++ fault_text fault ++ codes "\n"
 
--- A line of what is printed: the number and the messages made, or the number and the reason of a refusal, in the fault's own words.
+-- A line of what is printed: its number and the messages made, or its number and the refusal's number and name.
 abbrev pub IsLineOf : ℕ → Option Told → List ℕ → Type 0
 IsLineOf line None text = text ≡ decimal line ++ codes " ok 0\n"
 IsLineOf line (Some (Ok made)) text = text ≡ decimal line ++ codes " ok " ++ decimal made ++ codes "\n"
-IsLineOf line (Some (Err fault)) text = (reason : List ℕ) × (text ≡ refused_line line reason)
+IsLineOf line (Some (Err fault)) text = text ≡ refused_line line fault
 
 -- the text has a line for each telling, in order
 pub data AreLinesOf : List Telling → List ℕ → Type 0 where

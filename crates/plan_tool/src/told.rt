@@ -82,33 +82,24 @@ fn first_told(
 }
 
 /// Adds the line of a step whose event was refused.
-fn add_refusal(text: &mut String, line: usize, reason: &str) -> Result<(), AllocError>
-    ensures { OnOk result (string_bytes text.new ≡ string_bytes text.old ++ refused_line line reason.now) }
+fn add_refusal(text: &mut String, line: usize, fault: Fault) -> Result<(), AllocError>
+    ensures { OnOk result (string_bytes text.new ≡ string_bytes text.old ++ refused_line line fault) }
 {
-    write!(text, "{line} refused {reason}\n")
+    write!(text, "{line} refused {fault}\n")
 }
 
 /// Adds what is told of a step's event.
-fn add_told(
-    alloc: Global,
-    text: &mut String,
-    line: usize,
-    told: &Result<u64, Fault>,
-) -> Result<(), AllocError>
+fn add_told(text: &mut String, line: usize, told: &Result<u64, Fault>) -> Result<(), AllocError>
     ensures { OnOk result (AppendsLine line (Some told.now) (string_bytes text.old) (string_bytes text.new)) }
 {
     match told {
         Ok(made) => write!(text, "{line} ok {made}\n"),
-        Err(fault) => {
-            let reason = format!(in alloc; "{fault}")?;
-            add_refusal(text, line, reason.as_str())
-        }
+        Err(fault) => add_refusal(text, line, *fault),
     }
 }
 
 /// Adds a step's line.
 fn add_step(
-    alloc: Global,
     text: &mut String,
     line: usize,
     told: Option<&Result<u64, Fault>>,
@@ -117,13 +108,12 @@ fn add_step(
 {
     match told {
         None => write!(text, "{line} ok 0\n"),
-        Some(told) => add_told(alloc, text, line, told),
+        Some(told) => add_told(text, line, told),
     }
 }
 
 /// Adds a line for each step.
 fn add_steps(
-    alloc: Global,
     text: &mut String,
     steps: &[Step],
     results: &[Result<u64, Fault>],
@@ -133,7 +123,7 @@ fn add_steps(
     let mut left = results;
     for step in steps {
         let (told, later) = first_told(step.has_event, left);
-        add_step(alloc, text, step.line, told)?;
+        add_step(text, step.line, told)?;
         left = later;
     }
     Ok(())
@@ -183,7 +173,7 @@ pub fn run_lines(alloc: Global, steps: &[Step], outcome: &Outcome) -> Result<Rep
     ensures { IfOk result (λ reply. TellsOf steps.now outcome.now.results.items (map opened_of outcome.now.writers.items) reply.status (string_bytes reply.text)) }
 {
     let mut text = String::new(alloc);
-    add_steps(alloc, &mut text, steps, outcome.results.as_slice())?;
+    add_steps(&mut text, steps, outcome.results.as_slice())?;
     add_writers(&mut text, outcome.writers.as_slice())?;
     let status = u8::from(has_refusal(outcome.results.as_slice()));
     Ok(Reply { status, text })

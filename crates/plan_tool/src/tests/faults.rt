@@ -1,126 +1,238 @@
-use super::certificates::{CLASH, PAIRS, matched, times};
 use super::configurations::{READ, WRITE, root};
 use super::said::said;
 use crate::files::Source;
 use command_line::Action;
-use std::alloc::{AllocError, Global};
+use std::alloc::AllocError;
 
-/// What is wrong with a certificate of the claim that three of six members meet four of them.
-fn fault(alloc: Global, certificate: &str) -> Result<String, AllocError> {
-    let text = root(alloc, READ, WRITE, certificate)?;
-    let said = said(
-        alloc,
-        Action::Check,
-        text.as_bytes(),
-        Source::<&[u8]>::Missing,
-    );
-    let line = str::from_utf8(said.out.as_slice()).unwrap_or("");
-    let rest = line.strip_prefix("no: 33 group 0 configuration 0 meets: ");
-    format!(in alloc; "{}", rest.unwrap_or(line))
-}
+/// Certificates of a plain root's claim with one fault or more, and the one that is told: at a rule in order, and branches in order.
+const FAULTY: [(&str, &str); 22] = [
+    // clash right 1
+    (
+        "{\"rule\":\"clash\",\"left\":0,\"right\":1}",
+        "20 NoSuchItem at root",
+    ),
+    // clash left 1
+    (
+        "{\"rule\":\"clash\",\"left\":1,\"right\":0}",
+        "20 NoSuchItem at root",
+    ),
+    // clash 0 0
+    (
+        "{\"rule\":\"clash\",\"left\":0,\"right\":0}",
+        "22 NoClash at root",
+    ),
+    // open no item
+    (
+        "{\"rule\":\"open\",\"side\":\"left\",\"item\":1,\"then\":{\"rule\":\"clash\",\"left\":0,\"right\":0}}",
+        "20 NoSuchItem at root",
+    ),
+    // open 3 of 6
+    (
+        "{\"rule\":\"open\",\"side\":\"left\",\"item\":0,\"then\":{\"rule\":\"clash\",\"left\":0,\"right\":0}}",
+        "23 NotAll at root",
+    ),
+    // pick no item
+    (
+        "{\"rule\":\"pick\",\"side\":\"left\",\"item\":1,\"children\":[0],\"then\":[{\"rule\":\"clash\",\"left\":0,\"right\":0}]}",
+        "20 NoSuchItem at root",
+    ),
+    // pick of member, child outside
+    (
+        "{\"rule\":\"pick\",\"side\":\"left\",\"item\":0,\"children\":[0,1,2,3],\"then\":[{\"rule\":\"pick\",\"side\":\"left\",\"item\":0,\"children\":[9],\"then\":[]},{\"rule\":\"pick\",\"side\":\"left\",\"item\":0,\"children\":[9],\"then\":[]},{\"rule\":\"pick\",\"side\":\"left\",\"item\":0,\"children\":[9],\"then\":[]},{\"rule\":\"pick\",\"side\":\"left\",\"item\":0,\"children\":[9],\"then\":[]}]}",
+        "24 TooFewPicked at 0",
+    ),
+    // pick child outside and too few
+    (
+        "{\"rule\":\"pick\",\"side\":\"left\",\"item\":0,\"children\":[6],\"then\":[]}",
+        "25 BadPair at root",
+    ),
+    // pick child repeated, too few
+    (
+        "{\"rule\":\"pick\",\"side\":\"left\",\"item\":0,\"children\":[0,0,1],\"then\":[{\"rule\":\"clash\",\"left\":0,\"right\":0},{\"rule\":\"clash\",\"left\":0,\"right\":0},{\"rule\":\"clash\",\"left\":0,\"right\":0}]}",
+        "25 BadPair at root",
+    ),
+    // pick too few, branches too
+    (
+        "{\"rule\":\"pick\",\"side\":\"left\",\"item\":0,\"children\":[0,1,2],\"then\":[{\"rule\":\"clash\",\"left\":0,\"right\":0},{\"rule\":\"clash\",\"left\":0,\"right\":0}]}",
+        "24 TooFewPicked at root",
+    ),
+    // pick branches
+    (
+        "{\"rule\":\"pick\",\"side\":\"left\",\"item\":0,\"children\":[0,1,2,3],\"then\":[{\"rule\":\"clash\",\"left\":0,\"right\":0},{\"rule\":\"clash\",\"left\":0,\"right\":0},{\"rule\":\"clash\",\"left\":0,\"right\":0}]}",
+        "27 BranchCount at root",
+    ),
+    // pick branch order
+    (
+        "{\"rule\":\"pick\",\"side\":\"left\",\"item\":0,\"children\":[0,1,2,3],\"then\":[{\"rule\":\"clash\",\"left\":0,\"right\":0},{\"rule\":\"clash\",\"left\":0,\"right\":0},{\"rule\":\"clash\",\"left\":0,\"right\":0},{\"rule\":\"clash\",\"left\":0,\"right\":0}]}",
+        "22 NoClash at 0",
+    ),
+    // match left 1
+    (
+        "{\"rule\":\"match\",\"left\":1,\"right\":0,\"pairs\":[[9,9]],\"then\":[]}",
+        "20 NoSuchItem at root",
+    ),
+    // match right 1
+    (
+        "{\"rule\":\"match\",\"left\":0,\"right\":1,\"pairs\":[[9,9]],\"then\":[]}",
+        "20 NoSuchItem at root",
+    ),
+    // match member
+    (
+        "{\"rule\":\"pick\",\"side\":\"left\",\"item\":0,\"children\":[0,1,2,3],\"then\":[{\"rule\":\"match\",\"left\":0,\"right\":0,\"pairs\":[[9,9]],\"then\":[]},{\"rule\":\"match\",\"left\":0,\"right\":0,\"pairs\":[[9,9]],\"then\":[]},{\"rule\":\"match\",\"left\":0,\"right\":0,\"pairs\":[[9,9]],\"then\":[]},{\"rule\":\"match\",\"left\":0,\"right\":0,\"pairs\":[[9,9]],\"then\":[]}]}",
+        "25 BadPair at 0",
+    ),
+    // match second repeated, count too
+    (
+        "{\"rule\":\"match\",\"left\":0,\"right\":0,\"pairs\":[[0,0],[1,0]],\"then\":[{\"rule\":\"clash\",\"left\":0,\"right\":0}]}",
+        "25 BadPair at root",
+    ),
+    // match child outside
+    (
+        "{\"rule\":\"match\",\"left\":0,\"right\":0,\"pairs\":[[0,6]],\"then\":[{\"rule\":\"clash\",\"left\":0,\"right\":0}]}",
+        "25 BadPair at root",
+    ),
+    // match count, branches too
+    (
+        "{\"rule\":\"match\",\"left\":0,\"right\":0,\"pairs\":[[0,0],[1,1]],\"then\":[{\"rule\":\"clash\",\"left\":0,\"right\":0}]}",
+        "26 CountTooSmall at root",
+    ),
+    // match branches
+    (
+        "{\"rule\":\"match\",\"left\":0,\"right\":0,\"pairs\":[[0,0],[1,1],[2,2],[3,3],[4,4],[5,5]],\"then\":[{\"rule\":\"clash\",\"left\":0,\"right\":0},{\"rule\":\"clash\",\"left\":0,\"right\":0},{\"rule\":\"clash\",\"left\":0,\"right\":0},{\"rule\":\"clash\",\"left\":0,\"right\":0},{\"rule\":\"clash\",\"left\":0,\"right\":0}]}",
+        "27 BranchCount at root",
+    ),
+    // match order of branches
+    (
+        "{\"rule\":\"match\",\"left\":0,\"right\":0,\"pairs\":[[0,0],[1,1],[2,2],[3,3],[4,5],[5,4]],\"then\":[{\"rule\":\"clash\",\"left\":0,\"right\":0},{\"rule\":\"clash\",\"left\":0,\"right\":0},{\"rule\":\"clash\",\"left\":0,\"right\":0},{\"rule\":\"clash\",\"left\":0,\"right\":0},{\"rule\":\"clash\",\"left\":0,\"right\":0},{\"rule\":\"clash\",\"left\":0,\"right\":0}]}",
+        "22 NoClash at 4",
+    ),
+    // split left
+    (
+        "{\"rule\":\"split\",\"member\":6,\"left\":{\"rule\":\"clash\",\"left\":0,\"right\":0},\"right\":{\"rule\":\"open\",\"side\":\"left\",\"item\":0,\"then\":{\"rule\":\"clash\",\"left\":0,\"right\":0}}}",
+        "22 NoClash at 0",
+    ),
+    // split right
+    (
+        "{\"rule\":\"split\",\"member\":6,\"left\":{\"rule\":\"match\",\"left\":0,\"right\":0,\"pairs\":[[0,0],[1,1],[2,2],[3,3],[4,4],[5,5]],\"then\":[{\"rule\":\"clash\",\"left\":0,\"right\":0},{\"rule\":\"clash\",\"left\":0,\"right\":0},{\"rule\":\"clash\",\"left\":0,\"right\":0},{\"rule\":\"clash\",\"left\":0,\"right\":0},{\"rule\":\"clash\",\"left\":0,\"right\":0},{\"rule\":\"clash\",\"left\":0,\"right\":0}]},\"right\":{\"rule\":\"open\",\"side\":\"left\",\"item\":0,\"then\":{\"rule\":\"clash\",\"left\":0,\"right\":0}}}",
+        "23 NotAll at 1",
+    ),
+];
 
-/// Each rule's faults in their order: a node with several of them has the first.
 #[test]
-fn faults_of_a_node(rt: HostRuntime) -> Result<(), AllocError> {
+fn first_faults_of_certificates(rt: HostRuntime) -> Result<(), AllocError> {
     let alloc = rt.alloc();
-    let rows = [
-        (
-            "{\"rule\":\"dead\",\"side\":\"right\",\"item\":1}",
-            "20 NoSuchItem",
-        ),
-        (
-            "{\"rule\":\"dead\",\"side\":\"right\",\"item\":0}",
-            "21 NotDead",
-        ),
-        (
-            "{\"rule\":\"clash\",\"left\":0,\"right\":1}",
-            "20 NoSuchItem",
-        ),
-        ("{\"rule\":\"clash\",\"left\":0,\"right\":0}", "22 NoClash"),
-        (
-            "{\"rule\":\"open\",\"side\":\"left\",\"item\":1,\"then\":{\"rule\":\"clash\",\"left\":0,\"right\":0}}",
-            "20 NoSuchItem",
-        ),
-        (
-            "{\"rule\":\"open\",\"side\":\"left\",\"item\":0,\"then\":{\"rule\":\"clash\",\"left\":0,\"right\":0}}",
-            "23 NotAll",
-        ),
-        (
-            "{\"rule\":\"pick\",\"side\":\"left\",\"item\":1,\"children\":[9],\"then\":[]}",
-            "20 NoSuchItem",
-        ),
-        (
-            "{\"rule\":\"pick\",\"side\":\"left\",\"item\":0,\"children\":[9],\"then\":[]}",
-            "25 BadPair",
-        ),
-        (
-            "{\"rule\":\"pick\",\"side\":\"left\",\"item\":0,\"children\":[0,0],\"then\":[]}",
-            "25 BadPair",
-        ),
-        (
-            "{\"rule\":\"pick\",\"side\":\"left\",\"item\":0,\"children\":[0,1,2],\"then\":[]}",
-            "24 TooFewPicked",
-        ),
-        (
-            "{\"rule\":\"pick\",\"side\":\"left\",\"item\":0,\"children\":[0,1,2,3],\"then\":[]}",
-            "27 BranchCount",
-        ),
-        (
-            "{\"rule\":\"match\",\"left\":1,\"right\":0,\"pairs\":[[0,9]],\"then\":[]}",
-            "20 NoSuchItem",
-        ),
-        (
-            "{\"rule\":\"match\",\"left\":0,\"right\":1,\"pairs\":[[0,9]],\"then\":[]}",
-            "20 NoSuchItem",
-        ),
-        (
-            "{\"rule\":\"match\",\"left\":0,\"right\":0,\"pairs\":[[0,9]],\"then\":[]}",
-            "25 BadPair",
-        ),
-        (
-            "{\"rule\":\"match\",\"left\":0,\"right\":0,\"pairs\":[[0,0],[1,0]],\"then\":[]}",
-            "25 BadPair",
-        ),
-        (
-            "{\"rule\":\"match\",\"left\":0,\"right\":0,\"pairs\":[[0,0]],\"then\":[]}",
-            "26 CountTooSmall",
-        ),
-        (
-            "{\"rule\":\"match\",\"left\":0,\"right\":0,\"pairs\":[[0,0],[1,1],[2,2],[3,3],[4,4],[5,5]],\"then\":[]}",
-            "27 BranchCount",
-        ),
-    ];
-    for (certificate, name) in rows {
-        let line = format!(in alloc; "{name} at root\n")?;
-        assert_eq!(rt; fault(alloc, certificate)?, line, "{certificate}");
+    for (certificate, want) in FAULTY {
+        let text = root(alloc, READ, WRITE, certificate)?;
+        let line = format!(in alloc; "no: 33 group 0 configuration 0 meets: {want}\n")?;
+        let said = said(
+            alloc,
+            Action::Check,
+            text.as_bytes(),
+            Source::<&[u8]>::Missing,
+        );
+        assert!(rt; said.is(1, &line), "{want}");
     }
     Ok(())
 }
 
-/// A rule that asks for a list of members, on members; the first faulty branch is told.
+/// Plans with one fault or more, and what is told of the first.
+const UNREADABLE: [(&str, u8, &str); 14] = [
+    // a missing step beside a bad count
+    (
+        "{\"format\":1,\"lal\":10,\"groups\":[{\"configurations\":[{\"parent\":null,\"members\":[0,1,2,3,4,5],\"full\":[0,1,2,3,4,5],\"read\":{\"k\":0,\"of\":\"all\"},\"write\":{\"k\":4,\"of\":\"all\"},\"meets\":null}]}]}",
+        2,
+        "input: 13 Malformed\n",
+    ),
+    // one key more beside a bad LAL
+    (
+        "{\"format\":1,\"lal\":0,\"groups\":[{\"configurations\":[{\"parent\":null,\"members\":[0,1,2,3,4,5],\"full\":[0,1,2,3,4,5],\"read\":{\"k\":3,\"of\":\"all\"},\"write\":{\"k\":4,\"of\":\"all\"},\"meets\":null,\"step\":null}]}],\"more\":1}",
+        2,
+        "input: 13 Malformed\n",
+    ),
+    // LAL 0
+    (
+        "{\"format\":1,\"lal\":0,\"groups\":[{\"configurations\":[{\"parent\":null,\"members\":[0,1,2,3,4,5],\"full\":[0,1,2,3,4,5],\"read\":{\"k\":3,\"of\":\"all\"},\"write\":{\"k\":4,\"of\":\"all\"},\"meets\":null,\"step\":null}]}]}",
+        1,
+        "no: 34 OverLimit\n",
+    ),
+    // LAL 10,000,001
+    (
+        "{\"format\":1,\"lal\":10000001,\"groups\":[{\"configurations\":[{\"parent\":null,\"members\":[0,1,2,3,4,5],\"full\":[0,1,2,3,4,5],\"read\":{\"k\":3,\"of\":\"all\"},\"write\":{\"k\":4,\"of\":\"all\"},\"meets\":null,\"step\":null}]}]}",
+        1,
+        "no: 34 OverLimit\n",
+    ),
+    // the step of a root
+    (
+        "{\"format\":1,\"lal\":10,\"groups\":[{\"configurations\":[{\"parent\":null,\"members\":[0,1,2,3,4,5],\"full\":[0,1,2,3,4,5],\"read\":{\"k\":3,\"of\":\"all\"},\"write\":{\"k\":4,\"of\":\"all\"},\"meets\":null,\"step\":{\"rule\":\"clash\",\"left\":0,\"right\":0}}]}]}",
+        2,
+        "input: 13 Malformed\n",
+    ),
+    // a bad count at the sixth level, over a seventh
+    (
+        "{\"format\":1,\"lal\":10,\"groups\":[{\"configurations\":[{\"parent\":null,\"members\":[0,1,2,3,4,5],\"full\":[0,1,2,3,4,5],\"read\":{\"k\":1,\"of\":[{\"k\":1,\"of\":[{\"k\":1,\"of\":[{\"k\":1,\"of\":[{\"k\":1,\"of\":[{\"k\":2,\"of\":[0]}]}]}]}]}]},\"write\":{\"k\":4,\"of\":\"all\"},\"meets\":null,\"step\":null}]}]}",
+        1,
+        "no: 10 BadCount group 0 configuration 0 read\n",
+    ),
+    // configuration 0 without a certificate, before configuration 1 without a parent
+    (
+        "{\"format\":1,\"lal\":10,\"groups\":[{\"configurations\":[{\"parent\":null,\"members\":[0,1,2,3,4,5],\"full\":[0,1,2,3,4,5],\"read\":{\"k\":3,\"of\":\"all\"},\"write\":{\"k\":4,\"of\":\"all\"},\"meets\":null,\"step\":null},{\"parent\":null,\"members\":[0,1,2,3,4,5],\"full\":[0,1,2,3,4,5],\"read\":{\"k\":3,\"of\":\"all\"},\"write\":{\"k\":4,\"of\":\"all\"},\"meets\":null,\"step\":null}]}]}",
+        1,
+        "no: 32 NoCertificate group 0 configuration 0 meets\n",
+    ),
+    // no groups
+    (
+        "{\"format\":1,\"lal\":10,\"groups\":[]}",
+        1,
+        "no: 34 OverLimit\n",
+    ),
+    // no configurations
+    (
+        "{\"format\":1,\"lal\":10,\"groups\":[{\"configurations\":[]}]}",
+        1,
+        "no: 34 OverLimit\n",
+    ),
+    // another format
+    (
+        "{\"format\":2,\"lal\":10,\"groups\":[{\"configurations\":[{\"parent\":null,\"members\":[0,1,2,3,4,5],\"full\":[0,1,2,3,4,5],\"read\":{\"k\":3,\"of\":\"all\"},\"write\":{\"k\":4,\"of\":\"all\"},\"meets\":null,\"step\":null}]}]}",
+        2,
+        "input: 13 Malformed\n",
+    ),
+    // members that fall
+    (
+        "{\"format\":1,\"lal\":10,\"groups\":[{\"configurations\":[{\"parent\":null,\"members\":[1,0,2,3,4,5],\"full\":[0,1,2,3,4,5],\"read\":{\"k\":3,\"of\":\"all\"},\"write\":{\"k\":4,\"of\":\"all\"},\"meets\":null,\"step\":null}]}]}",
+        2,
+        "input: 13 Malformed\n",
+    ),
+    // no members
+    (
+        "{\"format\":1,\"lal\":10,\"groups\":[{\"configurations\":[{\"parent\":null,\"members\":[],\"full\":[],\"read\":{\"k\":3,\"of\":\"all\"},\"write\":{\"k\":4,\"of\":\"all\"},\"meets\":null,\"step\":null}]}]}",
+        2,
+        "input: 13 Malformed\n",
+    ),
+    // member 64
+    (
+        "{\"format\":1,\"lal\":10,\"groups\":[{\"configurations\":[{\"parent\":null,\"members\":[0,1,2,3,4,64],\"full\":[],\"read\":{\"k\":3,\"of\":\"all\"},\"write\":{\"k\":4,\"of\":\"all\"},\"meets\":null,\"step\":null}]}]}",
+        2,
+        "input: 13 Malformed\n",
+    ),
+    // a full member that is no member
+    (
+        "{\"format\":1,\"lal\":10,\"groups\":[{\"configurations\":[{\"parent\":null,\"members\":[0,1,2,3,4,5],\"full\":[6],\"read\":{\"k\":3,\"of\":\"all\"},\"write\":{\"k\":4,\"of\":\"all\"},\"meets\":null,\"step\":null}]}]}",
+        2,
+        "input: 13 Malformed\n",
+    ),
+];
+
 #[test]
-fn faults_of_branches(rt: HostRuntime) -> Result<(), AllocError> {
+fn first_faults_of_texts(rt: HostRuntime) {
     let alloc = rt.alloc();
-    let rows = [
-        (
-            "{\"rule\":\"open\",\"side\":\"left\",\"item\":0,\"then\":{\"rule\":\"clash\",\"left\":0,\"right\":0}}",
-            "23 NotAll",
-        ),
-        (
-            "{\"rule\":\"pick\",\"side\":\"left\",\"item\":0,\"children\":[9],\"then\":[]}",
-            "24 TooFewPicked",
-        ),
-        (
-            "{\"rule\":\"match\",\"left\":0,\"right\":0,\"pairs\":[[9,9]],\"then\":[]}",
-            "25 BadPair",
-        ),
-    ];
-    let last = times(alloc, CLASH, 4)?;
-    for (branch, name) in rows {
-        let then = format!(in alloc; "{CLASH},{branch},{last}")?;
-        let certificate = matched(alloc, 0, 0, PAIRS, &then)?;
-        let line = format!(in alloc; "{name} at 1\n")?;
-        assert_eq!(rt; fault(alloc, &certificate)?, line, "{branch}");
+    for (text, status, line) in UNREADABLE {
+        let said = said(
+            alloc,
+            Action::Check,
+            text.as_bytes(),
+            Source::<&[u8]>::Missing,
+        );
+        assert!(rt; said.is(status, line), "{line}");
     }
-    Ok(())
 }
