@@ -4,3 +4,4 @@ pub mod Edits
 pub mod Taking
 pub mod Sets
 pub mod Paging
+pub mod Offering

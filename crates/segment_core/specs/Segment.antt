@@ -2,7 +2,7 @@ use Rattle.std.specs.Prelude.{◌≡◌, ℕ, ◌<◌, not, ◌&&◌, ◌==◌, 
 use Rattle.std.specs.Arc.{arc_value}
 use Rattle.volume_model.specs.Plan as model
 use Rattle.volume_model.specs.Redo.{scl}
-use Rattle.volume_model.specs.Node.{Node, NodeAnswer, born_node, has_configuration, lineage_epoch, page_of}
+use Rattle.volume_model.specs.Node.{Node, NodeAnswer, NodeStep, born_node, has_configuration, lineage_epoch, page_of}
 use Rattle.volume_model.specs.Message.{Label}
 use Rattle.volume_model.specs.Message.Message.{Page}
 use Rattle.volume_model.specs.Answer.{◌>>=◌}
@@ -13,7 +13,7 @@ use Rattle.plan.specs.CheckedModel.{checked_model}
 use Rattle.redo_record.specs.Packet.{packet_redo}
 use Rattle.lineage.specs.Lineage.{lineage_of}
 use Rattle.wire.specs.declared.message.Message.{Message}
-use Rattle.wire.specs.Message.{made_of}
+use Rattle.wire.specs.Message.{made_of, message_of}
 use Rattle.segment_core.specs.declared.prepared.Effect.{Effect}
 use Rattle.segment_core.specs.declared.prepared.Effect.TheVariants.{Enter, Keep}
 use Rattle.segment_core.specs.declared.prepared.Prepared.{Prepared}
@@ -77,6 +77,10 @@ page_answer plan group member node label block point =
     refuse_if (not (lineage_epoch node == label.volume)) NotInstalled (
     full_page plan group member node block point >>= λ bytes.
     Ok (record { made = Page group label member block point bytes ∷ []; node = node }))
+
+-- the step that an offered message is
+abbrev pub offer_step : Node → Message → NodeStep
+offer_step node message = record { made = message_of message ∷ []; node = node }
 
 -- there is room for what enters or is kept, and the place of what enters is right
 abbrev pub CanTake : Segment → Effect → Type 0

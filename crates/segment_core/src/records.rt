@@ -15,9 +15,9 @@ pub struct Records {
 }
 
 impl Records {
-    ghost use Rattle.std.specs.Prelude.{◌≡◌, ◌<◌, [], length, IfOk, OnOk, MatchOption};
+    ghost use Rattle.std.specs.Prelude.{◌≡◌, ◌<◌, [], length, IfOk, OnOk, MatchOption, option_map};
     ghost use Rattle.std.specs.List.{remove};
-    ghost use Rattle.volume_model.specs.Redo.{scl, with_record};
+    ghost use Rattle.volume_model.specs.Redo.{record_at, scl, with_record};
     ghost use Rattle.volume_model.specs.Node.{page_of};
     ghost use Rattle.redo_record.specs.Packet.{packet_redo};
     ghost use Rattle.redo_record.specs.Places.{IsHeldIn, IsPlaceFor};
@@ -62,6 +62,14 @@ impl Records {
             write_packet(&mut page, &held.packet, block, point);
         }
         page
+    }
+
+    /// The record with this number, of several the first in the order of their bytes.
+    pub fn record_at(&self, lsn: u64) -> Option<Packet>
+        ensures { option_map packet_redo result ≡ record_at (records_of self.now) lsn }
+    {
+        let held = self.held.iter().find(|held| held.packet.lsn() == lsn)?;
+        Some(held.packet)
     }
 
     /// How many records are held.

@@ -10,8 +10,8 @@ use std::alloc::{AllocError, Global};
 use std::sync::Arc;
 use volume_model::Fault;
 use wire::{
-    Ack, Contents, CopyAsk, CopyReport, Fence, Install, Label, Message, Page, PageAsk, Report,
-    StepTo,
+    Ack, Contents, CopyAsk, CopyReport, Fence, Gossip, Install, Label, Message, Page, PageAsk,
+    Report, StepTo,
 };
 
 /// How many records a segment holds at most.
@@ -41,16 +41,16 @@ impl Segment {
     ghost use Rattle.std.specs.Arc.{arc_value};
     ghost use Rattle.volume_model.specs.Answer.{Gives};
     ghost use Rattle.volume_model.specs.Refusal.{refuse_if};
-    ghost use Rattle.volume_model.specs.declared.fault.Fault.TheVariants.{NotAddressed};
-    ghost use Rattle.volume_model.specs.Redo.{scl};
-    ghost use Rattle.volume_model.specs.Node.{NodeAnswer, label_checks, reaction, restarted, senders, take_record};
+    ghost use Rattle.volume_model.specs.declared.fault.Fault.TheVariants.{NotAddressed, NotInstalled};
+    ghost use Rattle.volume_model.specs.Redo.{record_at, scl};
+    ghost use Rattle.volume_model.specs.Node.{NodeAnswer, gossip_of, label_checks, lineage_epoch, offered, reaction, restarted, senders, take_record};
     ghost use Rattle.plan.specs.CheckedModel.{checked_model};
     ghost use Rattle.redo_record.specs.Packet.{packet_redo};
     ghost use Rattle.volume_model.specs.Message as model;
     ghost use Rattle.wire.specs.Contents.{contents_of};
     ghost use Rattle.wire.specs.Message.{label_of, message_of, made_of};
     ghost use Rattle.segment_core.specs.Prepared.{answer_of, effected, step_of};
-    ghost use Rattle.segment_core.specs.Segment.{node_of, segment_plan, segment_group, segment_member, born, full_page, page_answer, paged, CanTake, IsSegmentOf, IsSameActor, IsReady, Reacts};
+    ghost use Rattle.segment_core.specs.Segment.{node_of, segment_plan, segment_group, segment_member, born, full_page, offer_step, page_answer, paged, CanTake, IsSegmentOf, IsSameActor, IsReady, Reacts};
 
     /// The segment of a member of a group, as it is born. Refused 82 where the plan names no such member.
     pub fn new(
@@ -406,6 +406,40 @@ impl Segment {
         }
         self.check_label(ask.label)?;
         self.answer_page(alloc, ask)
+    }
+
+    /// A record that it holds, for the other nodes of its group.
+    fn gossip(&self, lsn: u64) -> Result<Message, Fault>
+        ensures { Gives (offer_step (node_of self.now)) result (refuse_if (not ((node_of self.now).volume == lineage_epoch (node_of self.now))) NotInstalled (gossip_of (segment_group self.now) (node_of self.now) (record_at (node_of self.now).contents.records lsn))) }
+    {
+        if self.volume != self.lineage.last_epoch() {
+            return Err(Fault::NotInstalled);
+        }
+        let Some(packet) = self.records.record_at(lsn) else {
+            return Err(Fault::NoRecord);
+        };
+        let label = Label {
+            volume: self.volume,
+            member: self.epoch,
+        };
+        Ok(Message::Gossip(Gossip {
+            group: self.group,
+            label,
+            packet,
+        }))
+    }
+
+    /// A record that it holds, for the other nodes of its group, of several with the number the first in the order of their bytes.
+    /// Refused 54 before the segment is whole, 53 where its lineage isn't that of the volume epoch that it has promised, 58 where it
+    /// holds no such record.
+    pub fn offer(&self, lsn: u64) -> Result<Message, Fault>
+        ensures { Gives (offer_step (node_of self.now)) result (offered (segment_group self.now) (node_of self.now) lsn) }
+    {
+        if self.whole {
+            self.gossip(lsn)
+        } else {
+            Err(Fault::NotWhole)
+        }
     }
 
     /// Makes ready to take a message: gives every refusal, makes every growth, and works out the answer.

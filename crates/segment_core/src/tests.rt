@@ -280,3 +280,24 @@ fn answers(rt: HostRuntime) -> Result<(), Fail> {
     assert_eq!(rt; scl_of(segment.deliver(alloc, &empty)), Ok(0));
     Ok(())
 }
+
+#[test]
+fn offers(rt: HostRuntime) -> Result<(), Fail> {
+    let alloc = rt.alloc();
+    let mut whole = segment(alloc, 0)?;
+    whole.deliver(alloc, &write(1, 0, LABEL)?)?;
+    let Message::Gossip(gossip) = whole.offer(1)? else {
+        return Err(Fail::from("gossip"));
+    };
+    assert_eq!(rt; gossip.label, LABEL);
+    assert_eq!(rt; gossip.packet.lsn(), 1);
+    assert_eq!(rt; whole.offer(2).err(), Some(Fault::NoRecord));
+    assert_eq!(rt; whole.page_at(0, 1)?[0], b'a');
+    assert_eq!(rt; whole.page_at(0, 2).err(), Some(Fault::PointAhead));
+    whole.deliver(alloc, &fence(0, label(2, 1)))?;
+    assert_eq!(rt; whole.offer(1).err(), Some(Fault::NotInstalled));
+    let unwhole = segment(alloc, 3)?;
+    assert_eq!(rt; unwhole.offer(1).err(), Some(Fault::NotWhole));
+    assert_eq!(rt; unwhole.page_at(0, 0).err(), Some(Fault::NotWhole));
+    Ok(())
+}
