@@ -1,5 +1,5 @@
-use Rattle.std.specs.Prelude.{[], ◌∷◌, ◌++◌, Option}
-use Rattle.volume_model.specs.Redo.{with_record}
+use Rattle.std.specs.Prelude.{List, [], ◌∷◌, ◌++◌, Option}
+use Rattle.volume_model.specs.Redo.{Redo, with_record}
 use Rattle.volume_model.specs.Node.{Node, NodeStep, From}
 use Rattle.redo_record.specs.Packet.{packet_redo}
 use Rattle.lineage.specs.Lineage.{lineage_of}
