@@ -11,8 +11,8 @@ mod listing;
 mod parents;
 mod placed;
 mod reading;
-mod writing;
 mod tree;
+mod writing;
 
 pub use checked::CheckedPlan;
 pub use checking::check_plan;
