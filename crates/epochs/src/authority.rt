@@ -43,6 +43,13 @@ impl Authority {
         })
     }
 
+    /// The last volume epoch that it has assigned.
+    pub fn last_volume(&self) -> u32
+        ensures { result ≡ (authority_of self.now).last_volume }
+    {
+        self.last_volume
+    }
+
     /// Where it has a group.
     fn place(&self, group: u8) -> Place
         ensures { place_of result ≡ place_now (authority_plan self.now) (authority_of self.now) group }

@@ -216,3 +216,42 @@ impl CopyReport {
         self.group == group && self.contents.is_of(group) && self.from < 64
     }
 }
+
+impl Report {
+    ghost use Rattle.std.specs.Prelude.{nat_lt};
+    ghost use Rattle.volume_model.specs.Node.{in_group};
+    ghost use Rattle.wire.specs.Contents.{contents_of};
+
+    /// Whether it is for the client of this volume epoch, over so many groups: it speaks of one of them, its records are those of the
+    /// group, and its sender is a member.
+    pub fn is_to(&self, volume: u32, groups: u8) -> bool
+        ensures { result ≡ (self.now.label.volume == volume && (nat_lt self.now.group groups && (in_group self.now.group (contents_of self.now.contents) && nat_lt self.now.from 64))) }
+    {
+        self.label.volume == volume
+            && self.group < groups
+            && self.contents.is_of(self.group)
+            && self.from < 64
+    }
+}
+
+impl Ack {
+    ghost use Rattle.std.specs.Prelude.{nat_lt};
+
+    /// Whether it is for the client of this volume epoch, over so many groups: it speaks of one of them, and its sender is a member.
+    pub fn is_to(&self, volume: u32, groups: u8) -> bool
+        ensures { result ≡ (self.now.label.volume == volume && (nat_lt self.now.group groups && nat_lt self.now.from 64)) }
+    {
+        self.label.volume == volume && self.group < groups && self.from < 64
+    }
+}
+
+impl Page {
+    ghost use Rattle.std.specs.Prelude.{nat_lt};
+
+    /// Whether it is for the client of this volume epoch, over so many groups: it speaks of one of them, and its sender is a member.
+    pub fn is_to(&self, volume: u32, groups: u8) -> bool
+        ensures { result ≡ (self.now.label.volume == volume && (nat_lt self.now.group groups && nat_lt self.now.from 64)) }
+    {
+        self.from < 64 && self.group < groups && self.label.volume == volume
+    }
+}
