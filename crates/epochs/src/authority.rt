@@ -1,6 +1,6 @@
 //! The authority of a volume.
 
-ghost use Rattle.std.specs.Prelude.{◌≡◌, length};
+ghost use Rattle.std.specs.Prelude.{◌≡◌, ◌≤◌, length};
 ghost use Rattle.std.specs.Arc.{arc_value};
 ghost use Rattle.plan.specs.CheckedModel.{checked_model};
 
@@ -17,6 +17,7 @@ pub struct Authority {
     last_volume: u32,
     /// The configuration of each group.
     configurations: Vec<u8>,
+    ghost assigned: { 1 ≤ last_volume },
     ghost each_group: { length configurations.items ≡ (checked_model (arc_value plan)).groups },
 }
 

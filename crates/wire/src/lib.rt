@@ -4,10 +4,11 @@
 mod contents;
 mod label;
 mod message;
+mod view;
 
 pub use contents::Contents;
 pub use label::{Label, Place};
 pub use message::{
-    Ack, CopyAsk, CopyReport, Fence, Gossip, Install, Message, Page, PageAsk, Report, StepTo, View,
-    Write,
+    Ack, CopyAsk, CopyReport, Fence, Gossip, Install, Message, Page, PageAsk, Report, StepTo, Write,
 };
+pub use view::View;

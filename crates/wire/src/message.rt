@@ -5,16 +5,8 @@ ghost use Rattle.redo_record.specs.Packet.{packet_redo};
 
 use crate::contents::Contents;
 use crate::label::{Label, Place};
+use crate::view::View;
 use redo_record::Packet;
-
-/// Where the groups stand, for the client of a volume epoch.
-#[derive(Drop)]
-pub struct View {
-    /// The volume epoch.
-    pub volume: u32,
-    /// The place of each group, in their order.
-    pub places: Vec<Place>,
-}
 
 /// Where a group now stands, for its nodes.
 #[derive(Clone, Copy, Debug, PartialEq, Eq)]

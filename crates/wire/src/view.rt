@@ -1,0 +1,15 @@
+//! What the client of a volume epoch is told of the groups.
+
+ghost use Rattle.std.specs.Prelude.{◌≤◌};
+
+use crate::label::Place;
+
+/// Where the groups stand, for the client of a volume epoch.
+#[derive(Drop)]
+pub struct View {
+    /// The volume epoch, from 1 on.
+    pub volume: u32,
+    /// The place of each group, in their order.
+    pub places: Vec<Place>,
+    pub ghost assigned: { 1 ≤ volume },
+}
