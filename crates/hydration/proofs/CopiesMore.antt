@@ -5,12 +5,13 @@ use Rattle.std.proofs.lemmas.Bool.Decides.{nat_tests}
 use Rattle.std.specs.Ordering.{nat_cmp}
 use Rattle.std.specs.FinSet.{FinSet, contains, insert}
 use Rattle.volume_model.specs.Sets.{contains-put}
-use Rattle.volume_model.specs.Lineage.{last_epoch, newest}
+use Rattle.volume_model.specs.Lineage as model
+use Rattle.volume_model.specs.Lineage.{last_epoch, newest, found_in, with_live}
 use Rattle.volume_model.specs.Node.{contents_of, senders}
 use Rattle.lineage.specs.Lineage.{lineage_of}
 use Rattle.lineage.specs.Newest.{holding}
 use Rattle.hydration.specs.declared.copied.Copied.{Copied}
-use Rattle.hydration.specs.Copies.{copy_of, copies_in, copied_lineages}
+use Rattle.hydration.specs.Copies.{copy_of, copies_in, copied_lineages, with_found}
 
 -- the copy at hand, before the rest
 rest_is : (copies : List Copied) (i : ℕ) (c : Copied) → i < length copies → c ≡ get_or copies i c → copies_in (drop i copies) ≡ copy_of c ∷ copies_in (drop (i + 1) copies)
@@ -32,3 +33,8 @@ senders-more copies i c s whole within is h x =
 pub newest-lineages : (copies : List Copied) → newest (map holding (copied_lineages copies)) ≡ newest (contents_of (copies_in copies))
 newest-lineages [] = refl
 newest-lineages (c ∷ rest) = ap (λ l. if nat_le (last_epoch l) (last_epoch (lineage_of c.contents.lineage)) then lineage_of c.contents.lineage else l) (newest-lineages rest)
+
+-- what is found is what is added to no record
+pub found-from_none : (lineage : model.Lineage) (copies : List model.Contents) → found_in lineage copies ≡ with_found lineage copies []
+found-from_none lineage [] = refl
+found-from_none lineage (c ∷ rest) = ap (with_live lineage c.records) (found-from_none lineage rest)

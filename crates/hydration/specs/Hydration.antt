@@ -1,4 +1,4 @@
-use Rattle.std.specs.Prelude.{◌≡◌, ℕ, ◌<◌, ◌≤◌, if◌then◌else◌, List, Option, Some, None, Result, Ok, Err}
+use Rattle.std.specs.Prelude.{◌≡◌, ℕ, ◌<◌, ◌≤◌, true, false, if◌then◌else◌, List, length, vec_capacity, Option, Some, None, Result, Ok, Err}
 use Rattle.volume_model.specs.declared.fault.Fault.{Fault}
 use Rattle.volume_model.specs.declared.fault.Fault.TheVariants.{NoMemory}
 use Rattle.volume_model.specs.Formula.{Formula, sat}
@@ -9,9 +9,10 @@ use Rattle.volume_model.specs.Node.{From, senders, with_first}
 use Rattle.volume_model.specs.declared.fault.Fault.TheVariants as faults
 use Rattle.wire.specs.declared.message.CopyReport.{CopyReport}
 use Rattle.wire.specs.Contents.{contents_of}
+use Rattle.hydration.specs.declared.copied.Copied.{Copied}
 use Rattle.hydration.specs.declared.copied.State.{State}
 use Rattle.hydration.specs.declared.hydration.Hydration.{Hydration}
-use Rattle.hydration.specs.Copies.{copies_in}
+use Rattle.hydration.specs.Copies.{copy_of, copies_in}
 
 -- the copies kept, in the order in which they came
 abbrev pub copies_of : Hydration → List From
@@ -33,8 +34,30 @@ finished read copies =
     then Some (record { volume = last_epoch lineage; contents = record { lineage = lineage; records = found_in lineage (nodes.contents_of copies) } })
     else None
 
+-- the copy of the model that a member's report is
+abbrev pub reported : CopyReport → From
+reported report = record { sender = report.from; contents = contents_of report.contents }
+
 -- the first report of each sender is kept, and none of a sender that is no member; where memory ran out nothing has changed
 abbrev pub Takes : Result (Unit {0}) Fault → List From → CopyReport → List From → Type 0
-Takes (Ok u) old report new = (report.from < 64) × (new ≡ with_first (record { sender = report.from; contents = contents_of report.contents }) old)
+Takes (Ok u) old report new = (report.from < 64) × (new ≡ with_first (reported report) old)
 Takes (Err NoMemory) old report new = new ≡ old
 Takes (Err fault) old report new = (64 ≤ report.from) × (fault ≡ faults.NotAddressed) × (new ≡ old)
+
+-- the report's copy is made ready where it is its sender's first, and none where its sender has sent one before; a sender that is
+-- no member is refused
+abbrev pub Prepares : Result (Option Copied) Fault → List From → CopyReport → Type 0
+Prepares (Ok (Some copied)) copies report = (report.from < 64) × (senders copies report.from ≡ false) × (copy_of copied ≡ reported report)
+Prepares (Ok None) copies report = (report.from < 64) × (senders copies report.from ≡ true)
+Prepares (Err NoMemory) copies report = Unit {0}
+Prepares (Err fault) copies report = (64 ≤ report.from) × (fault ≡ faults.NotAddressed)
+
+-- there is room for the copy, and its sender has sent none before
+pub record CanKeep (h : Hydration) (copied : Copied) : Type 0 where
+  pub room : length h.copies.items < vec_capacity h.copies
+  pub new : senders (copies_of h) copied.from ≡ false
+
+-- where there is a copy it can be kept
+abbrev pub CanKeepAny : Hydration → Option Copied → Type 0
+CanKeepAny h None = Unit {0}
+CanKeepAny h (Some copied) = CanKeep h copied

@@ -1,13 +1,16 @@
 //! Copies that are gathered until they are those of a read set.
 
-ghost use Rattle.std.specs.Prelude.{◌≡◌, [], Ok, option_map};
+ghost use Rattle.std.specs.Prelude.{◌≡◌, [], ◌∷◌, ◌++◌, Ok, IfOk, option_map};
+ghost use Rattle.std.specs.FinSet as set;
 ghost use Rattle.volume_model.specs.Answer.{Gives};
 ghost use Rattle.quorum_expr.specs.Expr.{formula_of};
-ghost use Rattle.hydration.specs.Hydration.{copies_of, finished, state_of, Takes};
+ghost use Rattle.volume_model.specs.Node.{senders};
+ghost use Rattle.hydration.specs.Copies.{copy_of};
+ghost use Rattle.hydration.specs.Hydration.{copies_of, finished, state_of, CanKeep, CanKeepAny, Prepares, Takes};
 
 use crate::copied::{Copied, State};
 use crate::found::{found_in, newest_lineage, senders};
-use quorum_expr::{Expr, MEMBERS, holds};
+use quorum_expr::{Expr, MEMBERS, MemberSet, holds};
 use std::alloc::Global;
 use volume_model::Fault;
 use wire::{Contents, CopyReport};
@@ -28,31 +31,66 @@ impl Hydration {
         }
     }
 
-    /// Keeps what a member says that it holds, where it is the member's first report. `NotAddressed` where the sender is no member.
-    pub fn take(&mut self, report: &CopyReport) -> Result<(), Fault>
-        ensures { Takes result (copies_of self.old) report.now (copies_of self.new) }
+    /// The members from which there are copies.
+    pub fn senders(&self) -> MemberSet
+        ensures { set.contains result ≡ senders (copies_of self.now) }
+    {
+        senders(&self.copies)
+    }
+
+    /// Makes ready to keep what a member says that it holds: makes the room and the copy, and `None` where the member has sent one
+    /// before. `NotAddressed` where the sender is no member.
+    pub fn prepare(&mut self, report: &CopyReport) -> Result<Option<Copied>, Fault>
+        ensures copy { Prepares result (copies_of self.old) report.now }
+        ensures ready { IfOk result (λ copied. CanKeepAny self.new copied) }
+        ensures same { copies_of self.new ≡ copies_of self.old }
     {
         if report.from >= MEMBERS {
             return Err(Fault::NotAddressed);
         }
-        if senders(self.copies.as_slice()).contains(report.from) {
-            return Ok(());
+        if self.senders().contains(report.from) {
+            return Ok(None);
         }
-        self.copies.push(Copied {
+        self.copies.reserve(1)?;
+        Ok(Some(Copied {
             from: report.from,
             contents: report.contents.clone()?,
-        })?;
+        }))
+    }
+
+    /// Keeps the copy that was made ready last.
+    pub fn keep(&mut self, copied: Copied)
+        requires { CanKeep self.old copied }
+        ensures { copies_of self.new ≡ copies_of self.old ++ copy_of copied ∷ [] }
+    {
+        self.copies.push(copied).unwrap();
+    }
+
+    /// Keeps what a member says that it holds, where it is the member's first report. `NotAddressed` where the sender is no member.
+    pub fn take(&mut self, report: &CopyReport) -> Result<(), Fault>
+        ensures { Takes result (copies_of self.old) report.now (copies_of self.new) }
+    {
+        if let Some(copied) = self.prepare(report)? {
+            self.keep(copied);
+        }
         Ok(())
+    }
+
+    /// Drops all copies.
+    pub fn clear(&mut self)
+        ensures { copies_of self.new ≡ [] }
+    {
+        self.copies.clear();
     }
 
     /// What a node becomes from these copies, where they are those of a read set.
     pub fn finish(&self, alloc: Global, read: &Expr<Global>) -> Result<Option<State>, Fault>
         ensures { Gives (option_map state_of) result (Ok (finished (formula_of read.now) (copies_of self.now))) }
     {
-        let copies = self.copies.as_slice();
-        if !holds(read, senders(copies)) {
+        if !holds(read, self.senders()) {
             return Ok(None);
         }
+        let copies = self.copies.as_slice();
         let lineage = newest_lineage(alloc, copies)?;
         let records = found_in(alloc, &lineage, copies)?;
         Ok(Some(State {

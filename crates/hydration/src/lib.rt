@@ -6,6 +6,7 @@ mod found;
 mod hydration;
 
 pub use copied::{Copied, State};
+pub use found::{add_lineages, senders, with_found};
 pub use hydration::Hydration;
 
 #[cfg(test)]

@@ -33,12 +33,17 @@ fn report(alloc: Global, from: u8, lineage: Lineage, last: u64) -> Result<CopyRe
     })
 }
 
+/// The lineage of a volume's first recovery, of epoch 2, with the cut 3 and an allowance of 10.
+fn recovered(alloc: Global) -> Result<Lineage, Fail> {
+    let birth = Lineage::birth(alloc)?;
+    prove!(birth.last_epoch() < 2);
+    Ok(birth.extend(2, 3, 10)?)
+}
+
 #[test]
 fn copies_of_a_read_set(rt: HostRuntime) -> Result<(), Fail> {
     let alloc = rt.alloc();
     let birth = Lineage::birth(alloc)?;
-    prove!(birth.last_epoch() < 2);
-    let recovered = birth.extend(2, 3, 10)?;
     let mut hydration = Hydration::new(alloc);
     assert_eq!(rt;
         hydration.take(&report(alloc, 64, birth.clone()?, 1)?),
@@ -49,7 +54,10 @@ fn copies_of_a_read_set(rt: HostRuntime) -> Result<(), Fail> {
         Ok(())
     );
     assert!(rt; hydration.finish(alloc, &Expr::Member(0))?.is_none());
-    assert_eq!(rt; hydration.take(&report(alloc, 0, recovered, 2)?), Ok(()));
+    assert_eq!(rt;
+        hydration.take(&report(alloc, 0, recovered(alloc)?, 2)?),
+        Ok(())
+    );
     assert_eq!(rt; hydration.take(&report(alloc, 0, birth, 9)?), Ok(()));
 
     let state = hydration
@@ -58,5 +66,46 @@ fn copies_of_a_read_set(rt: HostRuntime) -> Result<(), Fail> {
     assert_eq!(rt; state.volume, 2);
     assert_eq!(rt; state.contents.lineage.last_start(), 13);
     assert_eq!(rt; state.contents.records.len(), 3);
+    Ok(())
+}
+
+/// A copy is kept in two steps, only as its sender's first, and all copies are dropped at once.
+#[test]
+fn copies_in_two_steps(rt: HostRuntime) -> Result<(), Fail> {
+    let alloc = rt.alloc();
+    let mut hydration = Hydration::new(alloc);
+    let first = report(alloc, 5, Lineage::birth(alloc)?, 1)?;
+    let copied = hydration.prepare(&first)?.ok_or("5 has sent no copy")?;
+    assert_eq!(rt; hydration.senders().contains(5), false);
+    hydration.keep(copied);
+    assert_eq!(rt; hydration.senders().contains(5), true);
+    assert!(rt; hydration.prepare(&first)?.is_none());
+    hydration.clear();
+    assert_eq!(rt; hydration.senders().len(), 0);
+    Ok(())
+}
+
+/// What two copies hold together: records 1 to 5 under two lineages, of which the newer cut all above 3.
+#[test]
+fn what_copies_hold(rt: HostRuntime) -> Result<(), Fail> {
+    let alloc = rt.alloc();
+    let lineage = recovered(alloc)?;
+    let copies = [
+        Copied {
+            from: 0,
+            contents: report(alloc, 0, lineage.clone()?, 2)?.contents,
+        },
+        Copied {
+            from: 2,
+            contents: report(alloc, 2, Lineage::birth(alloc)?, 5)?.contents,
+        },
+    ];
+    assert_eq!(rt; senders(&copies).len(), 2);
+    let mut lineages = Vec::new(alloc);
+    add_lineages(&copies, &mut lineages)?;
+    assert_eq!(rt; lineages[0].last_epoch(), 2);
+    assert_eq!(rt; lineages[1].last_epoch(), 1);
+    let found = with_found(alloc, &lineage, &copies, RecordSet::new(alloc))?;
+    assert_eq!(rt; found.len(), 3);
     Ok(())
 }

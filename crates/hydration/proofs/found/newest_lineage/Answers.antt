@@ -1,4 +1,4 @@
-use Rattle.std.proofs.Common.{◌≡◌, ℕ, ◌<◌, List, [], length, get_or, map, ap, sym, subst, ◌∙◌, arith}
+use Rattle.std.proofs.Common.{◌≡◌, ℕ, ◌<◌, List, [], ◌++◌, length, get_or, map, ap, sym, subst, ◌∙◌, arith}
 use Rattle.std.specs.Prelude.{Result, Ok, Err, IfOk, MatchResult}
 use Rattle.std.proofs.lemmas.List.{get_or-map, length-map}
 use Rattle.volume_model.specs.Lineage.{newest}
@@ -6,7 +6,7 @@ use Rattle.volume_model.specs.Node.{contents_of}
 use Rattle.lineage.specs.declared.lineage.Lineage.{Lineage}
 use Rattle.lineage.specs.Lineage.{lineage_of, lineages_of}
 use Rattle.lineage.specs.Newest.{IsNewestAt, holding}
-use Rattle.hydration.specs.Copies.{copies_in}
+use Rattle.hydration.specs.Copies.{copies_in, copied_lineages}
 use Rattle.hydration.proofs.CopiesMore.{newest-lineages}
 use Rattle.hydration.proofs.found.newest_lineage.Goals as goal
 
@@ -23,11 +23,12 @@ newest-of items k x is place at =
 
 pub returns : goal.returns
 returns c =
-    let items = c.in_ok-lineages.lineages.items in
+    let items = c.add_lineages.new.lineages.items in
     let k = c.newest.result in
     let value = c.as_slice.ensures.value in
     let place : IsNewestAt (lineages_of items) k = subst (λ l. IsNewestAt (lineages_of l) k) value c.newest.ensures.place in
     let at : get_or (lineages_of items) k [] ≡ newest (map holding (lineages_of items)) = subst (λ l. get_or (lineages_of l) k [] ≡ newest (map holding (lineages_of l))) value c.newest.ensures.newest in
+    let added : lineages_of items ≡ copied_lineages c.args.copies.now = c.in_ok-add_lineages.ensures.lineages ∙ ap (λ l. lineages_of l ++ copied_lineages c.args.copies.now) c.new-lineages.ensures.items in
     let is : lineage_of c.index.result.now ≡ newest (contents_of (copies_in c.args.copies.now)) =
-    newest-of items k c.index.result.now c.index.ensures place at ∙ ap (λ l. newest (map holding l)) c.in_ok-lineages.ensures.lineages ∙ newest-lineages c.args.copies.now in
+    newest-of items k c.index.result.now c.index.ensures place at ∙ ap (λ l. newest (map holding l)) added ∙ newest-lineages c.args.copies.now in
     match_ok _ c.clone.result (λ copy same. same ∙ is) c.clone.ensures.cases
