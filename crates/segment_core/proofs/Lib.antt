@@ -5,3 +5,4 @@ pub mod Taking
 pub mod Sets
 pub mod Paging
 pub mod Offering
+pub mod Hydrating

@@ -1,5 +1,5 @@
 -- The page that a node answers with
-use Rattle.std.proofs.Common.{◌≡◌, ℕ, Bool, true, false, not, ◌==◌, ◌&&◌, nat_lt, List, [], ◌∷◌, Result, Ok, refl, ap}
+use Rattle.std.proofs.Common.{◌≡◌, ℕ, Bool, true, false, not, ◌==◌, ◌&&◌, nat_lt, [], ◌∷◌, Result, Ok, refl, ap}
 use Rattle.volume_model.specs.Redo.{scl}
 use Rattle.volume_model.specs.Plan as model
 use Rattle.volume_model.specs.Message.{Label}

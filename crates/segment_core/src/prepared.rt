@@ -1,23 +1,16 @@
 //! Steps that a segment is ready to take.
 
 use crate::records::Records;
+use hydration::Copied;
 use lineage::Lineage;
 use redo_record::Packet;
-use wire::{Contents, Message, Place};
+use wire::{Message, Place};
 
 /// A record that a segment is ready to take, and where it will stand.
 #[derive(Clone, Copy)]
 pub struct Entrant {
     pub place: usize,
     pub packet: Packet,
-}
-
-/// What another node holds, as it said.
-#[derive(Drop)]
-pub struct Copied {
-    /// The member that holds it.
-    pub from: u8,
-    pub contents: Contents,
 }
 
 /// What a step changes of a segment.
@@ -39,6 +32,12 @@ pub enum Effect {
     },
     /// A copy is kept.
     Keep(Copied),
+    /// The segment becomes whole: a volume epoch is promised, and the lineage and the records are replaced.
+    Hydrate {
+        volume: u32,
+        lineage: Lineage,
+        records: Records,
+    },
 }
 
 /// A step that a segment is ready to take.

@@ -1,10 +1,12 @@
 //! A segment of a protection group, on one node.
 
-use crate::prepared::{Copied, Effect, Entrant, Prepared};
+use crate::prepared::{Effect, Entrant, Prepared};
 use crate::records::Records;
+use hydration::{Hydration, State};
 use lineage::Lineage;
 use pages::BLOCK;
 use plan::CheckedPlan;
+use quorum_expr::Expr;
 use redo_record::Packet;
 use std::alloc::{AllocError, Global};
 use std::sync::Arc;
@@ -33,7 +35,7 @@ pub struct Segment {
     lineage: Lineage,
     records: Records,
     /// What it was sent while it wasn't whole, at most one a sender.
-    copies: Vec<Copied>,
+    copies: Hydration,
 }
 
 impl Segment {
@@ -43,14 +45,15 @@ impl Segment {
     ghost use Rattle.volume_model.specs.Refusal.{refuse_if};
     ghost use Rattle.volume_model.specs.declared.fault.Fault.TheVariants.{NotAddressed, NotInstalled};
     ghost use Rattle.volume_model.specs.Redo.{record_at, scl};
-    ghost use Rattle.volume_model.specs.Node.{NodeAnswer, gossip_of, label_checks, lineage_epoch, offered, reaction, restarted, senders, take_record};
+    ghost use Rattle.volume_model.specs.Node.{NodeAnswer, gossip_of, has_configuration, hydrated, label_checks, lineage_epoch, offered, reaction, restarted, take_record};
     ghost use Rattle.plan.specs.CheckedModel.{checked_model};
     ghost use Rattle.redo_record.specs.Packet.{packet_redo};
     ghost use Rattle.volume_model.specs.Message as model;
     ghost use Rattle.wire.specs.Contents.{contents_of};
     ghost use Rattle.wire.specs.Message.{label_of, message_of, made_of};
-    ghost use Rattle.segment_core.specs.Prepared.{answer_of, effected, step_of};
-    ghost use Rattle.segment_core.specs.Segment.{node_of, segment_plan, segment_group, segment_member, born, full_page, offer_step, page_answer, paged, CanTake, IsSegmentOf, IsSameActor, IsReady, Reacts};
+    ghost use Rattle.hydration.specs.Hydration.{state_of};
+    ghost use Rattle.segment_core.specs.Prepared.{answer_of, effected, silent_step, step_of};
+    ghost use Rattle.segment_core.specs.Segment.{node_of, segment_plan, segment_group, segment_member, born, full_page, gathered, offer_step, page_answer, paged, Becomes, CanTake, IsReadExpression, IsSegmentOf, IsSameActor, IsReady, Reacts};
 
     /// The segment of a member of a group, as it is born. Refused 82 where the plan names no such member.
     pub fn new(
@@ -77,7 +80,7 @@ impl Segment {
                 whole: true,
                 lineage,
                 records: Records::new(alloc),
-                copies: Vec::new(alloc),
+                copies: Hydration::new(alloc),
             })
         } else {
             Ok(Segment {
@@ -90,7 +93,7 @@ impl Segment {
                 whole: false,
                 lineage: Lineage::empty(alloc),
                 records: Records::new(alloc),
-                copies: Vec::new(alloc),
+                copies: Hydration::new(alloc),
             })
         }
     }
@@ -313,28 +316,24 @@ impl Segment {
         if self.epoch < report.epoch {
             return Err(Fault::AheadMember);
         }
-        if self.has_copy(report.from) {
-            return Ok(Prepared {
-                answer: None,
-                effect: Effect::Nothing,
-            });
-        }
-        self.copies.reserve(1)?;
-        let copied = Copied {
-            from: report.from,
-            contents: report.contents.clone()?,
+        let effect = match self.copies.prepare(report)? {
+            Some(copied) => Effect::Keep(copied),
+            None => Effect::Nothing,
         };
         Ok(Prepared {
             answer: None,
-            effect: Effect::Keep(copied),
+            effect,
         })
     }
 
-    /// Whether it was sent a copy by the member.
-    fn has_copy(&self, member: u8) -> bool
-        ensures { result ≡ senders (node_of self.now).copies member }
+    /// Whether its member is one of the configuration that it took last.
+    fn has_configuration(&self) -> bool
+        ensures { result ≡ has_configuration (segment_plan self.now) (segment_group self.now) (segment_member self.now) (node_of self.now) }
     {
-        self.copies.iter().any(|copied| copied.from == member)
+        self.epoch > 0
+            && self
+                .plan
+                .has_member(self.group, self.configuration, self.member)
     }
 
     /// The page of a block at a point, of a member that keeps whole pages. Refused 60 where it keeps none, 61 where the segment isn't
@@ -343,11 +342,7 @@ impl Segment {
     fn full_page(&self, block: u32, point: u64) -> Result<[u8; BLOCK], Fault>
         ensures { Gives (λ page. page) result (full_page (segment_plan self.now) (segment_group self.now) (segment_member self.now) (node_of self.now) block point) }
     {
-        let is_member = self.epoch > 0
-            && self
-                .plan
-                .has_member(self.group, self.configuration, self.member);
-        if !is_member
+        if !self.has_configuration()
             || !self
                 .plan
                 .is_full(self.group, self.configuration, self.member)
@@ -466,6 +461,54 @@ impl Segment {
         }
     }
 
+    /// The read expression of the configuration that it took last, `None` where its member isn't one of it.
+    fn read_expression(&self) -> Option<&Expr<Global>>
+        ensures { IsReadExpression result (segment_plan self.now) (segment_group self.now) (segment_member self.now) (node_of self.now) }
+    {
+        if !self.has_configuration() {
+            return None;
+        }
+        match self.plan.configuration(self.group, self.configuration) {
+            Some(configuration) => Some(&configuration.read),
+            None => None,
+        }
+    }
+
+    /// What the copies make of it.
+    #[tactic(auto, unfolding(crate::specs::Segment::gathered))]
+    fn gathered(&self, alloc: Global) -> Result<State, Fault>
+        ensures { Gives state_of result (gathered (segment_plan self.now) (segment_group self.now) (segment_member self.now) (node_of self.now)) }
+    {
+        let Some(read) = self.read_expression() else {
+            return Err(Fault::NotEnough);
+        };
+        match self.copies.finish(alloc, read)? {
+            Some(state) => Ok(state),
+            None => Err(Fault::NotEnough),
+        }
+    }
+
+    /// Makes ready to become whole.
+    #[tactic(auto, unfolding(crate::specs::Segment::gathered))]
+    fn prepare_hydration(&self, alloc: Global) -> Result<Effect, Fault>
+        ensures step { Gives (silent_step (node_of self.now)) result (hydrated (segment_plan self.now) (segment_group self.now) (segment_member self.now) (node_of self.now)) }
+        ensures ready { IfOk result (λ effect. CanTake self.now effect) }
+    {
+        if self.whole {
+            return Err(Fault::AlreadyWhole);
+        }
+        let State { volume, contents } = self.gathered(alloc)?;
+        if contents.records.len() > MOST_RECORDS {
+            return Err(Fault::Full);
+        }
+        let records = Records::from_set(alloc, &contents.records)?;
+        Ok(Effect::Hydrate {
+            volume: self.volume.max(volume),
+            lineage: contents.lineage,
+            records,
+        })
+    }
+
     /// Takes the effect of a step.
     fn take(&mut self, effect: Effect)
         requires { CanTake self.old effect }
@@ -479,7 +522,7 @@ impl Segment {
             Effect::Move(place) => {
                 self.configuration = place.configuration;
                 self.epoch = place.epoch;
-                self.copies.truncate(0);
+                self.copies.clear();
             }
             Effect::Replace {
                 volume,
@@ -490,7 +533,17 @@ impl Segment {
                 self.lineage = lineage;
                 self.records = records;
             }
-            Effect::Keep(copied) => self.copies.push(copied).unwrap(),
+            Effect::Keep(copied) => self.copies.keep(copied),
+            Effect::Hydrate {
+                volume,
+                lineage,
+                records,
+            } => {
+                self.volume = volume;
+                self.lineage = lineage;
+                self.records = records;
+                self.whole = true;
+            }
         }
     }
 
@@ -513,5 +566,17 @@ impl Segment {
     {
         let prepared = self.prepare(alloc, message)?;
         Ok(self.apply(prepared))
+    }
+
+    /// Becomes whole: takes the newest lineage of its copies and all their records that are live in it. Refused 56 where it is whole, 57
+    /// where its member isn't one of the configuration that it took last or the copies aren't those of a read set of it, 55 where
+    /// more records were found than a segment holds. Where memory runs out nothing has changed; that may be said before 55.
+    pub fn hydrate(&mut self, alloc: Global) -> Result<(), Fault>
+        ensures node { Becomes (hydrated (segment_plan self.old) (segment_group self.old) (segment_member self.old) (node_of self.old)) (node_of self.old) result (node_of self.new) }
+        ensures actor { IsSameActor self.old self.new }
+    {
+        let effect = self.prepare_hydration(alloc)?;
+        self.take(effect);
+        Ok(())
     }
 }

@@ -1,8 +1,6 @@
-use Rattle.std.proofs.Common.{◌≡◌, ◌≤◌, ◌∙◌, ap, sym, subst, length, List, [], ◌∷◌, ◌++◌}
-use Rattle.std.proofs.lemmas.List.{length-map}
+use Rattle.std.proofs.Common.{◌∙◌, ap, sym, subst, List, [], ◌∷◌, ◌++◌}
 use Rattle.redo_record.specs.Order.{IsInOrder, ComesAfter}
 use Rattle.redo_record.specs.Packet.{packet_redo}
-use Rattle.redo_record.specs.RecordSet as sets
 use Rattle.segment_core.specs.declared.held.Held.{Held}
 use Rattle.segment_core.specs.Held.{redo_held, redos_of}
 use Rattle.segment_core.proofs.Sets.{after-earlier, taken-more, taken-all}

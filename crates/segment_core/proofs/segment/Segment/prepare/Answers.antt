@@ -1,4 +1,4 @@
-use Rattle.std.proofs.Common.{◌≡◌, subst, sym}
+use Rattle.std.proofs.Common.{subst, sym}
 use Rattle.volume_model.specs.Answer.{Gives}
 use Rattle.volume_model.specs.Node.{NodeAnswer, NodeStep, reaction}
 use Rattle.wire.specs.Message.{label_of, message_of}

@@ -1,4 +1,4 @@
-use Rattle.std.proofs.Common.{◌≡◌, ◌≢◌, ◌<◌, false, not, ◌&&◌, nat_le, [], ◌∷◌, length, List, refl, ap, sym, ◌∙◌, arith}
+use Rattle.std.proofs.Common.{◌≡◌, ◌≢◌, ◌<◌, false, not, ◌&&◌, nat_le, [], ◌∷◌, length, List, ap, sym, ◌∙◌, arith}
 use Rattle.std.proofs.lemmas.Bool.{lt-leb}
 use Rattle.volume_model.specs.Redo.{Redo, with_record, holds_record, scl}
 use Rattle.volume_model.specs.Message as model
