@@ -1,8 +1,8 @@
 -- Counted acknowledgements, one after the other.
-use Rattle.std.proofs.Common.{◌≡◌, ℕ, zero, suc, ◌+◌, ◌<◌, Bool, true, false, ◌&&◌, nat_le, nat_eq, List, [], ◌∷◌, ◌++◌, max, length, drop, take, get_or, if◌then◌else◌, sym, ap, ap₂, ◌∙◌, arith, drop-cons, add-one}
+use Rattle.std.proofs.Common.{◌≡◌, ℕ, ◌+◌, ◌<◌, Bool, true, false, ◌&&◌, nat_le, nat_eq, List, ◌∷◌, ◌++◌, max, length, drop, take, get_or, if◌then◌else◌, sym, ap, ap₂, ◌∙◌, arith, drop-cons, add-one}
 use Rattle.std.specs.Prelude.{◌||◌, slice_set}
 use Rattle.std.proofs.lemmas.Bool.Decides.{nat_tests}
-use Rattle.std.proofs.lemmas.List.{take-set, drop-set, take-append-drop, take-map, drop-map, length-map}
+use Rattle.std.proofs.lemmas.List.{take-map, drop-map, length-map, set_split}
 use Rattle.std.specs.Ordering.{nat_cmp}
 use Rattle.std.specs.FinSet.{FinSet, contains, insert}
 use Rattle.volume_model.specs.Sets.{contains-put}
@@ -39,15 +39,6 @@ reaching-stays counts i limit c s whole within is short h x =
 
 -- ---- a sender's count
 
-set-is : {A : Type 0} (xs : List A) (i : ℕ) (y : A) → i < length xs → slice_set xs i y ≡ take i xs ++ y ∷ drop (i + 1) xs
-set-is xs i y within = sym (take-append-drop i (slice_set xs i y)) ∙ ap₂ (λ a b. a ++ b) (take-set xs i y) (drop-set xs i y within)
-
--- an element within the list doesn't hang on what stands for a missing one
-pub same-at : {A : Type 0} (xs : List A) (i : ℕ) (x y : A) → i < length xs → x ≡ get_or xs i x → y ≡ get_or xs i y → x ≡ y
-same-at [] i x y h a b = absurd (omega arith)
-same-at (z ∷ xs) zero x y h a b = a ∙ sym b
-same-at (z ∷ xs) (suc i) x y h a b = same-at xs i x y (omega arith) a b
-
 -- the sender's count comes next
 next-kept : (counts : List Count) (i sender : ℕ) (c : Count) → i < length counts → c ≡ get_or counts i c → c.sender ≡ sender
     → (reached : ℕ) → with_count sender reached (counts_of (drop i counts)) ≡ record { sender = c.sender; reached = max c.reached reached } ∷ counts_of (drop (i + 1) counts)
@@ -62,5 +53,5 @@ pub kept-here : (counts : List Count) (i sender : ℕ) (c : Count) → i < lengt
     → (reached : ℕ) → with_count sender reached (counts_of counts) ≡ slice_set (counts_of counts) i (record { sender = c.sender; reached = max c.reached reached })
 kept-here counts i sender c within is same h reached =
     h reached ∙ ap (λ l. counts_of (take i counts) ++ l) (next-kept counts i sender c within is same reached)
-    ∙ ap₂ (λ a b. a ++ record { sender = c.sender; reached = max c.reached reached } ∷ b) (sym (take-map count_of i counts)) (sym (drop-map count_of (i + 1) counts))
-    ∙ sym (set-is (counts_of counts) i (record { sender = c.sender; reached = max c.reached reached }) (omega (arith, length-map counts count_of)))
+    ∙ ap₂ (λ a b. a ++ record { sender = c.sender; reached = max c.reached reached } ∷ b) (sym (take-map count_of i counts)) (sym (drop-map count_of (i + 1) counts) ∙ ap (λ n. drop n (counts_of counts)) (add-one i))
+    ∙ sym (set_split (counts_of counts) i (record { sender = c.sender; reached = max c.reached reached }) (omega (arith, length-map counts count_of)))

@@ -4,7 +4,7 @@ use Rattle.std.proofs.lemmas.Bool.Decides.{nat_tests}
 use Rattle.volume_model.specs.Redo.{Redo, last_lsn, last_of_group, last_of_block}
 use Rattle.writer_core.specs.Logs.{is_growing}
 
-both : (a b : ℕ) (rest : Bool) → (nat_lt a b && rest) ≡ true → (a < b) × (rest ≡ true)
+pub both : (a b : ℕ) (rest : Bool) → (nat_lt a b && rest) ≡ true → (a < b) × (rest ≡ true)
 both a b rest h = grind (arith, nat_tests)
 
 pub last_of_group-le : (group : ℕ) (log : List Redo) → is_growing log ≡ true → last_of_group group log ≤ last_lsn log

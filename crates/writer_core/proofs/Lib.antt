@@ -1,5 +1,7 @@
+pub mod Below
 pub mod Logs
 pub mod Counting
+pub mod Finding
 pub mod Growing
 pub mod OneMore
 pub mod Placing

@@ -1,5 +1,6 @@
 pub mod Logs
 pub mod Counts
 pub mod Standings
+pub mod Groups
 pub mod Changes
 pub mod Writers

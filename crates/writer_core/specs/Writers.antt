@@ -1,34 +1,36 @@
 -- What a writer is, as the model's client, and what it answers.
-use Rattle.std.specs.Prelude.{◌≡◌, ℕ, ◌+◌, ◌^◌, ◌≤◌, true, List, [], length, max, Result, Ok, Err}
+use Rattle.std.specs.Prelude.{◌≡◌, ℕ, ◌+◌, ◌^◌, ◌≤◌, true, List, [], ◌∷◌, length, max, take, Result, Ok, Err}
 use Rattle.std.specs.Prelude.{Vec}
 use Rattle.std.specs.Global.{Global}
-use Rattle.std.specs.Arc.{arc_value}
 use Rattle.volume_model.specs.declared.fault.Fault.{Fault}
 use Rattle.volume_model.specs.declared.fault.Fault.TheVariants.{NoMemory}
 use Rattle.volume_model.specs.Plan.{Plan}
-use Rattle.volume_model.specs.Redo.{last_lsn}
-use Rattle.volume_model.specs.Lineage.{last_start}
-use Rattle.volume_model.specs.Client.{Client, Change, ClientStep, ClientAnswer, is_transaction, issued_log, issued_writes, place_of}
+use Rattle.volume_model.specs.Redo.{Redo, last_lsn}
+use Rattle.volume_model.specs.Lineage.{Lineage, last_start}
+use Rattle.volume_model.specs.Client.{Client, ClientGroup, Change, ClientStep, ClientAnswer, is_transaction, issued_log, issued_writes, place_of, raised}
 use Rattle.volume_model.specs.Client.Stage.{Writing}
-use Rattle.plan.specs.CheckedModel.{checked_model}
 use Rattle.lineage.specs.Lineage.{lineage_of}
 use Rattle.wire.specs.declared.message.Message.{Message}
-use Rattle.wire.specs.Message.{messages_of}
+use Rattle.wire.specs.Message.{message_of, messages_of}
 use Rattle.writer_core.specs.Logs.{log_of}
-use Rattle.writer_core.specs.Standings.{groups_of}
+use Rattle.writer_core.specs.Groups.{groups_in, standings_plan}
 use Rattle.writer_core.specs.declared.writer.Writer.{Writer}
 
 -- the plan that it was made over
 abbrev pub writer_plan : Writer → Plan
-writer_plan w = checked_model (arc_value w.plan)
+writer_plan w = standings_plan w.standings
 
 -- its volume epoch
 abbrev pub writer_volume : Writer → ℕ
 writer_volume w = w.volume
 
--- the client that it is; the writer that a volume is born with has found no log
+-- the client that it is
 abbrev pub client_of : Writer → Client
-client_of w = record { stage = Writing; groups = groups_of w.standings.items; lineage = lineage_of w.lineage; found = []; log = log_of w.log.items }
+client_of w = record { stage = Writing; groups = groups_in w.standings; lineage = lineage_of w.lineage; found = log_of (take w.found w.log.items); log = log_of w.log.items }
+
+-- the writer that a recovery becomes that keeps these of its groups, with its lineage and the log that it found
+abbrev pub opened_of : Plan → List ClientGroup → Lineage → List Redo → Client
+opened_of plan groups lineage log = record { stage = Writing; groups = raised plan groups; lineage = lineage; found = log; log = log }
 
 -- what a transaction leaves that isn't refused
 abbrev pub issue_of : ℕ → Client → List Change → ClientStep
@@ -54,3 +56,8 @@ abbrev pub Takes : ClientAnswer → Client → Result (Unit {0}) Fault → Clien
 Takes defined old (Ok u) new = defined ≡ Ok (record { made = []; client = new })
 Takes defined old (Err NoMemory) new = new ≡ old
 Takes defined old (Err fault) new = (defined ≡ Err fault) × (new ≡ old)
+
+-- A client makes the message that is defined, or refuses as is defined, and stays what it is.
+abbrev pub Asks : ClientAnswer → Client → Result Message Fault → Type 0
+Asks defined client (Ok message) = defined ≡ Ok (record { made = message_of message ∷ []; client = client })
+Asks defined client (Err fault) = defined ≡ Err fault

@@ -11,7 +11,7 @@ use quorum_expr::{Expr, MemberSet, holds};
 use std::alloc::{AllocFailed, Global};
 
 /// The members whose counted complete point is at least `limit`.
-fn reaching(counts: &[Count], limit: u64) -> MemberSet
+pub fn reaching(counts: &[Count], limit: u64) -> MemberSet
     ensures { set.contains result ≡ reaching (counts_of counts.now) limit }
 {
     let mut members = MemberSet::empty();

@@ -11,15 +11,15 @@ ghost use Rattle.volume_model.specs.Message as model;
 ghost use Rattle.volume_model.specs.Client.{label_of};
 ghost use Rattle.wire.specs.Message.{message_of, messages_of};
 ghost use Rattle.writer_core.specs.Logs.{log_of, is_growing};
-ghost use Rattle.writer_core.specs.Standings.{groups_of};
+ghost use Rattle.writer_core.specs.Groups.{groups_in, standings_plan};
 ghost use Rattle.writer_core.specs.Changes.{change_of, changes_of};
 
 use crate::change::Change;
 use crate::log::{last_lsn, last_of_block, last_of_group};
-use crate::standing::Standing;
+use crate::standings::Standings;
 use redo_record::{Packet, Payload, Record};
 use volume_model::Fault;
-use wire::{Label, Message, Write};
+use wire::{Message, Write};
 
 /// The volume epoch of a writer, and the LSN after which its own records begin.
 #[derive(Clone, Copy)]
@@ -58,16 +58,12 @@ fn next_record(span: Span, log: &[Record], change: &Change, point: bool) -> Reco
 }
 
 /// The message that gives a record to the nodes of its group.
-pub fn write_of(volume: u32, standings: &[Standing], record: &Record) -> Message
-    requires { «record».now.group < length standings.now }
-    ensures { message_of result ≡ model.Message.Write «record».now.group (label_of volume (place_of (groups_of standings.now)) «record».now.group) (redo_of «record».now) }
+pub fn write_of(volume: u32, standings: &Standings, record: &Record) -> Message
+    ensures { message_of result ≡ model.Message.Write «record».now.group (label_of volume (place_of (groups_in standings.now)) «record».now.group) (redo_of «record».now) }
 {
     Message::Write(Write {
         group: record.group,
-        label: Label {
-            volume,
-            member: standings[usize::from(record.group)].epoch,
-        },
+        label: standings.label(volume, record.group),
         packet: Packet::pack(record),
     })
 }
@@ -76,18 +72,18 @@ pub fn write_of(volume: u32, standings: &[Standing], record: &Record) -> Message
 /// only grown.
 pub fn append(
     span: Span,
-    standings: &[Standing],
+    standings: &Standings,
     log: &mut Vec<Record>,
     changes: &[Change],
     messages: &mut Vec<Message>,
 ) -> Result<(), Fault>
     requires growing { is_growing (log_of log.old.items) ≡ true }
     requires room { max (last_lsn (log_of log.old.items)) span.start + length changes.now ≤ 2 ^ 62 }
-    requires few { length standings.now ≤ 16 }
-    requires good { every (is_change (length standings.now)) (changes_of changes.now) ≡ true }
+    requires few { (standings_plan standings.now).groups ≤ 16 }
+    requires good { every (is_change (standings_plan standings.now).groups) (changes_of changes.now) ≡ true }
     ensures logged { OnOk result (log_of log.new.items ≡ issued_log span.volume span.start (changes_of changes.now) (log_of log.old.items)) }
     ensures grown { OnOk result (is_growing (log_of log.new.items) ≡ true) }
-    ensures written { OnOk result (messages_of messages.new.items ≡ messages_of messages.old.items ++ issued_writes span.volume (place_of (groups_of standings.now)) span.start (changes_of changes.now) (log_of log.old.items)) }
+    ensures written { OnOk result (messages_of messages.new.items ≡ messages_of messages.old.items ++ issued_writes span.volume (place_of (groups_in standings.now)) span.start (changes_of changes.now) (log_of log.old.items)) }
     ensures memory { IfErr result (λ e. e ≡ NoMemory) }
     ensures front { take (length log.old.items) log.new.items ≡ log.old.items }
 {

@@ -6,11 +6,16 @@ mod count;
 mod counts;
 mod issuing;
 mod log;
+mod moving;
 mod standing;
+mod standings;
 mod transaction;
 mod writer;
 
 pub use change::Change;
+pub use count::Count;
+pub use standing::Standing;
+pub use standings::Standings;
 pub use writer::Writer;
 
 #[cfg(test)]

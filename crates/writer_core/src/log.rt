@@ -1,12 +1,13 @@
 //! What is read off a log, whose records stand in growing LSN.
 
-ghost use Rattle.std.specs.Prelude.{◌≡◌, ℕ};
-ghost use Rattle.volume_model.specs.Redo.{last_lsn, last_of_group, last_of_block};
-ghost use Rattle.volume_model.specs.Client.{complete_of, is_point_of, point_below, point_of};
-ghost use Rattle.writer_core.specs.Logs.{log_of};
-ghost use Rattle.writer_core.specs.Standings.{groups_of};
+ghost use Rattle.std.specs.Prelude.{◌≡◌, true, option_map};
+ghost use Rattle.volume_model.specs.Redo.{last_lsn, last_of_group, last_of_block, record_at};
+ghost use Rattle.volume_model.specs.Client.{complete_of, is_point_of, last_of_group_below, point_below, point_of};
+ghost use Rattle.redo_record.specs.Record.{redo_of};
+ghost use Rattle.writer_core.specs.Logs.{log_of, is_growing};
+ghost use Rattle.writer_core.specs.Groups.{groups_in};
 
-use crate::standing::Standing;
+use crate::standings::Standings;
 use redo_record::Record;
 
 /// The last LSN, 0 where there is none.
@@ -43,13 +44,13 @@ pub fn last_of_block(log: &[Record], group: u8, block: u32) -> u64
 }
 
 /// The greatest LSN up to which each record is covered by its group's point, else 0.
-pub fn complete_point(log: &[Record], groups: &[Standing]) -> u64
-    ensures { result ≡ complete_of (point_of (groups_of groups.now)) (log_of log.now) }
+pub fn complete_point(log: &[Record], standings: &Standings) -> u64
+    ensures { result ≡ complete_of (point_of (groups_in standings.now)) (log_of log.now) }
 {
     let mut complete = 0;
     let mut last = 0;
     for record in log {
-        if complete == last && record.lsn <= point(groups, record.group) {
+        if complete == last && record.lsn <= standings.point(record.group) {
             complete = record.lsn;
         }
         last = record.lsn;
@@ -70,13 +71,31 @@ pub fn point_below(log: &[Record], limit: u64) -> u64
     below
 }
 
-/// The point of a group.
-fn point(groups: &[Standing], group: u8) -> u64
-    ensures { result ≡ point_of (groups_of groups.now) group }
+/// The greatest LSN of a group that is not above `limit`, else 0.
+pub fn last_of_group_below(log: &[Record], group: u8, limit: u64) -> u64
+    ensures { result ≡ last_of_group_below group limit (log_of log.now) }
 {
-    groups
-        .get(usize::from(group))
-        .map_or(0, |standing| standing.point)
+    let mut below = 0;
+    for record in log {
+        if record.group == group && record.lsn <= limit {
+            below = record.lsn;
+        }
+    }
+    below
+}
+
+/// The record of an LSN, where there is one.
+pub fn record_at(log: &[Record], lsn: u64) -> Option<Record>
+    requires { is_growing (log_of log.now) ≡ true }
+    ensures { option_map redo_of result ≡ record_at (log_of log.now) lsn }
+{
+    let place = log.partition_point(|record| record.lsn < lsn);
+    let record = log.get(place)?;
+    if record.lsn == lsn {
+        Some(*record)
+    } else {
+        None
+    }
 }
 
 /// Whether a record of this LSN is a consistency point.

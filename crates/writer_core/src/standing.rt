@@ -1,108 +1,124 @@
-//! Where a group stands, as a client knows it.
-
-ghost use Rattle.std.specs.Prelude.{◌≡◌, ◌<◌, IfOk, OnOk, OnErr, length, replicate, slice_set};
-ghost use Rattle.volume_model.specs.Client.{group_of, newly_at, at_root, raised};
-ghost use Rattle.plan.specs.CheckedModel.{checked_model};
-ghost use Rattle.writer_core.specs.Standings.{counted_group, groups_of, ArePlaced};
+//! What a client keeps of one group.
 
 use crate::count::Count;
-use crate::counts::{add, best};
+use crate::counts::{add, best, reaching};
+use hydration::{Copied, senders};
 use plan::CheckedPlan;
-use std::alloc::{AllocError, AllocFailed, Global};
+use quorum_expr::holds;
+use std::alloc::{AllocFailed, Global};
+use wire::Place;
 
-/// A group's configuration and membership epoch, the acknowledgements counted, and the LSN up to which the group is
-/// acknowledged.
+/// What a client keeps of a group.
 #[derive(Drop)]
 pub struct Standing {
-    pub configuration: u8,
-    pub epoch: u32,
+    /// The group's configuration and membership epoch, as far as the client was told.
+    pub place: Place,
+    /// What members said that they hold, the first report of each. After a recovery's cut they no longer matter.
+    pub copies: Vec<Copied>,
+    /// The acknowledgements counted.
     pub counts: Vec<Count>,
+    /// The LSN up to which the group is acknowledged.
     pub point: u64,
 }
 
 impl Standing {
     ghost use Rattle.std.specs.Prelude.{◌≡◌, ◌<◌, OnOk, OnErr};
-    ghost use Rattle.volume_model.specs.Client.{newly_at, at_root, raised_group};
+    ghost use Rattle.volume_model.specs.Formula.{sat};
+    ghost use Rattle.volume_model.specs.Node.{senders};
+    ghost use Rattle.volume_model.specs.Client.{newly_at, raised_group, later_group, reread_group, place_configuration, counted_by};
     ghost use Rattle.plan.specs.CheckedModel.{checked_model};
-    ghost use Rattle.writer_core.specs.Standings.{group_at, counted_group};
+    ghost use Rattle.hydration.specs.Copies.{copy_of};
+    ghost use Rattle.wire.specs.Message.{place_of};
+    ghost use Rattle.writer_core.specs.Standings.{group_at, counted_group, reported_group};
 
-    /// At the root.
-    fn at_root(alloc: Global) -> Standing
-        ensures { group_at result ≡ newly_at at_root }
+    /// As a client comes to it that finds it at this place.
+    pub(crate) fn at(alloc: Global, place: Place) -> Standing
+        ensures { group_at result ≡ newly_at (place_of place) }
     {
         Standing {
-            configuration: 0,
-            epoch: 1,
+            place,
+            copies: Vec::new(alloc),
             counts: Vec::new(alloc),
             point: 0,
         }
     }
 
     /// Counts an acknowledgement. Where memory runs out nothing has changed.
-    fn count(&mut self, sender: u8, reached: u64) -> Result<(), AllocFailed<Count>>
+    pub(crate) fn count(&mut self, sender: u8, reached: u64) -> Result<(), AllocFailed<Count>>
         requires { sender < 64 }
         ensures counted { OnOk result (group_at self.new ≡ counted_group (group_at self.old) sender reached) }
         ensures same { OnErr result (group_at self.new ≡ group_at self.old) }
+        ensures place { self.new.place ≡ self.old.place }
     {
         add(&mut self.counts, sender, reached)
     }
 
+    /// Keeps what a member says that it holds, where it is the member's first report. Where memory runs out nothing has changed.
+    pub(crate) fn keep(&mut self, copied: Copied) -> Result<(), AllocFailed<Copied>>
+        ensures kept { OnOk result (group_at self.new ≡ reported_group (group_at self.old) (copy_of copied)) }
+        ensures same { OnErr result (group_at self.new ≡ group_at self.old) }
+        ensures place { self.new.place ≡ self.old.place }
+    {
+        if senders(self.copies.as_slice()).contains(copied.from) {
+            return Ok(());
+        }
+        self.copies.push(copied)
+    }
+
     /// Raises the point to what the counted acknowledgements satisfy now.
-    fn raise(&mut self, plan: &CheckedPlan, group: u8)
+    pub(crate) fn raise(&mut self, plan: &CheckedPlan, group: u8)
         requires group { group < (checked_model plan.now).groups }
-        requires configuration { self.old.configuration < (checked_model plan.now).configurations group }
+        requires configuration { self.old.place.configuration < (checked_model plan.now).configurations group }
         ensures { group_at self.new ≡ raised_group (checked_model plan.now) group (group_at self.old) }
     {
-        if let Some(configuration) = plan.configuration(group, self.configuration) {
+        if let Some(configuration) = plan.configuration(group, self.place.configuration) {
             let best = best(&configuration.write, self.counts.as_slice());
             self.point = self.point.max(best);
         }
     }
-}
 
-/// So many groups, each at its root.
-pub fn at_roots(alloc: Global, groups: u8) -> Result<Vec<Standing>, AllocError>
-    ensures roots { IfOk result (λ standings. groups_of standings.items ≡ replicate groups (newly_at at_root)) }
-    ensures many { IfOk result (λ standings. length standings.items ≡ groups) }
-{
-    let mut standings = Vec::new(alloc);
-    'groups: for _ in 0..groups {
-        standings.push(Standing::at_root(alloc))?;
+    /// Moves to a place, where that is one of a later epoch.
+    pub(crate) fn follow(&mut self, place: Place)
+        ensures { group_at self.new ≡ later_group (group_at self.old) (place_of place) }
+    {
+        if self.place.epoch < place.epoch {
+            self.place = place;
+        }
     }
-    Ok(standings)
-}
 
-/// Counts a group's acknowledgement, and raises the points of all groups. Where memory runs out nothing has changed.
-pub fn count(
-    plan: &CheckedPlan,
-    standings: &mut [Standing],
-    group: u8,
-    sender: u8,
-    reached: u64,
-) -> Result<(), AllocFailed<Count>>
-    requires within { group < length standings.old }
-    requires many { length standings.old ≡ (checked_model plan.now).groups }
-    requires placed { ArePlaced (checked_model plan.now) (groups_of standings.old) }
-    requires sender { sender < 64 }
-    ensures counted { OnOk result (groups_of standings.new ≡ raised (checked_model plan.now) (slice_set (groups_of standings.old) group (counted_group (group_of (groups_of standings.old) group) sender reached))) }
-    ensures same { OnErr result (groups_of standings.new ≡ groups_of standings.old) }
-    ensures many { length standings.new ≡ length standings.old }
-    ensures placed { ArePlaced (checked_model plan.now) (groups_of standings.new) }
-{
-    standings[usize::from(group)].count(sender, reached)?;
-    raise(plan, standings);
-    Ok(())
-}
+    /// Moves to a place, where that is one of a later epoch, and then drops the reports.
+    pub(crate) fn reread(&mut self, place: Place)
+        ensures { group_at self.new ≡ reread_group (group_at self.old) (place_of place) }
+    {
+        if self.place.epoch < place.epoch {
+            self.place = place;
+            self.copies.clear();
+        }
+    }
 
-/// Raises the points of all groups to what the counted acknowledgements satisfy now.
-pub fn raise(plan: &CheckedPlan, standings: &mut [Standing])
-    requires many { length standings.old ≡ (checked_model plan.now).groups }
-    requires placed { ArePlaced (checked_model plan.now) (groups_of standings.old) }
-    ensures raised { groups_of standings.new ≡ raised (checked_model plan.now) (groups_of standings.old) }
-    ensures many { length standings.new ≡ length standings.old }
-    ensures placed { ArePlaced (checked_model plan.now) (groups_of standings.new) }
-{
-    for group in 0..standings.len() {
-        standings[group].raise(plan, group as u8);
+    /// Whether the senders of its reports are a read set.
+    pub(crate) fn has_read(&self, plan: &CheckedPlan, group: u8) -> bool
+        requires group { group < (checked_model plan.now).groups }
+        requires configuration { self.now.place.configuration < (checked_model plan.now).configurations group }
+        ensures { result ≡ sat (place_configuration (checked_model plan.now) group (group_at self.now).place).read (senders (group_at self.now).reports) }
+    {
+        match plan.configuration(group, self.place.configuration) {
+            Some(configuration) => { holds(&configuration.read, senders(self.copies.as_slice())) }
+            None => false,
+        }
+    }
+
+    /// Whether the members whose acknowledgement is counted are a write set.
+    pub(crate) fn has_installed(&self, plan: &CheckedPlan, group: u8) -> bool
+        requires group { group < (checked_model plan.now).groups }
+        requires configuration { self.now.place.configuration < (checked_model plan.now).configurations group }
+        ensures { result ≡ sat (place_configuration (checked_model plan.now) group (group_at self.now).place).write (counted_by (group_at self.now).counts) }
+    {
+        match plan.configuration(group, self.place.configuration) {
+            Some(configuration) => {
+                holds(&configuration.write, reaching(self.counts.as_slice(), 0))
+            }
+            None => false,
+        }
     }
 }

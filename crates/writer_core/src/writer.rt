@@ -1,15 +1,12 @@
 //! The writer of a volume epoch.
 
 ghost use Rattle.std.specs.Prelude.{◌≡◌, ◌≤◌, true, length};
-ghost use Rattle.std.specs.Arc.{arc_value};
-ghost use Rattle.plan.specs.CheckedModel.{checked_model};
 ghost use Rattle.writer_core.specs.Logs.{log_of, is_growing};
-ghost use Rattle.writer_core.specs.Standings.{groups_of, ArePlaced};
 
 use crate::change::Change;
-use crate::issuing::{Span, append};
-use crate::log::{complete_point, is_point, last_lsn, point_below};
-use crate::standing::{Standing, at_roots, count};
+use crate::issuing::{Span, append, write_of};
+use crate::log::{complete_point, is_point, last_lsn, last_of_group_below, point_below, record_at};
+use crate::standings::Standings;
 use crate::transaction::is_transaction;
 use lineage::Lineage;
 use plan::CheckedPlan;
@@ -18,7 +15,7 @@ use redo_record::Record;
 use std::alloc::Global;
 use std::sync::Arc;
 use volume_model::Fault;
-use wire::{Ack, Message};
+use wire::{Ack, Message, PageAsk, View};
 
 /// The greatest log sequence number.
 const LAST_LSN: u64 = 1 << 62;
@@ -26,26 +23,30 @@ const LAST_LSN: u64 = 1 << 62;
 /// The writer of a volume epoch: the log that it began with, and what it has issued since.
 #[derive(Drop)]
 pub struct Writer {
-    plan: Arc<CheckedPlan>,
+    standings: Standings,
     volume: u32,
-    standings: Vec<Standing>,
     lineage: Lineage,
+    /// How many records of the log it began with.
+    found: usize,
     log: Vec<Record>,
     ghost assigned: { 1 ≤ volume },
-    ghost each_group: { length standings.items ≡ (checked_model (arc_value plan)).groups },
-    ghost placed: { ArePlaced (checked_model (arc_value plan)) (groups_of standings.items) },
+    ghost within: { found ≤ length log.items },
     ghost growing: { is_growing (log_of log.items) ≡ true },
 }
 
 impl Writer {
     ghost use Rattle.std.specs.Prelude.{◌<◌, Ok, OnOk, IfOk, IfErr, MatchResult};
+    ghost use Rattle.std.specs.Arc.{arc_value};
+    ghost use Rattle.plan.specs.CheckedModel.{checked_model};
     ghost use Rattle.volume_model.specs.Answer.{Gives};
-    ghost use Rattle.volume_model.specs.Client.{acknowledged, first_writer, issued, complete_point, durable_point, point_of, taken};
+    ghost use Rattle.volume_model.specs.Client.{acknowledged, first_writer, issued, complete_point, durable_point, point_of, taken, resent, page_asked};
     ghost use Rattle.volume_model.specs.declared.fault.Fault.TheVariants.{NoGroup};
     ghost use Rattle.wire.specs.Message.{message_of};
     ghost use Rattle.volume_model.specs.Lineage.{last_start};
     ghost use Rattle.writer_core.specs.Changes.{changes_of};
-    ghost use Rattle.writer_core.specs.Writers.{client_of, writer_plan, writer_volume, issue_of, CanIssue, Acts, Takes};
+    ghost use Rattle.writer_core.specs.Writers.{client_of, writer_plan, writer_volume, issue_of, opened_of, CanIssue, Acts, Takes, Asks};
+    ghost use Rattle.writer_core.specs.Groups.{groups_in, standings_plan};
+    ghost use Rattle.lineage.specs.Lineage.{lineage_of};
 
     /// The writer that a volume is born with: volume epoch 1, each group at its root, no record.
     pub fn first(alloc: Global, plan: Arc<CheckedPlan>) -> Result<Writer, Fault>
@@ -53,15 +54,34 @@ impl Writer {
         ensures plan { IfOk result (λ w. writer_plan w ≡ checked_model (arc_value plan)) }
         ensures volume { IfOk result (λ w. writer_volume w ≡ 1) }
     {
-        plan.certified();
-        let standings = at_roots(alloc, plan.groups())?;
         Ok(Writer {
-            plan,
+            standings: Standings::at_roots(alloc, plan)?,
             volume: 1,
-            standings,
             lineage: Lineage::birth(alloc)?,
+            found: 0,
             log: Vec::new(alloc),
         })
+    }
+
+    /// The writer of a later volume epoch, from what its recovery keeps of the groups, with the recovery's lineage and the log
+    /// that it found. Takes no memory.
+    pub fn opened(standings: Standings, volume: u32, lineage: Lineage, log: Vec<Record>) -> Writer
+        requires assigned { 1 ≤ volume }
+        requires growing { is_growing (log_of log.items) ≡ true }
+        ensures client { client_of result ≡ opened_of (standings_plan standings) (groups_in standings) (lineage_of lineage) (log_of log.items) }
+        ensures plan { writer_plan result ≡ standings_plan standings }
+        ensures volume { writer_volume result ≡ volume }
+    {
+        let mut standings = standings;
+        standings.raise();
+        let found = log.len();
+        Writer {
+            standings,
+            volume,
+            lineage,
+            found,
+            log,
+        }
     }
 
     /// The volume epoch.
@@ -89,7 +109,7 @@ impl Writer {
     pub fn complete_point(&self) -> u64
         ensures { result ≡ complete_point (client_of self.now) }
     {
-        complete_point(self.log.as_slice(), self.standings.as_slice())
+        complete_point(self.log.as_slice(), &self.standings)
     }
 
     /// The greatest consistency point that is not above the complete point, else 0. A commit is complete where it isn't
@@ -107,21 +127,60 @@ impl Writer {
         ensures plan { writer_plan self.new ≡ writer_plan self.old }
         ensures volume { writer_volume self.new ≡ writer_volume self.old }
     {
-        let group = usize::from(ack.group);
-        if ack.label.volume != self.volume || group >= self.standings.len() || ack.from >= MEMBERS {
+        let groups = self.standings.plan().groups();
+        if ack.label.volume != self.volume || ack.group >= groups || ack.from >= MEMBERS {
             return Err(Fault::NotAddressed);
         }
-        if ack.label.member > self.standings[group].epoch {
+        if ack.label.member > self.standings.epoch(ack.group) {
             return Ok(());
         }
-        count(
-            &self.plan,
-            self.standings.as_mut_slice(),
-            ack.group,
-            ack.from,
-            ack.scl,
-        )?;
+        self.standings.count(ack)?;
+        self.standings.raise();
         Ok(())
+    }
+
+    /// Takes a View: each group moves to its place where that is one of a later epoch, and the points of all groups are raised.
+    /// `NotAddressed` where it is one of another volume epoch, `NotInPlan` where its places aren't those of the plan's groups, each at
+    /// one of its configurations. Takes no memory.
+    pub fn view(&mut self, view: &View) -> Result<(), Fault>
+        ensures takes { Takes (taken (writer_plan self.old) (writer_volume self.old) (client_of self.old) (message_of (Message.View view.now))) (client_of self.old) result (client_of self.new) }
+        ensures plan { writer_plan self.new ≡ writer_plan self.old }
+        ensures volume { writer_volume self.new ≡ writer_volume self.old }
+    {
+        if view.volume != self.volume {
+            return Err(Fault::NotAddressed);
+        }
+        if !self.standings.are_places(view.places.as_slice()) {
+            return Err(Fault::NotInPlan);
+        }
+        self.standings.follow(view.places.as_slice());
+        self.standings.raise();
+        Ok(())
+    }
+
+    /// The Write that carries a record of the log once more. `NoLogRecord` where the log has none with this LSN.
+    pub fn resend(&self, lsn: u64) -> Result<Message, Fault>
+        ensures { Asks (resent (writer_volume self.now) (client_of self.now) lsn) (client_of self.now) result }
+    {
+        match record_at(self.log.as_slice(), lsn) {
+            Some(record) => Ok(write_of(self.volume, &self.standings, &record)),
+            None => Err(Fault::NoLogRecord),
+        }
+    }
+
+    /// A question for a block's bytes at the durable point. `NoGroup` where the volume has no such group.
+    pub fn read(&self, group: u8, block: u32) -> Result<Message, Fault>
+        ensures { Asks (page_asked (writer_plan self.now) (writer_volume self.now) (client_of self.now) group block) (client_of self.now) result }
+    {
+        if group >= self.standings.plan().groups() {
+            return Err(Fault::NoGroup);
+        }
+        Ok(Message::PageAsk(PageAsk {
+            group,
+            label: self.standings.label(self.volume, group),
+            block,
+            point: last_of_group_below(self.log.as_slice(), group, self.durable_point()),
+        }))
     }
 
     /// The LSN up to which a group is acknowledged: the greatest that a write set of its members has said at some moment. `NoGroup`
@@ -129,7 +188,7 @@ impl Writer {
     pub fn group_point(&self, group: u8) -> Result<u64, Fault>
         ensures { MatchResult result (λ point. (group < (writer_plan self.now).groups) × (point_of (client_of self.now).groups group ≡ point)) (λ fault. ((writer_plan self.now).groups ≤ group) × (fault ≡ NoGroup)) }
     {
-        match self.standings.get(usize::from(group)) {
+        match self.standings.get(group) {
             Some(standing) => Ok(standing.point),
             None => Err(Fault::NoGroup),
         }
@@ -150,7 +209,7 @@ impl Writer {
         ensures err { IfErr result (λ fault. issued (writer_plan self.now) (writer_volume self.now) (client_of self.now) (changes_of changes.now) ≡ Err fault) }
         ensures can { OnOk result (CanIssue (writer_plan self.now) (client_of self.now) (changes_of changes.now)) }
     {
-        if !is_transaction(self.standings.len(), changes) {
+        if !is_transaction(usize::from(self.standings.plan().groups()), changes) {
             return Err(Fault::BadTransaction);
         }
         let start = self.start();
@@ -163,7 +222,7 @@ impl Writer {
         let limit = self
             .durable_point()
             .max(start)
-            .saturating_add(self.plan.lal());
+            .saturating_add(self.standings.plan().lal());
         if limit < last {
             return Err(Fault::LimitReached);
         }
@@ -184,13 +243,7 @@ impl Writer {
         };
         let mut messages = Vec::new(alloc);
         let length = self.log.len();
-        match append(
-            span,
-            self.standings.as_slice(),
-            &mut self.log,
-            changes,
-            &mut messages,
-        ) {
+        match append(span, &self.standings, &mut self.log, changes, &mut messages) {
             Ok(()) => Ok(messages),
             Err(fault) => {
                 self.log.truncate(length);

@@ -6,7 +6,7 @@ use Rattle.wire.specs.Message.{message_of}
 use Rattle.redo_record.specs.Record.{redo_of}
 use Rattle.writer_core.specs.Logs.{log_of}
 use Rattle.writer_core.specs.Changes.{change_of}
-use Rattle.writer_core.specs.Standings.{groups_of}
+use Rattle.writer_core.specs.Groups.{groups_in, standings_plan}
 use Rattle.writer_core.proofs.OneMore.{logged_on, written_on, growing_on, room_on, good_on, front_on, messages_on}
 use Rattle.writer_core.proofs.issuing.append.Goals as goal
 
@@ -14,7 +14,7 @@ pub loop-i-preserved : goal.loop-i-preserved
 loop-i-preserved c =
     let volume = c.args.span.volume in
     let start = c.args.span.start in
-    let places = place_of (groups_of c.args.standings.now) in
+    let places = place_of (groups_in c.args.standings.now) in
     let changes = c.args.changes.now in
     let i = c.loop-i.i in
     let change = c.index-changes-i.result in
@@ -30,7 +30,7 @@ loop-i-preserved c =
     record {
       growing = rw logs (growing_on volume start places changes i change within is records r made c.loop-i.invariant.growing);
       room = rw logs (room_on volume start places changes i change within is records r made c.loop-i.invariant.room);
-      good = (good_on volume start places changes i change within is records r made (length c.args.standings.now) c.loop-i.invariant.good).1;
+      good = (good_on volume start places changes i change within is records r made (standings_plan c.args.standings.now).groups c.loop-i.invariant.good).1;
       logged = rw logs (logged_on volume start places changes i change within is records r made ∙ c.loop-i.invariant.logged);
       written = rw (logs, messages) (messages_on c.loop-i.messages.items c.write_of.result _ _ (written_on volume start places changes i change within is records r made _ said) ∙ c.loop-i.invariant.written);
       front = rw logs (front_on records r _ c.loop-i.invariant.front);

@@ -4,7 +4,7 @@ use Rattle.plan.specs.CheckedModel.{checked_model}
 use Rattle.volume_model.specs.Client.{ClientGroup, place_of, raised_group}
 use Rattle.writer_core.specs.Standings.{group_at, groups_of, ArePlaced}
 use Rattle.writer_core.proofs.Placing.{group-is, placed-set, raised-more}
-use Rattle.writer_core.proofs.standing.raise.Goals as goal
+use Rattle.writer_core.proofs.moving.raise.Goals as goal
 
 pub loop-group-preserved : goal.loop-group-preserved
 loop-group-preserved c =

@@ -1,0 +1,48 @@
+-- Tests that each number below a bound passes.
+use Rattle.std.proofs.Common.{◌≡◌, ℕ, zero, suc, ◌+◌, ◌<◌, Bool, true, false, ◌&&◌, List, [], ◌∷◌, length, get_or, map, ap, ap₂, ◌∙◌, refl, subst, inl, inr, arith, add-one}
+use Rattle.std.specs.Prelude.{◌==◌}
+use Rattle.std.proofs.lemmas.Bool.{cases_lt}
+use Rattle.volume_model.specs.Lists.{every_below}
+use Rattle.volume_model.specs.Plan.{Plan, is_configuration}
+use Rattle.volume_model.specs.Message as model
+use Rattle.volume_model.specs.Message.{place_in}
+use Rattle.volume_model.specs.Client.{are_places}
+use Rattle.wire.specs.declared.label.Place.{Place}
+use Rattle.wire.specs.Message.{place_of}
+
+and_false : (a : Bool) → (a && false) ≡ false
+and_false true = refl
+and_false false = refl
+
+-- one number that fails
+pub below-fails : (n : ℕ) (test : ℕ → Bool) (i : ℕ) → i < n → test i ≡ false → every_below n test ≡ false
+below-fails zero test i h e = absurd (omega arith)
+below-fails (suc n) test i h e =
+    elim (cases_lt i n) [
+      | inl b ↦ ap (λ x. test n && x) (below-fails n test i b e) ∙ and_false (test n)
+      | inr b ↦ (let same : i ≡ n = omega arith in ap (λ x. x && every_below n test) (subst (λ k. test k ≡ false) same e))
+    ]
+
+-- one number more
+pub below-more : (n : ℕ) (test : ℕ → Bool) → every_below n test ≡ true → test n ≡ true → every_below (n + 1) test ≡ true
+below-more n test h e = ap (λ k. every_below k test) (add-one n) ∙ ap₂ (λ a b. a && b) e h
+
+-- the place of a group in a list
+pub place_in-at : (places : List Place) (i : ℕ) (d : Place) → i < length places → place_in (map place_of places) i ≡ place_of (get_or places i d)
+place_in-at [] i d h = absurd (omega arith)
+place_in-at (p ∷ rest) zero d h = refl
+place_in-at (p ∷ rest) (suc i) d h = place_in-at rest i d (omega arith)
+
+-- the place is one of a configuration of the group
+abbrev pub is_place : Plan → List model.Place → ℕ → Bool
+is_place plan places group = is_configuration plan group (place_in places group).configuration (place_in places group).epoch
+
+pub is_place-at : (plan : Plan) (places : List Place) (i : ℕ) (d : Place) → i < length places → is_place plan (map place_of places) i ≡ is_configuration plan i (get_or places i d).configuration (get_or places i d).epoch
+is_place-at plan places i d h = ap (λ (p : model.Place). is_configuration plan i p.configuration p.epoch) (place_in-at places i d h)
+
+-- one place that isn't such
+pub places-fail : (plan : Plan) (places : List Place) (i : ℕ) (d : Place) → i < length places → length places ≡ plan.groups → is_configuration plan i (get_or places i d).configuration (get_or places i d).epoch ≡ false → are_places plan (map place_of places) ≡ false
+places-fail plan places i d h many e =
+    let below : i < plan.groups = omega arith in
+    ap (λ b. (length (map place_of places) == plan.groups) && b) (below-fails plan.groups (is_place plan (map place_of places)) i below (is_place-at plan places i d h ∙ e))
+    ∙ and_false (length (map place_of places) == plan.groups)

@@ -1,0 +1,130 @@
+-- The record of a number in a log whose numbers grow.
+use Rattle.std.proofs.Common.{◌≡◌, ◌≢◌, ℕ, zero, suc, ◌<◌, ◌≤◌, true, false, nat_lt, ◌⊎◌, List, [], ◌∷◌, map, length, get_or, Option, Some, None, refl, sym, ap, ◌∙◌, subst, inl, inr, arith}
+use Rattle.std.proofs.lemmas.Bool.{cases_lt, ltb-true, ltb-false}
+use Rattle.std.specs.List.Sorted.{IsNonDecreasingBy, IsPartitionPoint}
+use Rattle.volume_model.specs.Lists.{IsIn, added}
+use Rattle.volume_model.specs.Redo.{Redo, last_lsn, record_at}
+use Rattle.volume_model.proofs.Basics.{IsIn-added}
+use Rattle.volume_model.proofs.Chains.{record_at-some, record_at-there}
+use Rattle.redo_record.specs.declared.«record».Record.{Record}
+use Rattle.redo_record.specs.Record.{redo_of}
+use Rattle.writer_core.specs.Logs.{log_of, is_growing}
+use Rattle.writer_core.proofs.Growing.{both}
+
+-- ---- numbers that grow
+
+above : (xs : List Record) (kept : List Redo) → is_growing (added (map redo_of xs) kept) ≡ true → (is_growing kept ≡ true) × ((k : ℕ) (d : Record) → k < length xs → last_lsn kept < (get_or xs k d).lsn)
+above [] kept h = (h, λ k d l. absurd (omega arith))
+above (x ∷ xs) kept h =
+    let (g, later) = above xs (redo_of x ∷ kept) h in
+    let (a, rest) = both (last_lsn kept) x.lsn (is_growing kept) g in
+    (rest, next a later)
+  where
+    next : last_lsn kept < x.lsn → ((k : ℕ) (d : Record) → k < length xs → x.lsn < (get_or xs k d).lsn) → (k : ℕ) (d : Record) → k < length (x ∷ xs) → last_lsn kept < (get_or (x ∷ xs) k d).lsn
+    next a later zero d l = a
+    next a later (suc k) d l = let b : x.lsn < (get_or xs k d).lsn = later k d (omega arith) in omega arith
+
+pairs : (xs : List Record) (kept : List Redo) → is_growing (added (map redo_of xs) kept) ≡ true → (i j : ℕ) (d : Record) → i < j → j < length xs → (get_or xs i d).lsn < (get_or xs j d).lsn
+pairs [] kept h i j d l k = absurd (omega arith)
+pairs (x ∷ xs) kept h i zero d l k = absurd (omega arith)
+pairs (x ∷ xs) kept h zero (suc j) d l k = (above xs (redo_of x ∷ kept) h).1 j d (omega arith)
+pairs (x ∷ xs) kept h (suc i) (suc j) d l k = pairs xs (redo_of x ∷ kept) h i j d (omega arith) (omega arith)
+
+-- a later record of the log has a greater number
+pub lsn-below : (xs : List Record) → is_growing (log_of xs) ≡ true → (i j : ℕ) (d : Record) → i < j → j < length xs → (get_or xs i d).lsn < (get_or xs j d).lsn
+lsn-below xs h = pairs xs [] h
+
+pub lsn-rises : (xs : List Record) → is_growing (log_of xs) ≡ true → IsNonDecreasingBy (λ (r : Record). r.lsn) xs
+lsn-rises xs h i j d l k =
+    elim (cases_lt i j) [
+      | inl b ↦ (let less : (get_or xs i d).lsn < (get_or xs j d).lsn = lsn-below xs h i j d b k in omega arith)
+      | inr b ↦ (let same : i ≡ j = omega arith in subst (λ m. (get_or xs i d).lsn ≤ (get_or xs m d).lsn) same (omega arith))
+    ]
+
+-- ---- the records of a log
+
+in-added : {A : Type 0} (xs kept : List A) (x : A) → IsIn x xs ⊎ IsIn x kept → IsIn x (added xs kept)
+in-added [] kept x (inl i) = absurd i
+in-added [] kept x (inr i) = i
+in-added (y ∷ xs) kept x (inl (inl e)) = in-added xs (y ∷ kept) x (inr (inl e))
+in-added (y ∷ xs) kept x (inl (inr i)) = in-added xs (y ∷ kept) x (inl i)
+in-added (y ∷ xs) kept x (inr i) = in-added xs (y ∷ kept) x (inr (inr i))
+
+in-map : (xs : List Record) (k : ℕ) (d : Record) → k < length xs → IsIn (redo_of (get_or xs k d)) (map redo_of xs)
+in-map [] k d h = absurd (omega arith)
+in-map (x ∷ xs) zero d h = inl refl
+in-map (x ∷ xs) (suc k) d h = inr (in-map xs k d (omega arith))
+
+all-map : (P : Redo → Type 0) (xs : List Record) → ((k : ℕ) (d : Record) → k < length xs → P (redo_of (get_or xs k d))) → (r : Redo) → IsIn r (map redo_of xs) → P r
+all-map P [] h r i = absurd i
+all-map P (x ∷ xs) h r (inl e) = subst P (sym e) (h 0 x (omega arith))
+all-map P (x ∷ xs) h r (inr i) = all-map P xs (λ k d l. h (suc k) d (omega arith)) r i
+
+pub in-log : (xs : List Record) (k : ℕ) (d : Record) → k < length xs → IsIn (redo_of (get_or xs k d)) (log_of xs)
+in-log xs k d h = in-added (map redo_of xs) [] (redo_of (get_or xs k d)) (inl (in-map xs k d h))
+
+pub all-log : (P : Redo → Type 0) (xs : List Record) → ((k : ℕ) (d : Record) → k < length xs → P (redo_of (get_or xs k d))) → (r : Redo) → IsIn r (log_of xs) → P r
+all-log P xs h r i = elim (IsIn-added (map redo_of xs) [] r i) [ inl j ↦ all-map P xs h r j | inr j ↦ absurd j ]
+
+-- ---- the record of a number
+
+at_most_last : (log : List Redo) → is_growing log ≡ true → (r : Redo) → IsIn r log → r.lsn ≤ last_lsn log
+at_most_last [] h r i = absurd i
+at_most_last (s ∷ older) h r (inl e) = subst (λ x. x.lsn ≤ s.lsn) (sym e) (omega arith)
+at_most_last (s ∷ older) h r (inr i) =
+    let (below, rest) = both (last_lsn older) s.lsn (is_growing older) h in
+    let inner : r.lsn ≤ last_lsn older = at_most_last older rest r i in
+    omega arith
+
+one_of_number : (log : List Redo) → is_growing log ≡ true → (r s : Redo) → IsIn r log → IsIn s log → r.lsn ≡ s.lsn → r ≡ s
+one_of_number [] h r s i j e = absurd i
+one_of_number (t ∷ older) h r s (inl a) (inl b) e = a ∙ sym b
+one_of_number (t ∷ older) h r s (inl a) (inr j) e =
+    let (below, rest) = both (last_lsn older) t.lsn (is_growing older) h in
+    let inner : s.lsn ≤ last_lsn older = at_most_last older rest s j in
+    let same : r.lsn ≡ t.lsn = ap (λ x. x.lsn) a in
+    absurd (omega arith)
+one_of_number (t ∷ older) h r s (inr i) (inl b) e =
+    let (below, rest) = both (last_lsn older) t.lsn (is_growing older) h in
+    let inner : r.lsn ≤ last_lsn older = at_most_last older rest r i in
+    let same : s.lsn ≡ t.lsn = ap (λ x. x.lsn) b in
+    absurd (omega arith)
+one_of_number (t ∷ older) h r s (inr i) (inr j) e = one_of_number older (both (last_lsn older) t.lsn (is_growing older) h).1 r s i j e
+
+pub record_at-in : (log : List Redo) → is_growing log ≡ true → (r : Redo) → IsIn r log → record_at log r.lsn ≡ Some r
+record_at-in log h r i =
+    let (s, found) = record_at-there log r i in
+    let (j, e) = record_at-some log r.lsn s found in
+    found ∙ ap Some (one_of_number log h s r j i e)
+
+pub record_at-none : (log : List Redo) (n : ℕ) → ((r : Redo) → IsIn r log → r.lsn ≢ n) → record_at log n ≡ None
+record_at-none log n none = go (record_at log n) refl
+  where
+    go : (found : Option Redo) → record_at log n ≡ found → found ≡ None
+    go None e = refl
+    go (Some r) e = let (i, same) = record_at-some log n r e in absurd (none r i same)
+
+-- a search has found the number's record
+pub record-found : (log : List Record) (i n : ℕ) (r : Record) → is_growing (log_of log) ≡ true → i < length log → r ≡ get_or log i r → r.lsn ≡ n → Some (redo_of r) ≡ record_at (log_of log) n
+record-found log i n r h within is e =
+    let in-it : IsIn (redo_of r) (log_of log) = subst (λ (x : Record). IsIn (redo_of x) (log_of log)) (sym is) (in-log log i r within) in
+    sym (record_at-in (log_of log) h (redo_of r) in-it) ∙ ap (record_at (log_of log)) e
+
+-- it has found the place where the record would stand, and the one there has another number
+pub record-missing : (log : List Record) (i n : ℕ) → is_growing (log_of log) ≡ true → IsPartitionPoint (λ (r : Record). nat_lt r.lsn n ≡ true) (λ (r : Record). nat_lt r.lsn n ≡ false) log i → ((d : Record) → i < length log → (get_or log i d).lsn ≢ n)
+    → record_at (log_of log) n ≡ None
+record-missing log i n h split other = record_at-none (log_of log) n (all-log (λ r. r.lsn ≢ n) log differs)
+  where
+    differs : (k : ℕ) (d : Record) → k < length log → (get_or log k d).lsn ≢ n
+    differs k d within =
+        elim (cases_lt k i) [
+          | inl b ↦ (let less : (get_or log k d).lsn < n = ltb-true _ _ (split.0 k d (omega arith) b) in λ e. absurd (omega (arith, e)))
+          | inr b ↦ elim (cases_lt i k) [
+            | inl up ↦ (
+                let from : nat_lt (get_or log i d).lsn n ≡ false = split.1 i d (omega arith) (omega arith) in
+                let least : n ≤ (get_or log i d).lsn = ltb-false _ _ from in
+                let more : (get_or log i d).lsn < (get_or log k d).lsn = lsn-below log h i k d up within in
+                λ e. absurd (omega (arith, e)))
+            | inr up ↦ (let same : i ≡ k = omega arith in subst (λ m. (get_or log m d).lsn ≢ n) same (other d (omega arith)))
+          ]
+        ]

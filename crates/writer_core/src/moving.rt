@@ -1,0 +1,61 @@
+//! Where the groups of a plan stand, and what a client keeps of them there.
+
+ghost use Rattle.std.specs.Prelude.{◌≡◌, length, map};
+ghost use Rattle.volume_model.specs.Client.{raised, moved, later_group, reread_group, are_places};
+ghost use Rattle.plan.specs.CheckedModel.{checked_model};
+ghost use Rattle.wire.specs.Message.{place_of};
+ghost use Rattle.writer_core.specs.Standings.{groups_of, ArePlaced};
+
+use crate::standing::Standing;
+use plan::CheckedPlan;
+use wire::Place;
+
+/// Whether these are places of the plan's groups, in their order, each at one of its configurations.
+pub fn are_places(plan: &CheckedPlan, places: &[Place]) -> bool
+    ensures { result ≡ are_places (checked_model plan.now) (map place_of places.now) }
+{
+    if places.len() != usize::from(plan.groups()) {
+        return false;
+    }
+    for (group, place) in places.iter().enumerate() {
+        if !plan.is_configuration(group as u8, place.configuration, place.epoch) {
+            return false;
+        }
+    }
+    true
+}
+
+/// Raises the points of all groups to what the counted acknowledgements satisfy now.
+pub fn raise(plan: &CheckedPlan, standings: &mut [Standing])
+    requires many { length standings.old ≡ (checked_model plan.now).groups }
+    requires placed { ArePlaced (checked_model plan.now) (groups_of standings.old) }
+    ensures raised { groups_of standings.new ≡ raised (checked_model plan.now) (groups_of standings.old) }
+    ensures many { length standings.new ≡ length standings.old }
+    ensures placed { ArePlaced (checked_model plan.now) (groups_of standings.new) }
+{
+    for group in 0..standings.len() {
+        standings[group].raise(plan, group as u8);
+    }
+}
+
+/// Moves each group to its place, where that is one of a later epoch.
+pub fn follow(standings: &mut [Standing], places: &[Place])
+    requires { length places.now ≡ length standings.old }
+    ensures moved { groups_of standings.new ≡ moved later_group (groups_of standings.old) (map place_of places.now) }
+    ensures many { length standings.new ≡ length standings.old }
+{
+    for group in 0..standings.len() {
+        standings[group].follow(places[group]);
+    }
+}
+
+/// Moves each group to its place, where that is one of a later epoch, and then drops the group's reports.
+pub fn reread(standings: &mut [Standing], places: &[Place])
+    requires { length places.now ≡ length standings.old }
+    ensures moved { groups_of standings.new ≡ moved reread_group (groups_of standings.old) (map place_of places.now) }
+    ensures many { length standings.new ≡ length standings.old }
+{
+    for group in 0..standings.len() {
+        standings[group].reread(places[group]);
+    }
+}

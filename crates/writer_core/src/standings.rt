@@ -1,0 +1,194 @@
+//! What a client keeps of the groups of its plan.
+
+ghost use Rattle.std.specs.Prelude.{◌≡◌, length};
+ghost use Rattle.std.specs.Arc.{arc_value};
+ghost use Rattle.plan.specs.CheckedModel.{checked_model};
+ghost use Rattle.writer_core.specs.Standings.{groups_of, ArePlaced};
+
+use crate::count::Count;
+use crate::moving::{are_places, follow, raise, reread};
+use crate::standing::Standing;
+use hydration::Copied;
+use plan::CheckedPlan;
+use std::alloc::{AllocError, AllocFailed, Global};
+use std::sync::Arc;
+use volume_model::Fault;
+use wire::{Ack, Label, Place};
+
+/// What a client keeps of the groups of its plan, in their order.
+#[derive(Drop)]
+pub struct Standings {
+    plan: Arc<CheckedPlan>,
+    list: Vec<Standing>,
+    ghost each_group: { length list.items ≡ (checked_model (arc_value plan)).groups },
+    ghost placed: { ArePlaced (checked_model (arc_value plan)) (groups_of list.items) },
+}
+
+impl Standings {
+    ghost use Rattle.std.specs.Prelude.{◌<◌, ◌≤◌, true, IfOk, OnOk, OnErr, MatchOption, map, replicate};
+    ghost use Rattle.volume_model.specs.Answer.{Gives};
+    ghost use Rattle.volume_model.specs.Client.{newly_at, at_root, group_of, point_of, moved, later_group, reread_group, raised, are_places, has_read, has_installed};
+    ghost use Rattle.volume_model.specs.Client as client;
+    ghost use Rattle.wire.specs.Message.{place_of, label_of};
+    ghost use Rattle.hydration.specs.Copies.{copy_of};
+    ghost use Rattle.writer_core.specs.Standings.{group_at, counted_in, reported_in};
+    ghost use Rattle.writer_core.specs.Groups.{groups_in, standings_plan, found_at, keeping};
+
+    /// As a client comes to a new volume: each group at its root.
+    pub fn at_roots(alloc: Global, plan: Arc<CheckedPlan>) -> Result<Standings, AllocError>
+        ensures groups { IfOk result (λ s. groups_in s ≡ replicate (checked_model (arc_value plan)).groups (newly_at at_root)) }
+        ensures plan { IfOk result (λ s. standings_plan s ≡ checked_model (arc_value plan)) }
+    {
+        plan.certified();
+        let root = Place {
+            configuration: 0,
+            epoch: 1,
+        };
+        let mut list = Vec::new(alloc);
+        'groups: for _ in 0..plan.groups() {
+            list.push(Standing::at(alloc, root))?;
+        }
+        Ok(Standings { plan, list })
+    }
+
+    /// As a client comes to groups that stand at these places. `NotInPlan` where they aren't the places of the plan's groups, each at
+    /// one of its configurations.
+    pub fn at_places(
+        alloc: Global,
+        plan: Arc<CheckedPlan>,
+        places: &[Place],
+    ) -> Result<Standings, Fault>
+        ensures groups { Gives groups_in result (found_at (checked_model (arc_value plan)) (map place_of places.now)) }
+        ensures plan { IfOk result (λ s. standings_plan s ≡ checked_model (arc_value plan)) }
+    {
+        if !are_places(&plan, places) {
+            return Err(Fault::NotInPlan);
+        }
+        let mut list = Vec::new(alloc);
+        for place in places {
+            list.push(Standing::at(alloc, *place))?;
+        }
+        Ok(Standings { plan, list })
+    }
+
+    /// The plan.
+    pub fn plan(&self) -> &CheckedPlan
+        ensures { checked_model result.now ≡ standings_plan self.now }
+    {
+        &self.plan
+    }
+
+    /// What is kept of a group, and none where the plan has no such group.
+    pub fn get(&self, group: u8) -> Option<&Standing>
+        ensures { MatchOption result ((standings_plan self.now).groups ≤ group) (λ s. (group < (standings_plan self.now).groups) × (group_of (groups_in self.now) group ≡ group_at s.now)) }
+    {
+        self.list.get(usize::from(group))
+    }
+
+    /// The LSN up to which a group is acknowledged, and 0 where the plan has no such group.
+    pub fn point(&self, group: u8) -> u64
+        ensures { result ≡ point_of (groups_in self.now) group }
+    {
+        self.list
+            .get(usize::from(group))
+            .map_or(0, |standing| standing.point)
+    }
+
+    /// The membership epoch of a group, as far as the client was told, and 0 where the plan has no such group.
+    pub fn epoch(&self, group: u8) -> u32
+        ensures { result ≡ (client.place_of (groups_in self.now) group).epoch }
+    {
+        self.list
+            .get(usize::from(group))
+            .map_or(0, |standing| standing.place.epoch)
+    }
+
+    /// The label under which a client of this volume epoch speaks to a group.
+    pub fn label(&self, volume: u32, group: u8) -> Label
+        ensures { label_of result ≡ client.label_of volume (client.place_of (groups_in self.now)) group }
+    {
+        Label {
+            volume,
+            member: self.epoch(group),
+        }
+    }
+
+    /// Counts an acknowledgement of a group: the greatest complete point of its sender is kept. No point is raised yet. Where memory
+    /// runs out nothing has changed.
+    pub fn count(&mut self, ack: &Ack) -> Result<(), AllocFailed<Count>>
+        requires group { ack.now.group < (standings_plan self.old).groups }
+        requires sender { ack.now.from < 64 }
+        ensures counted { OnOk result (groups_in self.new ≡ counted_in (groups_in self.old) ack.now.group ack.now.from ack.now.scl) }
+        ensures same { OnErr result (groups_in self.new ≡ groups_in self.old) }
+        ensures plan { standings_plan self.new ≡ standings_plan self.old }
+    {
+        self.list[usize::from(ack.group)].count(ack.from, ack.scl)
+    }
+
+    /// Keeps what a member of a group says that it holds, where it is the member's first report. Where memory runs out nothing has changed.
+    pub fn keep(&mut self, group: u8, copied: Copied) -> Result<(), AllocFailed<Copied>>
+        requires group { group < (standings_plan self.old).groups }
+        ensures kept { OnOk result (groups_in self.new ≡ reported_in (groups_in self.old) group (copy_of copied)) }
+        ensures same { OnErr result (groups_in self.new ≡ groups_in self.old) }
+        ensures plan { standings_plan self.new ≡ standings_plan self.old }
+    {
+        self.list[usize::from(group)].keep(copied)
+    }
+
+    /// Raises the points of all groups to what the counted acknowledgements satisfy now. A point never falls.
+    pub fn raise(&mut self)
+        ensures groups { groups_in self.new ≡ raised (standings_plan self.old) (groups_in self.old) }
+        ensures plan { standings_plan self.new ≡ standings_plan self.old }
+    {
+        raise(&self.plan, self.list.as_mut_slice());
+    }
+
+    /// Whether these are places of the plan's groups, in their order, each at one of its configurations.
+    pub fn are_places(&self, places: &[Place]) -> bool
+        ensures { result ≡ are_places (standings_plan self.now) (map place_of places.now) }
+    {
+        are_places(&self.plan, places)
+    }
+
+    /// Moves each group to its place, where that is one of a later epoch.
+    pub fn follow(&mut self, places: &[Place])
+        requires { are_places (standings_plan self.old) (map place_of places.now) ≡ true }
+        ensures groups { groups_in self.new ≡ moved later_group (groups_in self.old) (map place_of places.now) }
+        ensures plan { standings_plan self.new ≡ standings_plan self.old }
+    {
+        follow(self.list.as_mut_slice(), places);
+    }
+
+    /// Moves each group to its place, where that is one of a later epoch, and then drops the group's reports.
+    pub fn reread(&mut self, places: &[Place])
+        requires { are_places (standings_plan self.old) (map place_of places.now) ≡ true }
+        ensures groups { groups_in self.new ≡ moved reread_group (groups_in self.old) (map place_of places.now) }
+        ensures plan { standings_plan self.new ≡ standings_plan self.old }
+    {
+        reread(self.list.as_mut_slice(), places);
+    }
+
+    /// Whether in each group the senders of the kept reports are a read set.
+    pub fn has_read(&self) -> bool
+        ensures { result ≡ has_read (standings_plan self.now) (keeping (groups_in self.now)) }
+    {
+        for (group, standing) in self.list.iter().enumerate() {
+            if !standing.has_read(&self.plan, group as u8) {
+                return false;
+            }
+        }
+        true
+    }
+
+    /// Whether in each group the members whose acknowledgement is counted are a write set.
+    pub fn has_installed(&self) -> bool
+        ensures { result ≡ has_installed (standings_plan self.now) (keeping (groups_in self.now)) }
+    {
+        for (group, standing) in self.list.iter().enumerate() {
+            if !standing.has_installed(&self.plan, group as u8) {
+                return false;
+            }
+        }
+        true
+    }
+}
