@@ -91,6 +91,27 @@ impl Writer {
         self.volume
     }
 
+    /// How many groups the volume has.
+    pub fn groups(&self) -> u8
+        ensures { result ≡ (writer_plan self.now).groups }
+    {
+        self.standings.plan().groups()
+    }
+
+    /// The lineage under which it writes.
+    pub fn lineage(&self) -> &Lineage
+        ensures { lineage_of result.now ≡ (client_of self.now).lineage }
+    {
+        &self.lineage
+    }
+
+    /// The log that its recovery found, in growing LSN; none of the writer that a volume is born with.
+    pub fn found(&self) -> &[Record]
+        ensures { log_of result.now ≡ (client_of self.now).found }
+    {
+        &self.log[..self.found]
+    }
+
     /// The LSN after which its own records begin.
     pub fn start(&self) -> u64
         ensures { result ≡ last_start (client_of self.now).lineage }
