@@ -1,6 +1,2 @@
 pub mod Stops
-pub mod Scripts
-pub mod Numerals
-pub mod Lines
-pub mod Parsing
 pub mod Telling

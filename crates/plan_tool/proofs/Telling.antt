@@ -13,7 +13,7 @@ use Rattle.world.specs.declared.outcome.WriterEnd.{WriterEnd}
 use Rattle.plan_tool.specs.Told.{AreLinesOf, IsLineOf, Telling, Told, counts_line, first_if, refused_line, rest_if, tellings, writer_line, writer_lines}
 use Rattle.plan_tool.specs.Told.AreLinesOf.{none, more}
 use Rattle.plan_tool.specs.ToldLines.{AppendsLine, AppendsLines}
-use Rattle.plan_tool.specs.declared.script.Step.{Step}
+use Rattle.script.specs.declared.reading.Step.{Step}
 
 -- Of the steps the first have their lines, after what stood there; these results are those of the later ones.
 pub record IsTelling (steps : List Step) (results left : List Told) (i : ℕ) (old now : List ℕ) : Type 0 where

@@ -8,16 +8,16 @@ use Rattle.plan.specs.PlanText.{plan_of}
 use Rattle.plan.specs.PlanFaults.{plan_fault}
 use Rattle.world.specs.Events.{events_from}
 use Rattle.world.specs.declared.event.Order.{Order}
-use Rattle.plan_tool.specs.Grammar.{Deed}
+use Rattle.script.specs.Grammar.{Deed}
 use Rattle.plan.specs.Plan.{plan_data}
 use Rattle.plan.specs.declared.checked.CheckedPlan.{CheckedPlan}
 use Rattle.std.specs.Io.KnownBytes.{Appends}
-use Rattle.plan_tool.specs.Script.{IsScript, Keeps, kept_of}
-use Rattle.plan_tool.specs.Seen.{asked_by}
+use Rattle.script.specs.Script.{IsScript, Keeps, kept_of}
+use Rattle.script.specs.Seen.{asked_by}
 use Rattle.plan_tool.specs.Told.{TellsOf, plan_line}
 use Rattle.plan_tool.specs.Verdict.{IsFaultyText}
-use Rattle.plan_tool.specs.declared.script.Script.{Script}
-use Rattle.plan_tool.specs.declared.script.Step.{Step}
+use Rattle.script.specs.declared.reading.Script.{Script}
+use Rattle.script.specs.declared.reading.Step.{Step}
 
 -- A status and a text tell of the model's run of these orders over a plan: what is told of each event for the steps that have
 -- one, and the opened writers of the world after them.

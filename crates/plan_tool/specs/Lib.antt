@@ -1,11 +1,4 @@
 pub mod Verdict
-pub mod Pieces
-pub mod Reads
-pub mod Words
-pub mod Grammar
-pub mod Seen
-pub mod Script
 pub mod Told
 pub mod ToldLines
 pub mod Answers
-pub mod Examples

@@ -7,7 +7,7 @@ use Rattle.volume_model.specs.Names.{fault_text}
 use Rattle.volume_model.specs.Outcome.{Opened}
 use Rattle.volume_model.specs.Plan.{Plan}
 use Rattle.volume_model.specs.Redo.{last_lsn}
-use Rattle.plan_tool.specs.declared.script.Step.{Step}
+use Rattle.script.specs.declared.reading.Step.{Step}
 
 -- what is told of an event: the number of messages that it made, or why it was refused
 abbrev pub Told : Type 0

@@ -1,7 +1,7 @@
 -- What is added to a text that tells of a run.
 use Rattle.std.specs.Prelude.{◌≡◌, ℕ, List, ◌++◌, Option}
 use Rattle.plan_tool.specs.Told.{AreLinesOf, IsLineOf, Told, tellings}
-use Rattle.plan_tool.specs.declared.script.Step.{Step}
+use Rattle.script.specs.declared.reading.Step.{Step}
 
 -- a line was added
 abbrev pub AppendsLine : ℕ → Option Told → List ℕ → List ℕ → Type 0

@@ -4,7 +4,6 @@
 mod files;
 mod perform;
 mod reply;
-mod script;
 mod streams;
 #[cfg(test)]
 mod tests;

@@ -15,11 +15,11 @@ ghost use Rattle.plan_tool.specs.Told.{plan_line};
 ghost use Rattle.plan_tool.specs.Verdict.{IsCertifiedText, IsFaultyText, Judges, StopsOnly};
 
 use crate::reply::{Reply, Stop};
-use crate::script::{Script, ScriptFault, read_script};
 use crate::streams::{emit, read_all};
 use crate::told::{checked_line, run_lines};
 use command_line::{Action, Job};
 use plan::{CheckedPlan, Plan, check_plan, read_plan};
+use script::{Script, ScriptFault, read_script};
 use std::alloc::Global;
 use std::io::{Read, Write};
 use std::sync::Arc;

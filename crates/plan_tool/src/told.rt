@@ -11,9 +11,9 @@ ghost use Rattle.plan_tool.specs.Told.{TellsOf, counts_line, first_if, next_lsn,
 ghost use Rattle.plan_tool.specs.ToldLines.{AppendsLine, AppendsLines};
 
 use crate::reply::Reply;
-use crate::script::Step;
 use plan::CheckedPlan;
 use redo_record::Record;
+use script::Step;
 use std::alloc::{AllocError, Global};
 use volume_model::Fault;
 use world::{Outcome, WriterEnd};

@@ -1,7 +1,7 @@
 use Rattle.std.proofs.Common.{get_or, false, refl, string_bytes}
 use Rattle.std.specs.Option.{option_copied}
 use Rattle.plan_tool.proofs.Telling.{tells_more, tells_none}
-use Rattle.plan_tool.specs.declared.script.Step.{Step}
+use Rattle.script.specs.declared.reading.Step.{Step}
 use Rattle.plan_tool.proofs.told.add_steps.Goals as goal
 
 pub loop-step-init : goal.loop-step-init

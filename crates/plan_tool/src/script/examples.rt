@@ -1,8 +1,0 @@
-//! Lines, and what the grammar says of them.
-
-ghost use Rattle.plan_tool.specs.Examples.{SayTheirLines};
-
-/// What some lines say: it holds of the grammar, and nothing is computed.
-pub fn say_their_lines()
-    ensures { SayTheirLines }
-{}

@@ -1,0 +1,4 @@
+pub mod Scripts
+pub mod Numerals
+pub mod Lines
+pub mod Parsing

@@ -1,0 +1,63 @@
+-- What the words of a line spell, part by part.
+use Rattle.std.proofs.Common.{◌≡◌, ◌≢◌, ◌∙◌, ap, sym, ℕ, ◌+◌, ◌<◌, List, [], ◌∷◌, ◌++◌, Option, Some, None, length, drop, get_or, map, option_map, arith, refl, Bor, add-one, drop-cons}
+use Rattle.std.proofs.lemmas.List.{append_assoc, map-append}
+use Rattle.volume_model.specs.Client as model
+use Rattle.writer_core.specs.Changes.{change_of, changes_of}
+use Rattle.writer_core.specs.declared.change.Change.{Change}
+use Rattle.script.specs.Grammar.{change_by, changes_in, deliver_in, name_in}
+use Rattle.script.specs.Seen.{seen_deed}
+use Rattle.script.specs.Words.{fields_in}
+
+-- lists of another length spell nothing
+pub no_change : (fields : List (List ℕ)) → (length fields ≡ 4 → ⊥) → change_by fields ≡ None
+no_change [] other = refl
+no_change (a ∷ []) other = refl
+no_change (a ∷ b ∷ []) other = refl
+no_change (a ∷ b ∷ c ∷ []) other = refl
+no_change (a ∷ b ∷ c ∷ d ∷ []) other = absurd (other refl)
+no_change (a ∷ b ∷ c ∷ d ∷ e ∷ more) other = refl
+
+pub no_name : (earlier : ℕ) (sides : List (List ℕ)) → (length sides ≡ 2 → ⊥) → name_in earlier sides ≡ None
+no_name earlier [] other = refl
+no_name earlier (a ∷ []) other = refl
+no_name earlier (a ∷ b ∷ []) other = absurd (other refl)
+no_name earlier (a ∷ b ∷ c ∷ more) other = refl
+
+pub no_delivery : (events : List (Option ℕ)) (earlier : ℕ) (words : List (List ℕ)) → (length words ≡ 3 → ⊥) → option_map (seen_deed events) (deliver_in earlier words) ≡ None
+no_delivery events earlier [] other = refl
+no_delivery events earlier (a ∷ []) other = refl
+no_delivery events earlier (a ∷ b ∷ []) other = refl
+no_delivery events earlier (a ∷ b ∷ c ∷ []) other = absurd (other refl)
+no_delivery events earlier (a ∷ b ∷ c ∷ d ∷ more) other = refl
+
+pub length_texts : (words : List (Bor (List ℕ))) → length (map (λ w. w.now) words) ≡ length words
+length_texts [] = refl
+length_texts (word ∷ words) = omega (arith, length_texts words)
+
+after_change : (items : List Change) (c : Change) (there : Option (List model.Change))
+    → option_map (λ more. changes_of items ++ more) (option_map (λ later. change_of c ∷ later) there) ≡ option_map (λ more. changes_of (items ++ c ∷ []) ++ more) there
+after_change items c None = refl
+after_change items c (Some more) = ap Some (sym (append_assoc (changes_of items) (change_of c ∷ []) more) ∙ ap (λ l. l ++ more) (sym (map-append change_of items (c ∷ []))))
+
+-- the same of texts
+pub no_change_by : (fields : List (Bor (List ℕ))) → length fields ≢ 4 → change_by (map (λ w. w.now) fields) ≡ None
+no_change_by fields other = no_change (map (λ w. w.now) fields) (λ four. other (sym (length_texts fields) ∙ four))
+
+pub no_delivery_by : (events : List (Option ℕ)) (earlier : ℕ) (words : List (Bor (List ℕ))) → length words ≢ 3 → option_map (seen_deed events) (deliver_in earlier (map (λ w. w.now) words)) ≡ None
+no_delivery_by events earlier words other = no_delivery events earlier (map (λ w. w.now) words) (λ three. other (sym (length_texts words) ∙ three))
+
+-- one change more
+pub changes_more : (all : Option (List model.Change)) (words : List (Bor (List ℕ))) (i : ℕ) (word : Bor (List ℕ)) (items new : List Change) (c : Change)
+    → all ≡ option_map (λ more. changes_of items ++ more) (changes_in (map (λ w. w.now) (drop i words))) → i < length words → word ≡ get_or words i word
+    → change_by (fields_in word.now) ≡ Some (change_of c) → new ≡ items ++ c ∷ [] → all ≡ option_map (λ more. changes_of new ++ more) (changes_in (map (λ w. w.now) (drop (i + 1) words)))
+changes_more all words i word items new c before within item change is_new =
+    let front : drop i words ≡ word ∷ drop (i + 1) words = drop-cons words i word within ∙ rw (← item, add-one) refl in
+    rw (is_new, before, front, change) (after_change items c (changes_in (map (λ w. w.now) (drop (i + 1) words))))
+
+-- a word that is no change ends them
+pub changes_end : (all : Option (List model.Change)) (words : List (Bor (List ℕ))) (i : ℕ) (word : Bor (List ℕ)) (items : List Change)
+    → all ≡ option_map (λ more. changes_of items ++ more) (changes_in (map (λ w. w.now) (drop i words))) → i < length words → word ≡ get_or words i word
+    → change_by (fields_in word.now) ≡ None → all ≡ None
+changes_end all words i word items before within item change =
+    let front : drop i words ≡ word ∷ drop (i + 1) words = drop-cons words i word within ∙ rw (← item, add-one) refl in
+    rw (before, front, change) refl

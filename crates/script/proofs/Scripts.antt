@@ -1,0 +1,123 @@
+-- A script that is read line by line.
+use Rattle.std.proofs.Common.{◌≡◌, ◌∙◌, ap, sym, subst, ℕ, zero, suc, ◌+◌, ◌-◌, ◌<◌, ◌≤◌, List, [], ◌∷◌, ◌++◌, Option, Some, None, Ok, Err, length, drop, take, get_or, arith, refl, sum_by, length-drop}
+use Rattle.std.specs.Str.{IsUtf8}
+use Rattle.std.proofs.lemmas.List.{length-take-le, length_push}
+use Rattle.std.proofs.lemmas.List.Sums.{fold-append, sum_by_push}
+use Rattle.std.proofs.Math.Seq.{take-suc}
+use Rattle.volume_model.specs.declared.fault.Fault.{Fault}
+use Rattle.volume_model.specs.declared.fault.Fault.TheVariants.{NoMemory}
+use Rattle.script.specs.Grammar.{Deed, deed_of}
+use Rattle.script.specs.Pieces.{pieces, before_newline}
+use Rattle.script.specs.Seen.{Seen, seen_deed}
+use Rattle.script.specs.Seen.Seen.{Silent, Pause, Asks}
+use Rattle.script.specs.Script.{AddsLine, AreDeeds, Does, IsFirstBad, IsScript, Keeps, Kept, ReadsScript, kept_in, kept_of, line_at, nothing_kept, stop_at, with_deed, with_line}
+use Rattle.script.specs.Script.AreDeeds.{none, more}
+use Rattle.script.specs.declared.reading.Script.{Script}
+
+-- Of a text the first lines were read; what comes after them is the rest, and there is so much room for it.
+pub record IsReading (text rest : List ℕ) (room : ℕ) (now : Kept) : Type 0 where
+  pub deeds : List Deed
+  pub are : AreDeeds text deeds
+  pub kept : now ≡ kept_of deeds
+  pub lines : length now.indexes ≡ length deeds
+  pub held : length deeds ≤ length (pieces text)
+  pub after : drop (length deeds) (pieces text) ≡ pieces rest
+  pub bytes : sum_by length (take (length deeds) (pieces text)) + room ≡ 16777216
+
+-- before any line
+pub starts : (text : List ℕ) → IsReading text text 16777216 nothing_kept
+starts text = record { deeds = []; are = none; kept = refl; lines = refl; held = omega arith; after = refl; bytes = refl }
+
+one_line_more : (kept : Kept) (seen : Seen) → length (with_line kept seen).indexes ≡ suc (length kept.indexes)
+one_line_more kept Silent = length_push kept.indexes None ∙ omega arith
+one_line_more kept Pause = length_push kept.indexes None ∙ omega arith
+one_line_more kept (Asks asked) = length_push kept.indexes (Some (length kept.asked)) ∙ omega arith
+
+-- the next line of a list, and those after it
+next_of : (xs : List (List ℕ)) (k : ℕ) (x : List ℕ) (ys : List (List ℕ)) → drop k xs ≡ x ∷ ys → (k < length xs) × (get_or xs k [] ≡ x) × (drop (suc k) xs ≡ ys)
+next_of [] zero x ys e = absurd cc
+next_of [] (suc k) x ys e = absurd cc
+next_of (z ∷ zs) zero x ys e = (omega arith, cc, cc)
+next_of (z ∷ zs) (suc k) x ys e = let later = next_of zs k x ys e in (omega (arith, later.0), later.1, later.2)
+
+bytes_to : (text : List ℕ) (k : ℕ) (x : List ℕ) → k < length (pieces text) → get_or (pieces text) k [] ≡ x → sum_by length (take (suc k) (pieces text)) ≡ sum_by length (take k (pieces text)) + length x
+bytes_to text k x below e = ap (sum_by length) (take-suc (pieces text) k [] below) ∙ (sum_by_push length (take k (pieces text)) (get_or (pieces text) k []) ∙ ap (λ y. sum_by length (take k (pieces text)) + length y) e)
+
+-- the line after those that were read
+pub record IsNext (rest line after : List ℕ) (bytes : ℕ) : Type 0 where
+  pub first : line ≡ before_newline (take bytes rest)
+  pub pieces_are : pieces rest ≡ take bytes rest ∷ pieces after
+  pub long : length (take bytes rest) ≡ bytes
+
+-- one line more
+pub reads_more : (text rest line later : List ℕ) (room bytes : ℕ) (now new : Kept) (u : Unit {0}) → IsReading text rest room now → IsNext rest line later bytes → bytes ≤ room → suc (length now.indexes) ≤ 100000
+    → AddsLine line now (Ok u) new → IsReading text later (room - bytes) new
+reads_more text rest line later room bytes now new u so_far next fits few (deed, utf8, says, is_new) =
+    let k = length so_far.deeds in
+    let there = next_of (pieces text) k (take bytes rest) (pieces later) (so_far.after ∙ next.pieces_are) in
+    let here : line_at text k ≡ line = ap before_newline there.1 ∙ sym next.first in
+    let upto : sum_by length (take (suc k) (pieces text)) ≡ sum_by length (take k (pieces text)) + bytes = bytes_to text k (take bytes rest) there.0 there.1 ∙ ap (λ n. sum_by length (take k (pieces text)) + n) next.long in
+    let does : Does text k deed = record {
+      few = omega (arith, so_far.lines, few);
+      within = omega (arith, upto, so_far.bytes, fits);
+      utf8 = subst IsUtf8 (sym here) utf8;
+      says = ap (deed_of k) here ∙ (ap (λ n. deed_of n line) (sym so_far.lines) ∙ says);
+    } in
+    let pushed : length (so_far.deeds ++ deed ∷ []) ≡ suc k = length_push so_far.deeds deed ∙ omega arith in
+    record {
+      deeds = so_far.deeds ++ deed ∷ [];
+      are = more so_far.deeds deed so_far.are does;
+      kept = is_new ∙ (ap (λ n. with_deed n deed) so_far.kept ∙ sym (fold-append with_deed nothing_kept so_far.deeds (deed ∷ [])));
+      lines = ap (λ (n : Kept). length n.indexes) is_new ∙ (one_line_more now (seen_deed now.indexes deed) ∙ (ap suc so_far.lines ∙ sym pushed));
+      held = omega (arith, pushed, there.0);
+      after = rw pushed there.2;
+      bytes = rw pushed (omega (arith, upto, so_far.bytes, fits));
+    }
+
+-- a line that may not stand there is the first bad one
+pub reads_bad : (text rest line later : List ℕ) (room bytes number : ℕ) (now : Kept) → number ≡ suc (length now.indexes) → IsReading text rest room now → IsNext rest line later bytes
+    → ((deed : Deed) → bytes ≤ room → suc (length now.indexes) ≤ 100000 → IsUtf8 line → deed_of (length now.indexes) line ≡ Some deed → ⊥) → IsFirstBad text number
+reads_bad text rest line later room bytes number now numbered so_far next refused =
+    let k = length so_far.deeds in
+    let there = next_of (pieces text) k (take bytes rest) (pieces later) (so_far.after ∙ next.pieces_are) in
+    let here : line_at text k ≡ line = ap before_newline there.1 ∙ sym next.first in
+    let upto : sum_by length (take (suc k) (pieces text)) ≡ sum_by length (take k (pieces text)) + bytes = bytes_to text k (take bytes rest) there.0 there.1 ∙ ap (λ n. sum_by length (take k (pieces text)) + n) next.long in
+    record {
+      deeds = so_far.deeds;
+      are = so_far.are;
+      first = numbered ∙ ap suc so_far.lines;
+      there = there.0;
+      bad = λ deed does. refused deed (omega (arith, upto, so_far.bytes, does.within)) (omega (arith, so_far.lines, does.few)) (subst IsUtf8 here does.utf8)
+          (ap (λ n. deed_of n line) so_far.lines ∙ (ap (deed_of k) (sym here) ∙ does.says));
+    }
+
+-- a line that was refused ends the reading
+pub reads_fault : (text rest line later : List ℕ) (room bytes number : ℕ) (now new : Kept) (fault : Fault) → number ≡ suc (length now.indexes) → IsReading text rest room now → IsNext rest line later bytes
+    → AddsLine line now (Err fault) new → ReadsScript text (Err (stop_at fault number))
+reads_fault text rest line later room bytes number now new NoMemory numbered so_far next refused = tt
+reads_fault text rest line later room bytes number now new fault numbered so_far next refused =
+    reads_bad text rest line later room bytes number now numbered so_far next (λ deed fits few utf8 says. refused deed utf8 says)
+
+nil_of : (xs : List ℕ) → length xs ≤ 0 → xs ≡ []
+nil_of [] h = refl
+nil_of (x ∷ xs) h = absurd (omega arith)
+
+-- where nothing is left, the text is a script
+pub reads_all : (text rest : List ℕ) (room : ℕ) (script : Script) (indexes : List (Option ℕ)) → length rest ≤ 0 → IsReading text rest room (kept_in script indexes)
+    → (deeds : List Deed) × IsScript text deeds × Keeps script deeds
+reads_all text rest room script indexes empty so_far =
+    let over : drop (length so_far.deeds) (pieces text) ≡ [] = so_far.after ∙ ap pieces (nil_of rest empty) in
+    let left : length (pieces text) - length so_far.deeds ≡ 0 = sym (length-drop (length so_far.deeds) (pieces text)) ∙ ap length over in
+    let whole : length so_far.deeds ≡ length (pieces text) = omega (arith, left, so_far.held) in
+    (so_far.deeds, record { are = so_far.are; all = whole }, record { steps_are = ap (λ (n : Kept). n.steps) so_far.kept; orders_are = ap (λ (n : Kept). n.asked) so_far.kept })
+
+-- an empty script keeps nothing
+pub starts_empty : (text : List ℕ) (script : Script) (indexes : List (Option ℕ)) → script.steps.items ≡ [] → script.orders.items ≡ [] → indexes ≡ [] → IsReading text text 16777216 (kept_in script indexes)
+starts_empty text script indexes no_steps no_orders no_indexes =
+    let nothing : kept_in script indexes ≡ nothing_kept = rw (no_steps, no_orders, no_indexes) refl in
+    subst (λ (n : Kept). IsReading text text 16777216 n) (sym nothing) (starts text)
+
+-- what the first line is
+pub next_line : (rest line after : List ℕ) → line ≡ before_newline (take (length rest - length after) rest) → pieces rest ≡ take (length rest - length after) rest ∷ pieces after
+    → IsNext rest line after (length rest - length after)
+next_line rest line after first pieces_are = record { first = first; pieces_are = pieces_are; long = length-take-le (length rest - length after) rest (omega arith) }

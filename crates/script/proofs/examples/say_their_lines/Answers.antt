@@ -1,0 +1,16 @@
+use Rattle.std.proofs.Common.{refl}
+use Rattle.script.proofs.examples.say_their_lines.Goals as goal
+
+pub returns : goal.returns
+returns c = record {
+  issues = refl;
+  delivers = refl;
+  waits = refl;
+  restarts = refl;
+  comments = refl;
+  empty = refl;
+  two_spaces = refl;
+  leading_zero = refl;
+  later_line = refl;
+  no_change = refl;
+}

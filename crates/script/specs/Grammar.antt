@@ -1,0 +1,105 @@
+-- What a line of a script says.
+use Rattle.std.specs.Prelude.{ℕ, ◌==◌, ◌&&◌, nat_le, if◌then◌else◌, Bool, true, List, [], ◌∷◌, Option, Some, None, codes, find, option_and_then, option_map}
+use Rattle.std.specs.Str.{bytes_eq}
+use Rattle.volume_model.specs.Client.{Change}
+use Rattle.volume_model.specs.World.{Event}
+use Rattle.script.specs.Words.{words_in, fields_in, sides_in, number_in, bytes_in}
+use Rattle.script.specs.declared.line.Verb.{Verb}
+use Rattle.script.specs.declared.line.Verb.TheVariants as verb
+
+-- What a line does: nothing, as an empty line or a comment; it waits for the lines before it; it makes an event happen; or it
+-- delivers to a node the message that an earlier line made, the line and the message's place among those of the line both from 1.
+pub data Deed : Type 0 where
+  Nothing : Deed
+  Waits : Deed
+  Makes : Event → Deed
+  Delivers : (group member line place : ℕ) → Deed
+
+-- the word that a line with this verb begins with
+abbrev pub name_of : Verb → List ℕ
+name_of verb.Issue = codes "issue"
+name_of verb.Deliver = codes "deliver"
+name_of verb.Restart = codes "restart"
+name_of verb.Wait = codes "wait"
+
+abbrev pub verbs : List Verb
+verbs = verb.Issue ∷ verb.Deliver ∷ verb.Restart ∷ verb.Wait ∷ []
+
+-- the verb that a word is
+abbrev pub verb_in : List ℕ → Option Verb
+verb_in word = find (λ v. bytes_eq (name_of v) word) verbs
+
+-- the largest numbers of a group or member, of an offset, of a volume epoch or block, and of a line or message
+abbrev pub most_ids : ℕ
+most_ids = 255
+
+abbrev pub most_offsets : ℕ
+most_offsets = 65535
+
+abbrev pub most_blocks : ℕ
+most_blocks = 4294967295
+
+abbrev pub most_numbers : ℕ
+most_numbers = 18446744073709551615
+
+-- a change of a block of a group, by its offset and its bytes
+abbrev pub change_at : ℕ → ℕ → List ℕ → List ℕ → Option Change
+change_at group block offset bytes = option_and_then (λ o. option_map (λ hex. record { group = group; block = block; offset = o; bytes = hex }) (bytes_in bytes)) (number_in most_offsets offset)
+
+-- a change by its fields: group, block, offset, bytes
+abbrev pub change_by : List (List ℕ) → Option Change
+change_by (group ∷ block ∷ offset ∷ bytes ∷ []) = option_and_then (λ g. option_and_then (λ b. change_at g b offset bytes) (number_in most_blocks block)) (number_in most_ids group)
+change_by _ = None
+
+abbrev pub changes_in : List (List ℕ) → Option (List Change)
+changes_in [] = Some []
+changes_in (word ∷ words) = option_and_then (λ change. option_map (λ later. change ∷ later) (changes_in words)) (change_by (fields_in word))
+
+-- `issue V CHANGE ..`, with at least one change
+abbrev pub issue_in : List (List ℕ) → Option Event
+issue_in (volume ∷ change ∷ more) = option_and_then (λ v. option_map (λ changes. Event.Issue v changes) (changes_in (change ∷ more))) (number_in most_blocks volume)
+issue_in _ = None
+
+-- `restart G M`
+abbrev pub restart_in : List (List ℕ) → Option Event
+restart_in (group ∷ member ∷ []) = option_and_then (λ g. option_map (λ m. Event.Restart g m) (number_in most_ids member)) (number_in most_ids group)
+restart_in _ = None
+
+-- `L.K`, where L is one of so many earlier lines: the line and the place
+abbrev pub name_in : ℕ → List (List ℕ) → Option (ℕ × ℕ)
+name_in earlier (line ∷ place ∷ []) =
+    option_and_then (λ l. option_and_then (λ p. if nat_le 1 l && nat_le l earlier && nat_le 1 p then Some (l, p) else None)
+    (number_in most_numbers place)) (number_in most_numbers line)
+name_in earlier _ = None
+
+-- `deliver G M L.K`
+abbrev pub deliver_in : ℕ → List (List ℕ) → Option Deed
+deliver_in earlier (group ∷ member ∷ name ∷ []) =
+    option_and_then (λ g. option_and_then (λ m. option_map (λ n. Delivers g m n.0 n.1) (name_in earlier (sides_in name))) (number_in most_ids member)) (number_in most_ids group)
+deliver_in earlier _ = None
+
+-- `wait`
+abbrev pub wait_in : List (List ℕ) → Option Deed
+wait_in [] = Some Waits
+wait_in _ = None
+
+-- what a verb says with the words after it, in a line after so many others
+abbrev pub said_by : ℕ → Verb → List (List ℕ) → Option Deed
+said_by earlier verb.Issue words = option_map Makes (issue_in words)
+said_by earlier verb.Deliver words = deliver_in earlier words
+said_by earlier verb.Restart words = option_map Makes (restart_in words)
+said_by earlier verb.Wait words = wait_in words
+
+-- the same of all words of a line
+abbrev pub said : ℕ → List (List ℕ) → Option Deed
+said earlier [] = None
+said earlier (word ∷ words) = option_and_then (λ verb. said_by earlier verb words) (verb_in word)
+
+-- an empty line and a comment do nothing
+abbrev pub is_silent : List ℕ → Bool
+is_silent [] = true
+is_silent (first ∷ more) = first == 35
+
+-- what a line does after so many others; none where it is outside the grammar
+abbrev pub deed_of : ℕ → List ℕ → Option Deed
+deed_of earlier line = if is_silent line then Some Nothing else said earlier (words_in line)

@@ -1,0 +1,11 @@
+//! Scripts: what the lines of a text make happen.
+#![tactic(auto)]
+
+mod examples;
+mod line;
+mod pieces;
+mod reading;
+mod word;
+
+pub use examples::say_their_lines;
+pub use reading::{Script, ScriptFault, Step, read_script};

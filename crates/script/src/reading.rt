@@ -1,0 +1,131 @@
+//! The lines of a script in turn: one event a line.
+
+ghost use Rattle.std.specs.Prelude.{◌≡◌, OnOk};
+ghost use Rattle.script.specs.Seen.{seen};
+ghost use Rattle.script.specs.Script.{AddsLine, ReadsScript, kept_in, stop_at, with_line};
+
+use crate::line::{Line, line_of};
+use crate::pieces::first_line;
+use std::alloc::{AllocError, Global};
+use volume_model::Fault;
+use world::Order;
+
+/// The most bytes of a script.
+const SCRIPT_BYTES: usize = 16_777_216;
+
+/// The most lines of a script.
+const SCRIPT_LINES: usize = 100_000;
+
+/// A line that does something.
+#[derive(Clone, Copy)]
+pub struct Step {
+    /// Its number, from 1.
+    pub line: usize,
+    /// Whether it has an event; a `wait` has none.
+    pub has_event: bool,
+}
+
+/// What a script does, line by line.
+#[derive(Drop)]
+pub struct Script {
+    /// The lines that do something, in order.
+    pub steps: Vec<Step>,
+    /// The events of those that have one, in order.
+    pub orders: Vec<Order>,
+}
+
+/// Why a script can't be run.
+#[derive(Clone, Copy, Debug, PartialEq, Eq)]
+pub enum ScriptFault {
+    /// The line with this number, from 1, isn't one of a script.
+    Line(usize),
+    /// A growth was refused.
+    NoMemory,
+}
+
+/// Adds a line. `events` has the index of each earlier line's event.
+fn keep(script: &mut Script, events: &mut Vec<Option<usize>>, line: Line) -> Result<(), AllocError>
+    ensures { OnOk result (kept_in script.new events.new.items ≡ with_line (kept_in script.old events.old.items) (seen line)) }
+{
+    let number = events.len() + 1;
+    match line {
+        Line::Empty => events.push(None)?,
+        Line::Wait => {
+            events.push(None)?;
+            script.steps.push(Step {
+                line: number,
+                has_event: false,
+            })?;
+        }
+        Line::Order(order) => {
+            events.push(Some(script.orders.len()))?;
+            script.orders.push(order)?;
+            script.steps.push(Step {
+                line: number,
+                has_event: true,
+            })?;
+        }
+    }
+    Ok(())
+}
+
+/// Adds what a line says.
+fn add_line(
+    alloc: Global,
+    script: &mut Script,
+    events: &mut Vec<Option<usize>>,
+    line: &[u8],
+) -> Result<(), Fault>
+    ensures { AddsLine line.now (kept_in script.old events.old.items) result (kept_in script.new events.new.items) }
+{
+    let text = match str::from_utf8(line) {
+        Ok(text) => text,
+        Err(_) => return Err(Fault::Malformed),
+    };
+    match line_of(alloc, text, events.as_slice()) {
+        Ok(line) => {
+            keep(script, events, line)?;
+            Ok(())
+        }
+        Err(fault) => Err(fault),
+    }
+}
+
+/// Why a script can't be run whose line with this number was refused.
+fn stop_at(fault: Fault, line: usize) -> ScriptFault
+    ensures { result ≡ stop_at fault line }
+{
+    match fault {
+        Fault::NoMemory => ScriptFault::NoMemory,
+        _ => ScriptFault::Line(line),
+    }
+}
+
+/// What a text does as a script, or its first line that isn't one of a script: at most 100,000 lines in 16,777,216 bytes,
+/// each of them UTF-8.
+pub fn read_script(alloc: Global, text: &[u8]) -> Result<Script, ScriptFault>
+    ensures { ReadsScript text.now result }
+{
+    let mut script = Script {
+        steps: Vec::new(alloc),
+        orders: Vec::new(alloc),
+    };
+    let mut events = Vec::new(alloc);
+    let mut room = SCRIPT_BYTES;
+    let mut rest = text;
+    while !rest.is_empty() {
+        let (line, after) = first_line(rest);
+        let bytes = rest.len() - after.len();
+        let number = events.len() + 1;
+        if bytes > room || number > SCRIPT_LINES {
+            return Err(ScriptFault::Line(number));
+        }
+        match add_line(alloc, &mut script, &mut events, line) {
+            Ok(()) => {}
+            Err(fault) => return Err(stop_at(fault, number)),
+        }
+        room -= bytes;
+        rest = after;
+    }
+    Ok(script)
+}
