@@ -23,6 +23,3 @@ pub use listing::claims;
 pub use placed::NamedClaim;
 pub use reading::read_plan;
 pub use writing::write_plan;
-
-#[cfg(test)]
-mod tests;

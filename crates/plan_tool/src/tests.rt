@@ -1,8 +1,12 @@
 mod certificates;
 mod configurations;
+mod expressions;
 mod faults;
 mod files;
 mod plans;
+mod records;
+mod refutations;
 mod said;
 mod scripts;
 mod words;
+mod written;

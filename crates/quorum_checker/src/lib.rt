@@ -67,6 +67,3 @@ pub fn no_fault_refutes()
     ensures refutes { (rule : Rule) (state : State) → first_fault rule state ≡ None → Refutes rule state }
     ensures accepted { (rule : Rule) (state : State) → Refutes rule state → first_fault rule state ≡ None }
 {}
-
-#[cfg(test)]
-mod tests;

@@ -14,6 +14,3 @@ pub use member_set::{MEMBERS, MemberSet};
 pub use reading::read_expr;
 pub use rebuilding::{copy_in, dual_in};
 pub use validity::valid;
-
-#[cfg(test)]
-mod tests;

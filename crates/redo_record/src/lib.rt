@@ -16,6 +16,3 @@ pub use packet::Packet;
 pub use payload::Payload;
 pub use record::Record;
 pub use record_set::RecordSet;
-
-#[cfg(test)]
-mod tests;

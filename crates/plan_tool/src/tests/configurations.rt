@@ -175,6 +175,20 @@ pub fn back(alloc: Global) -> Result<String, AllocError> {
     format!(in alloc; "{two},{other},{same}")
 }
 
+/// A plain root and a child of this parent with this step.
+pub fn followed(alloc: Global, parent: &str, step: &str) -> Result<String, AllocError> {
+    let first = first(alloc)?;
+    let second = child(alloc, parent, step)?;
+    format!(in alloc; "{first},{second}")
+}
+
+/// Two that go on with the first six members.
+pub fn resumed(alloc: Global) -> Result<String, AllocError> {
+    let two = two(alloc, DEAD)?;
+    let third = plain_child(alloc, "1", ALL, 0)?;
+    format!(in alloc; "{two},{third}")
+}
+
 /// A member that goes and comes back.
 pub fn reused(alloc: Global) -> Result<String, AllocError> {
     let two = two(alloc, DEAD)?;
@@ -239,6 +253,9 @@ pub fn named(alloc: Global, name: &str) -> Result<String, AllocError> {
         ),
         "bold" => plan(alloc, &bold(alloc)?),
         "reused" => plan(alloc, &reused(alloc)?),
+        "no step" => plan(alloc, &followed(alloc, "0", "null")?),
+        "own parent" => plan(alloc, &followed(alloc, "1", &step(alloc, DEAD)?)?),
+        "resumed" => plan(alloc, &resumed(alloc)?),
         "two roots" => plan(alloc, &times(alloc, &first(alloc)?, 2)?),
         _ => largest(alloc),
     }

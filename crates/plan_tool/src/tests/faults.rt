@@ -136,7 +136,9 @@ fn first_faults_of_certificates(rt: HostRuntime) -> Result<(), AllocError> {
 }
 
 /// Plans with one fault or more, and what is told of the first.
-const UNREADABLE: [(&str, u8, &str); 14] = [
+const UNREADABLE: [(&str, u8, &str); 15] = [
+    // half a text
+    ("{\"format\":", 2, "input: 13 Malformed\n"),
     // a missing step beside a bad count
     (
         "{\"format\":1,\"lal\":10,\"groups\":[{\"configurations\":[{\"parent\":null,\"members\":[0,1,2,3,4,5],\"full\":[0,1,2,3,4,5],\"read\":{\"k\":0,\"of\":\"all\"},\"write\":{\"k\":4,\"of\":\"all\"},\"meets\":null}]}]}",

@@ -86,6 +86,14 @@ fn plans_of_one_configuration(rt: HostRuntime) -> Result<(), AllocError> {
             1,
             "no: 32 NoCertificate group 0 configuration 0 meets\n",
         ),
+        (READ, WRITE, Meets::Text("1"), 2, "input: 13 Malformed\n"),
+        (
+            READ,
+            "{\"k\":7,\"of\":\"all\"}",
+            good,
+            1,
+            "no: 10 BadCount group 0 configuration 0 write\n",
+        ),
     ];
     for (read, write, meets, status, line) in rows {
         let text = root(alloc, read, write, &meets.text(alloc)?)?;
@@ -148,6 +156,21 @@ fn plans_of_steps(rt: HostRuntime) -> Result<(), AllocError> {
             "reused",
             1,
             "no: 31 MemberReused group 0 configuration 3 member 6\n",
+        ),
+        (
+            "no step",
+            1,
+            "no: 32 NoCertificate group 0 configuration 1 step\n",
+        ),
+        (
+            "own parent",
+            1,
+            "no: 30 BadParent group 0 configuration 1\n",
+        ),
+        (
+            "resumed",
+            0,
+            "yes: 1 groups, 3 configurations, 5 certificates\n",
         ),
         ("two roots", 1, "no: 30 BadParent group 0 configuration 1\n"),
         (
