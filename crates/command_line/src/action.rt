@@ -12,6 +12,7 @@ pub enum Action {
 /// An action and the files that it is done on, by their names as given.
 #[derive(Clone, Copy, Debug, PartialEq, Eq)]
 pub struct Job<'a> {
+    /// What to do with the files.
     pub action: Action,
     /// The plan's file.
     pub plan: &'a str,

@@ -15,10 +15,13 @@ use std::alloc::Global;
 pub struct Configuration {
     /// The number of the configuration that it comes from.
     pub parent: Option<u64>,
+    /// Its members.
     pub members: MemberSet,
     /// The members that keep whole pages.
     pub full: MemberSet,
+    /// Which sets of members may read.
     pub read: Expr<Global>,
+    /// Which sets of members may write.
     pub write: Expr<Global>,
     /// Shows that each read set meets each write set.
     pub meets: Option<Certificate<Global>>,
@@ -33,6 +36,7 @@ pub struct Configuration {
 /// The 1 to 64 configurations of a group. Number 0 is the root.
 #[derive(Drop)]
 pub struct Group {
+    /// The configurations by number, each after the one that it comes from.
     pub configurations: Vec<Configuration>,
     ghost some: { 1 ≤ length configurations.items },
     ghost few: { length configurations.items ≤ 64 },
@@ -41,7 +45,9 @@ pub struct Group {
 /// How far log sequence numbers may run ahead of the durable point, from 1 to 10,000,000, and the 1 to 16 groups.
 #[derive(Drop)]
 pub struct Plan {
+    /// How far log sequence numbers may run ahead of the durable point.
     pub lal: u64,
+    /// The groups by number.
     pub groups: Vec<Group>,
     ghost lal_some: { 1 ≤ lal },
     ghost lal_few: { lal ≤ 10000000 },

@@ -12,7 +12,9 @@ use volume_model::Fault;
 /// One of a configuration's two expressions.
 #[derive(Clone, Copy, Debug, PartialEq, Eq)]
 pub enum Quorum {
+    /// Which sets may read.
     Read,
+    /// Which sets may write.
     Write,
 }
 

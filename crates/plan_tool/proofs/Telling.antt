@@ -3,6 +3,7 @@ use Rattle.std.proofs.Common.{◌≡◌, ◌∙◌, ap, sym, subst, ℕ, ◌+◌
 use Rattle.std.specs.Option.{option_map_or}
 use Rattle.std.specs.List.{slice_get}
 use Rattle.std.proofs.lemmas.List.{append_assoc, append-nil}
+use Rattle.std.proofs.Math.Seq.{drop-length}
 use Rattle.volume_model.specs.declared.fault.Fault.{Fault}
 use Rattle.volume_model.specs.Lists.{added}
 use Rattle.volume_model.specs.Redo.{Redo, last_lsn}
@@ -49,13 +50,9 @@ refusal_told (Ok u) line told fault old new is_told h =
     let is_line : IsLineOf line (Some (Err fault)) (refused_line line fault) = refl in
     (refused_line line fault, subst (λ (t : Option Told). IsLineOf line t (refused_line line fault)) (sym is_told) is_line, h)
 
-drop_all : {A : Type 0} (xs : List A) → drop (length xs) xs ≡ []
-drop_all [] = refl
-drop_all (x ∷ xs) = drop_all xs
-
 pub tells_all : (steps : List Step) (results left : List Told) (i : ℕ) (old now : List ℕ) → i ≡ length steps → IsTelling steps results left i old now → AppendsLines steps results old now
 tells_all steps results left i old now end so_far =
-    let nothing : tellings (drop i steps) left ≡ [] = rw (end, drop_all steps) refl in
+    let nothing : tellings (drop i steps) left ≡ [] = rw (end, drop-length steps) refl in
     let all : tellings steps results ≡ so_far.done = so_far.left_are ∙ (ap (λ t. so_far.done ++ t) nothing ∙ append-nil so_far.done) in
     (so_far.lines, rw all so_far.are, so_far.now_is)
 
@@ -67,7 +64,7 @@ writers_more writers i writer old now new so_far within item is_new =
     so_far ∙ (ap (λ ws. now ++ writer_lines (map opened_of ws)) front ∙ (sym (append_assoc now (writer_line (opened_of writer)) (writer_lines (map opened_of (drop (i + 1) writers)))) ∙ ap (λ t. t ++ writer_lines (map opened_of (drop (i + 1) writers))) (sym is_new)))
 
 pub writers_all : (writers : List WriterEnd) (i : ℕ) (old now : List ℕ) → i ≡ length writers → old ++ writer_lines (map opened_of writers) ≡ now ++ writer_lines (map opened_of (drop i writers)) → now ≡ old ++ writer_lines (map opened_of writers)
-writers_all writers i old now end so_far = let nothing : drop i writers ≡ [] = rw end (drop_all writers) in sym (so_far ∙ (ap (λ ws. now ++ writer_lines (map opened_of ws)) nothing ∙ append-nil now))
+writers_all writers i old now end so_far = let nothing : drop i writers ≡ [] = rw end (drop-length writers) in sym (so_far ∙ (ap (λ ws. now ++ writer_lines (map opened_of ws)) nothing ∙ append-nil now))
 
 -- the last of a list of records, after this one
 last_after : ℕ → List Record → ℕ

@@ -11,8 +11,11 @@ use std::alloc::Allocator;
 /// satisfies the right expression. Both expressions are valid.
 #[derive(Drop)]
 pub struct Claim<A: Allocator> {
+    /// What the first of two sets satisfies.
     pub left: Expr<A>,
+    /// What the second of two sets satisfies.
     pub right: Expr<A>,
+    /// The members that the first set doesn't have.
     pub clear: MemberSet,
     pub ghost left_valid: { expression_fault (formula_of left) ≡ None },
     pub ghost right_valid: { expression_fault (formula_of right) ≡ None },

@@ -11,8 +11,15 @@ use std::alloc::Allocator;
 /// A member of a group, or at least `k` of several expressions.
 #[derive(Drop)]
 pub enum Expr<A: Allocator> {
+    /// The member with this number.
     Member(u8),
-    KOf { k: u8, of: Vec<Expr<A>, A> },
+    /// At least so many of these expressions hold.
+    KOf {
+        /// How many at least.
+        k: u8,
+        /// The expressions.
+        of: Vec<Expr<A>, A>,
+    },
 }
 
 /// Whether an expression holds in a set of members.

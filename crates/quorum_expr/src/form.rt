@@ -10,7 +10,9 @@ use serde_json::Value;
 /// The members of a configuration, and those of them that are full: the lists that a text can call by name.
 #[derive(Clone, Copy)]
 pub struct Lists {
+    /// All members, which a text calls `all`.
     pub members: MemberSet,
+    /// The full ones, which a text calls `full`.
     pub full: MemberSet,
 }
 

@@ -1,5 +1,5 @@
 use Rattle.std.proofs.Common.{◌≡◌, ◌<◌, ◌++◌, ◌∷◌, [], get_or, length, map, arith, refl, sym, subst, ap, ap₂, ◌∙◌, if◌then◌else◌, Bool, List}
-use Rattle.std.proofs.lemmas.List.{get_or-map, length-map}
+use Rattle.std.proofs.lemmas.List.{append-nil, get_or-map, length-map}
 use Rattle.volume_model.specs.Redo.{Redo}
 use Rattle.volume_model.specs.Lineage.{is_live}
 use Rattle.redo_record.specs.Order.{IsInOrder}
@@ -9,10 +9,6 @@ use Rattle.lineage.specs.Lineage.{lineage_of}
 use Rattle.lineage.proofs.LiveRecords.{after_live, live_in-more}
 use Rattle.lineage.proofs.live.live_in.Goals as goal
 use Rattle.lineage.proofs.live.live_in.Goals.{then-is_live+in_ok-push, else-is_live}
-
-nothing : (xs : List Redo) → xs ≡ xs ++ []
-nothing [] = refl
-nothing (x ∷ xs) = ap (λ l. x ∷ l) (nothing xs)
 
 pub push-requires : goal.push-requires
 push-requires c =
@@ -39,5 +35,5 @@ loop-packet-preserved c =
     let test : is_live lineage r.volume r.lsn ≡ c.is_live.result = sym (c.is_live.ensures ∙ ap₂ (is_live lineage) c.volume_epoch.ensures c.lsn.ensures) in
     elim c.if-is_live.branch [
       | then-is_live+in_ok-push w ↦ ap records_of w.live-is ∙ w.in_ok-push.ensures.ok ∙ ap (λ (b : Bool). live ++ (if b then r ∷ [] else [])) (sym (test ∙ w.if-is_live.true)) ∙ more
-      | else-is_live w ↦ ap records_of w.live-is ∙ nothing live ∙ ap (λ (b : Bool). live ++ (if b then r ∷ [] else [])) (sym (test ∙ w.if-is_live.false)) ∙ more
+      | else-is_live w ↦ ap records_of w.live-is ∙ sym (append-nil live) ∙ ap (λ (b : Bool). live ++ (if b then r ∷ [] else [])) (sym (test ∙ w.if-is_live.false)) ∙ more
     ]
