@@ -7,6 +7,7 @@ mod plans;
 mod records;
 mod refutations;
 mod said;
+mod samples;
 mod scripts;
 mod words;
 mod written;

@@ -98,18 +98,25 @@ pub fn chain(alloc: Global, depth: usize) -> Result<String, AllocError> {
     Ok(text)
 }
 
+/// A match of no pairs, with these branches and then another.
+fn ended(alloc: Global, each: &str, count: usize, last: &str) -> Result<String, AllocError> {
+    let then = times(alloc, each, count)?;
+    matched(alloc, 0, 0, "", &format!(in alloc; "{then},{last}")?)
+}
+
+/// A match of no pairs, with the same branch so many times.
+fn repeated(alloc: Global, each: &str, count: usize) -> Result<String, AllocError> {
+    matched(alloc, 0, 0, "", &times(alloc, each, count)?)
+}
+
 /// A certificate of depth 5: a root of 10 branches, each of 9, each of 10 but for its last, each of 110 leaves.
 pub fn broad(alloc: Global, last: usize) -> Result<String, AllocError> {
-    let fourth = matched(alloc, 0, 0, "", &times(alloc, CLASH, 110)?)?;
-    let third = matched(alloc, 0, 0, "", &times(alloc, &fourth, 10)?)?;
-    let second = matched(alloc, 0, 0, "", &times(alloc, &third, 9)?)?;
-    let most = times(alloc, &second, 9)?;
-    let ends = matched(alloc, 0, 0, "", &times(alloc, CLASH, last)?)?;
-    let nine = times(alloc, &fourth, 9)?;
-    let end = matched(alloc, 0, 0, "", &format!(in alloc; "{nine},{ends}")?)?;
-    let eight = times(alloc, &third, 8)?;
-    let tenth = matched(alloc, 0, 0, "", &format!(in alloc; "{eight},{end}")?)?;
-    matched(alloc, 0, 0, "", &format!(in alloc; "{most},{tenth}")?)
+    let fourth = repeated(alloc, CLASH, 110)?;
+    let third = repeated(alloc, &fourth, 10)?;
+    let second = repeated(alloc, &third, 9)?;
+    let end = ended(alloc, &fourth, 9, &repeated(alloc, CLASH, last)?)?;
+    let tenth = ended(alloc, &third, 8, &end)?;
+    ended(alloc, &second, 9, &tenth)
 }
 
 /// A certificate of a root's claim.

@@ -55,20 +55,20 @@ pub fn root(alloc: Global, read: &str, write: &str, meets: &str) -> Result<Strin
     )
 }
 
+/// What shows that a child with member 6 too reads what it writes.
+fn child_meets(alloc: Global) -> Result<String, AllocError> {
+    let first = equal(alloc, 0, 0, CLASH_01)?;
+    let second = equal(alloc, 0, 1, CLASH_01)?;
+    let then = format!(in alloc; "{first},{second}")?;
+    opened(alloc, "right", &picked(alloc, "left", "0,1", &then)?)
+}
+
 /// A child of this parent with member 6 too, which reads by three of either six and writes by four of both.
 pub fn child(alloc: Global, parent: &str, step: &str) -> Result<String, AllocError> {
     let lists = [ALL, "[0,1,2,3,4,6]"].as_slice();
     let read = over(alloc, 1, 3, lists)?;
     let write = over(alloc, 2, 4, lists)?;
-    let first = equal(alloc, 0, 0, CLASH_01)?;
-    let second = equal(alloc, 0, 1, CLASH_01)?;
-    let both = picked(
-        alloc,
-        "left",
-        "0,1",
-        &format!(in alloc; "{first},{second}")?,
-    )?;
-    let meets = opened(alloc, "right", &both)?;
+    let meets = child_meets(alloc)?;
     full(
         alloc,
         parent,
@@ -90,11 +90,13 @@ pub fn plain_child(
     full(alloc, parent, members, (READ, WRITE), (&meets, &step))
 }
 
-/// A child with member 7 too of a configuration over two lists, over those and two with 7.
-pub fn wide_child(alloc: Global) -> Result<String, AllocError> {
-    let lists = [ALL, "[0,1,2,3,4,6]", "[0,1,2,3,5,7]", "[0,1,2,3,6,7]"].as_slice();
-    let read = over(alloc, 1, 3, lists)?;
-    let write = over(alloc, 4, 4, lists)?;
+/// The right item opened, and a branch for each of the left item's four children.
+fn any_of_four(alloc: Global, then: &str) -> Result<String, AllocError> {
+    opened(alloc, "right", &picked(alloc, "left", "0,1,2,3", then)?)
+}
+
+/// What shows that a child with member 7 too reads what it writes.
+fn wide_meets(alloc: Global) -> Result<String, AllocError> {
     let mut meets = String::new(alloc);
     for k in 0..4 {
         if k > 0 {
@@ -102,13 +104,29 @@ pub fn wide_child(alloc: Global) -> Result<String, AllocError> {
         }
         meets.push_str(&equal(alloc, 0, k, CLASH_03)?)?;
     }
-    let meets = opened(alloc, "right", &picked(alloc, "left", "0,1,2,3", &meets)?)?;
-    let first = equal(alloc, 0, 0, CLASH_01)?;
-    let second = equal(alloc, 0, 1, CLASH_01)?;
-    let third = six(alloc, 0, 0, SWAPPED, CLASH_01, DEAD)?;
-    let fourth = six(alloc, 0, 1, SWAPPED, CLASH_01, DEAD)?;
-    let then = format!(in alloc; "{first},{second},{third},{fourth}")?;
-    let step = opened(alloc, "right", &picked(alloc, "left", "0,1,2,3", &then)?)?;
+    any_of_four(alloc, &meets)
+}
+
+/// The step of a child with member 7 too.
+fn wide_step(alloc: Global) -> Result<String, AllocError> {
+    let mut step = String::new(alloc);
+    for k in 0..2 {
+        step.push_str(&equal(alloc, 0, k, CLASH_01)?)?;
+        step.push(',')?;
+    }
+    step.push_str(&six(alloc, 0, 0, SWAPPED, CLASH_01, DEAD)?)?;
+    step.push(',')?;
+    step.push_str(&six(alloc, 0, 1, SWAPPED, CLASH_01, DEAD)?)?;
+    any_of_four(alloc, &step)
+}
+
+/// A child with member 7 too of a configuration over two lists, over those and two with 7.
+pub fn wide_child(alloc: Global) -> Result<String, AllocError> {
+    let lists = [ALL, "[0,1,2,3,4,6]", "[0,1,2,3,5,7]", "[0,1,2,3,6,7]"].as_slice();
+    let read = over(alloc, 1, 3, lists)?;
+    let write = over(alloc, 4, 4, lists)?;
+    let meets = wide_meets(alloc)?;
+    let step = wide_step(alloc)?;
     full(
         alloc,
         "1",
@@ -233,30 +251,4 @@ pub fn largest(alloc: Global) -> Result<String, AllocError> {
     let group = format!(in alloc; "{{\"configurations\":[{first},{siblings}]}}")?;
     let groups = times(alloc, &group, 16)?;
     format!(in alloc; "{{\"format\":1,\"lal\":10,\"groups\":[{groups}]}}")
-}
-
-/// The plan of this name.
-pub fn named(alloc: Global, name: &str) -> Result<String, AllocError> {
-    match name {
-        "tails" => plan(alloc, &tails(alloc)?),
-        "single" => plan(alloc, &single(alloc)?),
-        "two" => plan(alloc, &two(alloc, DEAD)?),
-        "clashing" => plan(alloc, &two(alloc, CLASH)?),
-        "back" => plan(alloc, &back(alloc)?),
-        "wide" => plan(
-            alloc,
-            &format!(in alloc; "{},{}", two(alloc, DEAD)?, wide_child(alloc)?)?,
-        ),
-        "after tails" => plan(
-            alloc,
-            &format!(in alloc; "{},{}", tails(alloc)?, after_tails(alloc)?)?,
-        ),
-        "bold" => plan(alloc, &bold(alloc)?),
-        "reused" => plan(alloc, &reused(alloc)?),
-        "no step" => plan(alloc, &followed(alloc, "0", "null")?),
-        "own parent" => plan(alloc, &followed(alloc, "1", &step(alloc, DEAD)?)?),
-        "resumed" => plan(alloc, &resumed(alloc)?),
-        "two roots" => plan(alloc, &times(alloc, &first(alloc)?, 2)?),
-        _ => largest(alloc),
-    }
 }

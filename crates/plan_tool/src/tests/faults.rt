@@ -1,7 +1,5 @@
 use super::configurations::{READ, WRITE, root};
-use super::said::said;
-use crate::files::Source;
-use command_line::Action;
+use super::said::checked;
 use std::alloc::AllocError;
 
 /// Certificates of a plain root's claim with one fault or more, and the one that is told: at a rule in order, and branches in order.
@@ -124,12 +122,7 @@ fn first_faults_of_certificates(rt: HostRuntime) -> Result<(), AllocError> {
     for (certificate, want) in FAULTY {
         let text = root(alloc, READ, WRITE, certificate)?;
         let line = format!(in alloc; "no: 33 group 0 configuration 0 meets: {want}\n")?;
-        let said = said(
-            alloc,
-            Action::Check,
-            text.as_bytes(),
-            Source::<&[u8]>::Missing,
-        );
+        let said = checked(alloc, &text);
         assert!(rt; said.is(1, &line), "{want}");
     }
     Ok(())
@@ -229,12 +222,7 @@ const UNREADABLE: [(&str, u8, &str); 15] = [
 fn first_faults_of_texts(rt: HostRuntime) {
     let alloc = rt.alloc();
     for (text, status, line) in UNREADABLE {
-        let said = said(
-            alloc,
-            Action::Check,
-            text.as_bytes(),
-            Source::<&[u8]>::Missing,
-        );
+        let said = checked(alloc, text);
         assert!(rt; said.is(status, line), "{line}");
     }
 }

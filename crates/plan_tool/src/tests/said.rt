@@ -1,3 +1,4 @@
+use crate::files::Source;
 use crate::perform::perform;
 use command_line::{Action, Job};
 use std::alloc::Global;
@@ -50,4 +51,14 @@ pub fn said<P: Read + Drop, S: Read + Drop>(
     let mut err = Vec::new(alloc);
     let status = perform(alloc, &job, &mut plan, &mut script, &mut out, &mut err);
     Outputs { status, out, err }
+}
+
+/// What is said of a check of this plan.
+pub fn checked(alloc: Global, plan: &str) -> Outputs {
+    said(
+        alloc,
+        Action::Check,
+        plan.as_bytes(),
+        Source::<&[u8]>::Missing,
+    )
 }
