@@ -9,6 +9,3 @@ mod selection;
 pub use entry::Entry;
 pub use lineage::Lineage;
 pub use selection::newest;
-
-#[cfg(test)]
-mod tests;

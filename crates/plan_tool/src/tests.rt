@@ -3,6 +3,7 @@ mod configurations;
 mod expressions;
 mod faults;
 mod files;
+mod lineages;
 mod plans;
 mod records;
 mod refutations;

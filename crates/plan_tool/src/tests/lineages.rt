@@ -1,4 +1,4 @@
-use crate::{Lineage, newest};
+use lineage::{Lineage, newest};
 use redo_record::{Packet, Payload, Record, RecordSet};
 use std::alloc::Global;
 use std::test::Fail;
