@@ -13,7 +13,7 @@ use Rattle.writer_core.proofs.Growing.{both}
 
 -- ---- numbers that grow
 
-above : (xs : List Record) (kept : List Redo) → is_growing (added (map redo_of xs) kept) ≡ true → (is_growing kept ≡ true) × ((k : ℕ) (d : Record) → k < length xs → last_lsn kept < (get_or xs k d).lsn)
+pub above : (xs : List Record) (kept : List Redo) → is_growing (added (map redo_of xs) kept) ≡ true → (is_growing kept ≡ true) × ((k : ℕ) (d : Record) → k < length xs → last_lsn kept < (get_or xs k d).lsn)
 above [] kept h = (h, λ k d l. absurd (omega arith))
 above (x ∷ xs) kept h =
     let (g, later) = above xs (redo_of x ∷ kept) h in
@@ -68,7 +68,7 @@ all-log P xs h r i = elim (IsIn-added (map redo_of xs) [] r i) [ inl j ↦ all-m
 
 -- ---- the record of a number
 
-at_most_last : (log : List Redo) → is_growing log ≡ true → (r : Redo) → IsIn r log → r.lsn ≤ last_lsn log
+pub at_most_last : (log : List Redo) → is_growing log ≡ true → (r : Redo) → IsIn r log → r.lsn ≤ last_lsn log
 at_most_last [] h r i = absurd i
 at_most_last (s ∷ older) h r (inl e) = subst (λ x. x.lsn ≤ s.lsn) (sym e) (omega arith)
 at_most_last (s ∷ older) h r (inr i) =

@@ -138,7 +138,7 @@ moved-placed plan move on groups places many good placed k h =
       | inr e ↦ subst (λ (p : model.Place). p.configuration < plan.configurations k) (sym e) (place-good plan places good k h)
     ]
 
-new-place : (places : List model.Place) (k : ℕ) → k < length places → place_of (map newly_at places) k ≡ place_in places k
+pub new-place : (places : List model.Place) (k : ℕ) → k < length places → place_of (map newly_at places) k ≡ place_in places k
 new-place [] k h = absurd (omega arith)
 new-place (p ∷ places) zero h = refl
 new-place (p ∷ places) (suc k) h = new-place places k (omega arith)

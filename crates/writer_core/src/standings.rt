@@ -78,6 +78,14 @@ impl Standings {
         &self.plan
     }
 
+    /// What is kept of each group, in their order.
+    pub fn as_slice(&self) -> &[Standing]
+        ensures groups { groups_of result.now ≡ groups_in self.now }
+        ensures many { length result.now ≡ (standings_plan self.now).groups }
+    {
+        self.list.as_slice()
+    }
+
     /// What is kept of a group, and none where the plan has no such group.
     pub fn get(&self, group: u8) -> Option<&Standing>
         ensures { MatchOption result ((standings_plan self.now).groups ≤ group) (λ s. (group < (standings_plan self.now).groups) × (group_of (groups_in self.now) group ≡ group_at s.now)) }

@@ -1,0 +1,89 @@
+-- The cut of the first records of a list.
+use Rattle.std.proofs.Common.{◌≡◌, ℕ, zero, suc, ◌+◌, ◌<◌, Bool, true, false, ◌&&◌, ◌||◌, nat_eq, nat_lt, cond, List, [], ◌∷◌, map, take, length, get_or, inl, inr, if◌then◌else◌, refl, sym, ap, ap₂, ◌∙◌, subst, arith}
+use Rattle.std.specs.Prelude.{◌==◌}
+use Rattle.std.specs.Ordering.{nat_cmp}
+use Rattle.std.specs.BTreeMap.{is_at}
+use Rattle.std.proofs.lemmas.Bool.{cases_Bool, eqb-true, ne_eqb, ltb-true}
+use Rattle.volume_model.specs.Lists.{added}
+use Rattle.volume_model.specs.Redo.{Redo, last_lsn, cut_of}
+use Rattle.redo_record.specs.declared.«record».Record.{Record}
+use Rattle.redo_record.specs.Record.{redo_of}
+use Rattle.writer_core.specs.Logs.{log_of, is_growing}
+use Rattle.writer_core.proofs.Logs.{log_of-more}
+use Rattle.writer_core.proofs.Growing.{both}
+use Rattle.writer_core.proofs.Finding.{above, all-log}
+use Rattle.recovery.proofs.Links.{IsBack, leads, leads-above, cut-next}
+
+pub log-back : (records : List Record) → IsBack (log_of records)
+log-back records = all-log (λ r. r.prev_volume < r.lsn) records (λ k d l. (get_or records k d).prev_volume_before)
+
+front-grows : (records : List Record) (i : ℕ) (kept : List Redo) → is_growing (added (map redo_of records) kept) ≡ true → is_growing (added (map redo_of (take i records)) kept) ≡ true
+front-grows [] zero kept h = h
+front-grows [] (suc i) kept h = h
+front-grows (x ∷ records) zero kept h = (above (x ∷ records) kept h).0
+front-grows (x ∷ records) (suc i) kept h = front-grows records i (redo_of x ∷ kept) h
+
+-- the first records of a growing list grow
+pub front-growing : (records : List Record) (i : ℕ) → is_growing (log_of records) ≡ true → is_growing (log_of (take i records)) ≡ true
+front-growing records i h = front-grows records i [] h
+
+-- a key is at a number exactly where it is the number
+at-is : (k q : ℕ) → is_at (nat_cmp k) q ≡ nat_eq k q
+at-is k q =
+    elim (cases_Bool (nat_lt k q)) [
+      | inl e ↦ (let below : k < q = ltb-true k q e in let other : nat_eq k q ≡ false = ne_eqb k q (λ s. omega (arith, s)) in rw (e, other) refl)
+      | inr e ↦ elim (cases_Bool (nat_eq k q)) [ inl f ↦ rw (e, f) refl | inr f ↦ rw (e, f) refl ]
+    ]
+
+module _ (records : List Record) (i : ℕ) (r : Record) (within : i < length records) (is : r ≡ get_or records i r) (growing : is_growing (log_of records) ≡ true) where
+  abbrev pub front : List Redo
+  front = log_of (take i records)
+
+  pub more-is : log_of (take (i + 1) records) ≡ redo_of r ∷ front
+  more-is = log_of-more records i r within ∙ ap (λ (x : Record). redo_of x ∷ front) (sym is)
+
+  pub more-grows : is_growing (redo_of r ∷ front) ≡ true
+  more-grows = subst (λ l. is_growing l ≡ true) more-is (front-growing records (i + 1) growing)
+
+  more-back : IsBack (redo_of r ∷ front)
+  more-back = subst IsBack more-is (log-back (take (i + 1) records))
+
+  pub cut-more : cut_of (log_of (take (i + 1) records)) ≡ (if leads front r.prev_volume && r.point then r.lsn else cut_of front)
+  cut-more = ap cut_of more-is ∙ cut-next (redo_of r) front more-grows more-back
+
+  pub leads-more : (n : ℕ) → leads (log_of (take (i + 1) records)) n ≡ (if r.lsn == n then leads front r.prev_volume else leads front n)
+  leads-more n = ap (λ l. leads l n) more-is
+
+  -- a number that leads nowhere adds nothing
+  pub leads-not : leads front r.prev_volume ≡ false → (n : ℕ) → leads (log_of (take (i + 1) records)) n ≡ leads front n
+  leads-not e n =
+      leads-more n ∙ elim (cases_Bool (nat_eq r.lsn n)) [
+        | inl h ↦ (
+            let (below, rest) = both (last_lsn front) r.lsn (is_growing front) more-grows in
+            let same : r.lsn ≡ n = eqb-true r.lsn n h in
+            rw h (e ∙ sym (leads-above front rest n (omega (arith, same, below)))))
+        | inr h ↦ rw h refl
+      ]
+
+  -- one that leads down to 0 is added
+  pub led-more : (has has' : ℕ → Bool) → ((n : ℕ) → (n == 0 || has n) ≡ leads front n) → ((q : ℕ) → has' q ≡ cond (is_at (nat_cmp r.lsn) q) true (has q)) → leads front r.prev_volume ≡ true
+      → (n : ℕ) → (n == 0 || has' n) ≡ leads (log_of (take (i + 1) records)) n
+  led-more has has' before adds led n =
+      let now : has' n ≡ cond (nat_eq r.lsn n) true (has n) = adds n ∙ ap (λ b. cond b true (has n)) (at-is r.lsn n) in
+      let split : (n == 0 || has' n) ≡ (if r.lsn == n then leads front r.prev_volume else leads front n) =
+      elim (cases_Bool (nat_eq r.lsn n)) [
+        | inl h ↦ (let e : has' n ≡ true = now ∙ ap (λ b. cond b true (has n)) h in rw (e, h, led) (or_true (n == 0)))
+        | inr h ↦ (let e : has' n ≡ has n = now ∙ ap (λ b. cond b true (has n)) h in rw (e, h) (before n))
+      ] in
+      split ∙ sym (leads-more n)
+    where
+      or_true : (b : Bool) → (b || true) ≡ true
+      or_true true = refl
+      or_true false = refl
+
+  -- the cut, where the record leads down to 0 or not
+  pub cut-led : (b : Bool) → leads front r.prev_volume ≡ true → r.point ≡ b → cut_of (log_of (take (i + 1) records)) ≡ (if b then r.lsn else cut_of front)
+  cut-led b led point = cut-more ∙ ap₂ (λ x y. if x && y then r.lsn else cut_of front) led point
+
+  pub cut-same : leads front r.prev_volume ≡ false → cut_of (log_of (take (i + 1) records)) ≡ cut_of front
+  cut-same fails = cut-more ∙ ap (λ x. if x && r.point then r.lsn else cut_of front) fails

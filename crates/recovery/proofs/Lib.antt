@@ -1,0 +1,5 @@
+pub mod Links
+pub mod OneMore
+pub mod Cuts
+pub mod Older
+pub mod Views

@@ -1,0 +1,78 @@
+-- One message more, and one report more.
+use Rattle.std.proofs.Common.{◌≡◌, ℕ, ◌+◌, ◌-◌, ◌<◌, Bool, true, false, nat_lt, List, [], ◌∷◌, ◌++◌, length, get_or, take, drop, map, if◌then◌else◌, refl, sym, ap, ap₂, ◌∙◌, append_assoc, append-nil, add-one, arith}
+use Rattle.std.proofs.lemmas.List.{map-append, take_more, take_all}
+use Rattle.volume_model.specs.Lists.{each_below}
+use Rattle.volume_model.specs.Message as model
+use Rattle.volume_model.specs.Message.{place_in}
+use Rattle.volume_model.specs.Lineage.{Contents, Lineage, found_in, with_live}
+use Rattle.volume_model.specs.Node.{contents_of}
+use Rattle.volume_model.specs.Client.{ClientGroup, place_of, raised_in}
+use Rattle.lineage.specs.Lineage.{lineage_of}
+use Rattle.hydration.specs.declared.copied.Copied.{Copied}
+use Rattle.hydration.specs.Copies.{copies_in, copied_lineages, with_found}
+use Rattle.wire.specs.declared.label.Place.{Place}
+use Rattle.wire.specs.declared.message.Message.{Message}
+use Rattle.wire.specs.Message as wire
+use Rattle.wire.specs.Message.{message_of, messages_of}
+use Rattle.writer_core.specs.declared.standing.Standing.{Standing}
+use Rattle.writer_core.specs.Standings.{group_at, groups_of}
+use Rattle.writer_core.proofs.Below.{place_in-at}
+use Rattle.recovery.specs.Reported.{reports_in}
+
+-- ---- messages
+
+pub message-more : (old new : List Message) (m : Message) (i : ℕ) (test : ℕ → Bool) (f : ℕ → model.Message) → new ≡ old ++ m ∷ [] → messages_of old ≡ each_below i test f → test i ≡ true → message_of m ≡ f i → messages_of new ≡ each_below (i + 1) test f
+message-more old new m i test f is before passes said =
+    ap messages_of is ∙ map-append message_of old (m ∷ []) ∙ ap₂ (λ a b. a ++ b ∷ []) before said
+    ∙ sym (ap (λ b. each_below i test f ++ (if b then f i ∷ [] else [])) passes)
+    ∙ sym (ap (λ n. each_below n test f) (add-one i))
+
+pub message-none : (old new : List Message) (i : ℕ) (test : ℕ → Bool) (f : ℕ → model.Message) → new ≡ old → messages_of old ≡ each_below i test f → test i ≡ false → messages_of new ≡ each_below (i + 1) test f
+message-none old new i test f is before fails =
+    ap messages_of is ∙ before ∙ sym (append-nil (each_below i test f))
+    ∙ sym (ap (λ b. each_below i test f ++ (if b then f i ∷ [] else [])) fails)
+    ∙ sym (ap (λ n. each_below n test f) (add-one i))
+
+-- the place of a group, as it is read
+pub place-is : (places : List Place) (i k : ℕ) (d : Place) → i < length places → k ≡ i → place_in (map wire.place_of places) i ≡ wire.place_of (get_or places k d)
+place-is places i k d within same = place_in-at places i d within ∙ ap (λ n. wire.place_of (get_or places n d)) (sym same)
+
+-- whether a place raises its group
+pub raised-is : (groups : List ClientGroup) (places : List Place) (i k e : ℕ) (d : Place) (b : Bool) → i < length places → k ≡ i → e ≡ (place_of groups i).epoch → nat_lt e (get_or places k d).epoch ≡ b → raised_in (place_of groups) (place_in (map wire.place_of places)) i ≡ b
+raised-is groups places i k e d b within same is test =
+    ap₂ (λ m (p : model.Place). nat_lt m p.epoch) (sym is) (place-is places i k d within same) ∙ test
+
+-- ---- reports
+
+reports-append : (xs ys : List ClientGroup) → reports_in (xs ++ ys) ≡ reports_in xs ++ reports_in ys
+reports-append [] ys = refl
+reports-append (g ∷ xs) ys = ap (λ l. contents_of g.reports ++ l) (reports-append xs ys) ∙ sym (append_assoc (contents_of g.reports) (reports_in xs) (reports_in ys))
+
+copied-are : (copies : List Copied) → copied_lineages copies ≡ map (λ (c : Contents). c.lineage) (contents_of (copies_in copies))
+copied-are [] = refl
+copied-are (c ∷ rest) = ap (λ l. lineage_of c.contents.lineage ∷ l) (copied-are rest)
+
+-- the reports of one group more
+pub lineages-more : (standings : List Standing) (i : ℕ) (s : Standing) (old new : List Lineage) → i < length standings → s ≡ get_or standings i s
+    → old ≡ map (λ (c : Contents). c.lineage) (reports_in (groups_of (take i standings))) → new ≡ old ++ copied_lineages s.copies.items
+    → new ≡ map (λ (c : Contents). c.lineage) (reports_in (groups_of (take (i + 1) standings)))
+lineages-more standings i s old new within is before added =
+    let more : groups_of (take (i + 1) standings) ≡ groups_of (take i standings) ++ group_at s ∷ [] = ap groups_of (take_more standings i s within) ∙ ap (λ x. groups_of (take i standings ++ x ∷ [])) (sym is) ∙ map-append group_at (take i standings) (s ∷ []) in
+    let reports : reports_in (groups_of (take (i + 1) standings)) ≡ reports_in (groups_of (take i standings)) ++ contents_of (copies_in s.copies.items) =
+    ap reports_in more ∙ reports-append (groups_of (take i standings)) (group_at s ∷ []) ∙ ap (λ l. reports_in (groups_of (take i standings)) ++ l) (append-nil (contents_of (copies_in s.copies.items))) in
+    added ∙ ap₂ (λ a b. a ++ b) before (copied-are s.copies.items)
+    ∙ sym (ap (map (λ (c : Contents). c.lineage)) reports ∙ map-append (λ (c : Contents). c.lineage) (reports_in (groups_of (take i standings))) (contents_of (copies_in s.copies.items)))
+
+-- what is found in reports of one group before others
+pub found-more : (lineage : Lineage) (reports : List Contents) (more : List Contents) → found_in lineage (reports ++ more) ≡ with_found lineage reports (found_in lineage more)
+found-more lineage [] more = refl
+found-more lineage (c ∷ reports) more = ap (with_live lineage c.records) (found-more lineage reports more)
+
+-- the reports of the first group, and those of the others
+pub reports-first : (standings : List Standing) (s : Standing) → 0 < length standings → s ≡ get_or standings 0 s
+    → reports_in (groups_of standings) ≡ contents_of (copies_in s.copies.items) ++ reports_in (groups_of (take (length standings - 1) (drop 1 standings)))
+reports-first [] s within is = absurd (omega arith)
+reports-first (x ∷ rest) s within is =
+    let many : length (x ∷ rest) - 1 ≡ length rest = omega arith in
+    ap (λ (y : Standing). contents_of (copies_in y.copies.items) ++ reports_in (groups_of rest)) (sym is)
+    ∙ ap (λ l. contents_of (copies_in s.copies.items) ++ reports_in (groups_of l)) (sym (ap (λ n. take n rest) many ∙ take_all (length rest) rest (omega arith)))

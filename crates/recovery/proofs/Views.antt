@@ -1,0 +1,117 @@
+-- What a View does to a recovery.
+use Rattle.std.proofs.Common.{◌≡◌, ℕ, zero, suc, ◌<◌, Bool, true, false, List, [], ◌∷◌, ◌++◌, Option, Some, None, Result, Ok, Err, length, map, if◌then◌else◌, refl, sym, ap, ap₂, ◌∙◌, subst, inl, inr, arith}
+use Rattle.std.specs.Prelude.{OnOk, OnErr}
+use Rattle.std.proofs.lemmas.Bool.{cases_Bool, eq-eqb}
+use Rattle.volume_model.specs.declared.fault.Fault.{Fault}
+use Rattle.volume_model.specs.declared.fault.Fault.TheVariants.{NotInPlan}
+use Rattle.volume_model.specs.Lists.{each_below}
+use Rattle.volume_model.specs.Plan.{Plan}
+use Rattle.volume_model.specs.Message as model
+use Rattle.volume_model.specs.Message.{place_in}
+use Rattle.volume_model.specs.Redo.{Redo, of_group}
+use Rattle.volume_model.specs.Lineage.{Lineage}
+use Rattle.volume_model.specs.Client.{ClientGroup, unborn, newly_at, place_of, label_of, is_raised, raised_in, later_group, reread_group, moved, fences, installs, are_places, taken}
+use Rattle.lineage.specs.Lineage.{lineage_of}
+use Rattle.writer_core.specs.Logs.{log_of}
+use Rattle.writer_core.specs.Groups.{found_at}
+use Rattle.writer_core.proofs.Placing.{new-place, places-many}
+use Rattle.recovery.specs.declared.found.Found.{Found}
+use Rattle.recovery.specs.Recoveries.{client_with}
+use Rattle.recovery.specs.Cuts.{are_older}
+use Rattle.recovery.proofs.Older.{older-new}
+
+-- what holds before and after a call that may run out of memory
+pub either : {A B C : Type 0} (r : Result A B) (P : C → Type 0) (new changed old : C) → OnOk r (new ≡ changed) → OnErr r (new ≡ old) → P changed → P old → P new
+either (Ok x) P new changed old e f p q = subst P (sym e) p
+either (Err x) P new changed old e f p q = subst P (sym f) q
+
+-- ---- the same messages
+
+each-same : {A : Type 0} (n : ℕ) (test : ℕ → Bool) (f g : ℕ → A) → ((k : ℕ) → k < n → test k ≡ true → f k ≡ g k) → each_below n test f ≡ each_below n test g
+each-same zero test f g h = refl
+each-same (suc n) test f g h =
+    let inner : each_below n test f ≡ each_below n test g = each-same n test f g (λ k l t. h k (omega arith) t) in
+    ap₂ (λ a b. a ++ b) inner (last (test n) refl)
+  where
+    last : (b : Bool) → test n ≡ b → (if b then f n ∷ [] else []) ≡ (if b then g n ∷ [] else [])
+    last true e = ap (λ x. x ∷ []) (h n (omega arith) e)
+    last false e = refl
+
+moved-raised : (move : ClientGroup → model.Place → ClientGroup) → ((g : ClientGroup) (p : model.Place) → is_raised g.place p ≡ true → (move g p).place ≡ p) → (groups : List ClientGroup) (places : List model.Place) → length groups ≡ length places
+    → (k : ℕ) → k < length groups → raised_in (place_of groups) (place_in places) k ≡ true → place_of (moved move groups places) k ≡ place_in places k
+moved-raised move on [] places many k h raised = absurd (omega arith)
+moved-raised move on (g ∷ groups) [] many k h raised = absurd (omega arith)
+moved-raised move on (g ∷ groups) (p ∷ places) many zero h raised = on g p raised
+moved-raised move on (g ∷ groups) (p ∷ places) many (suc k) h raised = moved-raised move on groups places (omega arith) k (omega arith) raised
+
+fences-moved : (plan : Plan) (volume : ℕ) (groups : List ClientGroup) (places : List model.Place) → length groups ≡ plan.groups → are_places plan places ≡ true
+    → fences plan volume (place_in places) (raised_in (place_of groups) (place_in places)) ≡ fences plan volume (place_of (moved reread_group groups places)) (raised_in (place_of groups) (place_in places))
+fences-moved plan volume groups places many good =
+    let wide : length places ≡ plan.groups = places-many plan places good in
+    each-same plan.groups (raised_in (place_of groups) (place_in places)) (λ k. model.Message.Fence k (label_of volume (place_in places) k)) (λ k. model.Message.Fence k (label_of volume (place_of (moved reread_group groups places)) k))
+    (λ k l t. ap (λ (p : model.Place). model.Message.Fence k (record { volume = volume; member = p.epoch })) (sym (moved-raised reread_group (λ g p e. rw e refl) groups places (many ∙ sym wide) k (omega (arith, many, l)) t)))
+
+installs-moved : (plan : Plan) (volume : ℕ) (groups : List ClientGroup) (places : List model.Place) (lineage : Lineage) (log : List Redo) → length groups ≡ plan.groups → are_places plan places ≡ true
+    → installs plan volume (place_in places) lineage log (raised_in (place_of groups) (place_in places)) ≡ installs plan volume (place_of (moved later_group groups places)) lineage log (raised_in (place_of groups) (place_in places))
+installs-moved plan volume groups places lineage log many good =
+    let wide : length places ≡ plan.groups = places-many plan places good in
+    each-same plan.groups (raised_in (place_of groups) (place_in places)) (λ k. model.Message.Install k (label_of volume (place_in places) k) (record { lineage = lineage; records = of_group k log }))
+    (λ k. model.Message.Install k (label_of volume (place_of (moved later_group groups places)) k) (record { lineage = lineage; records = of_group k log }))
+    (λ k l t. ap (λ (p : model.Place). model.Message.Install k (record { volume = volume; member = p.epoch }) (record { lineage = lineage; records = of_group k log })) (sym (moved-raised later_group (λ g p e. rw e refl) groups places (many ∙ sym wide) k (omega (arith, many, l)) t)))
+
+-- ---- a later View
+
+pub view-reading : (plan : Plan) (volume of : ℕ) (groups now : List ClientGroup) (places : List model.Place) (found : Option Found) (made : List model.Message) → of ≡ volume → length groups ≡ plan.groups → are_places plan places ≡ true → found ≡ None
+    → now ≡ moved reread_group groups places → made ≡ fences plan volume (place_in places) (raised_in (place_of groups) (place_in places))
+    → taken plan volume (client_with groups found) (model.Message.View of places) ≡ Ok (record { made = made; client = client_with now found })
+view-reading plan volume of groups now places found made same many good none new is =
+    let base : taken plan volume (client_with groups None) (model.Message.View of places) ≡ Ok (record { made = made; client = client_with (moved reread_group groups places) None }) =
+    rw (eq-eqb of volume same, good) (ap (λ ms. Ok (record { made = ms; client = client_with (moved reread_group groups places) None })) (sym (is ∙ fences-moved plan volume groups places many good))) in
+    subst (λ f. taken plan volume (client_with groups f) (model.Message.View of places) ≡ Ok (record { made = made; client = client_with now f })) (sym none)
+    (base ∙ ap (λ gs. Ok (record { made = made; client = client_with gs None })) (sym new))
+
+pub view-installing : (plan : Plan) (volume of : ℕ) (groups now : List ClientGroup) (places : List model.Place) (before : Option Found) (found : Found) (made : List model.Message) → of ≡ volume → length groups ≡ plan.groups → are_places plan places ≡ true → before ≡ Some found
+    → now ≡ moved later_group groups places → made ≡ installs plan volume (place_in places) (lineage_of found.lineage) (log_of found.log.items) (raised_in (place_of groups) (place_in places))
+    → taken plan volume (client_with groups before) (model.Message.View of places) ≡ Ok (record { made = made; client = client_with now before })
+view-installing plan volume of groups now places before found made same many good there new is =
+    let base : taken plan volume (client_with groups (Some found)) (model.Message.View of places) ≡ Ok (record { made = made; client = client_with (moved later_group groups places) (Some found) }) =
+    rw (eq-eqb of volume same, good) (ap (λ ms. Ok (record { made = ms; client = client_with (moved later_group groups places) (Some found) })) (sym (is ∙ installs-moved plan volume groups places (lineage_of found.lineage) (log_of found.log.items) many good))) in
+    subst (λ f. taken plan volume (client_with groups f) (model.Message.View of places) ≡ Ok (record { made = made; client = client_with now f })) (sym there)
+    (base ∙ ap (λ gs. Ok (record { made = made; client = client_with gs (Some found) })) (sym new))
+
+-- ---- the first View
+
+fences-new : (plan : Plan) (volume : ℕ) (places : List model.Place) → are_places plan places ≡ true → fences plan volume (place_of (map newly_at places)) (λ group. true) ≡ fences plan volume (place_in places) (λ group. true)
+fences-new plan volume places good =
+    let wide : length places ≡ plan.groups = places-many plan places good in
+    each-same plan.groups (λ group. true) (λ k. model.Message.Fence k (label_of volume (place_of (map newly_at places)) k)) (λ k. model.Message.Fence k (label_of volume (place_in places) k))
+    (λ k l t. ap (λ (p : model.Place). model.Message.Fence k (record { volume = volume; member = p.epoch })) (new-place places k (omega (arith, wide, l))))
+
+pub birth-refused : (plan : Plan) (volume : ℕ) (places : List model.Place) (fault : Fault) → found_at plan places ≡ Err fault → taken plan volume unborn (model.Message.View volume places) ≡ Err fault
+birth-refused plan volume places fault h =
+    elim (cases_Bool (are_places plan places)) [
+      | inl e ↦ (let q : Ok (map newly_at places) ≡ Err fault = rw e at h in cc)
+      | inr e ↦ (let q : Err NotInPlan ≡ Err fault = rw e at h in let f : NotInPlan ≡ fault = cc in rw (eq-eqb volume volume refl, e) (ap Err f))
+    ]
+
+pub birth-is : (plan : Plan) (volume : ℕ) (places : List model.Place) (groups : List ClientGroup) (made : List model.Message) → found_at plan places ≡ Ok groups → made ≡ fences plan volume (place_of groups) (λ group. true)
+    → taken plan volume unborn (model.Message.View volume places) ≡ Ok (record { made = made; client = client_with groups None })
+birth-is plan volume places groups made h is =
+    elim (cases_Bool (are_places plan places)) [
+      | inl e ↦ (
+          let q : Ok (map newly_at places) ≡ Ok groups = rw e at h in
+          let same : map newly_at places ≡ groups = cc in
+          let said : made ≡ fences plan volume (place_in places) (λ group. true) = is ∙ ap (λ gs. fences plan volume (place_of gs) (λ group. true)) (sym same) ∙ fences-new plan volume places e in
+          rw (eq-eqb volume volume refl, e) (ap₂ (λ ms gs. Ok (record { made = ms; client = client_with gs None })) (sym said) same))
+      | inr e ↦ (let q : Err NotInPlan ≡ Ok groups = rw e at h in cc)
+    ]
+
+pub found-older : (plan : Plan) (volume : ℕ) (places : List model.Place) (groups : List ClientGroup) → found_at plan places ≡ Ok groups → are_older volume groups ≡ true
+found-older plan volume places groups h =
+    elim (cases_Bool (are_places plan places)) [
+      | inl e ↦ (
+          let q : Ok (map newly_at places) ≡ Ok groups = rw e at h in
+          let same : map newly_at places ≡ groups = cc in
+          subst (λ gs. are_older volume gs ≡ true) same (older-new volume places))
+      | inr e ↦ (let q : Err NotInPlan ≡ Ok groups = rw e at h in cc)
+    ]

@@ -1,0 +1,14 @@
+use Rattle.std.proofs.Common.{◌≡◌, ℕ, take}
+use Rattle.std.specs.Prelude.{◌||◌, ◌==◌}
+use Rattle.std.specs.Ordering.{nat_cmp}
+use Rattle.std.specs.BTreeSet.{contains}
+use Rattle.volume_model.specs.Redo.{cut_of}
+use Rattle.writer_core.specs.Logs.{log_of}
+use Rattle.recovery.proofs.Links.{leads}
+use Rattle.recovery.proofs.cutting.cut_of.Given as goal
+
+abbrev pub invariant-loop-record : goal.invariant-loop-record
+invariant-loop-record l = record {
+  led : (n : ℕ) → (n == 0 || contains nat_cmp l.led n) ≡ leads (log_of (take l.record-index l.records)) n;
+  cut : l.cut ≡ cut_of (log_of (take l.record-index l.records));
+}

@@ -1,0 +1,76 @@
+-- What a recovery is, as the model's client, and what it answers.
+use Rattle.std.specs.Prelude.{◌≡◌, ℕ, List, [], Option, Some, None, Result, Ok, Err}
+use Rattle.std.specs.Prelude.{Vec}
+use Rattle.std.specs.Global.{Global}
+use Rattle.volume_model.specs.declared.fault.Fault.{Fault}
+use Rattle.volume_model.specs.declared.fault.Fault.TheVariants.{NotAddressed}
+use Rattle.volume_model.specs.Plan.{Plan}
+use Rattle.volume_model.specs.Message as model
+use Rattle.volume_model.specs.Message.Message.{View, StepTo, Fence, Report, Install, Write, Gossip, Ack, CopyAsk, CopyReport, PageAsk, Page}
+use Rattle.volume_model.specs.Client.{Client, ClientGroup, ClientStep, ClientAnswer, unborn, taken}
+use Rattle.volume_model.specs.Client.Stage.{Reading, Installing}
+use Rattle.lineage.specs.Lineage.{lineage_of}
+use Rattle.wire.specs.declared.message.Message.{Message}
+use Rattle.wire.specs.Message.{messages_of}
+use Rattle.writer_core.specs.declared.writer.Writer.{Writer}
+use Rattle.writer_core.specs.Logs.{log_of}
+use Rattle.writer_core.specs.Groups.{groups_in, standings_plan}
+use Rattle.writer_core.specs.Writers as writers
+use Rattle.recovery.specs.declared.found.Found.{Found}
+use Rattle.recovery.specs.declared.recovery.Recovery.{Recovery}
+
+-- the plan that it was made over
+abbrev pub recovery_plan : Recovery → Plan
+recovery_plan r = standings_plan r.standings
+
+-- its volume epoch
+abbrev pub recovery_volume : Recovery → ℕ
+recovery_volume r = r.volume
+
+-- the client that keeps these of its groups: before its cut, and after it
+abbrev pub client_with : List ClientGroup → Option Found → Client
+client_with groups None = record unborn { stage = Reading; groups = groups }
+client_with groups (Some found) = record { stage = Installing; groups = groups; lineage = lineage_of found.lineage; found = log_of found.log.items; log = log_of found.log.items }
+
+-- the client that it is
+abbrev pub client_of : Recovery → Client
+client_of r = client_with (groups_in r.standings) r.found
+
+-- what the first message to a client makes of it: a View is its birth, and nothing else is
+abbrev pub birth_of : Plan → model.Message → ClientAnswer
+birth_of plan (View volume places) = taken plan volume unborn (View volume places)
+birth_of plan (StepTo group place) = Err NotAddressed
+birth_of plan (Fence group label) = Err NotAddressed
+birth_of plan (Report group label sender contents) = Err NotAddressed
+birth_of plan (Install group label contents) = Err NotAddressed
+birth_of plan (Write group label r) = Err NotAddressed
+birth_of plan (Gossip group label r) = Err NotAddressed
+birth_of plan (Ack group label sender reached) = Err NotAddressed
+birth_of plan (CopyAsk group epoch) = Err NotAddressed
+birth_of plan (CopyReport group epoch sender contents) = Err NotAddressed
+birth_of plan (PageAsk group label block point) = Err NotAddressed
+birth_of plan (Page group label sender block point bytes) = Err NotAddressed
+
+-- the volume epoch of a View, and 0 of any other message
+abbrev pub view_volume : model.Message → ℕ
+view_volume (View volume places) = volume
+view_volume (StepTo group place) = 0
+view_volume (Fence group label) = 0
+view_volume (Report group label sender contents) = 0
+view_volume (Install group label contents) = 0
+view_volume (Write group label r) = 0
+view_volume (Gossip group label r) = 0
+view_volume (Ack group label sender reached) = 0
+view_volume (CopyAsk group epoch) = 0
+view_volume (CopyReport group epoch sender contents) = 0
+view_volume (PageAsk group label block point) = 0
+view_volume (Page group label sender block point bytes) = 0
+
+-- a new recovery with the messages that it makes, as a step
+abbrev pub step_of : Recovery × Vec Message Global → ClientStep
+step_of (r, messages) = record { made = messages_of messages.items; client = client_of r }
+
+-- A recovery becomes the writer that is defined, or refuses as is defined and is handed back as it was.
+abbrev pub Opens : ClientAnswer → Recovery → Result Writer (Fault × Recovery) → Type 0
+Opens defined old (Ok w) = defined ≡ Ok (record { made = []; client = writers.client_of w })
+Opens defined old (Err (fault, back)) = (defined ≡ Err fault) × (back ≡ old)

@@ -1,0 +1,12 @@
+//! A recovery: it finds the log that nodes hold, cuts it, installs it, and becomes the writer of its volume epoch.
+#![tactic(auto)]
+
+mod cutting;
+mod found;
+mod recovery;
+mod reported;
+mod speaking;
+
+pub use cutting::cut_of;
+pub use found::Found;
+pub use recovery::Recovery;

@@ -1,0 +1,184 @@
+//! A recovery.
+
+ghost use Rattle.std.specs.Prelude.{◌≡◌, ◌≤◌, true};
+ghost use Rattle.writer_core.specs.Groups.{groups_in};
+ghost use Rattle.recovery.specs.Cuts.{are_older};
+
+use crate::found::Found;
+use crate::speaking::{fences, later_fences, later_installs};
+use hydration::Copied;
+use plan::CheckedPlan;
+use quorum_expr::MEMBERS;
+use std::alloc::Global;
+use std::sync::Arc;
+use volume_model::Fault;
+use wire::{Ack, Message, Report, View};
+use writer_core::{Standings, Writer};
+
+/// A recovery of a volume epoch: it reads until it cuts, and then installs what it has found.
+#[derive(Drop)]
+pub struct Recovery {
+    standings: Standings,
+    volume: u32,
+    /// What it has found, once it has cut.
+    found: Option<Found>,
+    ghost assigned: { 1 ≤ volume },
+    ghost older: { are_older volume (groups_in standings) ≡ true },
+}
+
+impl Recovery {
+    ghost use Rattle.std.specs.Prelude.{false, IfOk, MatchOption};
+    ghost use Rattle.std.specs.Arc.{arc_value};
+    ghost use Rattle.volume_model.specs.Answer.{Gives};
+    ghost use Rattle.volume_model.specs.Client.{has_cut, taken, opened};
+    ghost use Rattle.plan.specs.CheckedModel.{checked_model};
+    ghost use Rattle.wire.specs.Message.{message_of};
+    ghost use Rattle.lineage.specs.Lineage.{lineage_of};
+    ghost use Rattle.writer_core.specs.Logs.{log_of};
+    ghost use Rattle.writer_core.specs.Writers.{writer_plan, writer_volume, Acts, Takes};
+    ghost use Rattle.recovery.specs.Cuts.{last_cut};
+    ghost use Rattle.recovery.specs.Recoveries.{client_of, recovery_plan, recovery_volume, birth_of, view_volume, step_of, Opens};
+
+    /// A recovery from its first View, with one Fence a group. `NotAddressed` where the message is no View, `NotInPlan` where its places
+    /// aren't those of the plan's groups, each at one of its configurations.
+    pub fn new(
+        alloc: Global,
+        plan: Arc<CheckedPlan>,
+        message: &Message,
+    ) -> Result<(Recovery, Vec<Message>), Fault>
+        ensures birth { Gives step_of result (birth_of (checked_model (arc_value plan)) (message_of message.now)) }
+        ensures plan { IfOk result (λ made. recovery_plan made.0 ≡ checked_model (arc_value plan)) }
+        ensures volume { IfOk result (λ made. recovery_volume made.0 ≡ view_volume (message_of message.now)) }
+    {
+        let view = match message {
+            Message::View(view) => view,
+            _ => return Err(Fault::NotAddressed),
+        };
+        let standings = match Standings::at_places(alloc, plan, view.places.as_slice()) {
+            Ok(standings) => standings,
+            Err(fault) => return Err(fault),
+        };
+        let messages = fences(alloc, view.volume, &standings)?;
+        let recovery = Recovery {
+            standings,
+            volume: view.volume,
+            found: None,
+        };
+        Ok((recovery, messages))
+    }
+
+    /// Takes a later View. Each group moves to its place where that is one of a later epoch; for each such group it makes a Fence
+    /// before its cut, when the group's reports no longer count, and an Install after it. `NotAddressed` where the View is one of another
+    /// volume epoch, `NotInPlan` where its places aren't those of the plan's groups, each at one of its configurations.
+    pub fn view(&mut self, alloc: Global, view: &View) -> Result<Vec<Message>, Fault>
+        ensures acts { Acts (taken (recovery_plan self.old) (recovery_volume self.old) (client_of self.old) (message_of (Message.View view.now))) (client_of self.old) result (client_of self.new) }
+        ensures plan { recovery_plan self.new ≡ recovery_plan self.old }
+        ensures volume { recovery_volume self.new ≡ recovery_volume self.old }
+    {
+        if view.volume != self.volume {
+            return Err(Fault::NotAddressed);
+        }
+        let places = view.places.as_slice();
+        if !self.standings.are_places(places) {
+            return Err(Fault::NotInPlan);
+        }
+        match &self.found {
+            None => {
+                let messages = later_fences(alloc, self.volume, &self.standings, places)?;
+                self.standings.reread(places);
+                Ok(messages)
+            }
+            Some(found) => {
+                let messages = later_installs(alloc, self.volume, &self.standings, found, places)?;
+                self.standings.follow(places);
+                Ok(messages)
+            }
+        }
+    }
+
+    /// Takes what a node says that it holds. `NotAddressed` where it isn't said to this recovery, of a group of the volume with
+    /// records of that group, by a member. It counts before the cut, where its membership epoch is the group's and its lineage is
+    /// older than the recovery, and it is the member's first; else it changes nothing.
+    pub fn take_report(&mut self, report: &Report) -> Result<(), Fault>
+        ensures takes { Takes (taken (recovery_plan self.old) (recovery_volume self.old) (client_of self.old) (message_of (Message.Report report.now))) (client_of self.old) result (client_of self.new) }
+        ensures plan { recovery_plan self.new ≡ recovery_plan self.old }
+        ensures volume { recovery_volume self.new ≡ recovery_volume self.old }
+    {
+        let groups = self.standings.plan().groups();
+        if report.label.volume != self.volume
+            || report.group >= groups
+            || !report.contents.is_of(report.group)
+            || report.from >= MEMBERS
+        {
+            return Err(Fault::NotAddressed);
+        }
+        if self.found.is_some()
+            || report.label.member != self.standings.epoch(report.group)
+            || report.contents.lineage.last_epoch() >= self.volume
+        {
+            return Ok(());
+        }
+        let copied = Copied {
+            from: report.from,
+            contents: report.contents.clone()?,
+        };
+        self.standings.keep(report.group, copied)?;
+        Ok(())
+    }
+
+    /// Takes an acknowledgement. `NotAddressed` where it isn't one to this recovery, of a group of the volume and a member. It is
+    /// counted after the cut, where its membership epoch is at most the group's; else it changes nothing.
+    pub fn take_ack(&mut self, ack: &Ack) -> Result<(), Fault>
+        ensures takes { Takes (taken (recovery_plan self.old) (recovery_volume self.old) (client_of self.old) (message_of (Message.Ack ack.now))) (client_of self.old) result (client_of self.new) }
+        ensures plan { recovery_plan self.new ≡ recovery_plan self.old }
+        ensures volume { recovery_volume self.new ≡ recovery_volume self.old }
+    {
+        let groups = self.standings.plan().groups();
+        if ack.label.volume != self.volume || ack.group >= groups || ack.from >= MEMBERS {
+            return Err(Fault::NotAddressed);
+        }
+        if self.found.is_none() || ack.label.member > self.standings.epoch(ack.group) {
+            return Ok(());
+        }
+        self.standings.count(ack)?;
+        Ok(())
+    }
+
+    /// What it has found, and none before its cut.
+    pub fn found(&self) -> Option<&Found>
+        ensures { MatchOption result (has_cut (client_of self.now).stage ≡ false) (λ found. (has_cut (client_of self.now).stage ≡ true) × (log_of found.now.log.items ≡ (client_of self.now).found) × (lineage_of found.now.lineage ≡ (client_of self.now).lineage) × (found.now.cut ≡ last_cut (client_of self.now).lineage)) }
+    {
+        self.found.as_ref()
+    }
+
+    /// The writer that it becomes once the members of a write set of each group have acknowledged what it installed; `NotReady` before
+    /// that, and the recovery is handed back as it was. Takes no memory.
+    pub fn open(self) -> Result<Writer, (Fault, Recovery)>
+        ensures opens { Opens (opened (recovery_plan self) (client_of self)) self result }
+        ensures plan { IfOk result (λ w. writer_plan w ≡ recovery_plan self) }
+        ensures volume { IfOk result (λ w. writer_volume w ≡ recovery_volume self) }
+    {
+        if !self.standings.has_installed() {
+            return Err((Fault::NotReady, self));
+        }
+        let Recovery {
+            standings,
+            volume,
+            found,
+        } = self;
+        match found {
+            Some(found) => {
+                let Found { log, lineage, .. } = found;
+                Ok(Writer::opened(standings, volume, lineage, log))
+            }
+            None => Err((
+                Fault::NotReady,
+                Recovery {
+                    standings,
+                    volume,
+                    found: None,
+                },
+            )),
+        }
+    }
+}
