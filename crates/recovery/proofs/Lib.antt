@@ -3,3 +3,7 @@ pub mod OneMore
 pub mod Cuts
 pub mod Older
 pub mod Views
+pub mod Firsts
+pub mod Ends
+pub mod Leaves
+pub mod Refusals

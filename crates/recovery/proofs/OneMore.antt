@@ -44,7 +44,7 @@ raised-is groups places i k e d b within same is test =
 
 -- ---- reports
 
-reports-append : (xs ys : List ClientGroup) → reports_in (xs ++ ys) ≡ reports_in xs ++ reports_in ys
+pub reports-append : (xs ys : List ClientGroup) → reports_in (xs ++ ys) ≡ reports_in xs ++ reports_in ys
 reports-append [] ys = refl
 reports-append (g ∷ xs) ys = ap (λ l. contents_of g.reports ++ l) (reports-append xs ys) ∙ sym (append_assoc (contents_of g.reports) (reports_in xs) (reports_in ys))
 

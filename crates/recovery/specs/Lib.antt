@@ -1,3 +1,4 @@
 pub mod Cuts
 pub mod Reported
+pub mod Finds
 pub mod Recoveries

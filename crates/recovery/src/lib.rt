@@ -1,7 +1,9 @@
 //! A recovery: it finds the log that nodes hold, cuts it, installs it, and becomes the writer of its volume epoch.
 #![tactic(auto)]
 
+mod chain;
 mod cutting;
+mod finding;
 mod found;
 mod recovery;
 mod reported;

@@ -4,8 +4,9 @@ ghost use Rattle.std.specs.Prelude.{◌≡◌, ◌≤◌, true};
 ghost use Rattle.writer_core.specs.Groups.{groups_in};
 ghost use Rattle.recovery.specs.Cuts.{are_older};
 
+use crate::finding::find;
 use crate::found::Found;
-use crate::speaking::{fences, later_fences, later_installs};
+use crate::speaking::{fences, installs, later_fences, later_installs};
 use hydration::Copied;
 use plan::CheckedPlan;
 use quorum_expr::MEMBERS;
@@ -30,7 +31,7 @@ impl Recovery {
     ghost use Rattle.std.specs.Prelude.{false, IfOk, MatchOption};
     ghost use Rattle.std.specs.Arc.{arc_value};
     ghost use Rattle.volume_model.specs.Answer.{Gives};
-    ghost use Rattle.volume_model.specs.Client.{has_cut, taken, opened};
+    ghost use Rattle.volume_model.specs.Client.{has_cut, taken, cut_client, opened};
     ghost use Rattle.plan.specs.CheckedModel.{checked_model};
     ghost use Rattle.wire.specs.Message.{message_of};
     ghost use Rattle.lineage.specs.Lineage.{lineage_of};
@@ -142,6 +143,29 @@ impl Recovery {
         }
         self.standings.count(ack)?;
         Ok(())
+    }
+
+    /// Cuts the log that the reports hold, and makes one Install a group with what it has found: the newest lineage with its own
+    /// entry, and the log up to the cut. `AlreadyDone` where it has cut, `NotReady` where in some group the senders of its reports are no read
+    /// set, `LsnSpent` where its own numbers would begin above the greatest.
+    pub fn cut(&mut self, alloc: Global) -> Result<Vec<Message>, Fault>
+        ensures acts { Acts (cut_client (recovery_plan self.old) (recovery_volume self.old) (client_of self.old)) (client_of self.old) result (client_of self.new) }
+        ensures plan { recovery_plan self.new ≡ recovery_plan self.old }
+        ensures volume { recovery_volume self.new ≡ recovery_volume self.old }
+    {
+        if self.found.is_some() {
+            return Err(Fault::AlreadyDone);
+        }
+        if !self.standings.has_read() {
+            return Err(Fault::NotReady);
+        }
+        let found = match find(alloc, self.volume, &self.standings) {
+            Ok(found) => found,
+            Err(fault) => return Err(fault),
+        };
+        let messages = installs(alloc, self.volume, &self.standings, &found)?;
+        self.found = Some(found);
+        Ok(messages)
     }
 
     /// What it has found, and none before its cut.

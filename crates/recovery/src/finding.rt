@@ -1,0 +1,37 @@
+//! What a recovery finds in the reports that it has.
+
+ghost use Rattle.std.specs.Prelude.{◌≡◌, ◌≤◌, true};
+ghost use Rattle.volume_model.specs.Answer.{Gives};
+ghost use Rattle.writer_core.specs.Groups.{groups_in, standings_plan};
+ghost use Rattle.recovery.specs.Cuts.{are_older};
+ghost use Rattle.recovery.specs.Finds.{find_of, found_by};
+
+use crate::chain::{chain_of, firsts};
+use crate::cutting::cut_of;
+use crate::found::Found;
+use crate::reported::{found_in, newest_lineage};
+use std::alloc::Global;
+use volume_model::Fault;
+use writer_core::Standings;
+
+/// What a recovery of this volume epoch finds in the reports that it has. `LsnSpent` where its own numbers would begin above the
+/// greatest.
+pub fn find(alloc: Global, volume: u32, standings: &Standings) -> Result<Found, Fault>
+    requires assigned { 1 ≤ volume }
+    requires older { are_older volume (groups_in standings.now) ≡ true }
+    ensures { Gives find_of result (found_by (standings_plan standings.now) volume (groups_in standings.now)) }
+{
+    standings.plan().certified();
+    let parent = newest_lineage(alloc, standings.as_slice())?;
+    let records = found_in(alloc, &parent, standings.as_slice())?;
+    let records = firsts(alloc, &records)?;
+    let cut = match cut_of(alloc, records.as_slice()) {
+        Ok(cut) => cut,
+        Err(fault) => return Err(fault),
+    };
+    let log = chain_of(alloc, records.as_slice(), cut)?;
+    match parent.extend(volume, cut, standings.plan().lal()) {
+        Ok(lineage) => Ok(Found { log, cut, lineage }),
+        Err(fault) => Err(fault),
+    }
+}
