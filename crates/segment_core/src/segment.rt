@@ -468,10 +468,8 @@ impl Segment {
         if !self.has_configuration() {
             return None;
         }
-        match self.plan.configuration(self.group, self.configuration) {
-            Some(configuration) => Some(&configuration.read),
-            None => None,
-        }
+        let configuration = self.plan.configuration(self.group, self.configuration)?;
+        Some(&configuration.read)
     }
 
     /// What the copies make of it.
@@ -482,14 +480,10 @@ impl Segment {
         let Some(read) = self.read_expression() else {
             return Err(Fault::NotEnough);
         };
-        match self.copies.finish(alloc, read)? {
-            Some(state) => Ok(state),
-            None => Err(Fault::NotEnough),
-        }
+        self.copies.finish(alloc, read)?.ok_or(Fault::NotEnough)
     }
 
     /// Makes ready to become whole.
-    #[tactic(auto, unfolding(crate::specs::Segment::gathered))]
     fn prepare_hydration(&self, alloc: Global) -> Result<Effect, Fault>
         ensures step { Gives (silent_step (node_of self.now)) result (hydrated (segment_plan self.now) (segment_group self.now) (segment_member self.now) (node_of self.now)) }
         ensures ready { IfOk result (λ effect. CanTake self.now effect) }

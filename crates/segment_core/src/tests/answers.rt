@@ -1,0 +1,74 @@
+use super::messages::*;
+use super::nodes::{At, node};
+use std::alloc::Global;
+use std::test::*;
+use wire::Message;
+
+/// The kind of an answer, and its number that matters: a complete point, how many records, a membership epoch, a page's first byte.
+fn told(answer: Option<&Message>) -> (&'static str, u64) {
+    match answer {
+        None => ("nothing", 0),
+        Some(Message::Ack(ack)) => ("acknowledgement", ack.scl),
+        Some(Message::Report(report)) => ("report", report.contents.records.len() as u64),
+        Some(Message::CopyReport(copy)) => ("copy", copy.contents.records.len() as u64),
+        Some(Message::CopyAsk(ask)) => ("question", u64::from(ask.epoch)),
+        Some(Message::Page(page)) => ("page", u64::from(page.bytes[0])),
+        Some(_) => ("another", 0),
+    }
+}
+
+/// What a node answers to a message, after the record of number 1 if it is whole.
+fn answer(alloc: Global, at: At, message: &Message) -> Result<(&'static str, u64), Fail> {
+    let mut node = node(alloc, at)?;
+    let _first = node.deliver(alloc, &write(0, LABEL, packet(1, 0)?));
+    let answer = node.deliver(alloc, message)?;
+    Ok(told(answer.as_ref()))
+}
+
+/// The answer to each message.
+#[test]
+fn answers(rt: HostRuntime) -> Result<(), Fail> {
+    let alloc = rt.alloc();
+    for (at, message, expected) in [
+        (At::Whole, fence(0, label(2, 1)), ("report", 1)),
+        (
+            At::Promised,
+            install(0, label(2, 1), contents(alloc, 0)?),
+            ("acknowledgement", 1),
+        ),
+        (
+            At::Whole,
+            write(0, LABEL, packet(2, 0)?),
+            ("acknowledgement", 2),
+        ),
+        (
+            At::Tail,
+            gossip(0, LABEL, packet(2, 0)?),
+            ("acknowledgement", 2),
+        ),
+        (At::Whole, step(0, 1, 2), ("nothing", 0)),
+        (At::Whole, copy_ask(0, 1), ("copy", 1)),
+        (
+            At::Fresh,
+            copy_report(0, 2, 1, contents(alloc, 0)?),
+            ("nothing", 0),
+        ),
+        (At::Whole, page_ask(0, LABEL, 1), ("page", 0x61)),
+    ] {
+        assert_eq!(rt; answer(alloc, at, &message)?, expected);
+    }
+    Ok(())
+}
+
+/// A step in two parts: what was prepared shows its answer, and nothing has changed before it is applied.
+#[test]
+fn prepared(rt: HostRuntime) -> Result<(), Fail> {
+    let alloc = rt.alloc();
+    let mut node = node(alloc, At::Whole)?;
+    let prepared = node.prepare(alloc, &write(0, LABEL, packet(1, 0)?))?;
+    assert_eq!(rt; told(prepared.answer()), ("acknowledgement", 1));
+    assert_eq!(rt; node.scl(), 0);
+    assert_eq!(rt; told(node.apply(prepared).as_ref()), ("acknowledgement", 1));
+    assert_eq!(rt; node.scl(), 1);
+    Ok(())
+}
