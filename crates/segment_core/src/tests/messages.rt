@@ -45,6 +45,14 @@ pub fn contents(alloc: Global, group: u8) -> Result<Contents, Fail> {
     })
 }
 
+/// No record, and no lineage.
+pub fn nothing(alloc: Global) -> Contents {
+    Contents {
+        lineage: Lineage::empty(alloc),
+        records: RecordSet::new(alloc),
+    }
+}
+
 pub fn fence(group: u8, label: Label) -> Message {
     Message::Fence(Fence { group, label })
 }
