@@ -1,4 +1,6 @@
-use Rattle.std.proofs.Common.{ap, ◌∙◌, map}
+use Rattle.std.proofs.Common.{ap, ◌∙◌, map, arith}
+use Rattle.std.proofs.lemmas.Grind.{common_steps}
+use Rattle.refutation.specs.declared.Refutation.TheFolds.{the_lemmas}
 use Rattle.refutation.specs.Rule.{branches_of}
 use Rattle.refutation.specs.Refutation.{rule_of}
 use Rattle.refutation.specs.Limits.{each_keeps_lists}
@@ -22,3 +24,9 @@ keep_lists-returns-then-are_short-2 g t c =
 pub keep_lists-returns-else-are_short-2 : goal.keep_lists-returns-else-are_short-2
 keep_lists-returns-else-are_short-2 g t c =
     and_false _ _ _ _ (match_kept c.args.rule.now c.in-Match.left c.in-Match.right c.in-Match.pairs c.in-Match.then _ _ c.in-Match.is c.len-in-Match.ensures c.len-in-Match-2.ensures) c.are_short-in-Match.ensures c.if-are_short-2.false
+
+pub keep_lists-each_keep_lists-requires : goal.keep_lists-each_keep_lists-requires
+keep_lists-each_keep_lists-requires g t c κs within = grind (the_lemmas, arith, common_steps) steps 2000000
+
+pub keep_lists-each_keep_lists-requires-then-are_short-2 : goal.keep_lists-each_keep_lists-requires-then-are_short-2
+keep_lists-each_keep_lists-requires-then-are_short-2 g t c κs within = grind (the_lemmas, arith, common_steps) steps 4000000
