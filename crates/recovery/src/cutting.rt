@@ -10,6 +10,19 @@ use std::alloc::Global;
 use std::collections::BTreeSet;
 use volume_model::Fault;
 
+/// Whether records stand in growing LSN.
+pub fn is_growing(records: &[Record]) -> bool
+    ensures { result ≡ is_growing (log_of records.now) }
+{
+    let mut growing = true;
+    let mut last = 0;
+    for record in records {
+        growing = last < record.lsn && growing;
+        last = record.lsn;
+    }
+    growing
+}
+
 /// The cut of records that stand in growing LSN: the greatest consistency point from which `prev_volume` leads through the records
 /// down to 0, else 0.
 pub fn cut_of(alloc: Global, records: &[Record]) -> Result<u64, Fault>

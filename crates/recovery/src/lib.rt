@@ -9,6 +9,9 @@ mod recovery;
 mod reported;
 mod speaking;
 
-pub use cutting::cut_of;
+pub use cutting::{cut_of, is_growing};
 pub use found::Found;
 pub use recovery::Recovery;
+
+#[cfg(test)]
+mod tests;

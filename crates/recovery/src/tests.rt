@@ -1,0 +1,175 @@
+use crate::{Recovery, cut_of, is_growing};
+use lineage::Lineage;
+use plan::{check_plan, read_plan};
+use redo_record::{Packet, Payload, Record, RecordSet};
+use std::alloc::Global;
+use std::sync::Arc;
+use std::test::*;
+use volume_model::Fault;
+use wire::{Ack, Contents, Label, Message, Place, Report, View};
+use writer_core::Change;
+
+/// One group of six members, of which three read and four write.
+const SIX: &[u8] =
+    b"{\"format\":1,\"lal\":10,\"groups\":[{\"configurations\":[{\"parent\":null,\"members\":[0,1,2,3,4,5],\"full\":[0,1,2,3,4,5],\
+\"read\":{\"k\":3,\"of\":\"all\"},\"write\":{\"k\":4,\"of\":\"all\"},\"meets\":{\"rule\":\"match\",\"left\":0,\"right\":0,\
+\"pairs\":[[0,0],[1,1],[2,2],[3,3],[4,4],[5,5]],\"then\":[\
+{\"rule\":\"clash\",\"left\":0,\"right\":0},{\"rule\":\"clash\",\"left\":0,\"right\":0},{\"rule\":\"clash\",\"left\":0,\"right\":0},\
+{\"rule\":\"clash\",\"left\":0,\"right\":0},{\"rule\":\"clash\",\"left\":0,\"right\":0},{\"rule\":\"clash\",\"left\":0,\"right\":0}]},\"step\":null}]}]}";
+
+/// The record of an LSN of volume epoch 1, whose links go to the LSN before it.
+fn record(lsn: u64, point: bool) -> Result<Record, Fail> {
+    let lsn = lsn.clamp(1, 2000);
+    Ok(Record {
+        lsn,
+        volume_epoch: 1,
+        prev_volume: lsn - 1,
+        prev_group: lsn - 1,
+        prev_block: lsn - 1,
+        group: 0,
+        block: 0,
+        offset: 0,
+        bytes: Payload::new(b"a").ok_or("one byte is a payload")?,
+        point,
+    })
+}
+
+/// The records 1 to 1007, of which 900 and 1000 alone are consistency points.
+fn long_log(alloc: Global) -> Result<Vec<Record>, Fail> {
+    let mut log: Vec<Record> = Vec::new(alloc);
+    for back in 0..1007 {
+        log.push(record(back + 1, back == 899 || back == 999)?)?;
+    }
+    Ok(log)
+}
+
+#[test]
+fn cut_of_a_long_log(rt: HostRuntime) -> Result<(), Fail> {
+    let alloc = rt.alloc();
+    let log = long_log(alloc)?;
+    let records = log.as_slice();
+    if !is_growing(records) {
+        return Err("the records stand in growing LSN".into());
+    }
+    assert_eq!(rt; cut_of(alloc, records)?, 1000);
+    Ok(())
+}
+
+/// A View of volume epoch 2 that has the group at its root.
+fn view(alloc: Global) -> Result<View, Fail> {
+    let root = Place {
+        configuration: 0,
+        epoch: 1,
+    };
+    Ok(View {
+        volume: 2,
+        places: vec![in alloc; root]?,
+    })
+}
+
+/// A recovery of volume epoch 2, and how many messages its birth made.
+fn born(alloc: Global) -> Result<(Recovery, usize), Fail> {
+    let plan = read_plan(alloc, SIX).ok().ok_or("the text is a plan")?;
+    let checked = check_plan(alloc, plan).ok().ok_or("the plan is certified")?;
+    let (recovery, fences) = Recovery::new(
+        alloc,
+        Arc::new(alloc, checked)?,
+        &Message::View(view(alloc)?),
+    )?;
+    Ok((recovery, fences.len()))
+}
+
+/// The label under which volume epoch 2 speaks.
+const LABEL: Label = Label {
+    volume: 2,
+    member: 1,
+};
+
+/// A member says that it holds the records 1 up to a number, of which 3 and 5 are consistency points.
+fn report(alloc: Global, from: u8, last: u64) -> Result<Report, Fail> {
+    let mut records = RecordSet::new(alloc);
+    for back in 0..last.min(10) {
+        records.insert(&Packet::pack(&record(back + 1, back == 2 || back == 4)?))?;
+    }
+    Ok(Report {
+        group: 0,
+        label: LABEL,
+        from,
+        contents: Contents {
+            lineage: Lineage::birth(alloc)?,
+            records,
+        },
+    })
+}
+
+/// A recovery that has cut, from reports of members 0, 1 and 2 that hold the records 1 up to a number.
+fn recovered(alloc: Global, last: u64) -> Result<Recovery, Fail> {
+    let (mut recovery, _) = born(alloc)?;
+    for from in 0..3 {
+        recovery.take_report(&report(alloc, from, last)?)?;
+    }
+    recovery.cut(alloc)?;
+    Ok(recovery)
+}
+
+/// Where a recovery has cut, its start, and how many records it has found.
+fn found(recovery: &Recovery) -> Option<(u64, u64, usize)> {
+    let found = recovery.found()?;
+    Some((found.cut, found.lineage.last_start(), found.log.len()))
+}
+
+#[test]
+fn two_cuts(rt: HostRuntime) -> Result<(), Fail> {
+    let alloc = rt.alloc();
+    assert_eq!(rt; found(&recovered(alloc, 4)?), Some((3, 13, 3)));
+    assert_eq!(rt; found(&recovered(alloc, 5)?), Some((5, 15, 5)));
+    Ok(())
+}
+
+#[test]
+fn reading(rt: HostRuntime) -> Result<(), Fail> {
+    let alloc = rt.alloc();
+    let (mut recovery, fences) = born(alloc)?;
+    assert_eq!(rt; fences, 1);
+    assert_eq!(rt; recovery.view(alloc, &view(alloc)?)?.len(), 0);
+    assert!(rt; recovery.found().is_none());
+    recovery.take_report(&report(alloc, 0, 4)?)?;
+    assert_eq!(rt; recovery.cut(alloc).err(), Some(Fault::NotReady));
+    Ok(())
+}
+
+#[test]
+fn opening(rt: HostRuntime) -> Result<(), Fail> {
+    let alloc = rt.alloc();
+    let recovery = recovered(alloc, 4)?;
+    let mut recovery = match recovery.open() {
+        Ok(_) => return Err("nobody has installed".into()),
+        Err((fault, recovery)) => {
+            assert_eq!(rt; fault, Fault::NotReady);
+            recovery
+        }
+    };
+    assert_eq!(rt; recovery.cut(alloc).err(), Some(Fault::AlreadyDone));
+    for from in 0..4 {
+        recovery.take_ack(&Ack {
+            group: 0,
+            label: LABEL,
+            from,
+            scl: 3,
+        })?;
+    }
+    let mut writer = recovery.open().ok().ok_or("four have installed")?;
+    let change = Change {
+        group: 0,
+        block: 0,
+        offset: 0,
+        bytes: vec![in alloc; 97]?,
+    };
+    assert_eq!(rt; writer.issue(alloc, &[change])?.len(), 1);
+    let log = writer.log();
+    assert_eq!(rt; log.len(), 4);
+    assert_eq!(rt; (log[3].lsn, log[3].prev_volume), (14, 3));
+    assert!(rt; writer.resend(14).is_ok());
+    assert_eq!(rt; writer.resend(4).err(), Some(Fault::NoLogRecord));
+    Ok(())
+}
