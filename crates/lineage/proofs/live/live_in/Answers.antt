@@ -1,6 +1,5 @@
-use Rattle.std.proofs.Common.{◌≡◌, ◌<◌, ◌++◌, ◌∷◌, [], get_or, length, map, arith, refl, sym, subst, ap, ap₂, ◌∙◌, if◌then◌else◌, Bool, List}
+use Rattle.std.proofs.Common.{◌≡◌, ◌<◌, ◌++◌, ◌∷◌, [], get_or, length, map, arith, sym, subst, ap, ap₂, ◌∙◌, if◌then◌else◌, Bool}
 use Rattle.std.proofs.lemmas.List.{append-nil, get_or-map, length-map}
-use Rattle.volume_model.specs.Redo.{Redo}
 use Rattle.volume_model.specs.Lineage.{is_live}
 use Rattle.redo_record.specs.Order.{IsInOrder}
 use Rattle.redo_record.specs.Packet.{packet_redo}
