@@ -336,25 +336,44 @@ module _ (plan : Plan) (certified : IsCertified plan) (events more : List Event)
   end_kept : IsKept plan end
   end_kept = run_kept plan certified more before (run_kept plan certified events (opening plan) (opening_kept plan certified))
 
+  -- the records that a writer has issued since, and that its log is a chain
+  module _ (v : ℕ) (opened : is_open (before.clients v).stage ≡ true) where
+    abbrev old : Client
+    old = before.clients v
+
+    abbrev new : Client
+    new = end.clients v
+
+    lasts : Lasts old new
+    lasts = all_last plan more before v
+
+    open_now : is_open new.stage ≡ true
+    open_now = lasts.open_on opened
+
+    abbrev later : List Redo
+    later = (lasts.log opened).0
+
+    same_log : later ++ old.log ≡ new.log
+    same_log = (lasts.log opened).1
+
+    chain : IsChain (later ++ old.log)
+    chain = subst IsChain (sym same_log) (facts plan certified end end_kept v (cut_from_open new.stage open_now)).chain
+
+    -- an opened writer's durable point never falls
+    rises : durable_point old ≤ durable_point new
+    rises = subst (λ log. durable_point old ≤ point_below (complete_of (point_of new.groups) log) log) same_log (durable_rises (point_of old.groups) (point_of new.groups) (lasts.points opened) later old.log chain)
+
   stays : (v n : ℕ) → Acknowledges before v n → Acknowledges end v n × (part_of end v n ≡ part_of before v n)
   stays v n h =
-      let old : Client = before.clients v in
-      let new : Client = end.clients v in
-      let lasts : Lasts old new = all_last plan more before v in
-      let parts : (is_open old.stage ≡ true) × ((is_point_of n old.log && nat_le n (durable_point old)) ≡ true) = and_parts _ _ h in
-      let both : (is_point_of n old.log ≡ true) × (nat_le n (durable_point old) ≡ true) = and_parts _ _ parts.1 in
-      let open_now : is_open new.stage ≡ true = lasts.open_on parts.0 in
-      let (later, e) = lasts.log parts.0 in
-      let chain : IsChain new.log = (facts plan certified end end_kept v (cut_from_open new.stage open_now)).chain in
-      let chain' : IsChain (later ++ old.log) = subst IsChain (sym e) chain in
-      let rises : durable_point old ≤ point_below (complete_of (point_of new.groups) (later ++ old.log)) (later ++ old.log) = durable_rises (point_of old.groups) (point_of new.groups) (lasts.points parts.0) later old.log chain' in
-      let rises' : durable_point old ≤ durable_point new = subst (λ log. durable_point old ≤ point_below (complete_of (point_of new.groups) log) log) e rises in
-      let low : n ≤ durable_point old = leb-true n (durable_point old) both.1 in
-      let at : is_point_of n new.log ≡ true = subst (λ log. is_point_of n log ≡ true) e (any-later (λ r. eqb r.lsn n && r.point) later old.log both.0) in
-      let below : durable_point old ≤ last_lsn old.log = point_at_most_last (complete_point old) old.log (IsChain-rest later old.log chain') in (
-        and_from _ _ open_now (and_from _ _ at (le-leb n (durable_point new) (omega arith))),
-        ap (up_to n) (sym e) ∙ up_to-newer n later old.log (λ r i. (let a : last_lsn old.log < r.lsn = later_above later old.log chain' r i in omega arith)),
+      let parts : (is_open (before.clients v).stage ≡ true) × ((is_point_of n (before.clients v).log && nat_le n (durable_point (before.clients v))) ≡ true) = and_parts _ _ h in
+      let both : (is_point_of n (before.clients v).log ≡ true) × (nat_le n (durable_point (before.clients v)) ≡ true) = and_parts _ _ parts.1 in
+      let risen : durable_point (before.clients v) ≤ durable_point (end.clients v) = rises v parts.0 in
+      let low : n ≤ durable_point (before.clients v) = leb-true n (durable_point (before.clients v)) both.1 in
+      let at : is_point_of n (end.clients v).log ≡ true = subst (λ log. is_point_of n log ≡ true) (same_log v parts.0) (any-later (λ r. eqb r.lsn n && r.point) (later v parts.0) (before.clients v).log both.0) in
+      let below : durable_point (before.clients v) ≤ last_lsn (before.clients v).log = point_at_most_last (complete_point (before.clients v)) (before.clients v).log (IsChain-rest (later v parts.0) (before.clients v).log (chain v parts.0)) in (
+        and_from _ _ (open_now v parts.0) (and_from _ _ at (le-leb n (durable_point (end.clients v)) (omega arith))),
+        ap (up_to n) (sym (same_log v parts.0)) ∙ up_to-newer n (later v parts.0) (before.clients v).log (λ r i. (let a : last_lsn (before.clients v).log < r.lsn = later_above (later v parts.0) (before.clients v).log (chain v parts.0) r i in omega arith)),
       )
 
 pub acknowledgements_last : AcknowledgementsLast
-acknowledgements_last plan certified events more = record { acknowledged_on = stays plan certified events more }
+acknowledgements_last plan certified events more = record { acknowledged_on = stays plan certified events more; durable_on = rises plan certified events more }
