@@ -22,7 +22,7 @@ impl Lineage {
     ghost use Rattle.std.specs.Prelude.{◌<◌, ◌≤◌, [], IfOk};
     ghost use Rattle.volume_model.specs.Answer.{Gives};
     ghost use Rattle.volume_model.specs.Lineage.{birth, is_live, last_epoch, last_start};
-    ghost use Rattle.lineage.specs.Lineage.{lineage_of, extension};
+    ghost use Rattle.lineage.specs.Lineage.{lineage_of, extension, last_cut};
 
     /// No entry: what a segment has that was told nothing yet.
     pub fn empty(alloc: Global) -> Lineage
@@ -53,6 +53,16 @@ impl Lineage {
     {
         match self.entries.last() {
             Some(entry) => entry.volume_epoch,
+            None => 0,
+        }
+    }
+
+    /// The cut of the last entry, 0 where there is none.
+    pub fn last_cut(&self) -> u64
+        ensures { result ≡ last_cut (lineage_of self.now) }
+    {
+        match self.entries.last() {
+            Some(entry) => entry.cut,
             None => 0,
         }
     }

@@ -1,13 +1,8 @@
--- Where a lineage was cut last, and what a client still reads.
-use Rattle.std.specs.Prelude.{ℕ, Bool, nat_lt, List, [], ◌∷◌}
+-- What a client still reads.
+use Rattle.std.specs.Prelude.{ℕ, Bool, nat_lt, List}
 use Rattle.volume_model.specs.Lists.{every}
-use Rattle.volume_model.specs.Lineage.{Lineage, last_epoch}
+use Rattle.volume_model.specs.Lineage.{last_epoch}
 use Rattle.volume_model.specs.Client.{ClientGroup}
-
--- the cut of the last entry, and 0 where there is none
-abbrev pub last_cut : Lineage → ℕ
-last_cut [] = 0
-last_cut (e ∷ older) = e.cut
 
 -- the lineage of each report of a group is older than this volume epoch
 abbrev pub is_older : ℕ → ClientGroup → Bool

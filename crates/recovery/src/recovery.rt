@@ -9,7 +9,6 @@ use crate::found::Found;
 use crate::speaking::{fences, installs, later_fences, later_installs};
 use hydration::Copied;
 use plan::CheckedPlan;
-use quorum_expr::MEMBERS;
 use std::alloc::Global;
 use std::sync::Arc;
 use volume_model::Fault;
@@ -37,7 +36,7 @@ impl Recovery {
     ghost use Rattle.lineage.specs.Lineage.{lineage_of};
     ghost use Rattle.writer_core.specs.Logs.{log_of};
     ghost use Rattle.writer_core.specs.Writers.{writer_plan, writer_volume, Acts, Takes};
-    ghost use Rattle.recovery.specs.Cuts.{last_cut};
+    ghost use Rattle.lineage.specs.Lineage.{last_cut};
     ghost use Rattle.recovery.specs.Recoveries.{client_of, recovery_plan, recovery_volume, birth_of, view_volume, step_of, Opens};
 
     /// A recovery from its first View, with one Fence a group. `NotAddressed` where the message is no View, `NotInPlan` where its places
@@ -66,6 +65,20 @@ impl Recovery {
             found: None,
         };
         Ok((recovery, messages))
+    }
+
+    /// The volume epoch.
+    pub fn volume(&self) -> u32
+        ensures { result ≡ recovery_volume self.now }
+    {
+        self.volume
+    }
+
+    /// How many groups the volume has.
+    pub fn groups(&self) -> u8
+        ensures { result ≡ (recovery_plan self.now).groups }
+    {
+        self.standings.plan().groups()
     }
 
     /// Takes a later View. Each group moves to its place where that is one of a later epoch; for each such group it makes a Fence
@@ -105,12 +118,7 @@ impl Recovery {
         ensures plan { recovery_plan self.new ≡ recovery_plan self.old }
         ensures volume { recovery_volume self.new ≡ recovery_volume self.old }
     {
-        let groups = self.standings.plan().groups();
-        if report.label.volume != self.volume
-            || report.group >= groups
-            || !report.contents.is_of(report.group)
-            || report.from >= MEMBERS
-        {
+        if !report.is_to(self.volume, self.groups()) {
             return Err(Fault::NotAddressed);
         }
         if self.found.is_some()
@@ -134,8 +142,7 @@ impl Recovery {
         ensures plan { recovery_plan self.new ≡ recovery_plan self.old }
         ensures volume { recovery_volume self.new ≡ recovery_volume self.old }
     {
-        let groups = self.standings.plan().groups();
-        if ack.label.volume != self.volume || ack.group >= groups || ack.from >= MEMBERS {
+        if !ack.is_to(self.volume, self.groups()) {
             return Err(Fault::NotAddressed);
         }
         if self.found.is_none() || ack.label.member > self.standings.epoch(ack.group) {

@@ -10,7 +10,6 @@ use crate::standings::Standings;
 use crate::transaction::is_transaction;
 use lineage::Lineage;
 use plan::CheckedPlan;
-use quorum_expr::MEMBERS;
 use redo_record::Record;
 use std::alloc::Global;
 use std::sync::Arc;
@@ -148,8 +147,7 @@ impl Writer {
         ensures plan { writer_plan self.new ≡ writer_plan self.old }
         ensures volume { writer_volume self.new ≡ writer_volume self.old }
     {
-        let groups = self.standings.plan().groups();
-        if ack.label.volume != self.volume || ack.group >= groups || ack.from >= MEMBERS {
+        if !ack.is_to(self.volume, self.groups()) {
             return Err(Fault::NotAddressed);
         }
         if ack.label.member > self.standings.epoch(ack.group) {
