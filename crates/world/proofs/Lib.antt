@@ -1,4 +1,5 @@
 pub mod OneNode
+pub mod ClientMap
 pub mod Messages
 pub mod Low
 pub mod Steps

@@ -1,5 +1,5 @@
 -- One node changes, and no other.
-use Rattle.std.proofs.Common.{◌≡◌, ◌≢◌, ℕ, zero, suc, ◌<◌, Bool, true, false, nat_lt, nat_eq, if◌then◌else◌, List, [], ◌∷◌, Option, Some, None, length, set, refl, sym, ap, ◌∙◌, arith, inl, inr}
+use Rattle.std.proofs.Common.{◌≡◌, ◌≢◌, ℕ, zero, suc, ◌<◌, Bool, true, false, nat_lt, if◌then◌else◌, List, [], ◌∷◌, Option, Some, None, length, set, refl, sym, ap, ◌∙◌, arith, inl, inr}
 use Rattle.std.proofs.Common.{get_or, ◌/◌, ◌%◌, ◌++◌, map, option_map, subst}
 use Rattle.std.specs.Prelude.{slice_get}
 use Rattle.segment_core.specs.declared.segment.Segment.{Segment}
@@ -10,7 +10,7 @@ use borrow.Author.Tests.{ltb-true}
 use Rattle.volume_model.specs.Lists.{put, put_at}
 use Rattle.volume_model.specs.Plan.{Plan}
 use Rattle.volume_model.specs.Node.{Node, born_node}
-use Rattle.volume_model.specs.Client.{Client, unborn}
+use Rattle.volume_model.specs.Client.{Client}
 use Rattle.world.specs.Slots.{slot_of, in_slot, node_or, node_at}
 
 get-set_same : {A : Type 0} (xs : List A) (i : ℕ) (x : A) → i < length xs → slice_get (set xs i x) i ≡ Some x
@@ -72,12 +72,16 @@ put_at-same_at f g m h y =
 pub put_at-same : (f : ℕ → ℕ → Node) (g m : ℕ) → put_at f g m (f g m) ≡ f
 put_at-same f g m = λ j h y. put_at-same_at f g m h y j
 
--- writer 1 changes, and no other client
-put-again_at : (writer other : Client) (v : ℕ) → put (put (λ volume. unborn) 1 writer) 1 other v ≡ put (λ volume. unborn) 1 other v
-put-again_at writer other v = elim (nat_eq v 1) as (λ (b : Bool). (if b then other else (if b then writer else unborn)) ≡ (if b then other else unborn)) [ true ↦ refl | false ↦ refl ]
+-- what a client was already
+put-same_at : (f : ℕ → Client) (v w : ℕ) → put f v (f v) w ≡ f w
+put-same_at f v w =
+    elim (cases_eq w v) [
+      | inl e ↦ rw (eq-eqb w v e) (ap f (sym e))
+      | inr ne ↦ rw (ne_eqb w v ne) refl
+    ]
 
-pub put-again : (writer other : Client) → put (put (λ volume. unborn) 1 writer) 1 other ≡ put (λ volume. unborn) 1 other
-put-again writer other = λ j v. put-again_at writer other v j
+pub put-same : (f : ℕ → Client) (v : ℕ) → put f v (f v) ≡ f
+put-same f v = λ j w. put-same_at f v w j
 
 -- what holds of each element, by its number, and of one more at the end
 pub each-push : {A : Type 0} (P : ℕ → A → Type 0) (xs : List A) (x : A) → ((k : ℕ) (y : A) → slice_get xs k ≡ Some y → P k y) → P (length xs) x → (k : ℕ) (y : A) → slice_get (xs ++ x ∷ []) k ≡ Some y → P k y

@@ -1,12 +1,14 @@
 -- One event more of a run.
-use Rattle.std.proofs.Common.{◌≡◌, ◌≢◌, ℕ, ◌+◌, List, [], ◌∷◌, ◌++◌, Result, Ok, Err, length, refl, sym, ap, ap₂, ◌∙◌, append_assoc, arith, drop, get_or, ◌<◌, drop-cons, add-one}
+use Rattle.std.proofs.Common.{◌≡◌, ◌≢◌, ℕ, ◌+◌, List, [], ◌∷◌, ◌++◌, Result, Ok, Err, length, refl, sym, ap, ap₂, ◌∙◌, append_assoc, arith, drop, get_or, ◌<◌, drop-cons, add-one, subst}
 use Rattle.volume_model.specs.declared.fault.Fault.{Fault}
 use Rattle.volume_model.specs.declared.fault.Fault.TheVariants.{NoMemory}
-use Rattle.volume_model.specs.Plan.{Plan}
-use Rattle.volume_model.specs.World.{World, Event, Step, step, after_step, told, run, results}
+use Rattle.volume_model.specs.Headline.{AcknowledgementsLast, StaysSo}
+use Rattle.volume_model.specs.Plan.{Plan, IsCertified}
+use Rattle.volume_model.specs.World.{World, Event, Step, step, after, after_step, opening, told, run, results}
 use Rattle.world.specs.declared.event.Order.{Order}
 use Rattle.world.specs.Events.{made_by, total_made, ordered, events_from}
 use Rattle.world.specs.Actors.{Steps}
+use Rattle.world.specs.Outcomes.{KeepsAcknowledgements}
 use Rattle.world.proofs.Numbers.{grows, total_made-push}
 
 -- what is told where memory didn't run out
@@ -41,3 +43,14 @@ total_on plan old new event result ne steps so_far total =
     let more : length new.messages ≡ length old.messages + made_by result =
     ap (λ (w : World). length w.messages) (sym told_is.1) ∙ grows plan old event ∙ ap (λ (r : Result ℕ Fault). length old.messages + made_by r) told_is.0 in
     total_made-push so_far result ∙ omega (arith, more, total)
+
+-- one list of events after another
+run-append : (plan : Plan) (world : World) (earlier later : List Event) → run plan world (earlier ++ later) ≡ run plan (run plan world earlier) later
+run-append plan world [] later = refl
+run-append plan world (event ∷ earlier) later = run-append plan (after plan world event) earlier later
+
+-- what lasts from one list to the other lasts to the end of both
+pub lasting : (plan : Plan) → IsCertified plan → AcknowledgementsLast → (events : List Event) → KeepsAcknowledgements plan events
+lasting plan certified last events earlier later is =
+    let all : run plan (run plan (opening plan) earlier) later ≡ run plan (opening plan) events = sym (run-append plan (opening plan) earlier later) ∙ ap (run plan (opening plan)) is in
+    subst (StaysSo (run plan (opening plan) earlier)) all (last plan certified earlier later)

@@ -1,5 +1,5 @@
 -- The step of one actor, in the world.
-use Rattle.std.proofs.Common.{◌≡◌, ℕ, ◌*◌, ◌/◌, ◌%◌, ◌<◌, ◌≤◌, Bool, true, false, not, ◌&&◌, nat_lt, nat_le, if◌then◌else◌, List, Option, Some, None, Result, Ok, Err, length, option_map, set, refl, sym, ap, ap₂, ◌∙◌, subst, inl, inr, arith}
+use Rattle.std.proofs.Common.{◌≡◌, ℕ, ◌*◌, ◌/◌, ◌%◌, ◌<◌, ◌≤◌, Bool, true, false, not, ◌&&◌, nat_lt, nat_le, if◌then◌else◌, List, [], ◌∷◌, Option, Some, None, Result, Ok, Err, length, option_map, set, refl, sym, ap, ap₂, ◌∙◌, subst, inl, inr, arith}
 use Rattle.std.specs.Prelude.{slice_get}
 use Rattle.std.proofs.Common.{get_or, length-set}
 use Rattle.std.proofs.lemmas.List.{length-map}
@@ -11,19 +11,20 @@ use Rattle.volume_model.specs.declared.fault.Fault.TheVariants.{NoMemory, NoActo
 use Rattle.volume_model.specs.Lists.{added, some_below, put, put_at}
 use Rattle.volume_model.specs.Plan.{Plan, is_named, has_member}
 use Rattle.volume_model.specs.Message.{Message}
+use Rattle.volume_model.specs.Answer.{Fails}
 use Rattle.volume_model.specs.Refusal.{refuse_if}
+use Rattle.writer_core.specs.Writers.{Takes}
 use Rattle.volume_model.specs.Node.{Node, NodeAnswer, born_node}
-use Rattle.volume_model.specs.Client.{Client, Change, ClientAnswer, unborn, issued}
-use Rattle.volume_model.specs.World.{World, of_node, of_client, if_named, after_step, told}
+use Rattle.volume_model.specs.Client.{Client, ClientAnswer}
+use Rattle.volume_model.specs.World.{Authority, AuthorityStep, World, of_authority, of_node, of_client, if_named, after_step, told}
 use Rattle.segment_core.specs.declared.segment.Segment.{Segment}
 use Rattle.segment_core.specs.Segment.{node_of, segment_plan, segment_group, segment_member, IsSegmentOf, IsSameActor}
 use Rattle.world.specs.Slots.{members, slot_of, in_slot, node_or, node_at, FindsSlot}
 use Rattle.world.specs.Homes.{nodes_of, IsPlace, AreHomes}
 use Rattle.world.specs.Worlds.{world_with}
-use Rattle.world.specs.Moves.{Moves, Issues}
+use Rattle.world.specs.Moves.{AuthorityMoves, ClientMoves, NodeMoves}
 use Rattle.world.specs.Actors.{Steps}
-use Rattle.world.proofs.OneNode.{node_at-set, put_at-same, slice_get-map, in_place, each-set, map-set, put-again}
-use Rattle.writer_core.specs.Writers.{Acts}
+use Rattle.world.proofs.OneNode.{node_at-set, put_at-same, slice_get-map, in_place, each-set, map-set, put-same}
 
 -- the plan names no member whose number isn't below 64
 abbrev pub LowFor : Plan → Type 0
@@ -64,12 +65,12 @@ unnamed_steps plan world g m defined e =
     (ap told refused, ap (after_step world) refused)
 
 -- what a node's step leaves in the world
-module _ (plan : Plan) (slots : List (Option Node)) (writer : Client) (kept : List Message) (g m : ℕ) (low : m < 64) (within : slot_of g m < length slots) (old new : Node) (there : node_at plan slots g m ≡ old) (named : is_named plan g m ≡ true) (defined : NodeAnswer) where
+module _ (plan : Plan) (authority : Authority) (slots : List (Option Node)) (clients : ℕ → Client) (kept : List Message) (g m : ℕ) (low : m < 64) (within : slot_of g m < length slots) (old new : Node) (there : node_at plan slots g m ≡ old) (named : is_named plan g m ≡ true) (defined : NodeAnswer) where
   abbrev pub before : World
-  before = world_with plan (node_at plan slots) writer kept
+  before = world_with authority (node_at plan slots) clients kept
 
   abbrev pub after : List Message → World
-  after now = world_with plan (node_at plan (set slots (slot_of g m) (Some new))) writer now
+  after now = world_with authority (node_at plan (set slots (slot_of g m) (Some new))) clients now
 
   asked : of_node before g m (if_named plan g m defined) ≡ of_node before g m defined
   asked = ap (λ (b : Bool). of_node before g m (refuse_if (not b) NoActor defined)) named
@@ -78,14 +79,14 @@ module _ (plan : Plan) (slots : List (Option Node)) (writer : Client) (kept : Li
   same e now e' =
       let nodes : node_at plan slots ≡ node_at plan (set slots (slot_of g m) (Some new)) =
       sym (node_at-set plan slots g m new low within ∙ ap (put_at (node_at plan slots) g m) (e ∙ sym there) ∙ put_at-same (node_at plan slots) g m) in
-      ap₂ (λ (f : ℕ → ℕ → Node) (ms : List Message). world_with plan f writer ms) nodes (sym e')
+      ap₂ (λ (f : ℕ → ℕ → Node) (ms : List Message). world_with authority f clients ms) nodes (sym e')
 
-  pub node_steps : (result : Result ℕ Fault) (now : List Message) → Moves defined old kept result new now → Steps (of_node before g m (if_named plan g m defined)) before result (after now)
+  pub node_steps : (result : Result ℕ Fault) (now : List Message) → NodeMoves defined old kept result new now → Steps (of_node before g m (if_named plan g m defined)) before result (after now)
   node_steps (Ok count) now (made, is, many, now_is) =
       let moved : of_node before g m (if_named plan g m defined) ≡ Ok (record { made = made; world = record before { nodes = put_at (node_at plan slots) g m new; messages = added made kept } }) =
       asked ∙ ap (of_node before g m) is in (
         ap told moved ∙ ap Ok many,
-        ap (after_step before) moved ∙ ap₂ (λ (f : ℕ → ℕ → Node) (ms : List Message). world_with plan f writer ms) (sym (node_at-set plan slots g m new low within)) now_is,
+        ap (after_step before) moved ∙ ap₂ (λ (f : ℕ → ℕ → Node) (ms : List Message). world_with authority f clients ms) (sym (node_at-set plan slots g m new low within)) now_is,
       )
   node_steps (Err NoMemory) now moves = tt
   node_steps (Err fault) now moves =
@@ -97,21 +98,21 @@ pub found_there : (slots : List (Option Segment)) (slot at : ℕ) (x o : Option 
 found_there slots slot at x o e same within is = ap (slice_get slots) (sym same) ∙ slice_get_read slots (length slots) slot x refl within e ∙ ap Some is
 
 -- a segment that stands in its slot takes a step
-module _ (plan : Plan) (slots : List (Option Segment)) (writer : Client) (kept : List Message) (homes : AreHomes plan slots) (g m : ℕ) (low : m < 64) (s new : Segment) (there : slice_get slots (slot_of g m) ≡ Some (Some s)) (actor : IsSameActor s new) where
+module _ (plan : Plan) (authority : Authority) (slots : List (Option Segment)) (clients : ℕ → Client) (kept : List Message) (homes : AreHomes plan slots) (g m : ℕ) (low : m < 64) (s new : Segment) (there : slice_get slots (slot_of g m) ≡ Some (Some s)) (actor : IsSameActor s new) where
   home : (is_named plan g m ≡ true) × IsSegmentOf plan g m s
   home = place_of_member plan slots g m homes low (Some s) there
 
-  pub segment_steps : (f : Plan → ℕ → ℕ → Node → NodeAnswer) (result : Result ℕ Fault) (now : List Message) → Moves (f (segment_plan s) (segment_group s) (segment_member s) (node_of s)) (node_of s) kept result (node_of new) now
-      → Steps (of_node (world_with plan (node_at plan (nodes_of slots)) writer kept) g m (if_named plan g m (f plan g m (node_at plan (nodes_of slots) g m)))) (world_with plan (node_at plan (nodes_of slots)) writer kept) result (world_with plan (node_at plan (nodes_of (set slots (slot_of g m) (Some new)))) writer now)
+  pub segment_steps : (f : Plan → ℕ → ℕ → Node → NodeAnswer) (result : Result ℕ Fault) (now : List Message) → NodeMoves (f (segment_plan s) (segment_group s) (segment_member s) (node_of s)) (node_of s) kept result (node_of new) now
+      → Steps (of_node (world_with authority (node_at plan (nodes_of slots)) clients kept) g m (if_named plan g m (f plan g m (node_at plan (nodes_of slots) g m)))) (world_with authority (node_at plan (nodes_of slots)) clients kept) result (world_with authority (node_at plan (nodes_of (set slots (slot_of g m) (Some new)))) clients now)
   segment_steps f result now moves =
       let at : node_at plan (nodes_of slots) g m ≡ node_of s = node_in_slot plan slots g m low s there in
       let asked : f (segment_plan s) (segment_group s) (segment_member s) (node_of s) ≡ f plan g m (node_at plan (nodes_of slots) g m) = λ i. f (home.1.plan_is i) (home.1.group_is i) (home.1.member_is i) (sym at i) in
       let here : slot_of g m < length slots = slice_get_within slots (slot_of g m) (Some s) there in
       let within : slot_of g m < length (nodes_of slots) = omega (arith, length-map slots (option_map node_of)) in
-      subst (λ (ns : List (Option Node)). Steps (of_node (world_with plan (node_at plan (nodes_of slots)) writer kept) g m (if_named plan g m (f plan g m (node_at plan (nodes_of slots) g m)))) (world_with plan (node_at plan (nodes_of slots)) writer kept) result (world_with plan (node_at plan ns) writer now))
+      subst (λ (ns : List (Option Node)). Steps (of_node (world_with authority (node_at plan (nodes_of slots)) clients kept) g m (if_named plan g m (f plan g m (node_at plan (nodes_of slots) g m)))) (world_with authority (node_at plan (nodes_of slots)) clients kept) result (world_with authority (node_at plan ns) clients now))
       (sym (map-set (option_map node_of) slots (slot_of g m) (Some new)))
-      (node_steps plan (nodes_of slots) writer kept g m low within (node_of s) (node_of new) at home.0 (f plan g m (node_at plan (nodes_of slots) g m)) result now
-      (subst (λ (d : NodeAnswer). Moves d (node_of s) kept result (node_of new) now) asked moves))
+      (node_steps plan authority (nodes_of slots) clients kept g m low within (node_of s) (node_of new) at home.0 (f plan g m (node_at plan (nodes_of slots) g m)) result now
+      (subst (λ (d : NodeAnswer). NodeMoves d (node_of s) kept result (node_of new) now) asked moves))
 
   pub homes_on : AreHomes plan (set slots (slot_of g m) (Some new))
   homes_on = record {
@@ -122,33 +123,45 @@ module _ (plan : Plan) (slots : List (Option Segment)) (writer : Client) (kept :
         subst (λ (n : ℕ). IsPlace plan n (slot_of g m % 64) (Some new)) (sym p.0) (subst (λ (n : ℕ). IsPlace plan g n (Some new)) (sym p.1) moved));
   }
 
--- what a writer's refusal leaves
-pub refused_issue : (defined : ClientAnswer) (old new : Client) (kept : List Message) (fault : Fault) → Acts defined old (Err fault) new → Issues defined old kept (Err fault) new kept
-refused_issue defined old new kept NoMemory acts = tt
-refused_issue defined old new kept fault acts = (acts.0, acts.1, refl)
-
--- what a writer's step leaves in the world
-module _ (plan : Plan) (slots : List (Option Node)) (old new : Client) (kept : List Message) (changes : List Change) where
+-- what a client's step leaves in the world
+module _ (authority : Authority) (nodes : ℕ → ℕ → Node) (clients : ℕ → Client) (kept : List Message) (v : ℕ) where
   abbrev pub begun : World
-  begun = world_with plan (node_at plan slots) old kept
+  begun = world_with authority nodes clients kept
 
-  abbrev pub ended : List Message → World
-  ended now = world_with plan (node_at plan slots) new now
-
-  issue_at_one : (result : Result ℕ Fault) (now : List Message) → Issues (issued plan 1 old changes) old kept result new now → Steps (of_client begun 1 (issued plan 1 old changes)) begun result (ended now)
-  issue_at_one (Ok count) now (made, is, many, now_is) =
-      let moved : of_client begun 1 (issued plan 1 old changes) ≡ Ok (record { made = made; world = record begun { clients = put begun.clients 1 new; messages = added made kept } }) = ap (of_client begun 1) is in (
+  pub client_steps : (defined : ClientAnswer) (old new : Client) → clients v ≡ old → (later : ℕ → Client) → put clients v new ≡ later → (result : Result ℕ Fault) (now : List Message) → ClientMoves defined old kept result new now → Steps (of_client begun v defined) begun result (world_with authority nodes later now)
+  client_steps defined old new there later is (Ok count) now (made, e, many, now_is) =
+      let moved : of_client begun v defined ≡ Ok (record { made = made; world = record begun { clients = put clients v new; messages = added made kept } }) = ap (of_client begun v) e in (
         ap told moved ∙ ap Ok many,
-        ap (after_step begun) moved ∙ ap₂ (λ (clients : ℕ → Client) (ms : List Message). record begun { clients = clients; messages = ms }) (put-again old new) now_is,
+        ap (after_step begun) moved ∙ ap₂ (world_with authority nodes) is now_is,
       )
-  issue_at_one (Err NoMemory) now issues = tt
-  issue_at_one (Err fault) now issues =
-      let refused : of_client begun 1 (issued plan 1 old changes) ≡ Err fault = ap (of_client begun 1) issues.0 in
-      (ap told refused, ap (after_step begun) refused ∙ ap₂ (λ (client : Client) (ms : List Message). world_with plan (node_at plan slots) client ms) (sym issues.1) (sym issues.2))
+  client_steps defined old new there later is (Err NoMemory) now moves = tt
+  client_steps defined old new there later is (Err fault) now moves =
+      let refused : of_client begun v defined ≡ Err fault = ap (of_client begun v) moves.0 in
+      let same : clients ≡ later = sym (put-same clients v) ∙ ap (put clients v) (there ∙ sym moves.1) ∙ is in
+      (ap told refused, ap (after_step begun) refused ∙ ap₂ (world_with authority nodes) same (sym moves.2))
 
-  pub issue_steps : (later : Plan) → later ≡ plan → (v w : ℕ) → v ≡ 1 → w ≡ 1 → (result : Result ℕ Fault) (now : List Message) → Issues (issued plan w old changes) old kept result new now
-      → Steps (of_client begun v (issued plan v (put (λ volume. unborn) 1 old v) changes)) begun result (world_with later (node_at later slots) new now)
-  issue_steps later same v w v_is w_is result now issues =
-      subst (λ (p : Plan). Steps (of_client begun v (issued plan v (put (λ volume. unborn) 1 old v) changes)) begun result (world_with p (node_at p slots) new now)) (sym same)
-      (subst (λ (n : ℕ). Steps (of_client begun n (issued plan n (put (λ volume. unborn) 1 old n) changes)) begun result (ended now)) (sym v_is)
-      (issue_at_one result now (subst (λ (n : ℕ). Issues (issued plan n old changes) old kept result new now) w_is issues)))
+  -- a refusal, where memory didn't run out
+  pub client_refused : (defined : ClientAnswer) (fault : Fault) → Fails fault defined → Steps (of_client begun v defined) begun (Err fault) begun
+  client_refused defined NoMemory h = tt
+  client_refused defined fault h = let refused : of_client begun v defined ≡ Err fault = ap (of_client begun v) h in (ap told refused, ap (after_step begun) refused)
+
+-- a refusal of a client that makes no message
+pub refused_takes : (defined : ClientAnswer) (old new : Client) (kept : List Message) (fault : Fault) → Takes defined old (Err fault) new → ClientMoves defined old kept (Err fault) new kept
+refused_takes defined old new kept NoMemory takes = tt
+refused_takes defined old new kept fault takes = (takes.0, takes.1, refl)
+
+-- what a step of the authority leaves in the world
+module _ (old : Authority) (nodes : ℕ → ℕ → Node) (clients : ℕ → Client) (kept : List Message) where
+  abbrev pub asked_of : World
+  asked_of = world_with old nodes clients kept
+
+  pub authority_steps : (defined : Result AuthorityStep Fault) (new : Authority) (result : Result ℕ Fault) (now : List Message) → AuthorityMoves defined old kept result new now → Steps (of_authority asked_of defined) asked_of result (world_with new nodes clients now)
+  authority_steps defined new (Ok count) now (made, e, many, now_is) =
+      let moved : of_authority asked_of defined ≡ Ok (record { made = made ∷ []; world = record asked_of { authority = new; messages = made ∷ kept } }) = ap (of_authority asked_of) e in (
+        ap told moved ∙ ap Ok many,
+        ap (after_step asked_of) moved ∙ ap (world_with new nodes clients) now_is,
+      )
+  authority_steps defined new (Err NoMemory) now moves = tt
+  authority_steps defined new (Err fault) now moves =
+      let refused : of_authority asked_of defined ≡ Err fault = ap (of_authority asked_of) moves.0 in
+      (ap told refused, ap (after_step asked_of) refused ∙ ap₂ (λ (a : Authority) (ms : List Message). world_with a nodes clients ms) (sym moves.1) (sym moves.2))

@@ -7,15 +7,18 @@ use Rattle.volume_model.specs.Plan.{Plan, is_named}
 use Rattle.volume_model.specs.Message as model
 use Rattle.volume_model.specs.World.{World, Step, after_step, told}
 use Rattle.wire.specs.Message.{messages_of}
-use Rattle.writer_core.specs.Writers.{client_of, writer_plan, writer_volume}
+use Rattle.std.specs.Arc.{arc_value}
+use Rattle.plan.specs.CheckedModel.{checked_model}
+use Rattle.epochs.specs.Authority.{authority_of, authority_plan}
 use Rattle.world.specs.Slots.{members, node_at}
 use Rattle.world.specs.Homes.{nodes_of, AreHomes}
+use Rattle.world.specs.Clients.{clients_of, AreClients}
 use Rattle.world.specs.Worlds.{world_with}
 use Rattle.world.specs.declared.actors.Actors.{Actors}
 
 -- the plan that the actors are made over
 abbrev pub plan_of : Actors → Plan
-plan_of a = writer_plan a.writer
+plan_of a = authority_plan a.authority
 
 -- the messages made so far, newest first
 abbrev pub messages_in : Actors → List model.Message
@@ -23,13 +26,14 @@ messages_in a = added (messages_of a.messages.items) []
 
 -- the world that they are
 abbrev pub world_of : Actors → World
-world_of a = world_with (plan_of a) (node_at (plan_of a) (nodes_of a.nodes.items)) (client_of a.writer) (messages_in a)
+world_of a = world_with (authority_of a.authority) (node_at (plan_of a) (nodes_of a.nodes.items)) (clients_of a.clients) (messages_in a)
 
--- The actors are those of their plan: its nodes, and writer 1. No member has a number that isn't below 64.
+-- The actors are those of their plan. No member has a number that isn't below 64.
 pub record AreActors (a : Actors) : Type 0 where
+  pub plan : checked_model (arc_value a.plan) ≡ plan_of a
   pub homes : AreHomes (plan_of a) a.nodes.items
   pub low : (group member : ℕ) → members ≤ member → is_named (plan_of a) group member ≡ false
-  pub volume : writer_volume a.writer ≡ 1
+  pub clients : AreClients (plan_of a) a.clients
 
 -- What is told of a step is the number of messages that the defined step makes, or its refusal, and the world is then what the
 -- definition leaves. Where memory ran out nothing is said.

@@ -12,9 +12,19 @@ use Rattle.world.specs.declared.event.Order.TheVariants as orders
 
 -- the event that a program's event is
 abbrev pub event_of : Event → model.Event
+event_of events.Assign = model.Event.Assign
+event_of (events.Advance group configuration) = model.Event.Advance group configuration
+event_of (events.Refresh volume) = model.Event.Refresh volume
 event_of (events.Issue volume changes) = model.Event.Issue volume (changes_of changes.items)
+event_of (events.Take volume message) = model.Event.Take volume message
+event_of (events.Cut volume) = model.Event.Cut volume
+event_of (events.Open volume) = model.Event.Open volume
+event_of (events.Resend volume lsn) = model.Event.Resend volume lsn
+event_of (events.Read volume group block) = model.Event.Read volume group block
 event_of (events.Deliver group member message) = model.Event.Deliver group member message
+event_of (events.Hydrate group member) = model.Event.Hydrate group member
 event_of (events.Restart group member) = model.Event.Restart group member
+event_of (events.Offer group member lsn) = model.Event.Offer group member lsn
 
 -- the events that these are, in their order
 abbrev pub events_of : List Event → List model.Event
@@ -46,6 +56,7 @@ firsts_of first (result ∷ later) = first ∷ firsts_of (first + made_by result
 abbrev pub ordered : List (Result ℕ Fault) → Order → model.Event
 ordered results (orders.Event event) = event_of event
 ordered results (orders.DeliverFrom group member event place) = model.Event.Deliver group member (number_from 0 results event place)
+ordered results (orders.TakeFrom volume event place) = model.Event.Take volume (number_from 0 results event place)
 
 -- the events that orders are, from a world on, after these results
 abbrev pub events_from : Plan → World → List (Result ℕ Fault) → List Order → List model.Event

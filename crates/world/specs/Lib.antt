@@ -1,3 +1,5 @@
+pub mod Acts
+pub mod Clients
 pub mod Events
 pub mod Slots
 pub mod Homes

@@ -1,36 +1,44 @@
 //! All actors, and all messages ever made.
 
-use crate::delivery::deliver;
+use crate::acts::{AuthorityAct, ClientAct, NodeAct};
+use crate::birth::begin;
+use crate::client_kind::Client;
 use crate::event::Event;
 use crate::nodes::{all_born, slot};
-use crate::outcome::WriterEnd;
+use crate::numbering::message_at;
+use crate::{authority_step, client_step, node_step};
+use epochs::Authority;
 use plan::CheckedPlan;
 use segment_core::Segment;
 use std::alloc::Global;
+use std::collections::BTreeMap;
 use std::sync::Arc;
 use volume_model::Fault;
 use wire::Message;
-use writer_core::{Change, Writer};
+use writer_core::Writer;
 
 /// All actors, and all messages ever made, in the order of making.
 #[derive(Drop)]
 pub struct Actors {
+    plan: Arc<CheckedPlan>,
+    pub(crate) authority: Authority,
     nodes: Vec<Option<Segment>>,
-    writer: Writer,
+    pub(crate) clients: BTreeMap<u32, Client>,
     messages: Vec<Message>,
 }
 
 impl Actors {
-    ghost use Rattle.std.specs.Prelude.{◌≡◌, IfOk, IfErr, length, map, []};
-    ghost use Rattle.volume_model.specs.Outcome.{writers_in, finds_in};
-    ghost use Rattle.world.specs.Outcomes.{opened_of};
+    ghost use Rattle.std.specs.Prelude.{◌≡◌, IfOk, IfErr, length};
     ghost use Rattle.std.specs.Arc.{arc_value};
     ghost use Rattle.volume_model.specs.declared.fault.Fault.TheVariants.{NoMemory};
-    ghost use Rattle.volume_model.specs.World.{opening, step};
-    ghost use Rattle.volume_model.specs.World as model;
+    ghost use Rattle.std.specs.Prelude.{None};
+    ghost use Rattle.std.specs.Ordering.{nat_cmp};
+    ghost use Rattle.std.specs.BTreeMap.{get};
+    ghost use Rattle.volume_model.specs.Client.{opened, unborn};
+    ghost use Rattle.volume_model.specs.World.{if_named, of_authority, of_client, of_node, opening, step};
     ghost use Rattle.plan.specs.CheckedModel.{checked_model};
-    ghost use Rattle.writer_core.specs.Changes.{changes_of};
     ghost use Rattle.world.specs.Actors.{plan_of, world_of, messages_in, AreActors, Steps};
+    ghost use Rattle.world.specs.Acts.{authority_acted, client_acted, node_acted};
     ghost use Rattle.world.specs.Events.{event_of};
 
     /// All actors before any event.
@@ -40,64 +48,105 @@ impl Actors {
         ensures good { IfOk result AreActors }
         ensures memory { IfErr result (λ e. e ≡ NoMemory) }
     {
+        let first = Writer::first(alloc, plan.clone()?)?;
+        let mut clients = BTreeMap::new(alloc);
+        clients.insert(1, Client::Writer(first))?;
         Ok(Actors {
+            plan: plan.clone()?,
+            authority: Authority::new(alloc, plan.clone()?)?,
             nodes: all_born(alloc, plan)?,
-            writer: Writer::first(alloc, plan.clone()?)?,
+            clients,
             messages: Vec::new(alloc),
         })
     }
 
-    /// A writer's transaction. `NoActor` where the client isn't there.
-    fn issue(&mut self, alloc: Global, volume: u32, changes: &[Change]) -> Result<u64, Fault>
+    /// The authority acts.
+    fn authority_step(&mut self, alloc: Global, act: AuthorityAct) -> Result<u64, Fault>
         requires { AreActors self.old }
-        ensures steps { Steps (step (plan_of self.old) (world_of self.old) (model.Event.Issue volume (changes_of changes.now))) (world_of self.old) result (world_of self.new) }
+        ensures steps { Steps (of_authority (world_of self.old) (authority_acted (plan_of self.old) (world_of self.old).authority act)) (world_of self.old) result (world_of self.new) }
         ensures good { AreActors self.new }
         ensures plan { plan_of self.new ≡ plan_of self.old }
     {
-        if volume != 1 {
+        authority_step::act(alloc, &mut self.authority, &mut self.messages, act)
+    }
+
+    /// A node acts. `NoActor` where the plan doesn't name it.
+    fn node_step(
+        &mut self,
+        alloc: Global,
+        group: u8,
+        member: u8,
+        act: NodeAct,
+    ) -> Result<u64, Fault>
+        requires { AreActors self.old }
+        ensures steps { Steps (of_node (world_of self.old) group member (if_named (plan_of self.old) group member (node_acted (messages_in self.old) act (plan_of self.old) group member ((world_of self.old).nodes group member)))) (world_of self.old) result (world_of self.new) }
+        ensures good { AreActors self.new }
+        ensures plan { plan_of self.new ≡ plan_of self.old }
+    {
+        let Some(slot) = slot(self.nodes.len(), group, member) else {
             return Err(Fault::NoActor);
+        };
+        match &mut self.nodes[slot] {
+            None => Err(Fault::NoActor),
+            Some(segment) => node_step::act(alloc, segment, &mut self.messages, act),
         }
-        let mut made = match self.writer.issue(alloc, changes) {
-            Ok(made) => made,
+    }
+
+    /// A client acts. `NoActor` where it isn't there, unless it takes a View.
+    fn client_step(&mut self, alloc: Global, volume: u32, act: ClientAct) -> Result<u64, Fault>
+        requires { AreActors self.old }
+        ensures steps { Steps (of_client (world_of self.old) volume (client_acted (messages_in self.old) act.entry (plan_of self.old) volume ((world_of self.old).clients volume))) (world_of self.old) result (world_of self.new) }
+        ensures good { AreActors self.new }
+        ensures plan { plan_of self.new ≡ plan_of self.old }
+    {
+        if !self.clients.contains_key(&volume) {
+            return self.absent_step(alloc, volume, act);
+        }
+        match self.clients.get_mut(&volume) {
+            None => Err(Fault::NoActor),
+            Some(client) => client_step::act(alloc, client, &mut self.messages, act),
+        }
+    }
+
+    /// A client that isn't there acts: it is born by a View, and anything else is refused.
+    fn absent_step(&mut self, alloc: Global, volume: u32, act: ClientAct) -> Result<u64, Fault>
+        requires actors { AreActors self.old }
+        requires absent { get nat_cmp self.old.clients volume ≡ None }
+        ensures steps { Steps (of_client (world_of self.old) volume (client_acted (messages_in self.old) act.entry (plan_of self.old) volume unborn)) (world_of self.old) result (world_of self.new) }
+        ensures good { AreActors self.new }
+        ensures plan { plan_of self.new ≡ plan_of self.old }
+    {
+        let ClientAct::Take { message } = act else {
+            return Err(Fault::NoActor);
+        };
+        let Some(message) = message_at(self.messages.as_slice(), message) else {
+            return Err(Fault::NoMessage);
+        };
+        let (recovery, mut made) = match begin(alloc, &self.plan, volume, message) {
+            Ok(begun) => begun,
             Err(fault) => return Err(fault),
         };
         let count = made.len() as u64;
+        self.clients.insert(volume, Client::Recovery(recovery))?;
         self.messages.append(&mut made)?;
         Ok(count)
     }
 
-    /// A delivery to a node. `NoActor` where the plan doesn't name the node.
-    fn deliver(&mut self, alloc: Global, group: u8, member: u8, message: u64) -> Result<u64, Fault>
+    /// A client becomes a writer. `NoActor` where it isn't there.
+    fn opening_step(&mut self, volume: u32) -> Result<u64, Fault>
         requires { AreActors self.old }
-        ensures steps { Steps (step (plan_of self.old) (world_of self.old) (model.Event.Deliver group member message)) (world_of self.old) result (world_of self.new) }
+        ensures steps { Steps (of_client (world_of self.old) volume (opened (plan_of self.old) ((world_of self.old).clients volume))) (world_of self.old) result (world_of self.new) }
         ensures good { AreActors self.new }
         ensures plan { plan_of self.new ≡ plan_of self.old }
     {
-        let Some(slot) = slot(self.nodes.len(), group, member) else {
+        let Some(client) = self.clients.remove(&volume) else {
             return Err(Fault::NoActor);
         };
-        match &mut self.nodes[slot] {
-            None => Err(Fault::NoActor),
-            Some(segment) => deliver(alloc, segment, &mut self.messages, message),
-        }
-    }
-
-    /// A node starts again. `NoActor` where the plan doesn't name the node.
-    fn restart(&mut self, group: u8, member: u8) -> Result<u64, Fault>
-        requires { AreActors self.old }
-        ensures steps { Steps (step (plan_of self.old) (world_of self.old) (model.Event.Restart group member)) (world_of self.old) result (world_of self.new) }
-        ensures good { AreActors self.new }
-        ensures plan { plan_of self.new ≡ plan_of self.old }
-    {
-        let Some(slot) = slot(self.nodes.len(), group, member) else {
-            return Err(Fault::NoActor);
-        };
-        match &mut self.nodes[slot] {
-            None => Err(Fault::NoActor),
-            Some(segment) => {
-                segment.restart();
-                Ok(0)
-            }
+        let (client, opened) = client.open();
+        self.clients.insert(volume, client)?;
+        match opened {
+            Ok(()) => Ok(0),
+            Err(fault) => Err(fault),
         }
     }
 
@@ -109,32 +158,60 @@ impl Actors {
         ensures plan { plan_of self.new ≡ plan_of self.old }
     {
         match event {
-            Event::Issue { volume, changes } => self.issue(alloc, *volume, changes),
+            Event::Assign => self.authority_step(alloc, AuthorityAct::Assign),
+            Event::Advance {
+                group,
+                configuration,
+            } => {
+                let act = AuthorityAct::Advance {
+                    group: *group,
+                    configuration: *configuration,
+                };
+                self.authority_step(alloc, act)
+            }
+            Event::Refresh { volume } => {
+                self.authority_step(alloc, AuthorityAct::Refresh { volume: *volume })
+            }
+            Event::Issue { volume, changes } => {
+                self.client_step(alloc, *volume, ClientAct::Issue(changes))
+            }
+            Event::Take { volume, message } => {
+                self.client_step(alloc, *volume, ClientAct::Take { message: *message })
+            }
+            Event::Cut { volume } => self.client_step(alloc, *volume, ClientAct::Cut),
+            Event::Open { volume } => self.opening_step(*volume),
+            Event::Resend { volume, lsn } => {
+                self.client_step(alloc, *volume, ClientAct::Resend { lsn: *lsn })
+            }
+            Event::Read {
+                volume,
+                group,
+                block,
+            } => {
+                let act = ClientAct::Read {
+                    group: *group,
+                    block: *block,
+                };
+                self.client_step(alloc, *volume, act)
+            }
+            Event::Hydrate { group, member } => {
+                self.node_step(alloc, *group, *member, NodeAct::Hydrate)
+            }
             Event::Deliver {
                 group,
                 member,
                 message,
-            } => self.deliver(alloc, *group, *member, *message),
-            Event::Restart { group, member } => self.restart(*group, *member),
+            } => {
+                let act = NodeAct::Deliver { message: *message };
+                self.node_step(alloc, *group, *member, act)
+            }
+            Event::Restart { group, member } => {
+                self.node_step(alloc, *group, *member, NodeAct::Restart)
+            }
+            Event::Offer { group, member, lsn } => {
+                self.node_step(alloc, *group, *member, NodeAct::Offer { lsn: *lsn })
+            }
         }
-    }
-
-    /// The opened writers, in growing volume epoch.
-    pub fn writers(&self, alloc: Global) -> Result<Vec<WriterEnd>, Fault>
-        requires { AreActors self.now }
-        ensures writers { IfOk result (λ ends. map opened_of ends.items ≡ writers_in (world_of self.now)) }
-        ensures finds { finds_in (world_of self.now) ≡ [] }
-        ensures memory { IfErr result (λ e. e ≡ NoMemory) }
-    {
-        let end = WriterEnd {
-            volume: self.writer.volume(),
-            start: self.writer.start(),
-            log: self.writer.log().to_vec(alloc)?,
-            durable: self.writer.durable_point(),
-        };
-        let mut ends = Vec::new(alloc);
-        ends.push(end)?;
-        Ok(ends)
     }
 
     /// How many messages were made so far.

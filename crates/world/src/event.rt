@@ -2,15 +2,36 @@
 
 use writer_core::Change;
 
-/// What may happen next, to one actor. A lost message is one that no event names.
+/// What may happen next, to one actor. A lost message is one that no event names. Messages are numbered from 1 in the order of
+/// making.
 #[derive(Drop)]
 pub enum Event {
+    /// The authority assigns the next volume epoch.
+    Assign,
+    /// The authority leads a group to a child of its configuration.
+    Advance { group: u8, configuration: u32 },
+    /// The authority tells the client of the last volume epoch where the groups stand.
+    Refresh { volume: u32 },
     /// A writer gives a transaction's changes their records.
     Issue { volume: u32, changes: Vec<Change> },
-    /// A node of a group takes the message with this number, counted from 1 in the order of making.
+    /// A client takes the message with this number.
+    Take { volume: u32, message: u64 },
+    /// A recovery that has read enough finds the log, and begins to install it.
+    Cut { volume: u32 },
+    /// A recovery that has installed enough becomes a writer.
+    Open { volume: u32 },
+    /// A writer sends a record of its log once more.
+    Resend { volume: u32, lsn: u64 },
+    /// A writer asks for a block's bytes at its durable point.
+    Read { volume: u32, group: u8, block: u32 },
+    /// A node of a group takes the message with this number.
     Deliver { group: u8, member: u8, message: u64 },
+    /// A node becomes whole from the copies that it was sent.
+    Hydrate { group: u8, member: u8 },
     /// A node starts again.
     Restart { group: u8, member: u8 },
+    /// A node offers a record that it holds to the others of its group.
+    Offer { group: u8, member: u8, lsn: u64 },
 }
 
 /// An event whose message may be named by the event that made it.
@@ -22,6 +43,12 @@ pub enum Order {
     DeliverFrom {
         group: u8,
         member: u8,
+        event: usize,
+        place: u64,
+    },
+    /// A client takes the message that was made as the `place`-th, from 1, by the event with this index.
+    TakeFrom {
+        volume: u32,
         event: usize,
         place: u64,
     },

@@ -2,13 +2,21 @@
 #![tactic(auto)]
 
 mod actors;
-mod delivery;
+mod acts;
+mod authority_step;
+mod birth;
+mod client;
+mod client_kind;
+mod client_step;
+mod ending;
 mod event;
+mod node_step;
 mod nodes;
+mod numbering;
 mod orders;
 mod outcome;
 mod running;
 
 pub use event::{Event, Order};
-pub use outcome::{Outcome, WriterEnd};
+pub use outcome::{FindEnd, Outcome, WriterEnd};
 pub use running::{run, run_orders};

@@ -68,5 +68,17 @@ pub fn follow(
             };
             actors.step(alloc, &delivery)
         }
+        Order::TakeFrom {
+            volume,
+            event,
+            place,
+        } => {
+            let message = number_of(firsts, results, *event, *place);
+            let taking = Event::Take {
+                volume: *volume,
+                message,
+            };
+            actors.step(alloc, &taking)
+        }
     }
 }

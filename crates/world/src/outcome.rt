@@ -1,5 +1,6 @@
 //! What a run leaves to be told.
 
+use lineage::Lineage;
 use redo_record::Record;
 use volume_model::Fault;
 
@@ -16,6 +17,17 @@ pub struct WriterEnd {
     pub durable: u64,
 }
 
+/// A recovery that has cut, at the end of a run.
+#[derive(Drop)]
+pub struct FindEnd {
+    /// Its volume epoch.
+    pub volume: u32,
+    /// The log that it found, in growing LSN.
+    pub log: Vec<Record>,
+    /// Its lineage, whose last entry says where it cut.
+    pub lineage: Lineage,
+}
+
 /// What is told of a run.
 #[derive(Drop)]
 pub struct Outcome {
@@ -23,4 +35,6 @@ pub struct Outcome {
     pub results: Vec<Result<u64, Fault>>,
     /// The opened writers, in growing volume epoch.
     pub writers: Vec<WriterEnd>,
+    /// The recoveries that have cut, in growing volume epoch. One that has become a writer is both.
+    pub finds: Vec<FindEnd>,
 }

@@ -8,7 +8,7 @@ ghost use Rattle.volume_model.specs.World.{opening};
 ghost use Rattle.volume_model.specs.Headline.{KeepsCommits, SaysTruePages};
 ghost use Rattle.plan.specs.CheckedModel.{checked_model};
 ghost use Rattle.world.specs.Events.{events_of, events_from};
-ghost use Rattle.world.specs.Outcomes.{TellsRun};
+ghost use Rattle.world.specs.Outcomes.{KeepsAcknowledgements, TellsRun};
 
 use crate::actors::Actors;
 use crate::event::{Event, Order};
@@ -17,7 +17,7 @@ use crate::outcome::Outcome;
 use plan::CheckedPlan;
 use std::alloc::Global;
 use std::sync::Arc;
-use volume_model::{Fault, pages_are_true, volume_keeps_commits};
+use volume_model::{Fault, acknowledgements_last, pages_are_true, volume_keeps_commits};
 
 /// What is told of an event; want of memory ends the run.
 fn told(step: Result<u64, Fault>) -> Result<Result<u64, Fault>, Fault>
@@ -41,6 +41,9 @@ pub fn run(alloc: Global, plan: &Arc<CheckedPlan>, events: &[Event]) -> Result<O
     // every recovery of a later volume epoch, and no two records are acknowledged under one LSN.
     ensures commits { OnOk result (KeepsCommits (model.run (checked_model (arc_value plan.now)) (opening (checked_model (arc_value plan.now))) (events_of events.now))) }
 
+    // What was acknowledged stays so, and no opened writer's durable point falls.
+    ensures lasts { OnOk result (KeepsAcknowledgements (checked_model (arc_value plan.now)) (events_of events.now)) }
+
     // Every page that any node made is that of its writer's log at the point asked.
     ensures pages { OnOk result (SaysTruePages (model.run (checked_model (arc_value plan.now)) (opening (checked_model (arc_value plan.now))) (events_of events.now))) }
     ensures memory { IfErr result (λ e. e ≡ NoMemory) }
@@ -48,6 +51,7 @@ pub fn run(alloc: Global, plan: &Arc<CheckedPlan>, events: &[Event]) -> Result<O
     plan.certified();
     volume_keeps_commits();
     pages_are_true();
+    acknowledgements_last();
     let mut actors = Actors::open(alloc, plan)?;
     let mut results = Vec::new(alloc);
     for event in events {
@@ -55,7 +59,12 @@ pub fn run(alloc: Global, plan: &Arc<CheckedPlan>, events: &[Event]) -> Result<O
         results.push(result)?;
     }
     let writers = actors.writers(alloc)?;
-    Ok(Outcome { results, writers })
+    let finds = actors.finds(alloc)?;
+    Ok(Outcome {
+        results,
+        writers,
+        finds,
+    })
 }
 
 /// `run`, of events whose messages may be named by the events that made them.
@@ -66,12 +75,14 @@ pub fn run_orders(
 ) -> Result<Outcome, Fault>
     ensures tells { IfOk result (TellsRun (checked_model (arc_value plan.now)) (events_from (checked_model (arc_value plan.now)) (opening (checked_model (arc_value plan.now))) [] orders.now)) }
     ensures commits { OnOk result (KeepsCommits (model.run (checked_model (arc_value plan.now)) (opening (checked_model (arc_value plan.now))) (events_from (checked_model (arc_value plan.now)) (opening (checked_model (arc_value plan.now))) [] orders.now))) }
+    ensures lasts { OnOk result (KeepsAcknowledgements (checked_model (arc_value plan.now)) (events_from (checked_model (arc_value plan.now)) (opening (checked_model (arc_value plan.now))) [] orders.now)) }
     ensures pages { OnOk result (SaysTruePages (model.run (checked_model (arc_value plan.now)) (opening (checked_model (arc_value plan.now))) (events_from (checked_model (arc_value plan.now)) (opening (checked_model (arc_value plan.now))) [] orders.now))) }
     ensures memory { IfErr result (λ e. e ≡ NoMemory) }
 {
     plan.certified();
     volume_keeps_commits();
     pages_are_true();
+    acknowledgements_last();
     let mut actors = Actors::open(alloc, plan)?;
     let mut firsts = Vec::new(alloc);
     let mut results = Vec::new(alloc);
@@ -89,5 +100,10 @@ pub fn run_orders(
         results.push(result)?;
     }
     let writers = actors.writers(alloc)?;
-    Ok(Outcome { results, writers })
+    let finds = actors.finds(alloc)?;
+    Ok(Outcome {
+        results,
+        writers,
+        finds,
+    })
 }

@@ -7,7 +7,7 @@ use Rattle.wire.specs.Message.{message_of, messages_of, made_of}
 use Rattle.volume_model.specs.Lists.{added, numbered}
 use Rattle.segment_core.specs.Segment.{node_of, segment_plan, segment_group, segment_member}
 use Rattle.world.proofs.Messages.{added-one}
-use Rattle.world.proofs.delivery.deliver.Goals as goal
+use Rattle.world.proofs.node_step.deliver.Goals as goal
 
 pub returns-in_ok-push-in-Some-answer-clause-moves : goal.returns-in_ok-push-in-Some-answer-clause-moves
 returns-in_ok-push-in-Some-answer-clause-moves c =

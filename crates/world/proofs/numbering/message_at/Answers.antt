@@ -1,6 +1,6 @@
 use Rattle.std.proofs.Common.{inl, inr, arith}
 use Rattle.world.proofs.Messages.{numbered-read, numbered-none}
-use Rattle.world.proofs.delivery.message_at.Goals as goal
+use Rattle.world.proofs.numbering.message_at.Goals as goal
 
 pub returns-then-number-eq0 : goal.returns-then-number-eq0
 returns-then-number-eq0 c =

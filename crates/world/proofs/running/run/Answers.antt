@@ -9,7 +9,7 @@ use Rattle.plan.specs.CheckedModel.{checked_model}
 use Rattle.world.specs.declared.event.Event.{Event}
 use Rattle.world.specs.Actors.{world_of, Steps}
 use Rattle.world.specs.Events.{event_of, events_of}
-use Rattle.world.proofs.Runs.{told_on, run_on}
+use Rattle.world.proofs.Runs.{lasting, told_on, run_on}
 use Rattle.world.proofs.running.run.Goals as goal
 
 pub returns-clause-commits : goal.returns-clause-commits
@@ -35,3 +35,6 @@ loop-event-preserved c =
       told = rw c.in_ok-push.ensures.items (told_on plan (world_of c.loop-event.actors) (world_of c.step.new.self) (event_of e) told ne steps c.loop-event.results.items later) ∙ ap (λ (es : List model.Event). c.loop-event.results.items ++ model.results plan (world_of c.loop-event.actors) es) (sym rest) ∙ c.loop-event.invariant.told;
       rest = run_on plan (world_of c.loop-event.actors) (world_of c.step.new.self) (event_of e) told ne steps c.loop-event.results.items later ∙ ap (model.run plan (world_of c.loop-event.actors)) (sym rest) ∙ c.loop-event.invariant.rest;
     }
+
+pub returns-clause-lasts : goal.returns-clause-lasts
+returns-clause-lasts c = lasting (checked_model (arc_value c.args.plan.now)) (subst (λ (p : CheckedPlan). IsCertified (checked_model p)) c.deref.ensures c.certified.ensures) c.acknowledgements_last.ensures (events_of c.args.events.now)

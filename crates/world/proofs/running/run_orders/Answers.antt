@@ -9,7 +9,7 @@ use Rattle.plan.specs.CheckedModel.{checked_model}
 use Rattle.world.specs.declared.event.Order.{Order}
 use Rattle.world.specs.Actors.{plan_of, world_of, Steps}
 use Rattle.world.specs.Events.{total_made, ordered, events_from}
-use Rattle.world.proofs.Runs.{told_on, run_on, order_rest, total_on}
+use Rattle.world.proofs.Runs.{lasting, told_on, run_on, order_rest, total_on}
 use Rattle.world.proofs.Numbers.{firsts_of-push}
 use Rattle.world.proofs.running.run_orders.Goals as goal
 
@@ -47,3 +47,6 @@ loop-order-preserved c =
       firsts = rw (items, firsts) (ap₂ (λ (ns : List ℕ) (n : ℕ). ns ++ n ∷ []) c.loop-order.invariant.firsts made ∙ sym (firsts_of-push 0 results result));
       total = rw items (total_on plan old new event result ne steps results c.loop-order.invariant.total);
     }
+
+pub returns-clause-lasts : goal.returns-clause-lasts
+returns-clause-lasts c = lasting (checked_model (arc_value c.args.plan.now)) (subst (λ (p : CheckedPlan). IsCertified (checked_model p)) c.deref.ensures c.certified.ensures) c.acknowledgements_last.ensures (events_from (checked_model (arc_value c.args.plan.now)) (model.opening (checked_model (arc_value c.args.plan.now))) [] c.args.orders.now)

@@ -1,0 +1,76 @@
+-- One client changes, and no other.
+use Rattle.std.proofs.Common.{◌≡◌, ◌≢◌, ℕ, Bool, true, false, cond, [], Some, None, refl, sym, ap, ◌∙◌, subst, arith, inl, inr}
+use Rattle.std.specs.Ordering.{nat_cmp}
+use Rattle.std.specs.BTreeMap.{BTreeMap, get, is_at}
+use Rattle.std.specs.Map.{lookup}
+use Rattle.std.proofs.lemmas.Bool.{cases_eq, eq-eqb, ne_eqb}
+use Rattle.std.proofs.lemmas.Bool.Decides.{nat_tests}
+use Rattle.volume_model.specs.Lists.{put}
+use Rattle.volume_model.specs.Plan.{Plan}
+use Rattle.volume_model.specs.Client.{unborn}
+use Rattle.world.specs.declared.client_kind.Client.{Client}
+use Rattle.world.specs.Clients.{seen_client, client_or_unborn, clients_of, IsClientOf, AreClients}
+
+-- a number is found by itself, and by no other
+found_by : (v w : ℕ) → w ≡ v → is_at (nat_cmp v) w ≡ true
+found_by v w e = grind (arith, nat_tests)
+
+missed_by : (v w : ℕ) → w ≢ v → is_at (nat_cmp v) w ≡ false
+missed_by v w ne = grind (arith, nat_tests)
+
+-- the one map is the other with this client under this volume epoch
+abbrev pub IsPut : BTreeMap ℕ Client → ℕ → Client → BTreeMap ℕ Client → Type 0
+IsPut old v client new = (w : ℕ) → get nat_cmp new w ≡ cond (is_at (nat_cmp v) w) (Some client) (get nat_cmp old w)
+
+module _ (old new : BTreeMap ℕ Client) (v : ℕ) (client : Client) (is : IsPut old v client new) where
+  client_put_at : (w : ℕ) → put (clients_of old) v (seen_client client) w ≡ clients_of new w
+  client_put_at w =
+      elim (cases_eq w v) [
+        | inl e ↦ rw (eq-eqb w v e) (sym (ap client_or_unborn (is w ∙ ap (λ (b : Bool). cond b (Some client) (get nat_cmp old w)) (found_by v w e))))
+        | inr ne ↦ rw (ne_eqb w v ne) (sym (ap client_or_unborn (is w ∙ ap (λ (b : Bool). cond b (Some client) (get nat_cmp old w)) (missed_by v w ne))))
+      ]
+
+  pub client_put : put (clients_of old) v (seen_client client) ≡ clients_of new
+  client_put = λ j w. client_put_at w j
+
+  pub clients_on : (plan : Plan) → AreClients plan old → IsClientOf plan v client → AreClients plan new
+  clients_on plan all one w other found =
+      elim (cases_eq w v) [
+        | inl e ↦ let same : Some client ≡ Some other = sym (is w ∙ ap (λ (b : Bool). cond b (Some client) (get nat_cmp old w)) (found_by v w e)) ∙ found in
+            let this : client ≡ other = cc in
+            subst (λ (n : ℕ). IsClientOf plan n other) (sym e) (subst (IsClientOf plan v) this one)
+        | inr ne ↦ all w other (sym (is w ∙ ap (λ (b : Bool). cond b (Some client) (get nat_cmp old w)) (missed_by v w ne)) ∙ found)
+      ]
+
+-- before any client was kept there is none
+no_client : (clients : BTreeMap ℕ Client) → clients.entries ≡ [] → (w : ℕ) → get nat_cmp clients w ≡ None
+no_client clients e w = rw e refl
+
+pub none_yet : (clients : BTreeMap ℕ Client) → clients.entries ≡ [] → clients_of clients ≡ (λ volume. unborn)
+none_yet clients e = λ j w. ap client_or_unborn (no_client clients e w) j
+
+pub none_kept : (clients : BTreeMap ℕ Client) → clients.entries ≡ [] → (plan : Plan) → AreClients plan clients
+none_kept clients e plan w client found = let h : None ≡ Some client = sym (no_client clients e w) ∙ found in absurd cc
+
+-- one client was taken out
+abbrev pub IsOut : BTreeMap ℕ Client → ℕ → BTreeMap ℕ Client → Type 0
+IsOut old v without = (w : ℕ) → get nat_cmp without w ≡ cond (is_at (nat_cmp v) w) None (get nat_cmp old w)
+
+-- a client that was taken out and put back
+pub put_back : (old without new : BTreeMap ℕ Client) (v : ℕ) (client : Client) → IsOut old v without → IsPut without v client new → IsPut old v client new
+put_back old without new v client out is w = is w ∙ ap (cond (is_at (nat_cmp v) w) (Some client)) (out w) ∙ twice (is_at (nat_cmp v) w)
+  where
+    twice : (b : Bool) → cond b (Some client) (cond b None (get nat_cmp old w)) ≡ cond b (Some client) (get nat_cmp old w)
+    twice true = refl
+    twice false = refl
+
+-- clients that stay the same
+pub same_clients : (plan : Plan) (old new : BTreeMap ℕ Client) → new.entries ≡ old.entries → AreClients plan old → AreClients plan new
+same_clients plan old new e all w client found = all w client (ap (lookup (is_at (nat_cmp w))) (sym e) ∙ found)
+
+pub clients_without : (plan : Plan) (old without : BTreeMap ℕ Client) (v : ℕ) → IsOut old v without → AreClients plan old → AreClients plan without
+clients_without plan old without v out all w client found = all w client (there (is_at (nat_cmp v) w) (sym (out w) ∙ found))
+  where
+    there : (b : Bool) → cond b None (get nat_cmp old w) ≡ Some client → get nat_cmp old w ≡ Some client
+    there true h = absurd cc
+    there false h = h

@@ -1,0 +1,42 @@
+//! What an actor may be asked to do.
+
+use writer_core::Change;
+
+/// What the authority does.
+#[derive(Clone, Copy)]
+pub enum AuthorityAct {
+    /// It assigns the next volume epoch.
+    Assign,
+    /// It leads a group to a child of its configuration.
+    Advance { group: u8, configuration: u32 },
+    /// It tells the client of a volume epoch where the groups stand.
+    Refresh { volume: u32 },
+}
+
+/// What a node does.
+#[derive(Clone, Copy)]
+pub enum NodeAct {
+    /// It takes the message with this number.
+    Deliver { message: u64 },
+    /// It becomes whole.
+    Hydrate,
+    /// It starts again.
+    Restart,
+    /// It offers the record with this LSN to the others of its group.
+    Offer { lsn: u64 },
+}
+
+/// What a client does, but for becoming a writer.
+#[derive(Clone, Copy)]
+pub enum ClientAct<'a> {
+    /// It gives a transaction's changes their records.
+    Issue(&'a [Change]),
+    /// It takes the message with this number.
+    Take { message: u64 },
+    /// It cuts the log where what it has read ends.
+    Cut,
+    /// It sends the record with this LSN once more.
+    Resend { lsn: u64 },
+    /// It asks for a block's bytes.
+    Read { group: u8, block: u32 },
+}

@@ -1,0 +1,44 @@
+//! What the authority does.
+
+ghost use Rattle.std.specs.Prelude.{◌≡◌, []};
+ghost use Rattle.volume_model.specs.Lists.{added};
+ghost use Rattle.wire.specs.Message.{messages_of};
+ghost use Rattle.epochs.specs.Authority.{authority_of, authority_plan, Answers};
+ghost use Rattle.world.specs.Acts.{authority_acted};
+ghost use Rattle.world.specs.Moves.{AuthorityMoves};
+
+use crate::acts::AuthorityAct;
+use epochs::Authority;
+use std::alloc::Global;
+use volume_model::Fault;
+use wire::Message;
+
+/// Lets the authority act, and answers the message that it makes.
+fn tell(alloc: Global, authority: &mut Authority, act: AuthorityAct) -> Result<Message, Fault>
+    ensures answers { Answers (authority_acted (authority_plan authority.old) (authority_of authority.old) act) (authority_of authority.old) result (authority_of authority.new) }
+    ensures plan { authority_plan authority.new ≡ authority_plan authority.old }
+{
+    match act {
+        AuthorityAct::Assign => authority.assign(alloc),
+        AuthorityAct::Advance {
+            group,
+            configuration,
+        } => authority.advance(group, configuration),
+        AuthorityAct::Refresh { volume } => authority.refresh(alloc, volume),
+    }
+}
+
+/// Lets the authority act, and adds the message that it makes to the others.
+pub fn act(
+    alloc: Global,
+    authority: &mut Authority,
+    messages: &mut Vec<Message>,
+    act: AuthorityAct,
+) -> Result<u64, Fault>
+    ensures moves { AuthorityMoves (authority_acted (authority_plan authority.old) (authority_of authority.old) act) (authority_of authority.old) (added (messages_of messages.old.items) []) result (authority_of authority.new) (added (messages_of messages.new.items) []) }
+    ensures plan { authority_plan authority.new ≡ authority_plan authority.old }
+{
+    let message = tell(alloc, authority, act)?;
+    messages.push(message)?;
+    Ok(1)
+}
