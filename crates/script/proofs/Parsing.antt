@@ -1,10 +1,13 @@
 -- What the words of a line spell, part by part.
-use Rattle.std.proofs.Common.{◌≡◌, ◌≢◌, ◌∙◌, ap, sym, ℕ, ◌+◌, ◌<◌, List, [], ◌∷◌, ◌++◌, Option, Some, None, length, drop, get_or, map, option_map, arith, refl, Bor, add-one, drop-cons}
+use Rattle.std.proofs.Common.{◌≡◌, false, ◌≢◌, ◌∙◌, ap, sym, ℕ, ◌+◌, ◌<◌, List, [], ◌∷◌, ◌++◌, Option, Some, None, length, drop, get_or, map, option_map, arith, refl, Bor, add-one, drop-cons}
+use Rattle.std.specs.Str.{bytes_eq}
+use Rattle.std.proofs.lemmas.Bool.{false_from_ne_true}
 use Rattle.std.proofs.lemmas.List.{append_assoc, map-append}
+use Rattle.std.proofs.lemmas.Slice.Eq.{bytes_eq-Decides}
 use Rattle.volume_model.specs.Client as model
 use Rattle.writer_core.specs.Changes.{change_of, changes_of}
 use Rattle.writer_core.specs.declared.change.Change.{Change}
-use Rattle.script.specs.Grammar.{change_by, changes_in, deliver_in, name_in}
+use Rattle.script.specs.Grammar.{change_by, changes_in, deliver_in, name_in, offer_in, read_in, take_in}
 use Rattle.script.specs.Seen.{seen_deed}
 use Rattle.script.specs.Words.{fields_in}
 
@@ -30,6 +33,26 @@ no_delivery events earlier (a ∷ b ∷ []) other = refl
 no_delivery events earlier (a ∷ b ∷ c ∷ []) other = absurd (other refl)
 no_delivery events earlier (a ∷ b ∷ c ∷ d ∷ more) other = refl
 
+pub no_taking : (events : List (Option ℕ)) (earlier : ℕ) (words : List (List ℕ)) → (length words ≡ 2 → ⊥) → option_map (seen_deed events) (take_in earlier words) ≡ None
+no_taking events earlier [] other = refl
+no_taking events earlier (a ∷ []) other = refl
+no_taking events earlier (a ∷ b ∷ []) other = absurd (other refl)
+no_taking events earlier (a ∷ b ∷ c ∷ more) other = refl
+
+pub no_reading : (words : List (List ℕ)) → (length words ≡ 3 → ⊥) → read_in words ≡ None
+no_reading [] other = refl
+no_reading (a ∷ []) other = refl
+no_reading (a ∷ b ∷ []) other = refl
+no_reading (a ∷ b ∷ c ∷ []) other = absurd (other refl)
+no_reading (a ∷ b ∷ c ∷ d ∷ more) other = refl
+
+pub no_offer : (words : List (List ℕ)) → (length words ≡ 3 → ⊥) → offer_in words ≡ None
+no_offer [] other = refl
+no_offer (a ∷ []) other = refl
+no_offer (a ∷ b ∷ []) other = refl
+no_offer (a ∷ b ∷ c ∷ []) other = absurd (other refl)
+no_offer (a ∷ b ∷ c ∷ d ∷ more) other = refl
+
 pub length_texts : (words : List (Bor (List ℕ))) → length (map (λ w. w.now) words) ≡ length words
 length_texts [] = refl
 length_texts (word ∷ words) = omega (arith, length_texts words)
@@ -46,6 +69,15 @@ no_change_by fields other = no_change (map (λ w. w.now) fields) (λ four. other
 pub no_delivery_by : (events : List (Option ℕ)) (earlier : ℕ) (words : List (Bor (List ℕ))) → length words ≢ 3 → option_map (seen_deed events) (deliver_in earlier (map (λ w. w.now) words)) ≡ None
 no_delivery_by events earlier words other = no_delivery events earlier (map (λ w. w.now) words) (λ three. other (sym (length_texts words) ∙ three))
 
+pub no_taking_by : (events : List (Option ℕ)) (earlier : ℕ) (words : List (Bor (List ℕ))) → length words ≢ 2 → option_map (seen_deed events) (take_in earlier (map (λ w. w.now) words)) ≡ None
+no_taking_by events earlier words other = no_taking events earlier (map (λ w. w.now) words) (λ two. other (sym (length_texts words) ∙ two))
+
+pub no_reading_by : (words : List (Bor (List ℕ))) → length words ≢ 3 → read_in (map (λ w. w.now) words) ≡ None
+no_reading_by words other = no_reading (map (λ w. w.now) words) (λ three. other (sym (length_texts words) ∙ three))
+
+pub no_offer_by : (words : List (Bor (List ℕ))) → length words ≢ 3 → offer_in (map (λ w. w.now) words) ≡ None
+no_offer_by words other = no_offer (map (λ w. w.now) words) (λ three. other (sym (length_texts words) ∙ three))
+
 -- one change more
 pub changes_more : (all : Option (List model.Change)) (words : List (Bor (List ℕ))) (i : ℕ) (word : Bor (List ℕ)) (items new : List Change) (c : Change)
     → all ≡ option_map (λ more. changes_of items ++ more) (changes_in (map (λ w. w.now) (drop i words))) → i < length words → word ≡ get_or words i word
@@ -61,3 +93,7 @@ pub changes_end : (all : Option (List model.Change)) (words : List (Bor (List �
 changes_end all words i word items before within item change =
     let front : drop i words ≡ word ∷ drop (i + 1) words = drop-cons words i word within ∙ rw (← item, add-one) refl in
     rw (before, front, change) refl
+
+-- another word is not this one
+pub other_word : (name word : List ℕ) → word ≢ name → bytes_eq name word ≡ false
+other_word name word other = false_from_ne_true (bytes_eq name word) (λ same. other (sym ((bytes_eq-Decides name word).0 same)))

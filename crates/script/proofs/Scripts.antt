@@ -1,5 +1,5 @@
 -- A script that is read line by line.
-use Rattle.std.proofs.Common.{◌≡◌, ◌∙◌, ap, sym, subst, ℕ, zero, suc, ◌+◌, ◌-◌, ◌<◌, ◌≤◌, List, [], ◌∷◌, ◌++◌, Option, Some, None, Ok, Err, length, drop, take, get_or, arith, refl, sum_by, length-drop}
+use Rattle.std.proofs.Common.{◌≡◌, ◌∙◌, ap, sym, subst, ℕ, zero, suc, ◌+◌, ◌-◌, ◌<◌, ◌≤◌, List, [], ◌∷◌, ◌++◌, Option, Some, None, Ok, Err, length, drop, take, get_or, arith, refl, sum_by, length-drop, option_map}
 use Rattle.std.specs.Str.{IsUtf8}
 use Rattle.std.proofs.lemmas.List.{length-take-le, length_push}
 use Rattle.std.proofs.lemmas.List.Sums.{fold-append, sum_by_push}
@@ -121,3 +121,8 @@ starts_empty text script indexes no_steps no_orders no_indexes =
 pub next_line : (rest line after : List ℕ) → line ≡ before_newline (take (length rest - length after) rest) → pieces rest ≡ take (length rest - length after) rest ∷ pieces after
     → IsNext rest line after (length rest - length after)
 next_line rest line after first pieces_are = record { first = first; pieces_are = pieces_are; long = length-take-le (length rest - length after) rest (omega arith) }
+
+-- a line that asks for something says a deed that asks for it
+pub deed_seen : (there : Option Deed) (events : List (Option ℕ)) (asks : Seen) → option_map (seen_deed events) there ≡ Some asks → (deed : Deed) × (there ≡ Some deed) × (seen_deed events deed ≡ asks)
+deed_seen None events asks e = absurd cc
+deed_seen (Some deed) events asks e = let same : seen_deed events deed ≡ asks = cc in (deed, refl, same)

@@ -5,14 +5,15 @@ use Rattle.world.specs.Events.{event_of}
 use Rattle.world.specs.declared.event.Order.{Order}
 use Rattle.world.specs.declared.event.Order.TheVariants as orders
 use Rattle.script.specs.Grammar.{Deed}
-use Rattle.script.specs.Grammar.Deed.{Nothing, Waits, Makes, Delivers}
+use Rattle.script.specs.Grammar.Deed.{Nothing, Waits, Makes, Delivers, Takes}
 use Rattle.script.specs.declared.line.Line.{Line}
 use Rattle.script.specs.declared.line.Line.TheVariants as lines
 
--- What an order asks for: an event as it is, or the delivery of a message of the event with an index.
+-- What an order asks for: an event as it is, or that a node or a client takes a message of the event with an index.
 pub data Asked : Type 0 where
   Fixed : model.Event → Asked
   From : (group member event place : ℕ) → Asked
+  TakeFrom : (volume event place : ℕ) → Asked
 
 -- what a line asks for, if it isn't nothing
 pub data Seen : Type 0 where
@@ -23,6 +24,7 @@ pub data Seen : Type 0 where
 abbrev pub asked_by : Order → Asked
 asked_by (orders.Event event) = Asked.Fixed (event_of event)
 asked_by (orders.DeliverFrom group member event place) = Asked.From group member event place
+asked_by (orders.TakeFrom volume event place) = Asked.TakeFrom volume event place
 
 abbrev pub seen : Line → Seen
 seen lines.Empty = Seen.Silent
@@ -35,9 +37,15 @@ abbrev pub asked_from : ℕ → ℕ → ℕ → Option ℕ → Asked
 asked_from group member place (Some event) = Asked.From group member event place
 asked_from group member place None = Asked.Fixed (model.Event.Deliver group member 0)
 
+-- The same of what a client takes.
+abbrev pub take_from : ℕ → ℕ → Option ℕ → Asked
+take_from volume place (Some event) = Asked.TakeFrom volume event place
+take_from volume place None = Asked.Fixed (model.Event.Take volume 0)
+
 -- what a deed asks for, where these are the indexes of the earlier lines' events
 abbrev pub seen_deed : List (Option ℕ) → Deed → Seen
 seen_deed events Nothing = Seen.Silent
 seen_deed events Waits = Seen.Pause
 seen_deed events (Makes event) = Seen.Asks (Asked.Fixed event)
 seen_deed events (Delivers group member line place) = Seen.Asks (asked_from group member place (slice_index_or events (line - 1) None))
+seen_deed events (Takes volume line place) = Seen.Asks (take_from volume place (slice_index_or events (line - 1) None))

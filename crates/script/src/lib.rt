@@ -1,8 +1,11 @@
 //! Scripts: what the lines of a text make happen.
 #![tactic(auto)]
 
+mod changes;
 mod examples;
 mod line;
+mod names;
+mod numbers;
 mod pieces;
 mod reading;
 mod word;

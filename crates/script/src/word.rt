@@ -59,6 +59,27 @@ pub fn member_of(word: &str) -> Result<u8, Fault>
     group_of(word)
 }
 
+/// The number of a volume epoch, a configuration or a block, below 2^32.
+pub fn block_of(word: &str) -> Result<u32, Fault>
+    ensures { Reads (number_in 4294967295 word.now) result }
+{
+    Ok(number(word, u64::from(u32::MAX))? as u32)
+}
+
+/// A volume epoch, below 2^32.
+pub fn volume_of(word: &str) -> Result<u32, Fault>
+    ensures { Reads (number_in 4294967295 word.now) result }
+{
+    block_of(word)
+}
+
+/// An LSN, below 2^64.
+pub fn lsn_of(word: &str) -> Result<u64, Fault>
+    ensures { Reads (number_in 18446744073709551615 word.now) result }
+{
+    number(word, u64::MAX)
+}
+
 /// The value of a hexadecimal digit in lower case.
 fn digit(byte: u8) -> Result<u8, Fault>
     ensures { Reads (digit_in byte) result }
