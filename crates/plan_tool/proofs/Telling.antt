@@ -9,9 +9,7 @@ use Rattle.volume_model.specs.Lists.{added}
 use Rattle.volume_model.specs.Redo.{Redo, last_lsn}
 use Rattle.redo_record.specs.declared.«record».Record.{Record}
 use Rattle.redo_record.specs.Record.{redo_of}
-use Rattle.world.specs.Outcomes.{opened_of}
-use Rattle.world.specs.declared.outcome.WriterEnd.{WriterEnd}
-use Rattle.plan_tool.specs.Told.{AreLinesOf, IsLineOf, Telling, Told, counts_line, first_if, refused_line, rest_if, tellings, writer_line, writer_lines}
+use Rattle.plan_tool.specs.Told.{AreLinesOf, IsLineOf, Telling, Told, counts_line, each_line, first_if, refused_line, rest_if, tellings}
 use Rattle.plan_tool.specs.Told.AreLinesOf.{none, more}
 use Rattle.plan_tool.specs.ToldLines.{AppendsLine, AppendsLines}
 use Rattle.script.specs.declared.reading.Step.{Step}
@@ -56,15 +54,15 @@ tells_all steps results left i old now end so_far =
     let all : tellings steps results ≡ so_far.done = so_far.left_are ∙ (ap (λ t. so_far.done ++ t) nothing ∙ append-nil so_far.done) in
     (so_far.lines, rw all so_far.are, so_far.now_is)
 
--- one writer more
-pub writers_more : (writers : List WriterEnd) (i : ℕ) (writer : WriterEnd) (old now new : List ℕ) → old ++ writer_lines (map opened_of writers) ≡ now ++ writer_lines (map opened_of (drop i writers)) → i < length writers → writer ≡ get_or writers i writer
-    → new ≡ now ++ writer_line (opened_of writer) → old ++ writer_lines (map opened_of writers) ≡ new ++ writer_lines (map opened_of (drop (i + 1) writers))
-writers_more writers i writer old now new so_far within item is_new =
-    let front : drop i writers ≡ writer ∷ drop (i + 1) writers = drop-cons writers i writer within ∙ rw (← item, add-one) refl in
-    so_far ∙ (ap (λ ws. now ++ writer_lines (map opened_of ws)) front ∙ (sym (append_assoc now (writer_line (opened_of writer)) (writer_lines (map opened_of (drop (i + 1) writers)))) ∙ ap (λ t. t ++ writer_lines (map opened_of (drop (i + 1) writers))) (sym is_new)))
+-- one line more, of a list whose elements have a line each
+pub lines_more : {A B : Type 0} (view : B → A) (line : A → List ℕ) (xs : List B) (i : ℕ) (x : B) (old now new : List ℕ) → old ++ each_line line (map view xs) ≡ now ++ each_line line (map view (drop i xs)) → i < length xs → x ≡ get_or xs i x
+    → new ≡ now ++ line (view x) → old ++ each_line line (map view xs) ≡ new ++ each_line line (map view (drop (i + 1) xs))
+lines_more view line xs i x old now new so_far within item is_new =
+    let front : drop i xs ≡ x ∷ drop (i + 1) xs = drop-cons xs i x within ∙ rw (← item, add-one) refl in
+    so_far ∙ (ap (λ ys. now ++ each_line line (map view ys)) front ∙ (sym (append_assoc now (line (view x)) (each_line line (map view (drop (i + 1) xs)))) ∙ ap (λ t. t ++ each_line line (map view (drop (i + 1) xs))) (sym is_new)))
 
-pub writers_all : (writers : List WriterEnd) (i : ℕ) (old now : List ℕ) → i ≡ length writers → old ++ writer_lines (map opened_of writers) ≡ now ++ writer_lines (map opened_of (drop i writers)) → now ≡ old ++ writer_lines (map opened_of writers)
-writers_all writers i old now end so_far = let nothing : drop i writers ≡ [] = rw end (drop-length writers) in sym (so_far ∙ (ap (λ ws. now ++ writer_lines (map opened_of ws)) nothing ∙ append-nil now))
+pub lines_all : {A B : Type 0} (view : B → A) (line : A → List ℕ) (xs : List B) (i : ℕ) (old now : List ℕ) → i ≡ length xs → old ++ each_line line (map view xs) ≡ now ++ each_line line (map view (drop i xs)) → now ≡ old ++ each_line line (map view xs)
+lines_all view line xs i old now end so_far = let nothing : drop i xs ≡ [] = rw end (drop-length xs) in sym (so_far ∙ (ap (λ ys. now ++ each_line line (map view ys)) nothing ∙ append-nil now))
 
 -- the last of a list of records, after this one
 last_after : ℕ → List Record → ℕ

@@ -1,7 +1,7 @@
 -- What a job prints of the bytes of its files.
 use Rattle.std.specs.Prelude.{◌≡◌, ◌⊎◌, ℕ, List, [], Option, None, Ok, map}
 use Rattle.volume_model.specs.Plan as model
-use Rattle.volume_model.specs.Outcome.{writers_in}
+use Rattle.volume_model.specs.Outcome.{writers_in, finds_in}
 use Rattle.volume_model.specs.World.{opening, results, run}
 use Rattle.plan.specs.PlanData.{PlanData, model_of}
 use Rattle.plan.specs.PlanText.{plan_of}
@@ -20,11 +20,11 @@ use Rattle.script.specs.declared.reading.Script.{Script}
 use Rattle.script.specs.declared.reading.Step.{Step}
 
 -- A status and a text tell of the model's run of these orders over a plan: what is told of each event for the steps that have
--- one, and the opened writers of the world after them.
+-- one, and the opened writers and the recoveries that have cut of the world after them.
 abbrev pub TellsOrders : model.Plan → List Step → List Order → ℕ → List ℕ → Type 0
 TellsOrders plan steps orders status text =
     let events = events_from plan (opening plan) [] orders in
-    TellsOf steps (results plan (opening plan) events) (writers_in (run plan (opening plan) events)) status text
+    TellsOf steps (results plan (opening plan) events) (writers_in (run plan (opening plan) events)) (finds_in (run plan (opening plan) events)) status text
 
 -- The same of a script's text: it is a script, whose lines do these deeds, and the orders are those that the deeds ask for.
 pub record TellsScript (plan : model.Plan) (script : List ℕ) (status : ℕ) (text : List ℕ) : Type 0 where

@@ -4,7 +4,9 @@ use Rattle.std.specs.Fmt.{decimal}
 use Rattle.std.specs.List.{list_any}
 use Rattle.volume_model.specs.declared.fault.Fault.{Fault}
 use Rattle.volume_model.specs.Names.{fault_text}
-use Rattle.volume_model.specs.Outcome.{Opened}
+use Rattle.volume_model.specs.Lineage.{last_start}
+use Rattle.lineage.specs.Lineage.{last_cut}
+use Rattle.volume_model.specs.Outcome.{Opened, Find}
 use Rattle.volume_model.specs.Plan.{Plan}
 use Rattle.volume_model.specs.Redo.{last_lsn}
 use Rattle.script.specs.declared.reading.Step.{Step}
@@ -58,20 +60,26 @@ abbrev pub writer_line : Opened → List ℕ
 writer_line opened =
     codes "writer " ++ decimal opened.volume ++ codes " durable " ++ decimal opened.durable ++ codes " next " ++ decimal (next_lsn opened) ++ codes "\n"
 
-abbrev pub writer_lines : List Opened → List ℕ
-writer_lines [] = []
-writer_lines (opened ∷ later) = writer_line opened ++ writer_lines later
+-- the line of a recovery that has cut
+abbrev pub find_line : Find → List ℕ
+find_line find =
+    codes "recovery " ++ decimal find.volume ++ codes " cut " ++ decimal (last_cut find.lineage) ++ codes " start " ++ decimal (last_start find.lineage) ++ codes "\n"
+
+-- a line for each, in order
+abbrev pub each_line : {A : Type 0} → (A → List ℕ) → List A → List ℕ
+each_line line [] = []
+each_line line (x ∷ later) = line x ++ each_line line later
 
 -- 1 where an event was refused
 abbrev pub status_of : List Told → ℕ
 status_of results = if list_any (λ told. is_err told) results then 1 else 0
 
--- A status and a text tell of these steps, results and opened writers: a line for each step, one for each writer, and whether an
--- event was refused.
-pub record TellsOf (steps : List Step) (results : List Told) (writers : List Opened) (status : ℕ) (text : List ℕ) : Type 0 where
+-- A status and a text tell of these steps, results, opened writers and recoveries that have cut: a line for each step, for each writer
+-- and for each recovery, and whether an event was refused.
+pub record TellsOf (steps : List Step) (results : List Told) (writers : List Opened) (finds : List Find) (status : ℕ) (text : List ℕ) : Type 0 where
   pub lines : List ℕ
   pub lines_are : AreLinesOf (tellings steps results) lines
-  pub text_is : text ≡ lines ++ writer_lines writers
+  pub text_is : text ≡ (lines ++ each_line writer_line writers) ++ each_line find_line finds
   pub status_is : status ≡ status_of results
 
 -- the sum of what f gives for the numbers below a bound

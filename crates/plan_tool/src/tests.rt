@@ -10,5 +10,6 @@ mod refutations;
 mod said;
 mod samples;
 mod scripts;
+mod volumes;
 mod words;
 mod written;

@@ -6,8 +6,8 @@ ghost use Rattle.std.specs.Option.{option_copied};
 ghost use Rattle.volume_model.specs.Redo.{last_lsn};
 ghost use Rattle.plan.specs.CheckedModel.{checked_model};
 ghost use Rattle.writer_core.specs.Logs.{log_of};
-ghost use Rattle.world.specs.Outcomes.{opened_of};
-ghost use Rattle.plan_tool.specs.Told.{TellsOf, counts_line, first_if, next_lsn, plan_line, refused_line, rest_if, sum_below, writer_line, writer_lines};
+ghost use Rattle.world.specs.Outcomes.{find_of, opened_of};
+ghost use Rattle.plan_tool.specs.Told.{TellsOf, counts_line, each_line, find_line, first_if, next_lsn, plan_line, refused_line, rest_if, sum_below, writer_line};
 ghost use Rattle.plan_tool.specs.ToldLines.{AppendsLine, AppendsLines};
 
 use crate::reply::Reply;
@@ -16,7 +16,7 @@ use redo_record::Record;
 use script::Step;
 use std::alloc::{AllocError, Global};
 use volume_model::Fault;
-use world::{Outcome, WriterEnd};
+use world::{FindEnd, Outcome, WriterEnd};
 
 /// How many configurations the groups have together.
 fn configurations(plan: &CheckedPlan) -> u64
@@ -158,9 +158,29 @@ fn add_writer(text: &mut String, writer: &WriterEnd) -> Result<(), AllocError>
     write!(text, "writer {volume} durable {durable} next {next}\n")
 }
 
+/// Adds the line of a recovery that has cut.
+fn add_find(text: &mut String, find: &FindEnd) -> Result<(), AllocError>
+    ensures { OnOk result (string_bytes text.new ≡ string_bytes text.old ++ find_line (find_of find.now)) }
+{
+    let volume = find.volume;
+    let cut = find.lineage.last_cut();
+    let start = find.lineage.last_start();
+    write!(text, "recovery {volume} cut {cut} start {start}\n")
+}
+
+/// Adds a line for each recovery that has cut.
+fn add_finds(text: &mut String, finds: &[FindEnd]) -> Result<(), AllocError>
+    ensures { OnOk result (string_bytes text.new ≡ string_bytes text.old ++ each_line find_line (map find_of finds.now)) }
+{
+    for find in finds {
+        add_find(text, find)?;
+    }
+    Ok(())
+}
+
 /// Adds a line for each opened writer.
 fn add_writers(text: &mut String, writers: &[WriterEnd]) -> Result<(), AllocError>
-    ensures { OnOk result (string_bytes text.new ≡ string_bytes text.old ++ writer_lines (map opened_of writers.now)) }
+    ensures { OnOk result (string_bytes text.new ≡ string_bytes text.old ++ each_line writer_line (map opened_of writers.now)) }
 {
     for writer in writers {
         add_writer(text, writer)?;
@@ -168,13 +188,15 @@ fn add_writers(text: &mut String, writers: &[WriterEnd]) -> Result<(), AllocErro
     Ok(())
 }
 
-/// A line for each step of a script, then one for each opened writer. The status is 1 where a step was refused.
+/// A line for each step of a script, then one for each opened writer, then one for each recovery that has cut. The status is 1 where a
+/// step was refused.
 pub fn run_lines(alloc: Global, steps: &[Step], outcome: &Outcome) -> Result<Reply, AllocError>
-    ensures { IfOk result (λ reply. TellsOf steps.now outcome.now.results.items (map opened_of outcome.now.writers.items) reply.status (string_bytes reply.text)) }
+    ensures { IfOk result (λ reply. TellsOf steps.now outcome.now.results.items (map opened_of outcome.now.writers.items) (map find_of outcome.now.finds.items) reply.status (string_bytes reply.text)) }
 {
     let mut text = String::new(alloc);
     add_steps(&mut text, steps, outcome.results.as_slice())?;
     add_writers(&mut text, outcome.writers.as_slice())?;
+    add_finds(&mut text, outcome.finds.as_slice())?;
     let status = u8::from(has_refusal(outcome.results.as_slice()));
     Ok(Reply { status, text })
 }

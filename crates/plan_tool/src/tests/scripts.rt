@@ -48,17 +48,20 @@ fn scripts(rt: HostRuntime) -> Result<(), AllocError> {
 #[test]
 fn lines_outside_the_grammar(rt: HostRuntime) -> Result<(), AllocError> {
     let alloc = rt.alloc();
-    let lines: [&[u8]; 40] = [
-        b"assign",
-        b"advance 0 1",
-        b"refresh 1",
-        b"take 1 1.1",
-        b"cut 1",
-        b"open 1",
-        b"resend 1 1",
-        b"read 1 0 0",
-        b"hydrate 0 0",
-        b"offer 0 0 1",
+    let lines: [&[u8]; 43] = [
+        b"assign 1",
+        b"advance 0",
+        b"advance 256 1",
+        b"refresh",
+        b"take 1",
+        b"take 1 2.1",
+        b"cut 1 1",
+        b"open 4294967296",
+        b"resend 1",
+        b"read 1 0",
+        b"hydrate 0",
+        b"offer 0 0",
+        b"grow",
         b" ",
         b"wait ",
         b" wait",
