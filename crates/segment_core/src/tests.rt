@@ -1,5 +1,6 @@
 mod answers;
 mod becoming_whole;
+mod fullness;
 mod messages;
 mod nodes;
 mod plans;

@@ -141,6 +141,31 @@ fn writing(rt: HostRuntime) -> Result<(), AllocError> {
 }
 
 #[test]
+fn records_out_of_order(rt: HostRuntime) -> Result<(), AllocError> {
+    let alloc = rt.alloc();
+    let second =
+        "issue 1 0:0:0:61 0:0:1:62\ndeliver 0 0 1.2\ndeliver 0 1 1.2\ndeliver 0 2 1.2\ndeliver 0 3 1.2\ntake 1 2.1\ntake 1 3.1\ntake 1 4.1\ntake 1 5.1\n";
+    let first =
+        "deliver 0 0 1.1\ndeliver 0 1 1.1\ndeliver 0 2 1.1\ndeliver 0 3 1.1\ntake 1 10.1\ntake 1 11.1\ntake 1 12.1\ntake 1 13.1\n";
+    let again = "deliver 0 0 1.2\ntake 1 18.1\n";
+    let told = "2,1,1,1,1,0,0,0,0";
+    assert!(rt;
+        tells(
+            alloc,
+            SIX_COPIES,
+            second,
+            told,
+            "writer 1 durable 0 next 3\n"
+        )?
+    );
+    let script = format!(in alloc; "{second}{first}{again}")?;
+    let told = format!(in alloc; "{told},1,1,1,1,0,0,0,0,1,0")?;
+    let end = "writer 1 durable 2 next 3\n";
+    assert!(rt; tells(alloc, SIX_COPIES, script.as_str(), told.as_str(), end)?);
+    Ok(())
+}
+
+#[test]
 fn pages_of_tail_segments(rt: HostRuntime) -> Result<(), AllocError> {
     let alloc = rt.alloc();
     let plan = plan(alloc, &tails(alloc)?)?;
