@@ -1,4 +1,5 @@
 pub mod Logs
+pub mod Lasts
 pub mod Counts
 pub mod Standings
 pub mod Groups

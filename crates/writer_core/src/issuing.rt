@@ -11,11 +11,13 @@ ghost use Rattle.volume_model.specs.Message as model;
 ghost use Rattle.volume_model.specs.Client.{label_of};
 ghost use Rattle.wire.specs.Message.{message_of, messages_of};
 ghost use Rattle.writer_core.specs.Logs.{log_of, is_growing};
+ghost use Rattle.writer_core.specs.Lasts.{AreLasts, AreLastsOfFront};
 ghost use Rattle.writer_core.specs.Groups.{groups_in, standings_plan};
 ghost use Rattle.writer_core.specs.Changes.{change_of, changes_of};
 
 use crate::change::Change;
-use crate::log::{last_lsn, last_of_block, last_of_group};
+use crate::lasts::Lasts;
+use crate::log::last_lsn;
 use crate::standings::Standings;
 use redo_record::{Packet, Payload, Record};
 use volume_model::Fault;
@@ -29,8 +31,9 @@ pub struct Span {
     pub ghost assigned: { 1 ≤ volume },
 }
 
-/// The record of a change behind a log; `point` makes it a consistency point.
-fn next_record(span: Span, log: &[Record], change: &Change, point: bool) -> Record
+/// The record of a change behind a log, of which the last LSNs are known; `point` makes it a consistency point.
+fn next_record(span: Span, log: &[Record], lasts: &Lasts, change: &Change, point: bool) -> Record
+    requires lasts { AreLasts lasts.now (log_of log.now) }
     requires growing { is_growing (log_of log.now) ≡ true }
     requires room { max (last_lsn (log_of log.now)) span.start < 2 ^ 62 }
     requires group { change.now.group < 16 }
@@ -47,8 +50,8 @@ fn next_record(span: Span, log: &[Record], change: &Change, point: bool) -> Reco
         lsn: last.max(span.start) + 1,
         volume_epoch: span.volume,
         prev_volume: last,
-        prev_group: last_of_group(log, change.group),
-        prev_block: last_of_block(log, change.group, change.block),
+        prev_group: lasts.of_group(change.group),
+        prev_block: lasts.of_block(change.group, change.block),
         group: change.group,
         block: change.block,
         offset: change.offset,
@@ -68,15 +71,17 @@ pub fn write_of(volume: u32, standings: &Standings, record: &Record) -> Message
     })
 }
 
-/// Adds the records of a transaction's changes to a log, and their messages to others. Where memory runs out the log has
-/// only grown.
+/// Adds the records of a transaction's changes to a log, and their messages to others. The last LSNs of the log follow it, up to
+/// the last record but one. Where memory runs out the log has only grown.
 pub fn append(
     span: Span,
     standings: &Standings,
     log: &mut Vec<Record>,
+    lasts: &mut Lasts,
     changes: &[Change],
     messages: &mut Vec<Message>,
 ) -> Result<(), Fault>
+    requires front { AreLastsOfFront lasts.old log.old.items }
     requires growing { is_growing (log_of log.old.items) ≡ true }
     requires room { max (last_lsn (log_of log.old.items)) span.start + length changes.now ≤ 2 ^ 62 }
     requires few { (standings_plan standings.now).groups ≤ 16 }
@@ -84,11 +89,13 @@ pub fn append(
     ensures logged { OnOk result (log_of log.new.items ≡ issued_log span.volume span.start (changes_of changes.now) (log_of log.old.items)) }
     ensures grown { OnOk result (is_growing (log_of log.new.items) ≡ true) }
     ensures written { OnOk result (messages_of messages.new.items ≡ messages_of messages.old.items ++ issued_writes span.volume (place_of (groups_in standings.now)) span.start (changes_of changes.now) (log_of log.old.items)) }
+    ensures lasts { AreLastsOfFront lasts.new log.new.items }
     ensures memory { IfErr result (λ e. e ≡ NoMemory) }
     ensures front { take (length log.old.items) log.new.items ≡ log.old.items }
 {
     for (i, change) in changes.iter().enumerate() {
-        let record = next_record(span, log.as_slice(), change, i + 1 == changes.len());
+        lasts.follow(log.as_slice())?;
+        let record = next_record(span, log.as_slice(), lasts, change, i + 1 == changes.len());
         messages.push(write_of(span.volume, standings, &record))?;
         log.push(record)?;
     }

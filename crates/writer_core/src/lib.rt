@@ -5,6 +5,7 @@ mod change;
 mod count;
 mod counts;
 mod issuing;
+mod lasts;
 mod log;
 mod moving;
 mod standing;

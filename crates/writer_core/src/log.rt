@@ -1,7 +1,7 @@
 //! What is read off a log, whose records stand in growing LSN.
 
 ghost use Rattle.std.specs.Prelude.{◌≡◌, true, option_map};
-ghost use Rattle.volume_model.specs.Redo.{last_lsn, last_of_group, last_of_block, record_at};
+ghost use Rattle.volume_model.specs.Redo.{last_lsn, record_at};
 ghost use Rattle.volume_model.specs.Client.{complete_of, is_point_of, last_of_group_below, point_below, point_of};
 ghost use Rattle.redo_record.specs.Record.{redo_of};
 ghost use Rattle.writer_core.specs.Logs.{log_of, is_growing};
@@ -15,32 +15,6 @@ pub fn last_lsn(log: &[Record]) -> u64
     ensures { result ≡ last_lsn (log_of log.now) }
 {
     log.last().map_or(0, |record| record.lsn)
-}
-
-/// The last LSN of a group, 0 where there is none.
-pub fn last_of_group(log: &[Record], group: u8) -> u64
-    ensures { result ≡ last_of_group group (log_of log.now) }
-{
-    let mut last = 0;
-    for record in log {
-        if record.group == group {
-            last = record.lsn;
-        }
-    }
-    last
-}
-
-/// The last LSN on a block of a group, 0 where there is none.
-pub fn last_of_block(log: &[Record], group: u8, block: u32) -> u64
-    ensures { result ≡ last_of_block group block (log_of log.now) }
-{
-    let mut last = 0;
-    for record in log {
-        if record.group == group && record.block == block {
-            last = record.lsn;
-        }
-    }
-    last
 }
 
 /// The greatest LSN up to which each record is covered by its group's point, else 0.

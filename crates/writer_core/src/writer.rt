@@ -2,9 +2,11 @@
 
 ghost use Rattle.std.specs.Prelude.{◌≡◌, ◌≤◌, true, length};
 ghost use Rattle.writer_core.specs.Logs.{log_of, is_growing};
+ghost use Rattle.writer_core.specs.Lasts.{AreLastsOfFront};
 
 use crate::change::Change;
 use crate::issuing::{Span, append, write_of};
+use crate::lasts::Lasts;
 use crate::log::{complete_point, is_point, last_lsn, last_of_group_below, point_below, record_at};
 use crate::standings::Standings;
 use crate::transaction::is_transaction;
@@ -28,9 +30,12 @@ pub struct Writer {
     /// How many records of the log it began with.
     found: usize,
     log: Vec<Record>,
+    /// The last LSNs of groups and blocks, up to where a transaction has asked for them.
+    lasts: Lasts,
     ghost assigned: { 1 ≤ volume },
     ghost within: { found ≤ length log.items },
     ghost growing: { is_growing (log_of log.items) ≡ true },
+    ghost front: { AreLastsOfFront lasts log.items },
 }
 
 impl Writer {
@@ -59,6 +64,7 @@ impl Writer {
             lineage: Lineage::birth(alloc)?,
             found: 0,
             log: Vec::new(alloc),
+            lasts: Lasts::new(alloc),
         })
     }
 
@@ -74,12 +80,14 @@ impl Writer {
         let mut standings = standings;
         standings.raise();
         let found = log.len();
+        let lasts = Lasts::new(*log.allocator());
         Writer {
             standings,
             volume,
             lineage,
             found,
             log,
+            lasts,
         }
     }
 
@@ -262,10 +270,18 @@ impl Writer {
         };
         let mut messages = Vec::new(alloc);
         let length = self.log.len();
-        match append(span, &self.standings, &mut self.log, changes, &mut messages) {
+        match append(
+            span,
+            &self.standings,
+            &mut self.log,
+            &mut self.lasts,
+            changes,
+            &mut messages,
+        ) {
             Ok(()) => Ok(messages),
             Err(fault) => {
                 self.log.truncate(length);
+                self.lasts = Lasts::new(alloc);
                 Err(fault)
             }
         }

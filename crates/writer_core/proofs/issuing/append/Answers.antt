@@ -1,12 +1,14 @@
-use Rattle.std.proofs.Common.{◌≡◌, ℕ, ap, ◌∙◌, ◌++◌, ◌∷◌, [], nat_eq, ◌+◌, length}
+use Rattle.std.proofs.Common.{◌≡◌, ℕ, ap, subst, ◌∙◌, ◌++◌, ◌∷◌, [], nat_eq, ◌+◌, length}
 use Rattle.volume_model.specs.Redo.{Redo}
 use Rattle.volume_model.specs.Message as model
 use Rattle.volume_model.specs.Client.{place_of, record_of, label_of}
 use Rattle.wire.specs.Message.{message_of}
 use Rattle.redo_record.specs.Record.{redo_of}
 use Rattle.writer_core.specs.Logs.{log_of}
+use Rattle.writer_core.specs.Lasts.{AreLastsOfFront}
 use Rattle.writer_core.specs.Changes.{change_of}
 use Rattle.writer_core.specs.Groups.{groups_in, standings_plan}
+use Rattle.writer_core.proofs.Entering.{front-pushed}
 use Rattle.writer_core.proofs.OneMore.{logged_on, written_on, growing_on, room_on, good_on, front_on, messages_on}
 use Rattle.writer_core.proofs.issuing.append.Goals as goal
 
@@ -22,12 +24,13 @@ loop-i-preserved c =
     let r = c.next_record-record.result in
     let within = c.loop-i-test.true in
     let is = c.index-changes-i.is in
-    let made : redo_of r ≡ record_of volume start (log_of records) (change_of change) (nat_eq (i + 1) (length changes)) = rw c.as_slice.ensures.value at c.next_record-record.ensures in
+    let made : redo_of r ≡ record_of volume start (log_of records) (change_of change) (nat_eq (i + 1) (length changes)) = rw c.as_slice-in-loop-i.ensures.value at c.next_record-record.ensures in
     let logs : c.push-in-loop-i.new.self.items ≡ records ++ r ∷ [] = c.in_ok-push-2.ensures.items in
     let messages : c.push.new.self.items ≡ c.loop-i.messages.items ++ c.write_of.result ∷ [] = c.in_ok-push.ensures.items in
     let said : message_of c.write_of.result ≡ model.Message.Write change.group (label_of volume places change.group) (redo_of r) =
     c.write_of.ensures ∙ ap (λ (g : ℕ). model.Message.Write g (label_of volume places g) (redo_of r)) (ap (λ (s : Redo). s.group) made) in
     record {
+      lasts = rw logs (front-pushed c.follow.new.self records r (subst (AreLastsOfFront c.follow.new.self) c.as_slice.ensures.value c.in_ok-follow.ensures.front));
       growing = rw logs (growing_on volume start places changes i change within is records r made c.loop-i.invariant.growing);
       room = rw logs (room_on volume start places changes i change within is records r made c.loop-i.invariant.room);
       good = (good_on volume start places changes i change within is records r made (standings_plan c.args.standings.now).groups c.loop-i.invariant.good).1;

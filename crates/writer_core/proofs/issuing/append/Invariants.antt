@@ -4,12 +4,14 @@ use Rattle.volume_model.specs.Redo.{last_lsn}
 use Rattle.volume_model.specs.Client.{is_change, issued_log, issued_writes, place_of}
 use Rattle.wire.specs.Message.{messages_of}
 use Rattle.writer_core.specs.Logs.{log_of, is_growing}
+use Rattle.writer_core.specs.Lasts.{AreLastsOfFront}
 use Rattle.writer_core.specs.Groups.{groups_in, standings_plan}
 use Rattle.writer_core.specs.Changes.{changes_of}
 use Rattle.writer_core.proofs.issuing.append.Given as goal
 
 abbrev pub invariant-loop-i : goal.invariant-loop-i
 invariant-loop-i l = record {
+  lasts : AreLastsOfFront l.lasts l.log.items;
   growing : is_growing (log_of l.log.items) ≡ true;
   room : max (last_lsn (log_of l.log.items)) l.span.start + length (drop l.i l.changes) ≤ 2 ^ 62;
   good : every (is_change (standings_plan l.standings).groups) (changes_of (drop l.i l.changes)) ≡ true;

@@ -1,0 +1,6 @@
+use Rattle.std.proofs.Common.{refl}
+use Rattle.writer_core.proofs.Entering.{lasts-entered}
+use Rattle.writer_core.proofs.lasts.Lasts.enter.Goals as goal
+
+pub returns-clause-ok : goal.returns-clause-ok
+returns-clause-ok c = lasts-entered c.args.self.now _ c.from.result c.args.record.now c.from.ensures refl refl c.in_ok-insert.ensures.updates

@@ -1,0 +1,41 @@
+-- The last numbers of groups and blocks, as a table keeps them.
+use Rattle.std.specs.Prelude.{◌≡◌, ℕ, ◌+◌, ◌<◌, ◌≤◌, List, ◌∷◌, length, take, slice_index, unwrap_or}
+use Rattle.std.specs.declared.cmp.Ordering.{Ordering}
+use Rattle.std.specs.Ordering.{nat_cmp, ordering_then}
+use Rattle.std.specs.BTreeMap.{get}
+use Rattle.volume_model.specs.Redo.{Redo, last_of_group, last_of_block}
+use Rattle.redo_record.specs.declared.«record».Record.{Record}
+use Rattle.writer_core.specs.Logs.{log_of}
+use Rattle.writer_core.specs.declared.lasts.Lasts.{Lasts}
+
+-- blocks stand in the order of their groups, and those of a group in the order of their numbers
+abbrev pub block_cmp : ℕ × ℕ → ℕ × ℕ → Ordering
+block_cmp a b = ordering_then (nat_cmp a.0 b.0) (nat_cmp a.1 b.1)
+
+-- the number that is kept of a group
+abbrev pub kept_of_group : Lasts → ℕ → ℕ
+kept_of_group lasts group = slice_index lasts.groups group
+
+-- the number that is kept of a block of a group
+abbrev pub kept_of_block : Lasts → ℕ → ℕ → ℕ
+kept_of_block lasts group block = unwrap_or (get block_cmp lasts.blocks (group, block)) 0
+
+-- what is kept of each group and block is its last number in this log
+pub record AreLasts (lasts : Lasts) (log : List Redo) : Type 0 where
+  pub of_group : (group : ℕ) → group < 16 → kept_of_group lasts group ≡ last_of_group group log
+  pub of_block : (group block : ℕ) → kept_of_block lasts group block ≡ last_of_block group block log
+
+-- the same of the records that are entered, from the first on
+pub record AreLastsOfFront (lasts : Lasts) (records : List Record) : Type 0 where
+  pub within : lasts.entered ≤ length records
+  pub front : AreLasts lasts (log_of (take lasts.entered records))
+
+-- one record more is entered
+pub record Enters (old new : Lasts) (r : Redo) : Type 0 where
+  pub counted : new.entered ≡ old.entered + 1
+  pub lasts : (log : List Redo) → AreLasts old log → AreLasts new (r ∷ log)
+
+-- no record more is entered
+pub record EntersNone (old new : Lasts) : Type 0 where
+  pub counted : new.entered ≡ old.entered
+  pub lasts : (log : List Redo) → AreLasts old log → AreLasts new log

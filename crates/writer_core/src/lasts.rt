@@ -1,0 +1,81 @@
+//! The last LSN of each group and of each block of a log.
+
+ghost use Rattle.std.specs.Prelude.{◌≡◌, length};
+
+use redo_record::Record;
+use std::alloc::{AllocError, Global};
+use std::collections::BTreeMap;
+
+/// The most groups that a volume has.
+const GROUPS: usize = 16;
+
+/// The last LSN of each group and of each block in the front of a log.
+#[derive(Drop)]
+pub struct Lasts {
+    /// How many records of the log are entered.
+    entered: usize,
+    /// By group, 0 where it has no record.
+    groups: [u64; GROUPS],
+    /// By group and block.
+    blocks: BTreeMap<(u8, u32), u64>,
+    ghost each_group: { length groups ≡ 16 },
+}
+
+impl Lasts {
+    ghost use Rattle.std.specs.Prelude.{◌+◌, ◌^◌, ◌<◌, [], OnOk, OnErr};
+    ghost use Rattle.redo_record.specs.Record.{redo_of};
+    ghost use Rattle.writer_core.specs.Logs.{log_of};
+    ghost use Rattle.writer_core.specs.Lasts.{kept_of_group, kept_of_block, AreLasts, AreLastsOfFront, Enters, EntersNone};
+
+    /// No record is entered yet. Takes no memory.
+    pub fn new(alloc: Global) -> Lasts
+        ensures lasts { AreLasts result [] }
+        ensures none { result.entered ≡ 0 }
+    {
+        Lasts {
+            entered: 0,
+            groups: [0; GROUPS],
+            blocks: BTreeMap::new(alloc),
+        }
+    }
+
+    /// The last LSN of a group, 0 where there is none.
+    pub fn of_group(&self, group: u8) -> u64
+        requires { group < 16 }
+        ensures { result ≡ kept_of_group self.now group }
+    {
+        self.groups[usize::from(group)]
+    }
+
+    /// The last LSN on a block of a group, 0 where there is none.
+    pub fn of_block(&self, group: u8, block: u32) -> u64
+        ensures { result ≡ kept_of_block self.now group block }
+    {
+        self.blocks.get(&(group, block)).copied().unwrap_or(0)
+    }
+
+    /// Enters the log's next record. Where memory runs out nothing is entered.
+    fn enter(&mut self, record: &Record) -> Result<(), AllocError>
+        requires { self.old.entered + 1 < 2 ^ 64 }
+        ensures ok { OnOk result (Enters self.old self.new (redo_of «record».now)) }
+        ensures err { OnErr result (EntersNone self.old self.new) }
+    {
+        self.blocks
+            .insert((record.group, record.block), record.lsn)?;
+        self.groups[usize::from(record.group)] = record.lsn;
+        self.entered += 1;
+        Ok(())
+    }
+
+    /// Enters what the log has behind the records that are entered. Where memory runs out some of it may be.
+    pub fn follow(&mut self, log: &[Record]) -> Result<(), AllocError>
+        requires { AreLastsOfFront self.old log.now }
+        ensures ok { OnOk result (AreLasts self.new (log_of log.now)) }
+        ensures front { AreLastsOfFront self.new log.now }
+    {
+        while self.entered < log.len() {
+            self.enter(&log[self.entered])?;
+        }
+        Ok(())
+    }
+}
