@@ -1,18 +1,17 @@
 -- One record more is entered among the last numbers of groups and blocks.
 use Rattle.std.proofs.Common.{◌≡◌, ◌≢◌, ℕ, ◌+◌, ◌<◌, Bool, true, false, ◌&&◌, nat_eq, List, [], ◌∷◌, ◌++◌, length, length-append, get_or, if◌then◌else◌, Some, cond, sym, ap, ◌∙◌, subst, inl, inr, arith, get_or-set_same, get_or-set_other}
-use Rattle.std.specs.Prelude.{Option, slice_set, unwrap_or, refl, take}
-use Rattle.std.specs.Ordering.{is_eq, nat_cmp}
+use Rattle.std.specs.Prelude.{Option, slice_set, unwrap_or, refl}
+use Rattle.std.specs.Ordering.{is_eq}
 use Rattle.std.specs.BTreeMap.{Updates, get}
 use Rattle.std.proofs.lemmas.List.{take-append-le}
 use Rattle.std.proofs.lemmas.Bool.{cases_eq}
 use Rattle.std.proofs.lemmas.Bool.Decides.{nat_tests}
-use Rattle.volume_model.specs.Redo.{Redo, last_of_group, last_of_block}
+use Rattle.volume_model.specs.Redo.{last_of_group, last_of_block}
 use Rattle.redo_record.specs.declared.«record».Record.{Record}
 use Rattle.redo_record.specs.Record.{redo_of}
 use Rattle.writer_core.specs.Logs.{log_of}
 use Rattle.writer_core.specs.Lasts.{block_cmp, AreLasts, AreLastsOfFront, Enters}
 use Rattle.writer_core.specs.declared.lasts.Lasts.{Lasts}
-use Rattle.writer_core.proofs.Logs.{log_of-more}
 
 -- a group's number, where a record is entered
 group-entered : (groups : List ℕ) (g q lsn last : ℕ) → g < length groups → get_or groups q 0 ≡ last → get_or (slice_set groups g lsn) q 0 ≡ (if nat_eq g q then lsn else last)

@@ -1,9 +1,12 @@
 -- The record of a number in a log whose numbers grow.
-use Rattle.std.proofs.Common.{◌≡◌, ◌≢◌, ℕ, zero, suc, ◌<◌, ◌≤◌, true, false, nat_lt, ◌⊎◌, List, [], ◌∷◌, map, length, get_or, Option, Some, None, refl, sym, ap, ◌∙◌, subst, inl, inr, arith}
-use Rattle.std.proofs.lemmas.Bool.{cases_lt, ltb-true, ltb-false}
+use Rattle.std.proofs.Common.{◌≡◌, ◌≢◌, ℕ, zero, suc, ◌<◌, ◌≤◌, Bool, true, false, nat_lt, nat_eq, ◌⊎◌, List, [], ◌∷◌, map, length, get_or, Option, Some, None, refl, sym, ap, ◌∙◌, subst, inl, inr, arith}
+use Rattle.std.specs.Prelude.{◌||◌}
+use Rattle.std.proofs.lemmas.Bool.{cases_eq, cases_lt, eq-eqb, ltb-true, ltb-false}
+use Rattle.std.proofs.lemmas.Bool.Decides.{nat_tests}
 use Rattle.std.specs.List.Sorted.{IsNonDecreasingBy, IsPartitionPoint}
 use Rattle.volume_model.specs.Lists.{IsIn, added}
 use Rattle.volume_model.specs.Redo.{Redo, last_lsn, record_at}
+use Rattle.volume_model.specs.Client.{is_point_of}
 use Rattle.volume_model.proofs.Basics.{IsIn-added}
 use Rattle.volume_model.proofs.Chains.{record_at-some, record_at-there}
 use Rattle.redo_record.specs.declared.«record».Record.{Record}
@@ -103,6 +106,29 @@ record_at-none log n none = go (record_at log n) refl
     go : (found : Option Redo) → record_at log n ≡ found → found ≡ None
     go None e = refl
     go (Some r) e = let (i, same) = record_at-some log n r e in absurd (none r i same)
+
+-- the record that is found is a consistency point
+abbrev pub is_point_at : Option Redo → Bool
+is_point_at None = false
+is_point_at (Some r) = r.point
+
+-- a number that is that of a consistency point is so by the one record that has it
+pub is_point_of-record_at : (log : List Redo) (n : ℕ) → is_growing log ≡ true → is_point_of n log ≡ is_point_at (record_at log n)
+is_point_of-record_at [] n h = refl
+is_point_of-record_at (r ∷ older) n h =
+    let (less, rest) = both (last_lsn older) r.lsn (is_growing older) h in
+    let inner : is_point_of n older ≡ is_point_at (record_at older n) = is_point_of-record_at older n rest in
+    elim (cases_eq r.lsn n) [
+      | inl e ↦ (
+          let here : nat_eq r.lsn n ≡ true = eq-eqb r.lsn n e in
+          let none : record_at older n ≡ None = record_at-none older n (λ s i f. (let below : s.lsn ≤ last_lsn older = at_most_last older rest s i in absurd (omega (arith, f)))) in
+          rw (here, none) (ap (λ b. r.point || b) (inner ∙ ap is_point_at none) ∙ or_false r.point))
+      | inr ne ↦ (let other : nat_eq r.lsn n ≡ false = grind (arith, nat_tests) in rw other inner)
+    ]
+  where
+    or_false : (b : Bool) → (b || false) ≡ b
+    or_false true = refl
+    or_false false = refl
 
 -- a search has found the number's record
 pub record-found : (log : List Record) (i n : ℕ) (r : Record) → is_growing (log_of log) ≡ true → i < length log → r ≡ get_or log i r → r.lsn ≡ n → Some (redo_of r) ≡ record_at (log_of log) n

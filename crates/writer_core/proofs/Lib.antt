@@ -1,8 +1,10 @@
 pub mod Below
 pub mod Logs
 pub mod Counting
+pub mod Covering
 pub mod Entering
 pub mod Finding
 pub mod Growing
 pub mod OneMore
 pub mod Placing
+pub mod Rising

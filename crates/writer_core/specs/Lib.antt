@@ -1,5 +1,6 @@
 pub mod Logs
 pub mod Lasts
+pub mod Covered
 pub mod Counts
 pub mod Standings
 pub mod Groups

@@ -4,6 +4,7 @@
 mod change;
 mod count;
 mod counts;
+mod covered;
 mod issuing;
 mod lasts;
 mod log;

@@ -2,12 +2,10 @@
 
 ghost use Rattle.std.specs.Prelude.{◌≡◌, true, option_map};
 ghost use Rattle.volume_model.specs.Redo.{last_lsn, record_at};
-ghost use Rattle.volume_model.specs.Client.{complete_of, is_point_of, last_of_group_below, point_below, point_of};
+ghost use Rattle.volume_model.specs.Client.{is_point_of, last_of_group_below};
 ghost use Rattle.redo_record.specs.Record.{redo_of};
 ghost use Rattle.writer_core.specs.Logs.{log_of, is_growing};
-ghost use Rattle.writer_core.specs.Groups.{groups_in};
 
-use crate::standings::Standings;
 use redo_record::Record;
 
 /// The last LSN, 0 where there is none.
@@ -15,34 +13,6 @@ pub fn last_lsn(log: &[Record]) -> u64
     ensures { result ≡ last_lsn (log_of log.now) }
 {
     log.last().map_or(0, |record| record.lsn)
-}
-
-/// The greatest LSN up to which each record is covered by its group's point, else 0.
-pub fn complete_point(log: &[Record], standings: &Standings) -> u64
-    ensures { result ≡ complete_of (point_of (groups_in standings.now)) (log_of log.now) }
-{
-    let mut complete = 0;
-    let mut last = 0;
-    for record in log {
-        if complete == last && record.lsn <= standings.point(record.group) {
-            complete = record.lsn;
-        }
-        last = record.lsn;
-    }
-    complete
-}
-
-/// The greatest consistency point that is not above `limit`, else 0.
-pub fn point_below(log: &[Record], limit: u64) -> u64
-    ensures { result ≡ point_below limit (log_of log.now) }
-{
-    let mut below = 0;
-    for record in log {
-        if record.point && record.lsn <= limit {
-            below = record.lsn;
-        }
-    }
-    below
 }
 
 /// The greatest LSN of a group that is not above `limit`, else 0.
@@ -74,13 +44,11 @@ pub fn record_at(log: &[Record], lsn: u64) -> Option<Record>
 
 /// Whether a record of this LSN is a consistency point.
 pub fn is_point(log: &[Record], lsn: u64) -> bool
+    requires { is_growing (log_of log.now) ≡ true }
     ensures { result ≡ is_point_of lsn (log_of log.now) }
 {
-    let mut found = false;
-    for record in log {
-        if record.lsn == lsn && record.point {
-            found = true;
-        }
+    match record_at(log, lsn) {
+        Some(record) => record.point,
+        None => false,
     }
-    found
 }

@@ -3,11 +3,15 @@
 ghost use Rattle.std.specs.Prelude.{◌≡◌, ◌≤◌, true, length};
 ghost use Rattle.writer_core.specs.Logs.{log_of, is_growing};
 ghost use Rattle.writer_core.specs.Lasts.{AreLastsOfFront};
+ghost use Rattle.writer_core.specs.Covered.{CoversLog};
+ghost use Rattle.writer_core.specs.Groups.{groups_in};
+ghost use Rattle.volume_model.specs.Client.{point_of};
 
 use crate::change::Change;
+use crate::covered::Covered;
 use crate::issuing::{Span, append, write_of};
 use crate::lasts::Lasts;
-use crate::log::{complete_point, is_point, last_lsn, last_of_group_below, point_below, record_at};
+use crate::log::{is_point, last_lsn, last_of_group_below, record_at};
 use crate::standings::Standings;
 use crate::transaction::is_transaction;
 use lineage::Lineage;
@@ -32,10 +36,13 @@ pub struct Writer {
     log: Vec<Record>,
     /// The last LSNs of groups and blocks, up to where a transaction has asked for them.
     lasts: Lasts,
+    /// How far the log is covered by the points of its groups.
+    covered: Covered,
     ghost assigned: { 1 ≤ volume },
     ghost within: { found ≤ length log.items },
     ghost growing: { is_growing (log_of log.items) ≡ true },
     ghost front: { AreLastsOfFront lasts log.items },
+    ghost covers: { CoversLog covered (point_of (groups_in standings)) log.items },
 }
 
 impl Writer {
@@ -43,13 +50,13 @@ impl Writer {
     ghost use Rattle.std.specs.Arc.{arc_value};
     ghost use Rattle.plan.specs.CheckedModel.{checked_model};
     ghost use Rattle.volume_model.specs.Answer.{Gives};
-    ghost use Rattle.volume_model.specs.Client.{acknowledged, first_writer, issued, complete_point, durable_point, point_of, taken, resent, page_asked};
+    ghost use Rattle.volume_model.specs.Client.{acknowledged, first_writer, issued, complete_point, durable_point, taken, resent, page_asked};
     ghost use Rattle.volume_model.specs.declared.fault.Fault.TheVariants.{NoGroup};
     ghost use Rattle.wire.specs.Message.{message_of};
     ghost use Rattle.volume_model.specs.Lineage.{last_start};
     ghost use Rattle.writer_core.specs.Changes.{changes_of};
     ghost use Rattle.writer_core.specs.Writers.{client_of, writer_plan, writer_volume, issue_of, opened_of, CanIssue, Acts, Takes, Asks};
-    ghost use Rattle.writer_core.specs.Groups.{groups_in, standings_plan};
+    ghost use Rattle.writer_core.specs.Groups.{standings_plan};
     ghost use Rattle.lineage.specs.Lineage.{lineage_of};
 
     /// The writer that a volume is born with: volume epoch 1, each group at its root, no record.
@@ -65,6 +72,7 @@ impl Writer {
             found: 0,
             log: Vec::new(alloc),
             lasts: Lasts::new(alloc),
+            covered: Covered::none(),
         })
     }
 
@@ -81,6 +89,8 @@ impl Writer {
         standings.raise();
         let found = log.len();
         let lasts = Lasts::new(*log.allocator());
+        let mut covered = Covered::none();
+        covered.follow(log.as_slice(), &standings);
         Writer {
             standings,
             volume,
@@ -88,6 +98,7 @@ impl Writer {
             found,
             log,
             lasts,
+            covered,
         }
     }
 
@@ -137,7 +148,7 @@ impl Writer {
     pub fn complete_point(&self) -> u64
         ensures { result ≡ complete_point (client_of self.now) }
     {
-        complete_point(self.log.as_slice(), &self.standings)
+        self.covered.complete
     }
 
     /// The greatest consistency point that is not above the complete point, else 0. A commit is complete where it isn't
@@ -145,7 +156,7 @@ impl Writer {
     pub fn durable_point(&self) -> u64
         ensures { result ≡ durable_point (client_of self.now) }
     {
-        point_below(self.log.as_slice(), self.complete_point())
+        self.covered.durable
     }
 
     /// Takes an acknowledgement. `NotAddressed` where it isn't one to this writer, of a group of the volume and a member. It is counted
@@ -163,6 +174,7 @@ impl Writer {
         }
         self.standings.count(ack)?;
         self.standings.raise();
+        self.covered.follow(self.log.as_slice(), &self.standings);
         Ok(())
     }
 
@@ -182,6 +194,7 @@ impl Writer {
         }
         self.standings.follow(view.places.as_slice());
         self.standings.raise();
+        self.covered.follow(self.log.as_slice(), &self.standings);
         Ok(())
     }
 
@@ -278,7 +291,10 @@ impl Writer {
             changes,
             &mut messages,
         ) {
-            Ok(()) => Ok(messages),
+            Ok(()) => {
+                self.covered.follow(self.log.as_slice(), &self.standings);
+                Ok(messages)
+            }
             Err(fault) => {
                 self.log.truncate(length);
                 self.lasts = Lasts::new(alloc);

@@ -1,0 +1,165 @@
+-- The front of a log that the points of its groups cover.
+use Rattle.std.proofs.Common.{◌≡◌, ℕ, ◌+◌, ◌<◌, ◌≤◌, Bool, true, false, ◌&&◌, nat_le, List, [], ◌∷◌, ◌++◌, map, length, take, drop, get_or, if◌then◌else◌, refl, sym, ap, ap₂, ◌∙◌, subst, arith, drop-cons, add-one}
+use Rattle.std.specs.Prelude.{◌==◌}
+use Rattle.std.proofs.lemmas.List.{take-append-drop, take_all, map-append}
+use Rattle.std.proofs.lemmas.Bool.{and_parts, and_from, eq-eqb, le-leb, lt-leb, leb-true}
+use Rattle.std.proofs.lemmas.Bool.Decides.{nat_tests}
+use Rattle.volume_model.specs.Lists.{every, added}
+use Rattle.volume_model.specs.Redo.{Redo, last_lsn}
+use Rattle.volume_model.specs.Client.{complete_of, point_below}
+use Rattle.redo_record.specs.declared.«record».Record.{Record}
+use Rattle.redo_record.specs.Record.{redo_of}
+use Rattle.writer_core.specs.Logs.{log_of, is_growing}
+use Rattle.writer_core.specs.Covered.{is_covered, CoversFront, CoversLog}
+use Rattle.writer_core.specs.declared.covered.Covered.{Covered}
+use Rattle.writer_core.proofs.Finding.{above}
+use Rattle.writer_core.proofs.Growing.{both}
+use Rattle.writer_core.proofs.Logs.{log_of-more}
+
+and_false : (a : Bool) → (a && false) ≡ false
+and_false true = refl
+and_false false = refl
+
+-- ---- a front, and what comes behind it
+
+added-append : {A : Type 0} (xs ys kept : List A) → added (xs ++ ys) kept ≡ added ys (added xs kept)
+added-append [] ys kept = refl
+added-append (x ∷ xs) ys kept = added-append xs ys (x ∷ kept)
+
+split : (records : List Record) (n : ℕ) → log_of records ≡ added (map redo_of (drop n records)) (log_of (take n records))
+split records n =
+    ap log_of (sym (take-append-drop n records))
+    ∙ ap (λ xs. added xs []) (map-append redo_of (take n records) (drop n records))
+    ∙ added-append (map redo_of (take n records)) (map redo_of (drop n records)) []
+
+-- ---- all records are covered
+
+complete_of-covered : (points : ℕ → ℕ) (log : List Redo) → every (is_covered points) log ≡ true → complete_of points log ≡ last_lsn log
+complete_of-covered points [] h = refl
+complete_of-covered points (r ∷ older) h =
+    let parts : (is_covered points r ≡ true) × (every (is_covered points) older ≡ true) = and_parts _ _ h in
+    let all : (complete_of points older == last_lsn older) ≡ true = eq-eqb _ _ (complete_of-covered points older parts.1) in
+    let e : ((complete_of points older == last_lsn older) && nat_le r.lsn (points r.group)) ≡ true = and_from _ _ all parts.0 in
+    rw e refl
+
+-- a greater bound than the last number finds no other consistency point
+point_below-whole : (n : ℕ) (log : List Redo) → is_growing log ≡ true → last_lsn log ≤ n → point_below n log ≡ point_below (last_lsn log) log
+point_below-whole n [] h le = refl
+point_below-whole n (r ∷ older) h le =
+    let (less, rest) = both (last_lsn older) r.lsn (is_growing older) h in
+    let here : nat_le r.lsn n ≡ true = le-leb r.lsn n le in
+    let self : nat_le r.lsn r.lsn ≡ true = le-leb r.lsn r.lsn (omega arith) in
+    let inner : point_below n older ≡ point_below r.lsn older = point_below-whole n older rest (omega arith) ∙ sym (point_below-whole r.lsn older rest (omega arith)) in
+    rw (here, self) (ap (λ x. if r.point && true then r.lsn else x) inner)
+
+-- ---- one record isn't
+
+-- behind a record that isn't covered the complete point stays
+complete_of-stuck : (points : ℕ → ℕ) (xs : List Record) (kept : List Redo) → is_growing (added (map redo_of xs) kept) ≡ true → complete_of points kept < last_lsn kept → complete_of points (added (map redo_of xs) kept) ≡ complete_of points kept
+complete_of-stuck points [] kept h less = refl
+complete_of-stuck points (x ∷ xs) kept h less =
+    let more : last_lsn kept < x.lsn = (both (last_lsn kept) x.lsn (is_growing kept) (above xs (redo_of x ∷ kept) h).0).0 in
+    let apart : (complete_of points kept == last_lsn kept) ≡ false = grind (arith, nat_tests) in
+    let step : complete_of points (redo_of x ∷ kept) ≡ complete_of points kept = rw apart refl in
+    complete_of-stuck points xs (redo_of x ∷ kept) h (omega arith) ∙ step
+
+-- later records have greater numbers than the bound
+point_below-later : (n : ℕ) (xs : List Record) (kept : List Redo) → is_growing (added (map redo_of xs) kept) ≡ true → n ≤ last_lsn kept → point_below n (added (map redo_of xs) kept) ≡ point_below n kept
+point_below-later n [] kept h le = refl
+point_below-later n (x ∷ xs) kept h le =
+    let more : last_lsn kept < x.lsn = (both (last_lsn kept) x.lsn (is_growing kept) (above xs (redo_of x ∷ kept) h).0).0 in
+    let later : nat_le x.lsn n ≡ false = lt-leb x.lsn n (omega arith) in
+    let step : point_below n (redo_of x ∷ kept) ≡ point_below n kept = ap (λ b. if b then x.lsn else point_below n kept) (ap (λ b. x.point && b) later ∙ and_false x.point) in
+    point_below-later n xs (redo_of x ∷ kept) h (omega arith) ∙ step
+
+-- ---- what is kept of a front
+
+module _ (points : ℕ → ℕ) (records : List Record) (growing : is_growing (log_of records) ≡ true) (old : Covered) (front : CoversFront old points records) where
+  abbrev kept : List Redo
+  kept = log_of (take old.records records)
+
+  grown : is_growing (added (map redo_of (drop old.records records)) kept) ≡ true
+  grown = subst (λ log. is_growing log ≡ true) (split records old.records) growing
+
+  kept_grows : is_growing kept ≡ true
+  kept_grows = (above (drop old.records records) kept grown).0
+
+  -- one record more is covered
+  pub covers-more : (new : Covered) (r : Record) → old.records < length records → r ≡ get_or records old.records r → r.lsn ≤ points r.group
+      → new.records ≡ old.records + 1 → new.complete ≡ r.lsn → new.durable ≡ (if r.point then r.lsn else old.durable) → CoversFront new points records
+  covers-more new r within is reached counted complete durable =
+      let here : nat_le r.lsn (points r.group) ≡ true = le-leb r.lsn (points r.group) reached in
+      let whole : log_of (take new.records records) ≡ redo_of r ∷ kept =
+      ap (λ n. log_of (take n records)) counted ∙ log_of-more records old.records r within ∙ ap (λ x. redo_of x ∷ kept) (sym is) in
+      let next : is_growing (redo_of r ∷ kept) ≡ true =
+      subst (λ log. is_growing log ≡ true) (log_of-more records old.records r within ∙ ap (λ x. redo_of x ∷ kept) (sym is)) (more-grows (old.records + 1)) in
+      let link : last_lsn kept < r.lsn = (both (last_lsn kept) r.lsn (is_growing kept) next).0 in
+      let self : nat_le r.lsn r.lsn ≡ true = le-leb r.lsn r.lsn (omega arith) in
+      let bound : point_below r.lsn kept ≡ old.durable = point_below-whole r.lsn kept kept_grows (omega arith) ∙ sym (front.durable ∙ ap (λ n. point_below n kept) front.complete) in
+      record {
+        within = omega (arith, counted);
+        all = ap (every (is_covered points)) whole ∙ and_from _ _ here front.all;
+        complete = complete ∙ sym (ap last_lsn whole);
+        durable = durable ∙ sym (ap₂ point_below complete whole ∙ last r.point self bound);
+      }
+    where
+      more-grows : (n : ℕ) → is_growing (log_of (take n records)) ≡ true
+      more-grows n = (above (drop n records) (log_of (take n records)) (subst (λ log. is_growing log ≡ true) (split records n) growing)).0
+
+      last : (point : Bool) → nat_le r.lsn r.lsn ≡ true → point_below r.lsn kept ≡ old.durable → (if point && nat_le r.lsn r.lsn then r.lsn else point_below r.lsn kept) ≡ (if point then r.lsn else old.durable)
+      last true self bound = rw self refl
+      last false self bound = bound
+
+  -- all records are covered
+  pub covers-all : length records ≤ old.records → CoversLog old points records
+  covers-all end =
+      let whole : take old.records records ≡ records = take_all old.records records end in
+      let all : every (is_covered points) (log_of records) ≡ true = subst (λ (xs : List Record). every (is_covered points) (log_of xs) ≡ true) whole front.all in
+      let complete : old.complete ≡ complete_of points (log_of records) = front.complete ∙ ap (λ (xs : List Record). last_lsn (log_of xs)) whole ∙ sym (complete_of-covered points (log_of records) all) in
+      record {
+        front = front;
+        complete = complete;
+        durable = front.durable ∙ ap₂ (λ n (xs : List Record). point_below n (log_of xs)) complete whole;
+      }
+
+  -- the next record isn't covered
+  pub covers-up-to : (r : Record) → old.records < length records → r ≡ get_or records old.records r → points r.group < r.lsn → CoversLog old points records
+  covers-up-to r within is short =
+      let here : nat_le r.lsn (points r.group) ≡ false = lt-leb r.lsn (points r.group) short in
+      let next : drop old.records records ≡ r ∷ drop (old.records + 1) records =
+      drop-cons records old.records r within ∙ ap₂ (λ x n. x ∷ drop n records) (sym is) (sym (add-one old.records)) in
+      let whole : log_of records ≡ added (map redo_of (drop (old.records + 1) records)) (redo_of r ∷ kept) =
+      split records old.records ∙ ap (λ (xs : List Record). added (map redo_of xs) kept) next in
+      let grows : is_growing (added (map redo_of (drop (old.records + 1) records)) (redo_of r ∷ kept)) ≡ true = subst (λ log. is_growing log ≡ true) whole growing in
+      let link : last_lsn kept < r.lsn = (both (last_lsn kept) r.lsn (is_growing kept) (above (drop (old.records + 1) records) (redo_of r ∷ kept) grows).0).0 in
+      let covered : complete_of points kept ≡ last_lsn kept = complete_of-covered points kept front.all in
+      let step : complete_of points (redo_of r ∷ kept) ≡ last_lsn kept =
+      ap (λ b. if b then r.lsn else complete_of points kept) (ap (λ b. (complete_of points kept == last_lsn kept) && b) here ∙ and_false _) ∙ covered in
+      let stuck : complete_of points (log_of records) ≡ last_lsn kept =
+      ap (complete_of points) whole ∙ complete_of-stuck points (drop (old.records + 1) records) (redo_of r ∷ kept) grows (omega arith) ∙ step in
+      let later : point_below (last_lsn kept) (log_of records) ≡ point_below (last_lsn kept) kept =
+      ap (point_below (last_lsn kept)) (split records old.records) ∙ point_below-later (last_lsn kept) (drop old.records records) kept grown (omega arith) in
+      record {
+        front = front;
+        complete = front.complete ∙ sym stuck;
+        durable = front.durable ∙ ap (λ n. point_below n kept) front.complete ∙ sym (ap (λ n. point_below n (log_of records)) stuck ∙ later);
+      }
+
+-- ---- points that rise, and logs that grow
+
+every-covered : (points points' : ℕ → ℕ) → ((group : ℕ) → points group ≤ points' group) → (log : List Redo) → every (is_covered points) log ≡ true → every (is_covered points') log ≡ true
+every-covered points points' up [] h = refl
+every-covered points points' up (r ∷ older) h =
+    let parts : (is_covered points r ≡ true) × (every (is_covered points) older ≡ true) = and_parts _ _ h in
+    let reached : r.lsn ≤ points r.group = leb-true r.lsn (points r.group) parts.0 in
+    let more : points r.group ≤ points' r.group = up r.group in
+    and_from _ _ (le-leb r.lsn (points' r.group) (omega arith)) (every-covered points points' up older parts.1)
+
+-- points have risen
+pub covers-raised : (covered : Covered) (points points' : ℕ → ℕ) (records : List Record) → ((group : ℕ) → points group ≤ points' group) → CoversFront covered points records → CoversFront covered points' records
+covers-raised covered points points' records up front = record {
+  within = front.within;
+  all = every-covered points points' up (log_of (take covered.records records)) front.all;
+  complete = front.complete;
+  durable = front.durable;
+}
