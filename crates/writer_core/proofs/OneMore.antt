@@ -1,6 +1,6 @@
 -- One record more of a transaction.
-use Rattle.std.proofs.Common.{◌≡◌, ℕ, zero, suc, ◌+◌, ◌<◌, ◌≤◌, ◌^◌, Bool, true, ◌&&◌, nat_lt, nat_eq, List, [], ◌∷◌, ◌++◌, max, length, drop, get_or, take, refl, sym, ap, ap₂, ◌∙◌, arith, drop-cons, add-one, length-drop}
-use Rattle.std.proofs.lemmas.Bool.{lt-ltb}
+use Rattle.std.proofs.Common.{◌≡◌, ℕ, zero, suc, ◌+◌, ◌<◌, ◌≤◌, ◌^◌, Bool, true, ◌&&◌, nat_lt, nat_le, nat_eq, List, [], ◌∷◌, ◌++◌, max, length, drop, get_or, take, refl, sym, ap, ap₂, ◌∙◌, arith, drop-cons, add-one, length-drop}
+use Rattle.std.proofs.lemmas.Bool.{and_parts, lt-ltb, ltb-true, leb-true}
 use Rattle.std.proofs.lemmas.List.{take-append-le, length-take}
 use Rattle.std.proofs.lemmas.Bool.Decides.{nat_tests}
 use Rattle.volume_model.specs.Lists.{every}
@@ -27,9 +27,35 @@ last_here (x ∷ xs) (suc i) h =
     let f : nat_eq (suc (i + 1)) (suc (length xs)) ≡ nat_eq (i + 1) (length xs) = grind (arith, nat_tests) in
     rw e (f ∙ inner)
 
+-- the change at hand, before the rest
+here_is : (changes : List Change) (i : ℕ) (change : Change) → i < length changes → change ≡ get_or changes i change → changes_of (drop i changes) ≡ change_of change ∷ changes_of (drop (i + 1) changes)
+here_is changes i change within is = ap changes_of (drop-cons changes i change within) ∙ ap₂ (λ x n. change_of x ∷ changes_of (drop n changes)) (sym is) (sym (add-one i))
+
+-- what a good change keeps to
+pub record IsGood (groups : ℕ) (change : Change) : Type 0 where
+  pub group : change.group < groups
+  pub not_empty : 1 ≤ length change.bytes.items
+  pub not_more : length change.bytes.items ≤ 64
+  pub place : change.offset + length change.bytes.items ≤ 512
+
+-- the change at hand is a good one
+pub good_here : (groups : ℕ) (changes : List Change) (i : ℕ) (change : Change) → i < length changes → change ≡ get_or changes i change → every (is_change groups) (changes_of (drop i changes)) ≡ true → IsGood groups change
+good_here groups changes i change within is h =
+    let good : (is_change groups (change_of change) && every (is_change groups) (changes_of (drop (i + 1) changes))) ≡ true = sym (ap (every (is_change groups)) (here_is changes i change within is)) ∙ h in
+    let a = and_parts (is_change groups (change_of change)) (every (is_change groups) (changes_of (drop (i + 1) changes))) good in
+    let b = and_parts (nat_lt change.group groups) (nat_le 1 (length change.bytes.items) && (nat_le (length change.bytes.items) 64 && nat_le (change.offset + length change.bytes.items) 512)) a.0 in
+    let c = and_parts (nat_le 1 (length change.bytes.items)) (nat_le (length change.bytes.items) 64 && nat_le (change.offset + length change.bytes.items) 512) b.1 in
+    let d = and_parts (nat_le (length change.bytes.items) 64) (nat_le (change.offset + length change.bytes.items) 512) c.1 in
+    record {
+      group = ltb-true change.group groups b.0;
+      not_empty = leb-true 1 (length change.bytes.items) c.0;
+      not_more = leb-true (length change.bytes.items) 64 d.0;
+      place = leb-true (change.offset + length change.bytes.items) 512 d.1;
+    }
+
 module _ (volume start : ℕ) (places : ℕ → model.Place) (changes : List Change) (i : ℕ) (change : Change) (within : i < length changes) (is : change ≡ get_or changes i change) (records : List Record) (r : Record) (made : redo_of r ≡ record_of volume start (log_of records) (change_of change) (nat_eq (i + 1) (length changes))) where
   pub rest_is : changes_of (drop i changes) ≡ change_of change ∷ changes_of (drop (i + 1) changes)
-  rest_is = ap changes_of (drop-cons changes i change within) ∙ ap₂ (λ x n. change_of x ∷ changes_of (drop n changes)) (sym is) (sym (add-one i))
+  rest_is = here_is changes i change within is
 
   record_is : redo_of r ≡ record_of volume start (log_of records) (change_of change) (is_last (changes_of (drop (i + 1) changes)))
   record_is = made ∙ ap (record_of volume start (log_of records) (change_of change)) (last_here changes i within)

@@ -1,4 +1,4 @@
-use Rattle.std.proofs.Common.{◌≡◌, ℕ, ap, subst, ◌∙◌, ◌++◌, ◌∷◌, [], nat_eq, ◌+◌, length}
+use Rattle.std.proofs.Common.{arith, ◌≡◌, ℕ, ap, subst, ◌∙◌, ◌++◌, ◌∷◌, [], nat_eq, ◌+◌, length}
 use Rattle.volume_model.specs.Redo.{Redo}
 use Rattle.volume_model.specs.Message as model
 use Rattle.volume_model.specs.Client.{place_of, record_of, label_of}
@@ -9,8 +9,25 @@ use Rattle.writer_core.specs.Lasts.{AreLastsOfFront}
 use Rattle.writer_core.specs.Changes.{change_of}
 use Rattle.writer_core.specs.Groups.{groups_in, standings_plan}
 use Rattle.writer_core.proofs.Entering.{front-pushed}
-use Rattle.writer_core.proofs.OneMore.{logged_on, written_on, growing_on, room_on, good_on, front_on, messages_on}
+use Rattle.writer_core.proofs.OneMore.{IsGood, good_here, logged_on, written_on, growing_on, room_on, good_on, front_on, messages_on}
 use Rattle.writer_core.proofs.issuing.append.Goals as goal
+
+pub next_record-record-requires-clause-group : goal.next_record-record-requires-clause-group
+next_record-record-requires-clause-group c =
+    let groups = (standings_plan c.args.standings.now).groups in
+    let good : IsGood groups c.index-changes-i.result = good_here groups c.args.changes.now c.loop-i.i c.index-changes-i.result c.loop-i-test.true c.index-changes-i.is c.loop-i.invariant.good in
+    omega (arith, good.group, c.requires.few)
+
+pub next_record-record-requires-clause-bytes : goal.next_record-record-requires-clause-bytes
+next_record-record-requires-clause-bytes c =
+    let groups = (standings_plan c.args.standings.now).groups in
+    let good : IsGood groups c.index-changes-i.result = good_here groups c.args.changes.now c.loop-i.i c.index-changes-i.result c.loop-i-test.true c.index-changes-i.is c.loop-i.invariant.good in
+    record { not_empty = good.not_empty; not_more = good.not_more }
+
+pub next_record-record-requires-clause-place : goal.next_record-record-requires-clause-place
+next_record-record-requires-clause-place c =
+    let groups = (standings_plan c.args.standings.now).groups in
+    (good_here groups c.args.changes.now c.loop-i.i c.index-changes-i.result c.loop-i-test.true c.index-changes-i.is c.loop-i.invariant.good).place
 
 pub loop-i-preserved : goal.loop-i-preserved
 loop-i-preserved c =
