@@ -34,7 +34,7 @@ pub struct Writer {
     /// How many records of the log it began with.
     found: usize,
     log: Vec<Record>,
-    /// The last LSNs of groups and blocks, up to where a transaction has asked for them.
+    /// The last LSN of each group and block, of the log's front; a transaction enters the rest before it asks.
     lasts: Lasts,
     /// How far the log is covered by the points of its groups.
     covered: Covered,
@@ -270,7 +270,8 @@ impl Writer {
     }
 
     /// Gives a transaction's changes their records, all or none, and makes the Writes that carry them, in order. The last is
-    /// a consistency point. Refused as `admits` says.
+    /// a consistency point. Refused as `admits` says. Where memory runs out the log is what it was, and its last LSNs are read off it
+    /// anew at the next transaction.
     pub fn issue(&mut self, alloc: Global, changes: &[Change]) -> Result<Vec<Message>, Fault>
         ensures acts { Acts (issued (writer_plan self.old) (writer_volume self.old) (client_of self.old) (changes_of changes.now)) (client_of self.old) result (client_of self.new) }
         ensures plan { writer_plan self.new ≡ writer_plan self.old }
