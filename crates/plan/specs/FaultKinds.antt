@@ -2,6 +2,7 @@
 use Rattle.std.specs.Prelude.{Bool, true, false}
 use Rattle.volume_model.specs.declared.fault.Fault.{Fault}
 use Rattle.volume_model.specs.declared.fault.Fault.TheVariants.{NoMemory, Malformed}
+use Rattle.volume_model.specs.declared.fault.Fault.TheVariants as faults
 use Rattle.plan.specs.declared.fault.PlanFault.{PlanFault}
 use Rattle.plan.specs.declared.fault.PlanFault.TheVariants.{Text, Expression, BadParent, MemberReused, NoCertificate, Certificate}
 
@@ -18,3 +19,12 @@ is_input (BadParent g c) = false
 is_input (MemberReused g c x) = false
 is_input (NoCertificate g c step) = false
 is_input (Certificate g c step at) = false
+
+-- what is wrong, without the place
+abbrev pub kind_of : PlanFault → Fault
+kind_of (Text fault) = fault
+kind_of (Expression fault g c quorum) = fault
+kind_of (BadParent g c) = faults.BadParent
+kind_of (MemberReused g c x) = faults.MemberReused
+kind_of (NoCertificate g c step) = faults.NoCertificate
+kind_of (Certificate g c step at) = faults.Certificate

@@ -58,7 +58,21 @@ pub enum PlanFault {
 
 impl PlanFault {
     ghost use Rattle.std.specs.Prelude.{◌≡◌};
-    ghost use Rattle.plan.specs.FaultKinds.{is_input};
+    ghost use Rattle.plan.specs.FaultKinds.{is_input, kind_of};
+
+    /// What is wrong, without the place.
+    pub fn kind(&self) -> Fault
+        ensures { result ≡ kind_of self.now }
+    {
+        match self {
+            PlanFault::Text(fault) => *fault,
+            PlanFault::Expression { fault, .. } => *fault,
+            PlanFault::BadParent { .. } => Fault::BadParent,
+            PlanFault::MemberReused { .. } => Fault::MemberReused,
+            PlanFault::NoCertificate { .. } => Fault::NoCertificate,
+            PlanFault::Certificate { .. } => Fault::Certificate,
+        }
+    }
 
     /// Whether the text isn't a plan's at all, or memory ran out.
     pub fn is_input(&self) -> bool
