@@ -1,0 +1,90 @@
+-- Lists that are gone through from the front, and the trees that plain claims have.
+use Rattle.std.proofs.Common.{◌≡◌, ℕ, suc, ◌+◌, ◌<◌, ◌≤◌, List, [], ◌∷◌, ◌++◌, length, get_or, drop, map, append_assoc, refl, ap, ◌∙◌, sym, subst, arith, add-one, drop-cons, rules}
+use Rattle.std.specs.Prelude.{None, Option, Some, Vec, true, nat_le, ◌&&◌, max, Bool}
+use Rattle.std.proofs.lemmas.List.{length-map, map-append}
+use Rattle.std.proofs.lemmas.Bool.Decides.{nat_tests}
+use Rattle.volume_model.specs.Formula.{HasCounts, each_once}
+use Rattle.volume_model.specs.FormulaLaws.{formulas-each_once, total_weight-each_once}
+use Rattle.quorum_expr.specs.declared.expression.Expr.{Expr}
+use Rattle.quorum_expr.specs.declared.expression.Expr.TheVariants.{KOf}
+use Rattle.quorum_expr.specs.Expr.{formula_of}
+use Rattle.quorum_expr.specs.ExprLaws.{formula_of-KOf}
+use Rattle.quorum_expr.specs.Valid.{expression_fault}
+use Rattle.quorum_expr.specs.ValidLaws.{HasCounts-from}
+use Rattle.quorum_checker.specs.FirstFault.{children_of}
+use Rattle.refutation.specs.declared.Refutation.{Refutation}
+use Rattle.refutation.specs.declared.Refutation.TheVariants.{Clash, Match}
+use Rattle.refutation.specs.declared.Refutation.TheFolds.{the_lemmas}
+use Rattle.refutation.specs.Rule.{Rule, clash, pair_up, branches_of, branch_count, branch_depth}
+use Rattle.refutation.specs.Refutation.{rule_of}
+use Rattle.refutation.specs.Limits.{is_certificate, keeps_lists, each_keeps_lists, branch_nodes}
+use Rattle.cert_search.specs.Plain.{clashes, onto}
+
+-- the element at hand and those after it
+pub next : {A B : Type 0} (f : A → B) (xs : List A) (i : ℕ) (x : A) → i < length xs → x ≡ get_or xs i x → map f (drop i xs) ≡ f x ∷ map f (drop (i + 1) xs)
+next f xs i x h is = ap (map f) (drop-cons xs i x h ∙ ap (λ y. y ∷ drop (suc i) xs) (sym is)) ∙ ap (λ n. f x ∷ map f (drop n xs)) (sym (add-one i))
+
+pub rule_of-match : {A : Type 0} (pairs : Vec (ℕ × ℕ) A) (then : Vec (Refutation A) A) → rule_of (Match 0 0 pairs then) ≡ pair_up 0 0 pairs.items (branches_of (map rule_of then.items))
+rule_of-match pairs then = search (rules, the_lemmas)
+
+-- the children of a threshold
+pub children-is : {A : Type 0} (e : Expr A) (k : ℕ) (of : Vec (Expr A) A) → e ≡ KOf k of → children_of (formula_of e) ≡ map formula_of of.items
+children-is e k of is = ap children_of (ap formula_of is ∙ formula_of-KOf k of) ∙ formulas-each_once (map formula_of of.items)
+
+-- a valid threshold has at most 64 children
+pub few_children : {A : Type 0} (e : Expr A) (k : ℕ) (of : Vec (Expr A) A) → e ≡ KOf k of → expression_fault (formula_of e) ≡ None → length of.items ≤ 64
+few_children e k of is valid =
+    let counts = subst HasCounts (ap formula_of is ∙ formula_of-KOf k of) (HasCounts-from (formula_of e) valid) in
+    omega (arith, counts.2, total_weight-each_once (map formula_of of.items), length-map of.items formula_of)
+
+-- ---- pairs so far, and those of what is left
+
+clash-is : (A : Type 0) → rule_of {A = A} (Clash 0 0) ≡ clash 0 0
+clash-is A = search (rules, the_lemmas)
+
+-- one clash more, and one pair fewer left
+pub clashed : {A : Type 0} (before after : List (Refutation A)) (ps : List (ℕ × ℕ)) (i : ℕ) → i < length ps → after ≡ before ++ Clash 0 0 ∷ [] → map rule_of before ++ clashes (drop i ps) ≡ clashes ps → map rule_of after ++ clashes (drop (i + 1) ps) ≡ clashes ps
+clashed {A} before after ps i h more so_far =
+    ap (λ ts. map rule_of ts ++ clashes (drop (i + 1) ps)) more ∙ ap (λ rs. rs ++ clashes (drop (i + 1) ps)) (map-append rule_of before (Clash 0 0 ∷ []))
+    ∙ ap (λ r. (map rule_of before ++ r ∷ []) ++ clashes (drop (i + 1) ps)) (clash-is A) ∙ append_assoc (map rule_of before) (clash 0 0 ∷ []) (clashes (drop (i + 1) ps))
+    ∙ ap (λ n. map rule_of before ++ clash 0 0 ∷ clashes (drop n ps)) (add-one i) ∙ ap (λ rest. map rule_of before ++ clashes rest) (sym (drop-cons ps i (0, 0) h)) ∙ so_far
+
+-- nothing stands at the place
+pub kept : {A : Type 0} (all before now rest : List A) (found : Option A) → all ≡ before ++ now → now ≡ onto found rest → found ≡ None → all ≡ before ++ rest
+kept all before now rest found so_far is none = so_far ∙ ap (λ xs. before ++ xs) (is ∙ ap (λ o. onto o rest) none)
+
+-- what stands at the place goes to the end
+pub paired : {A : Type 0} (all before after now rest : List A) (found : Option A) (x : A) → all ≡ before ++ now → now ≡ onto found rest → found ≡ Some x → after ≡ before ++ x ∷ [] → all ≡ after ++ rest
+paired all before after now rest found x so_far is some more =
+    so_far ∙ ap (λ xs. before ++ xs) (is ∙ ap (λ o. onto o rest) some) ∙ sym (append_assoc before (x ∷ []) rest) ∙ ap (λ xs. xs ++ rest) (sym more)
+
+-- ---- the limits of a match of the only items
+
+clash_count : (ps : List (ℕ × ℕ)) → branch_count (branches_of (clashes ps)) ≡ length ps
+clash_count [] = refl
+clash_count (p ∷ ps) = omega (arith, clash_count ps)
+
+clash_nodes : (ps : List (ℕ × ℕ)) → branch_nodes (branches_of (clashes ps)) ≡ length ps
+clash_nodes [] = refl
+clash_nodes (p ∷ ps) = omega (arith, clash_nodes ps)
+
+clash_depth : (ps : List (ℕ × ℕ)) → branch_depth (branches_of (clashes ps)) ≤ 1
+clash_depth [] = omega arith
+clash_depth (p ∷ ps) = omega (arith, clash_depth ps)
+
+clash_lists : (ps : List (ℕ × ℕ)) → each_keeps_lists (branches_of (clashes ps)) ≡ true
+clash_lists [] = refl
+clash_lists (p ∷ ps) = clash_lists ps
+
+both : (a b c d e : Bool) → a ≡ true → b ≡ true → c ≡ true → d ≡ true → e ≡ true → (a && ((b && (c && d)) && e)) ≡ true
+both a b c d e ha hb hc hd he = λ i. ha i && ((hb i && (hc i && hd i)) && he i)
+
+at_most : (m n : ℕ) → m ≤ n → nat_le m n ≡ true
+at_most m n h = grind (arith, nat_tests)
+
+-- it is within the limits of a certificate
+pub within : (ps : List (ℕ × ℕ)) → length ps ≤ 64 → is_certificate (pair_up 0 0 ps (branches_of (clashes ps))) ≡ true
+within ps few =
+    both _ _ _ _ _ (at_most (1 + branch_depth (branches_of (clashes ps))) 40 (omega (arith, clash_depth ps))) (at_most (length ps) 255 (omega arith))
+    (at_most (branch_count (branches_of (clashes ps))) 255 (omega (arith, clash_count ps))) (clash_lists ps)
+    (at_most (1 + branch_nodes (branches_of (clashes ps))) 100000 (omega (arith, clash_nodes ps)))

@@ -1,0 +1,8 @@
+use Rattle.std.proofs.Common.{◌≡◌, ◌++◌, drop, map}
+use Rattle.refutation.specs.Rule.{clash}
+use Rattle.refutation.specs.Forms.{rules_of}
+use Rattle.cert_search.specs.Plain.{clashes}
+use Rattle.cert_search.proofs.plain.clashes.Given as goal
+
+abbrev pub invariant-loop : goal.invariant-loop
+invariant-loop g l = rules_of l.then.items ++ clashes (drop l.index l.pairs) ≡ clashes l.pairs

@@ -1,0 +1,68 @@
+//! Where a search ends: a state that is refuted at once, and one with two disjoint sets that satisfy its sides.
+
+use crate::members::{common, without};
+use crate::state::State;
+use quorum_expr::{Expr, MEMBERS};
+use refutation::{Refutation, Side};
+use std::alloc::Allocator;
+
+/// The item of a side that can't hold, as a refutation.
+fn dead_on<A: Allocator, B: Allocator>(state: &State<'_, A>, side: Side) -> Option<Refutation<B>> {
+    let row = state.row(side);
+    let item = row.number(row.first_dead()?)?;
+    Some(Refutation::Dead { side, item })
+}
+
+/// An item that can't hold, as a refutation.
+pub fn dead<A: Allocator, B: Allocator>(state: &State<'_, A>) -> Option<Refutation<B>> {
+    match dead_on(state, Side::Left) {
+        Some(tree) => Some(tree),
+        None => dead_on(state, Side::Right),
+    }
+}
+
+/// Two items that are the same member, as a refutation.
+fn clash<A: Allocator, B: Allocator>(state: &State<'_, A>) -> Option<Refutation<B>> {
+    for (i, item) in state.left.items.iter().enumerate() {
+        if let Expr::Member(member) = *item {
+            if let Some(j) = state.right.place_of(*member) {
+                let left = state.left.number(i)?;
+                let right = state.right.number(j)?;
+                return Some(Refutation::Clash { left, right });
+            }
+        }
+    }
+    None
+}
+
+/// What refutes a state without branches.
+pub fn leaf<A: Allocator, B: Allocator>(state: &State<'_, A>) -> Option<Refutation<B>> {
+    match dead(state) {
+        Some(tree) => Some(tree),
+        None => clash(state),
+    }
+}
+
+/// Whether two disjoint sets that satisfy all items of both sides are found by giving each common member to the right
+/// side, where the left one can do without it, and else to the left.
+fn leaves_enough<A: Allocator>(state: &State<'_, A>) -> bool {
+    let mut left = state.left.absent.complement();
+    let mut right = state.right.absent.complement();
+    let common = common(state);
+    for member in 0..MEMBERS {
+        if common.contains(member) {
+            let fewer = without(left, member);
+            if state.left.hold(fewer) {
+                left = fewer;
+            } else {
+                right = without(right, member);
+            }
+        }
+    }
+    state.right.hold(right)
+}
+
+/// Whether two disjoint sets that satisfy all items of both sides are found. No item is dead.
+pub fn has_counterexample<A: Allocator>(state: &State<'_, A>) -> bool {
+    leaves_enough(state) || leaves_enough(&state.turned())
+}

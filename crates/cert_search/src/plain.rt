@@ -1,0 +1,127 @@
+//! Claims that hold by the number of equal members alone.
+
+ghost use Rattle.std.specs.Prelude.{◌≡◌, ◌<◌, ◌≤◌, IfOk, IfSome, None, Ok, length, map, true};
+ghost use Rattle.volume_model.specs.Answer.{Gives};
+ghost use Rattle.quorum_expr.specs.Expr.{formula_of};
+ghost use Rattle.quorum_expr.specs.Valid.{expression_fault};
+ghost use Rattle.quorum_checker.specs.FirstFault.{children_of};
+ghost use Rattle.refutation.specs.Refutation.{rule_of};
+ghost use Rattle.refutation.specs.Forms.{rules_of};
+ghost use Rattle.refutation.specs.Limits.{is_certificate};
+ghost use Rattle.refutation.specs.Rule.{branches_of, pair_up};
+ghost use Rattle.cert_search.specs.Plain.{clashes, equal_pairs, is_member, pair_at, place_of, plain_rule};
+
+use quorum_expr::Expr;
+use refutation::Refutation;
+use std::alloc::Allocator;
+use volume_model::Fault;
+
+/// Whether an expression is this member.
+pub fn is_member<A: Allocator>(member: u8, expr: &Expr<A>) -> bool
+    ensures { result ≡ is_member member (formula_of expr.now) }
+{
+    match expr {
+        Expr::Member(own) => *own == member,
+        Expr::KOf { .. } => false,
+    }
+}
+
+/// The children of a threshold, and of a member none.
+fn children<A: Allocator>(expr: &Expr<A>) -> &[Expr<A>]
+    requires { expression_fault (formula_of expr.now) ≡ None }
+    ensures children { map formula_of result.now ≡ children_of (formula_of expr.now) }
+    ensures few { length result.now ≤ 64 }
+{
+    match expr {
+        Expr::Member(_) => &[],
+        Expr::KOf { of, .. } => of.as_slice(),
+    }
+}
+
+/// The place of the first expression that is this member.
+fn place_of<A: Allocator>(member: u8, others: &[Expr<A>]) -> Option<usize>
+    ensures within { IfSome result (λ j. j < length others.now) }
+    ensures place { result ≡ place_of member (map formula_of others.now) }
+{
+    for (j, other) in others.iter().enumerate() {
+        if is_member(member, other) {
+            return Some(j);
+        }
+    }
+    None
+}
+
+/// The place of a member with that of an equal one among others, if there is one.
+fn pair_at<A: Allocator>(i: u8, child: &Expr<A>, others: &[Expr<A>]) -> Option<(u8, u8)>
+    requires { length others.now ≤ 64 }
+    ensures { result ≡ pair_at i (formula_of child.now) (map formula_of others.now) }
+{
+    match child {
+        Expr::Member(member) => place_of(*member, others).map(|j| (i, j as u8)),
+        Expr::KOf { .. } => None,
+    }
+}
+
+/// The places of equal members of two lists.
+fn equal_pairs<A: Allocator, B: Allocator + Clone>(
+    arena: &B,
+    of: &[Expr<A>],
+    others: &[Expr<A>],
+) -> Result<Vec<(u8, u8), B>, Fault>
+    requires { (length of.now ≤ 64) × (length others.now ≤ 64) }
+    ensures pairs { Gives (λ v. v.items) result (Ok (equal_pairs 0 (map formula_of of.now) (map formula_of others.now))) }
+    ensures few { IfOk result (λ v. length v.items ≤ 64) }
+{
+    let mut pairs = Vec::new(arena.clone()?);
+    for (i, child) in of.iter().enumerate() {
+        if let Some(pair) = pair_at(i as u8, child, others) {
+            pairs.push(pair)?;
+        }
+    }
+    Ok(pairs)
+}
+
+/// A clash of the only items for each pair.
+fn clashes<B: Allocator + Clone>(
+    arena: &B,
+    pairs: &[(u8, u8)],
+) -> Result<Vec<Refutation<B>, B>, Fault>
+    ensures { Gives (λ v. rules_of v.items) result (Ok (clashes pairs.now)) }
+{
+    let mut then = Vec::new(arena.clone()?);
+    for _ in pairs {
+        then.push(Refutation::Clash { left: 0, right: 0 })?;
+    }
+    Ok(then)
+}
+
+/// A match of the only items.
+fn only_match<B: Allocator>(
+    pairs: Vec<(u8, u8), B>,
+    then: Vec<Refutation<B>, B>,
+) -> Refutation<B>
+    ensures { rule_of result ≡ pair_up 0 0 pairs.items (branches_of (rules_of then.items)) }
+{
+    Refutation::Match {
+        left: 0,
+        right: 0,
+        pairs,
+        then,
+    }
+}
+
+/// The match of all pairs of equal members, each closed by a clash.
+pub fn plain_tree<A: Allocator, B: Allocator + Clone>(
+    arena: &B,
+    left: &Expr<A>,
+    right: &Expr<A>,
+) -> Result<Refutation<B>, Fault>
+    requires left { expression_fault (formula_of left.now) ≡ None }
+    requires right { expression_fault (formula_of right.now) ≡ None }
+    ensures rule { Gives rule_of result (Ok (plain_rule (formula_of left.now) (formula_of right.now))) }
+    ensures within { IfOk result (λ tree. is_certificate (rule_of tree) ≡ true) }
+{
+    let pairs = equal_pairs(arena, children(left), children(right))?;
+    let then = clashes(arena, pairs.as_slice())?;
+    Ok(only_match(pairs, then))
+}

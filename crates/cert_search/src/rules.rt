@@ -1,0 +1,293 @@
+//! The search by the rules that look at items: those that ask for all their children first, then choices of one child,
+//! then matches, then other picks.
+
+use crate::leaves::{has_counterexample, leaf};
+use crate::matching::Mates;
+use crate::state::{Row, State};
+use quorum_expr::Expr;
+use refutation::{Refutation, Side};
+use std::alloc::{AllocError, Allocator};
+
+/// Where a search makes its items and trees, and how many nodes it may still try.
+#[derive(Drop)]
+pub struct Search<B: Allocator> {
+    pub arena: B,
+    pub budget: u64,
+}
+
+/// A pair of children that closes.
+#[derive(Drop)]
+struct Closed<B: Allocator> {
+    left: u8,
+    right: u8,
+    tree: Refutation<B>,
+}
+
+/// The pairs that close, and for each left child a bit for each right child with which it does.
+#[derive(Drop)]
+struct Closing<B: Allocator> {
+    pairs: Vec<Closed<B>, B>,
+    edges: Vec<u64, B>,
+}
+
+impl<B: Allocator> Search<B> {
+    /// Counts a node, where the search may try one more.
+    pub fn spend(&mut self) -> bool {
+        match self.budget.checked_sub(1) {
+            Some(rest) => {
+                self.budget = rest;
+                true
+            }
+            None => false,
+        }
+    }
+}
+
+/// The first item that asks for all its children.
+fn first_all<A: Allocator>(row: &Row<'_, A>) -> Option<usize> {
+    row.items.iter().position(|item| match *item {
+        Expr::Member(_) => false,
+        Expr::KOf { k, of } => usize::from(*k) == of.len(),
+    })
+}
+
+/// The first item that asks for one of its children.
+fn first_any<A: Allocator>(row: &Row<'_, A>) -> Option<usize> {
+    row.items.iter().position(|item| match *item {
+        Expr::Member(_) => false,
+        Expr::KOf { k, .. } => *k == 1,
+    })
+}
+
+/// Whether it is worth while to look for what closes a pair of children.
+fn may_close<A: Allocator>(state: &State<'_, A>, left: &Expr<A>, right: &Expr<A>) -> bool {
+    match (left, right) {
+        (Expr::Member(one), Expr::Member(other)) => {
+            one == other || state.left.absent.contains(*one) || state.right.absent.contains(*other)
+        }
+        _ => true,
+    }
+}
+
+/// What refutes a state by its items, where it is found in trees of so many levels.
+#[cycle(rules)]
+pub fn refute<A: Allocator, B: Allocator + Clone>(
+    search: &mut Search<B>,
+    state: &State<'_, A>,
+    levels: u8,
+) -> Result<Option<Refutation<B>>, AllocError> {
+    if levels == 0 || !search.spend() {
+        return Ok(None);
+    }
+    if let Some(tree) = leaf(state) {
+        return Ok(Some(tree));
+    }
+    if has_counterexample(state) {
+        return Ok(None);
+    }
+    for side in [Side::Left, Side::Right] {
+        if let Some(at) = first_all(&state.row(side)) {
+            return open(search, state, side, at, levels - 1);
+        }
+    }
+    for side in [Side::Left, Side::Right] {
+        if let Some(at) = first_any(&state.row(side)) {
+            return pick(search, state, side, at, levels - 1);
+        }
+    }
+    match match_some(search, state, levels - 1)? {
+        Some(tree) => Ok(Some(tree)),
+        None => pick_some(search, state, levels - 1),
+    }
+}
+
+/// What refutes a state whose item is replaced by all its children.
+#[cycle(rules)]
+fn open<A: Allocator, B: Allocator + Clone>(
+    search: &mut Search<B>,
+    state: &State<'_, A>,
+    side: Side,
+    at: usize,
+    levels: u8,
+) -> Result<Option<Refutation<B>>, AllocError> {
+    let row = state.row(side);
+    let Some(Expr::KOf { of, .. }) = row.items.get(at).copied() else {
+        return Ok(None);
+    };
+    let list = row.replaced(search.arena.clone()?, at, of)?;
+    let Some(then) = refute(search, &state.changed(side, &list), levels)? else {
+        return Ok(None);
+    };
+    let Some(item) = row.number(at) else {
+        return Ok(None);
+    };
+    let then = Box::new(search.arena.clone()?, then)?;
+    Ok(Some(Refutation::Open { side, item, then }))
+}
+
+/// What refutes a state whose item is replaced by one of its children, for as many of them as leave too few.
+#[cycle(rules)]
+fn pick<A: Allocator, B: Allocator + Clone>(
+    search: &mut Search<B>,
+    state: &State<'_, A>,
+    side: Side,
+    at: usize,
+    levels: u8,
+) -> Result<Option<Refutation<B>>, AllocError> {
+    let row = state.row(side);
+    let Some(Expr::KOf { k, of }) = row.items.get(at).copied() else {
+        return Ok(None);
+    };
+    let Some(item) = row.number(at) else {
+        return Ok(None);
+    };
+    let mut spare = usize::from(*k).saturating_sub(1);
+    let wanted = of.len().saturating_sub(spare);
+    let mut children = Vec::new(search.arena.clone()?);
+    let mut then = Vec::new(search.arena.clone()?);
+    for (number, child) in of.iter().enumerate() {
+        if then.len() >= wanted {
+            break;
+        }
+        let list = row.replaced_by_one(search.arena.clone()?, at, child)?;
+        match refute(search, &state.changed(side, &list), levels)? {
+            Some(tree) => {
+                let Ok(number) = u8::try_from(number) else {
+                    return Ok(None);
+                };
+                children.push(number)?;
+                then.push(tree)?;
+            }
+            None if spare == 0 => return Ok(None),
+            None => spare -= 1,
+        }
+    }
+    Ok(Some(Refutation::Pick {
+        side,
+        item,
+        children,
+        then,
+    }))
+}
+
+/// What refutes a state by a match of two of its thresholds.
+#[cycle(rules)]
+fn match_some<A: Allocator, B: Allocator + Clone>(
+    search: &mut Search<B>,
+    state: &State<'_, A>,
+    levels: u8,
+) -> Result<Option<Refutation<B>>, AllocError> {
+    for i in 0..state.left.items.len() {
+        for j in 0..state.right.items.len() {
+            if let Some(tree) = match_two(search, state, i, j, levels)? {
+                return Ok(Some(tree));
+            }
+        }
+    }
+    Ok(None)
+}
+
+/// What refutes a state by picks from one of its thresholds.
+#[cycle(rules)]
+fn pick_some<A: Allocator, B: Allocator + Clone>(
+    search: &mut Search<B>,
+    state: &State<'_, A>,
+    levels: u8,
+) -> Result<Option<Refutation<B>>, AllocError> {
+    for side in [Side::Left, Side::Right] {
+        for at in 0..state.row(side).items.len() {
+            if let Some(tree) = pick(search, state, side, at, levels)? {
+                return Ok(Some(tree));
+            }
+        }
+    }
+    Ok(None)
+}
+
+/// The pairs of children of two thresholds that close, each by itself, and for each left child a bit for each right child with
+/// which it does.
+#[cycle(rules)]
+fn close_pairs<A: Allocator, B: Allocator + Clone>(
+    search: &mut Search<B>,
+    state: &State<'_, A>,
+    of: &[Expr<A>],
+    others: &[Expr<A>],
+    levels: u8,
+) -> Result<Closing<B>, AllocError> {
+    let mut pairs = Vec::new(search.arena.clone()?);
+    let mut edges = Vec::new(search.arena.clone()?);
+    for (left, child) in (0..64u8).zip(of) {
+        let mut edge = 0u64;
+        for (right, other) in (0..64u8).zip(others) {
+            if !may_close(state, child, other) {
+                continue;
+            }
+            let lefts = [child];
+            let rights = [other];
+            let narrow = State {
+                left: state.left.narrowed(&lefts),
+                right: state.right.narrowed(&rights),
+            };
+            if let Some(tree) = refute(search, &narrow, levels)? {
+                edge |= 1u64.checked_shl(u32::from(right)).unwrap_or(0);
+                pairs.push(Closed { left, right, tree })?;
+            }
+        }
+        edges.push(edge)?;
+    }
+    Ok(Closing { pairs, edges })
+}
+
+/// What refutes a state by a match of two of its items.
+#[cycle(rules)]
+fn match_two<A: Allocator, B: Allocator + Clone>(
+    search: &mut Search<B>,
+    state: &State<'_, A>,
+    i: usize,
+    j: usize,
+    levels: u8,
+) -> Result<Option<Refutation<B>>, AllocError> {
+    let Some(Expr::KOf { k, of }) = state.left.items.get(i).copied() else {
+        return Ok(None);
+    };
+    let Some(Expr::KOf { k: l, of: others }) = state.right.items.get(j).copied() else {
+        return Ok(None);
+    };
+    let (Some(left), Some(right)) = (state.left.number(i), state.right.number(j)) else {
+        return Ok(None);
+    };
+    let spare = usize::from(*k).saturating_add(usize::from(*l));
+    let wanted = (of.len().saturating_add(others.len()).saturating_add(1)).saturating_sub(spare);
+    if wanted > of.len().min(others.len()) {
+        return Ok(None);
+    }
+    let closing = close_pairs(search, state, of, others, levels)?;
+    let Some(mates) = Mates::find(&closing.edges, wanted) else {
+        return Ok(None);
+    };
+    Ok(Some(matched(&search.arena, left, right, &mates, closing.pairs)?))
+}
+
+/// The match of the pairs that are mates.
+fn matched<B: Allocator + Clone>(
+    arena: &B,
+    left: u16,
+    right: u16,
+    mates: &Mates,
+    closed: Vec<Closed<B>, B>,
+) -> Result<Refutation<B>, AllocError> {
+    let mut pairs = Vec::new(arena.clone()?);
+    let mut then = Vec::new(arena.clone()?);
+    for pair in closed {
+        if mates.are_mates(pair.left, pair.right) {
+            pairs.push((pair.left, pair.right))?;
+            then.push(pair.tree)?;
+        }
+    }
+    Ok(Refutation::Match {
+        left,
+        right,
+        pairs,
+        then,
+    })
+}

@@ -1,0 +1,178 @@
+//! What a search works on: the items of both sides, and the members that are absent from each.
+
+ghost use Rattle.std.specs.Prelude.{◌<◌};
+
+use crate::plain::is_member;
+use quorum_expr::{Expr, MemberSet, holds};
+use refutation::Side;
+use std::alloc::{Allocator, AllocError};
+
+/// Items at the end of a side's list.
+#[derive(Drop)]
+pub struct Row<'a, A: Allocator> {
+    /// How many items stand before them, which the search leaves alone.
+    pub before: usize,
+    pub items: &'a [&'a Expr<A>],
+    /// The members that are absent from the side.
+    pub absent: MemberSet,
+}
+
+/// Both sides.
+#[derive(Drop)]
+pub struct State<'a, A: Allocator> {
+    pub left: Row<'a, A>,
+    pub right: Row<'a, A>,
+}
+
+
+impl<'a, A: Allocator> Row<'a, A> {
+    /// The number that an item has on its side.
+    pub fn number(&self, at: usize) -> Option<u16> {
+        u16::try_from(self.before.saturating_add(at)).ok()
+    }
+
+    /// Other items, behind as many.
+    pub fn with<'b>(&self, before: usize, items: &'b [&'b Expr<A>]) -> Row<'b, A>
+    where
+        'a: 'b,
+    {
+        Row {
+            before,
+            items,
+            absent: self.absent,
+        }
+    }
+
+    /// One child in the place of an item, and the other items left alone.
+    pub fn narrowed<'b>(&self, items: &'b [&'b Expr<A>]) -> Row<'b, A>
+    where
+        'a: 'b,
+    {
+        let others = self.items.len().saturating_sub(1);
+        self.with(self.before.saturating_add(others), items)
+    }
+
+    /// The same with one more member absent.
+    fn lacking(&self, member: u8) -> Row<'a, A>
+        requires { member < 64 }
+    {
+        Row {
+            before: self.before,
+            items: self.items,
+            absent: self.absent.with(member),
+        }
+    }
+
+    /// The same items.
+    fn again(&self) -> Row<'a, A> {
+        Row {
+            before: self.before,
+            items: self.items,
+            absent: self.absent,
+        }
+    }
+
+    /// The items without one of them.
+    fn rest<B: Allocator>(&self, alloc: B, at: usize) -> Result<Vec<&'a Expr<A>, B>, AllocError> {
+        let mut rest = Vec::new(alloc);
+        for (i, item) in self.items.iter().enumerate() {
+            if i != at {
+                rest.push(*item)?;
+            }
+        }
+        Ok(rest)
+    }
+
+    /// The items with one replaced by others at the end.
+    pub fn replaced<B: Allocator>(
+        &self,
+        alloc: B,
+        at: usize,
+        children: &'a [Expr<A>],
+    ) -> Result<Vec<&'a Expr<A>, B>, AllocError> {
+        let mut list = self.rest(alloc, at)?;
+        for child in children {
+            list.push(child)?;
+        }
+        Ok(list)
+    }
+
+    /// The items with one replaced by one of its children at the end.
+    pub fn replaced_by_one<B: Allocator>(
+        &self,
+        alloc: B,
+        at: usize,
+        child: &'a Expr<A>,
+    ) -> Result<Vec<&'a Expr<A>, B>, AllocError> {
+        let mut list = self.rest(alloc, at)?;
+        list.push(child)?;
+        Ok(list)
+    }
+
+    /// Whether all items hold in a set of members.
+    pub fn hold(&self, members: MemberSet) -> bool {
+        self.items.iter().all(|item| holds(*item, members))
+    }
+
+    /// The first item that doesn't hold even in all members that may be there.
+    pub fn first_dead(&self) -> Option<usize> {
+        let present = self.absent.complement();
+        self.items.iter().position(|item| !holds(*item, present))
+    }
+
+    /// The first item that is this member.
+    pub fn place_of(&self, member: u8) -> Option<usize> {
+        self.items.iter().position(|item| is_member(member, *item))
+    }
+}
+
+impl<'a, A: Allocator> State<'a, A> {
+    /// The items of a side.
+    pub fn row(&self, side: Side) -> Row<'a, A> {
+        match side {
+            Side::Left => self.left.again(),
+            Side::Right => self.right.again(),
+        }
+    }
+
+    /// The sides in each other's place.
+    pub fn turned(&self) -> State<'a, A> {
+        State {
+            left: self.right.again(),
+            right: self.left.again(),
+        }
+    }
+
+    /// The same with other items on a side.
+    pub fn changed<'b>(&self, side: Side, items: &'b [&'b Expr<A>]) -> State<'b, A>
+    where
+        'a: 'b,
+    {
+        match side {
+            Side::Left => State {
+                left: self.left.with(self.left.before, items),
+                right: self.right.again(),
+            },
+            Side::Right => State {
+                left: self.left.again(),
+                right: self.right.with(self.right.before, items),
+            },
+        }
+    }
+
+    /// The same with one more member absent from a side.
+    pub fn lacking(&self, side: Side, member: u8) -> State<'a, A>
+        requires { member < 64 }
+    {
+        match side {
+            Side::Left => State {
+                left: self.left.lacking(member),
+                right: self.right.again(),
+            },
+            Side::Right => State {
+                left: self.left.again(),
+                right: self.right.lacking(member),
+            },
+        }
+    }
+}
