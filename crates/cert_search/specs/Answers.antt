@@ -13,10 +13,14 @@ pub record IsAnswer (budget : ℕ) (claim : State) (answer : Option (Certificate
   pub refutes : IfSome answer (λ c. Refutes (certificate_rule c) claim)
   pub plain : 100 ≤ budget → IsPlain claim → IsSome answer
 
+-- each answer is one to the claim at its place
+abbrev pub EachAnswers : ℕ → List PlacedClaim → List (Option (Certificate Global)) → Type 0
+EachAnswers budget claims answers = (i : ℕ) (c : PlacedClaim) (answer : Option (Certificate Global)) → slice_get claims i ≡ Some c → slice_get answers i ≡ Some answer → IsAnswer budget c.claim answer
+
 -- the answers to claims, in their order
 pub record AreAnswers (budget : ℕ) (claims : List PlacedClaim) (answers : List (Option (Certificate Global))) : Type 0 where
   pub as_many : length answers ≡ length claims
-  pub each : (i : ℕ) (c : PlacedClaim) (answer : Option (Certificate Global)) → slice_get claims i ≡ Some c → slice_get answers i ≡ Some answer → IsAnswer budget c.claim answer
+  pub each : EachAnswers budget claims answers
 
 -- the answers to the claims of a plan, which has them
 abbrev pub AreAnswersOf : ℕ → Result (List PlacedClaim) PlanFault → List (Option (Certificate Global)) → Type 0

@@ -1,18 +1,28 @@
-//! The search for the certificates of a plan's claims.
+//! The search for the certificates of a plan's claims: how a claim's certificate is found, and how the claims are dealt to workers
+//! that steal from one another.
 #![tactic(auto)]
 
 mod cases;
+mod dealing;
+mod deque;
 mod gate;
+mod hand;
 mod leaves;
 mod matching;
 mod members;
 mod one;
+mod own;
 mod plain;
+mod reach;
 mod rules;
 mod searching;
 mod state;
+mod table;
+mod working;
 
+pub use dealing::deal;
 pub use gate::Gate;
+pub use hand::Hand;
 pub use one::search_one;
 pub use searching::search_all;
 

@@ -1,20 +1,157 @@
 //! The search for all certificates of a plan, by several workers.
 
-ghost use Rattle.std.specs.Prelude.{◌≡◌, ◌≢◌, ◌<◌, ◌≤◌, Err, IfOk, IfErr};
+ghost use Rattle.std.specs.Prelude.{◌≡◌, ◌≢◌, ◌<◌, ◌≤◌, All, Err, IfOk, IfErr, IfSome, length};
 ghost use Rattle.volume_model.specs.declared.fault.Fault.TheVariants.{NoMemory};
+ghost use Rattle.plan.specs.NamedClaims.{all_placed};
 ghost use Rattle.plan.specs.Plan.{plan_data};
 ghost use Rattle.plan.specs.PlanClaims.{claims_in};
 ghost use Rattle.plan.specs.FaultKinds.{kind_of};
 ghost use Rattle.plan.specs.declared.fault.PlanFault.{PlanFault};
-ghost use Rattle.cert_search.specs.Answers.{AreAnswersOf};
+ghost use Rattle.cert_search.specs.Answers.{AreAnswers, AreAnswersOf};
+ghost use Rattle.cert_search.specs.Places.{ArePlaces, IsFound, IsWork};
 
+use crate::dealing::deal;
 use crate::gate::Gate;
-use plan::Plan;
+use crate::hand::Hand;
+use crate::one::search_one;
+use crate::working::{Found, work};
+use plan::{NamedClaim, Plan, claims};
 use refutation::Certificate;
-use std::alloc::Global;
+use std::alloc::{AllocError, Global};
 use std::sync::Wait;
+use std::thread;
 use std::thread::Threads;
 use volume_model::Fault;
+
+/// What a search answers of a claim.
+type Answer = Option<Certificate<Global>>;
+
+/// A place for each claim.
+fn places(
+    alloc: Global,
+    claims: &[NamedClaim],
+    budget: u64,
+) -> Result<Vec<Option<Answer>>, AllocError>
+    ensures { IfOk result (λ v. ArePlaces budget (all_placed claims.now) v.items) }
+{
+    let mut places = Vec::new(alloc);
+    for _ in claims {
+        places.push(None)?;
+    }
+    Ok(places)
+}
+
+/// Puts what was found into its place.
+fn fill(claims: &[NamedClaim], budget: u64, found: Found, places: &mut Vec<Option<Answer>>)
+    requires found { IsFound budget (all_placed claims.now) found }
+    requires places { ArePlaces budget (all_placed claims.now) places.old.items }
+    ensures { ArePlaces budget (all_placed claims.now) places.new.items }
+{
+    if found.claim < places.len() {
+        places[found.claim] = Some(found.answer);
+    }
+}
+
+/// Puts what a worker found into its places.
+fn fill_each(
+    claims: &[NamedClaim],
+    budget: u64,
+    mut founds: Vec<Found>,
+    places: &mut Vec<Option<Answer>>,
+)
+    requires found { IsWork budget (all_placed claims.now) founds }
+    requires places { ArePlaces budget (all_placed claims.now) places.old.items }
+    ensures { ArePlaces budget (all_placed claims.now) places.new.items }
+{
+    while let Some(found) = founds.pop() {
+        fill(claims, budget, found, places);
+    }
+}
+
+/// Puts what all workers found into its places.
+fn fill_all(
+    claims: &[NamedClaim],
+    budget: u64,
+    mut found: Vec<Vec<Found>>,
+    places: &mut Vec<Option<Answer>>,
+)
+    requires found { All (IsWork budget (all_placed claims.now)) found.items }
+    requires places { ArePlaces budget (all_placed claims.now) places.old.items }
+    ensures { ArePlaces budget (all_placed claims.now) places.new.items }
+{
+    while let Some(founds) = found.pop() {
+        fill_each(claims, budget, founds, places);
+    }
+}
+
+/// Takes out what stands at a claim's place.
+fn take_out(
+    claims: &[NamedClaim],
+    budget: u64,
+    places: &mut Vec<Option<Answer>>,
+    at: usize,
+) -> Option<Answer>
+    requires at { at < length claims.now }
+    requires places { ArePlaces budget (all_placed claims.now) places.old.items }
+    ensures places { ArePlaces budget (all_placed claims.now) places.new.items }
+    ensures answer { IfSome result (λ answer. IsFound budget (all_placed claims.now) (record { claim = at; answer = answer })) }
+{
+    places[at].take()
+}
+
+/// The answer to a claim: what stands at its place, or by a search where that is empty.
+fn answer(
+    alloc: Global,
+    claims: &[NamedClaim],
+    budget: u64,
+    places: &mut Vec<Option<Answer>>,
+    at: usize,
+) -> Result<Answer, Fault>
+    requires at { at < length claims.now }
+    requires places { ArePlaces budget (all_placed claims.now) places.old.items }
+    ensures places { ArePlaces budget (all_placed claims.now) places.new.items }
+    ensures answer { IfOk result (λ answer. IsFound budget (all_placed claims.now) (record { claim = at; answer = answer })) }
+    ensures memory { IfErr result (λ e. e ≡ NoMemory) }
+{
+    match take_out(claims, budget, places, at) {
+        Some(answer) => Ok(answer),
+        None => search_one(alloc, &claims[at].claim, budget),
+    }
+}
+
+/// The answers at the places, and by a search where a place is empty.
+fn answers(
+    alloc: Global,
+    claims: &[NamedClaim],
+    budget: u64,
+    places: &mut Vec<Option<Answer>>,
+) -> Result<Vec<Answer>, Fault>
+    requires { ArePlaces budget (all_placed claims.now) places.old.items }
+    ensures answers { IfOk result (λ v. AreAnswers budget (all_placed claims.now) v.items) }
+    ensures memory { IfErr result (λ e. e ≡ NoMemory) }
+{
+    let mut answers = Vec::new(alloc);
+    for at in 0..claims.len() {
+        answers.push(answer(alloc, claims, budget, places, at)?)?;
+    }
+    Ok(answers)
+}
+
+/// What workers find of claims, each in a thread of its own where there is one.
+fn found_by<R: Threads + Wait + Sync, G: Gate + Sync>(
+    rt: &R,
+    alloc: Global,
+    claims: &[NamedClaim],
+    hands: Vec<Hand>,
+    budget: u64,
+    gate: &G,
+) -> Result<Vec<Vec<Found>>, AllocError>
+    ensures { IfOk result (λ v. All (IsWork budget (all_placed claims.now)) v.items) }
+{
+    thread::map_vec(rt, hands, &|hand: Hand| -> Vec<Found>
+        ensures { IsWork budget (all_placed claims.entry.now) result }
+    { work(rt, alloc, claims, budget, gate, hand) })
+}
 
 /// A place for each claim of a plan, in the order of [`claims`](plan::claims()): a certificate that refutes the claim, or
 /// none where the search gave up. The budget bounds how many nodes are tried for a claim.
@@ -34,5 +171,29 @@ pub fn search_all<R: Threads + Wait + Sync, G: Gate + Sync>(
     ensures answers { IfOk result (λ v. AreAnswersOf budget (claims_in (plan_data plan.now)) v.items) }
     ensures fault { IfErr result (λ e. e ≢ NoMemory → (fault : PlanFault) × (claims_in (plan_data plan.now) ≡ Err fault) × (e ≡ kind_of fault)) }
 {
-    Err(Fault::NoMemory)
+    let claims = match claims(alloc, plan) {
+        Ok(claims) => claims,
+        Err(fault) => return Err(fault.kind()),
+    };
+    searched(rt, alloc, claims.as_slice(), workers, budget, gate)
+}
+
+/// The answers to claims, by so many workers.
+fn searched<R: Threads + Wait + Sync, G: Gate + Sync>(
+    rt: &R,
+    alloc: Global,
+    claims: &[NamedClaim],
+    workers: usize,
+    budget: u64,
+    gate: &G,
+) -> Result<Vec<Answer>, Fault>
+    requires workers { (0 < workers) × (workers ≤ 16) }
+    ensures answers { IfOk result (λ v. AreAnswers budget (all_placed claims.now) v.items) }
+    ensures memory { IfErr result (λ e. e ≡ NoMemory) }
+{
+    let mut places = places(alloc, claims, budget)?;
+    let hands = deal(alloc, claims.len(), workers)?;
+    let found = found_by(rt, alloc, claims, hands, budget, gate)?;
+    fill_all(claims, budget, found, &mut places);
+    answers(alloc, claims, budget, &mut places)
 }

@@ -1,7 +1,7 @@
-use Rattle.std.proofs.Common.{◌≡◌, ◌+◌, ◌∷◌, [], ◌++◌, length, map, drop, ap, ◌∙◌, sym, arith}
+use Rattle.std.proofs.Common.{◌+◌, ◌∷◌, [], ◌++◌, length, map, drop, ap, ◌∙◌, sym, arith}
 use Rattle.std.proofs.lemmas.List.{length-append}
 use Rattle.quorum_expr.specs.Expr.{formula_of}
-use Rattle.cert_search.specs.Plain.{equal_pairs, pair_at}
+use Rattle.cert_search.specs.Plain.{equal_pairs}
 use Rattle.cert_search.proofs.Pairs.{kept, next, paired}
 use Rattle.cert_search.proofs.plain.equal_pairs.Goals.{in-Some+in_ok-push, in_default}
 use Rattle.cert_search.proofs.plain.equal_pairs.Goals as goal

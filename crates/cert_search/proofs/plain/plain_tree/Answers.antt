@@ -1,5 +1,4 @@
-use Rattle.std.proofs.Common.{◌≡◌, ◌≤◌, length, ap, ◌∙◌, sym, subst}
-use Rattle.std.specs.Prelude.{true}
+use Rattle.std.proofs.Common.{◌≡◌, ap, ◌∙◌, sym}
 use Rattle.refutation.specs.Forms.{rules_of}
 use Rattle.refutation.specs.Limits.{is_certificate}
 use Rattle.refutation.specs.Rule.{branches_of, pair_up}

@@ -1,0 +1,212 @@
+-- What a hand knows of each deque, and one step of it.
+use Rattle.std.proofs.Common.{◌≡◌, ◌≢◌, ⊎_elim, ℕ, zero, suc, ◌+◌, ◌-◌, ◌<◌, ◌≤◌, ◌%◌, ◌==◌, List, [], ◌∷◌, ◌++◌, map, length, set, Bool, Option, Some, None, IfSome, IfNone, All, refl, sym, ap, ◌∙◌, subst, eq-eqb, ne_eqb, mod-eq_of_lt, arith}
+use Rattle.std.specs.Prelude.{slice_get, if◌then◌else◌}
+use Rattle.std.proofs.Math.Nat.{add-mod_right}
+use Rattle.std.proofs.lemmas.Bool.{cases_lt}
+use lib.ListN.{get_elem?}
+use Rattle.atomic_table.proofs.Lists.{one_turn}
+use Rattle.cert_search.specs.declared.deque.Had.{Had}
+use Rattle.cert_search.specs.declared.hand.Hand.{Hand}
+use Rattle.cert_search.specs.declared.own.Own.{Own}
+use Rattle.cert_search.specs.declared.reach.Reach.{Reach}
+use Rattle.cert_search.specs.Deque.{WasEmpty, claims_of}
+use Rattle.cert_search.specs.Sights.{Sight, Gets, GetsOne, own_sight, reach_sight, sights, look, share_of, share, round_of, IsRound}
+use Rattle.cert_search.specs.Hands.{dealt_workers, own_deque, sights_of, known_of, SameDeal, TakesClaim}
+use Rattle.cert_search.proofs.Rows.{map_set, map_at, map_from, map_twice, set_same, within, all_from, get_at, range_get, range_len}
+use Rattle.cert_search.proofs.Shares.{claims_in}
+
+-- a list of sights, looked up
+pub look_at : (ss : List Sight) (k : ℕ) (s : Sight) → slice_get ss k ≡ Some s → ((j : ℕ) (t : Sight) → slice_get ss j ≡ Some t → t.0 ≡ s.0 → j ≡ k) → look s.0 ss ≡ s.1
+look_at [] k s e only = absurd (cc)
+look_at (x ∷ xs) zero s e only =
+    let is : x ≡ s = cc in
+    ap (λ (b : Bool). if b then x.1 else look s.0 xs) (eq-eqb x.0 s.0 (ap (λ (y : Sight). y.0) is)) ∙ ap (λ (y : Sight). y.1) is
+look_at (x ∷ xs) (suc k) s e only =
+    ap (λ (b : Bool). if b then x.1 else look s.0 xs) (ne_eqb x.0 s.0 (λ f. let g = only 0 x refl f in omega (arith, g)))
+    ∙ look_at xs k s e (λ j t f g. let h = only (suc j) t f g in omega (arith, h))
+
+-- what is known of the other deques stays
+pub look_else : (ss : List Sight) (k : ℕ) (s t : Sight) (d : ℕ) → slice_get ss k ≡ Some s → t.0 ≡ s.0 → d ≢ s.0 → look d (set ss k t) ≡ look d ss
+look_else [] k s t d e same apart = refl
+look_else (x ∷ xs) zero s t d e same apart =
+    let is : x ≡ s = cc in
+    ap (λ (b : Bool). if b then t.1 else look d xs) (ne_eqb t.0 d (λ f. apart (sym f ∙ same)))
+    ∙ ap (λ (b : Bool). if b then x.1 else look d xs) (sym (ne_eqb x.0 d (λ f. apart (sym f ∙ ap (λ (y : Sight). y.0) is))))
+look_else (x ∷ xs) (suc k) s t d e same apart = ap (λ v. if x.0 == d then x.1 else v) (look_else xs k s t d e same apart)
+
+pub set_at : {A : Type 0} (xs : List A) (k : ℕ) (y z : A) → slice_get xs k ≡ Some z → slice_get (set xs k y) k ≡ Some y
+set_at [] k y z e = absurd (cc)
+set_at (x ∷ xs) zero y z e = refl
+set_at (x ∷ xs) (suc k) y z e = set_at xs k y z e
+
+-- the k-th deque that a worker tries
+pub round_get : (workers which k : ℕ) → which < workers → k < workers → slice_get (round_of workers which) k ≡ Some ((which + k) % workers)
+round_get workers which zero lt below = let e : which + 0 ≡ which = omega arith in ap Some (sym (ap (λ n. n % workers) e ∙ mod-eq_of_lt lt))
+round_get workers which (suc k) lt below =
+    let e : 1 + k ≡ suc k = omega arith in
+    range_get (λ n. (which + n) % workers) 1 (workers - 1) k (omega arith) ∙ ap (λ n. Some ((which + n) % workers)) e
+
+pub round_len : (workers which : ℕ) → which < workers → length (round_of workers which) ≡ workers
+round_len workers which lt = let long = range_len (λ n. (which + n) % workers) 1 (workers - 1) in omega (arith, long)
+
+pub round_at : (workers which k d : ℕ) → which < workers → slice_get (round_of workers which) k ≡ Some d → (k < workers) × ((which + k) % workers ≡ d)
+round_at workers which k d lt e =
+    let below : k < workers = omega (arith, within (round_of workers which) k d e, round_len workers which lt) in
+    let is : Some ((which + k) % workers) ≡ Some d = sym (round_get workers which k lt below) ∙ e in
+    (below, cc)
+
+-- no deque is tried twice
+pub round_apart : (workers which i j d : ℕ) → which < workers → slice_get (round_of workers which) i ≡ Some d → slice_get (round_of workers which) j ≡ Some d → i ≡ j
+round_apart workers which i j d lt e f =
+    let a = round_at workers which i d lt e in
+    let b = round_at workers which j d lt f in
+    in_order i j a.0 b.0 (a.1 ∙ sym b.1)
+  where
+    ordered : (i j : ℕ) → i ≤ j → j < workers → (which + i) % workers ≡ (which + j) % workers → i ≡ j
+    ordered i j le below same = let e = one_turn (which + i) (which + j) workers (omega arith) (omega arith) same in omega (arith, e)
+
+    in_order : (i j : ℕ) → i < workers → j < workers → (which + i) % workers ≡ (which + j) % workers → i ≡ j
+    in_order i j below below' same =
+        ⊎_elim
+        (λ (gt : j < i). sym (ordered j i (omega arith) below (sym same)))
+        (λ (le : i ≤ j). ordered i j le below' same)
+        (cases_lt j i)
+
+-- each deque is tried
+pub round_has : (workers which d : ℕ) → which < workers → d < workers → (k : ℕ) × (slice_get (round_of workers which) k ≡ Some d)
+round_has workers which d lt below =
+    ⊎_elim
+    (λ (more : d < which).
+    let e : which + (d + workers - which) ≡ d + workers = omega arith in
+    (d + workers - which, round_get workers which (d + workers - which) lt (omega arith) ∙ ap Some (ap (λ n. n % workers) e ∙ add-mod_right d workers ∙ mod-eq_of_lt below)))
+    (λ (le : which ≤ d).
+    let e : which + (d - which) ≡ d = omega arith in
+    (d - which, round_get workers which (d - which) lt (omega arith) ∙ ap Some (ap (λ n. n % workers) e ∙ mod-eq_of_lt below)))
+    (cases_lt d which)
+
+-- a worker's sights
+module _ (claims workers which : ℕ) (ss : List Sight) (round : IsRound claims workers which ss) where
+  -- each is of a deque of the round, which has been dealt its claims
+  pub sight_at : (k : ℕ) (s : Sight) → slice_get ss k ≡ Some s → (slice_get (round_of workers which) k ≡ Some s.0) × (s.1.dealt ≡ claims_of workers s.0 claims)
+  sight_at k s e =
+      let t = map_from (share claims workers) (round_of workers which) k (share_of s) (ap (λ l. slice_get l k) (sym round.shares) ∙ map_at share_of ss k s e) in
+      let number : t.0 ≡ s.0 = ap (λ (p : ℕ × List ℕ). p.0) t.2 in
+      (t.1 ∙ ap Some number, sym (ap (λ (p : ℕ × List ℕ). p.1) t.2) ∙ ap (λ d. claims_of workers d claims) number)
+
+  pub sight_apart : (i j : ℕ) (s t : Sight) → slice_get ss i ≡ Some s → slice_get ss j ≡ Some t → t.0 ≡ s.0 → j ≡ i
+  sight_apart i j s t e f same =
+      round_apart workers which j i s.0 round.within ((sight_at j t f).0 ∙ ap Some same) (sight_at i s e).0
+
+  -- what is known of a deque
+  pub looked : (k : ℕ) (s : Sight) → slice_get ss k ≡ Some s → look s.0 ss ≡ s.1
+  looked k s e = look_at ss k s e (λ j t f same. sight_apart k j s t e f same)
+
+  -- each deque is seen
+  pub sight_of : (d : ℕ) → d < workers → (k : ℕ) × (s : Sight) × (slice_get ss k ≡ Some s) × (s.0 ≡ d)
+  sight_of d below =
+      let k = round_has workers which d round.within below in
+      let t = map_from share_of ss k.0 (share claims workers d) (ap (λ l. slice_get l k.0) round.shares ∙ map_at (share claims workers) (round_of workers which) k.0 d k.1) in
+      (k.0, t.0, t.1, ap (λ (p : ℕ × List ℕ). p.0) t.2)
+
+  -- a fact of each sight
+  pub look_all : (P : Had → Type 0) → All (λ s. P s.1) ss → (d : ℕ) → d < workers → P (look d ss)
+  look_all P all d below =
+      let t = sight_of d below in
+      let at : P t.1.1 = subst (λ (o : Option Sight). IfSome o (λ s. P s.1)) (sym (get_at ss t.0 t.1 (within ss t.0 t.1 t.2)) ∙ t.2) (all t.0 t.1 (within ss t.0 t.1 t.2)) in
+      subst P (sym (looked t.0 t.1 t.2) ∙ ap (λ n. look n ss) t.3) at
+
+  -- the deques were dealt their claims
+  pub look_dealt : (d : ℕ) → d < workers → (look d ss).dealt ≡ claims_of workers d claims
+  look_dealt d below =
+      let t = sight_of d below in
+      ap (λ n. (look n ss).dealt) (sym t.3) ∙ ap (λ (v : Had). v.dealt) (looked t.0 t.1 t.2) ∙ (sight_at t.0 t.1 t.2).1 ∙ ap (λ n. claims_of workers n claims) t.3
+
+  -- the round stays where the shares do
+  pub same_round : (ts : List Sight) → map share_of ts ≡ map share_of ss → IsRound claims workers which ts
+  same_round ts same = record { within = round.within; shares = same ∙ round.shares }
+
+-- a claim has been had
+module _ (ss : List Sight) (claim : ℕ) (ts : List Sight) (gets : GetsOne ss claim ts) where
+  pub shares_stay : map share_of ts ≡ map share_of ss
+  shares_stay =
+      let k = gets.0 in let s = gets.1 in let t = gets.2 in
+      let same : share_of t ≡ share_of s = λ i. (gets.5.0 i, ap (λ (v : Had). v.dealt) gets.5.1.0 i) in
+      ap (λ l. map share_of l) gets.4 ∙ map_set share_of ss k t ∙ ap (λ p. set (map share_of ss) k p) same ∙ set_same (map share_of ss) k (share_of s) (map_at share_of ss k s gets.3)
+
+-- a hand has had a claim
+module _ (old new : Hand) (claim : ℕ) (gets : GetsOne (sights_of old) claim (sights_of new)) where
+  pub takes_claim : TakesClaim old claim new
+  takes_claim =
+      let ss = sights_of old in let ts = sights_of new in
+      let k = gets.0 in let s = gets.1 in let t = gets.2 in let at = gets.3 in let is = gets.4 in
+      let same = gets.5.0 in let step = gets.5.1 in
+      let dealt = (sight_at old.claims old.workers old.own.which ss old.round k s at).1 in
+      let inside = claims_in old.workers s.0 old.claims step.1.0 claim (ap (λ l. get_elem? l step.1.0) (sym dealt) ∙ step.1.1) in
+      let knew : look (claim % old.workers) ss ≡ s.1 = ap (λ d. look d ss) inside.1 ∙ looked old.claims old.workers old.own.which ss old.round k s at in
+      let round = same_round old.claims old.workers old.own.which ss old.round ts (shares_stay ss claim ts gets) in
+      let knows : look (claim % old.workers) ts ≡ t.1 =
+      ap (λ d. look d ts) (inside.1 ∙ sym same) ∙ looked old.claims old.workers old.own.which ts round k t (ap (λ l. slice_get l k) is ∙ set_at ss k t s at) in
+      record {
+        dealt = inside.0;
+        above = subst (λ (v : Had). All (λ c. c < claim) v.got) (sym knew) (all_from (λ c. c < claim) s.1.got step.2);
+        taken = ap (λ (v : Had). v.got) (knows ∙ step.0) ∙ ap (λ (v : Had). v.got ++ claim ∷ []) (sym knew);
+        others = λ d apart. ap (λ (v : Had). v.got) (ap (look d) is ∙ look_else ss k s t d at same (λ e. apart (e ∙ sym inside.1)));
+      }
+
+-- where the own deque gave it, it is one of its claims
+pub own_claim : (old : Hand) (claim : ℕ) (own : Own) → Gets (own_sight old.own) claim (own_sight own) → claim % old.workers ≡ old.own.which
+own_claim old claim own gets =
+    let dealt = (sight_at old.claims old.workers old.own.which (sights_of old) old.round 0 (own_sight old.own) refl).1 in
+    let at = gets.1.1 in
+    (claims_in old.workers old.own.which old.claims at.0 claim (ap (λ l. get_elem? l at.0) (sym dealt) ∙ at.1)).1
+
+-- where the own deque was empty, any claim will do
+pub own_empty : (old : Hand) (r : Option ℕ) → WasEmpty (own_sight old.own).1 → IfSome r (λ c. c % dealt_workers old ≢ own_deque old → WasEmpty (known_of old (own_deque old)))
+own_empty old (Some c) e = λ _. subst WasEmpty (sym (looked old.claims old.workers old.own.which (sights_of old) old.round 0 (own_sight old.own) refl)) e
+own_empty old None e = tt
+
+-- the own deque stays, and one of the others gives the claim or none does
+module _ (old : Hand) (own : Own) (others : List Reach) (r : Option ℕ) (same : own_sight own ≡ own_sight old.own) (some : IfSome r (λ c. GetsOne (map reach_sight old.others.items) c (map reach_sight others))) where
+  abbrev Gives : Option ℕ → Type 0
+  Gives r = IfSome r (λ c. GetsOne (sights_of old) c (sights own others))
+
+  behind : (r : Option ℕ) → IfSome r (λ c. GetsOne (map reach_sight old.others.items) c (map reach_sight others)) → Gives r
+  behind (Some c) g = (suc g.0, g.1, g.2, g.3, (λ i. same i ∷ g.4 i), g.5)
+  behind None g = tt
+
+  pub gives : Gives r
+  gives = behind r some
+
+  pub shares_same : IfNone r (map reach_sight others ≡ map reach_sight old.others.items) → map share_of (sights own others) ≡ map share_of (sights_of old)
+  shares_same none = by_result r gives none
+    where
+      by_result : (r : Option ℕ) → Gives r → IfNone r (map reach_sight others ≡ map reach_sight old.others.items) → map share_of (sights own others) ≡ map share_of (sights_of old)
+      by_result (Some c) g none = shares_stay (sights_of old) c (sights own others) g
+      by_result None g none = λ i. share_of (same i) ∷ map share_of (none i)
+
+  pub round_same : IfNone r (map reach_sight others ≡ map reach_sight old.others.items) → IsRound old.claims old.workers own.which (sights own others)
+  round_same none =
+      subst (λ d. IsRound old.claims old.workers d (sights own others)) (ap (λ (s : Sight). s.0) (sym same))
+      (same_round old.claims old.workers old.own.which (sights_of old) old.round (sights own others) (shares_same none))
+
+-- where a claim was had, the hand took it
+pub takes_any : (old new : Hand) (r : Option ℕ) → IfSome r (λ c. GetsOne (sights_of old) c (sights_of new)) → IfSome r (λ c. TakesClaim old c new)
+takes_any old new (Some c) g = takes_claim old new c g
+takes_any old new None g = tt
+
+-- where there was none, each deque was empty
+pub none_left : (old : Hand) (r : Option ℕ) → WasEmpty (own_sight old.own).1 → IfNone r (All (λ s. WasEmpty s.1) (map reach_sight old.others.items)) → IfNone r ((d : ℕ) → d < dealt_workers old → WasEmpty (known_of old d))
+none_left old (Some c) e all = tt
+none_left old None e all = look_all old.claims old.workers old.own.which (sights_of old) old.round WasEmpty each
+  where
+    each : All (λ s. WasEmpty s.1) (sights_of old)
+    each zero d lt = e
+    each (suc k) d lt = all k d (omega arith)
+
+-- the deal stays
+pub same_deal : (old new : Hand) → new.claims ≡ old.claims → new.workers ≡ old.workers → map share_of (sights_of new) ≡ map share_of (sights_of old) → SameDeal old new
+same_deal old new claims workers same = record {
+  claims = claims;
+  workers = workers;
+  deques = sym (map_twice share_of (λ (p : ℕ × List ℕ). p.0) (sights_of new)) ∙ ap (map (λ (p : ℕ × List ℕ). p.0)) same ∙ map_twice share_of (λ (p : ℕ × List ℕ). p.0) (sights_of old);
+}

@@ -1,0 +1,26 @@
+use Rattle.std.proofs.Common.{◌≡◌, ◌∙◌, subst, arith}
+use Rattle.cert_search.specs.Hands.{dealt_claims, dealt_workers, hand_plain, fresh_hand, AreHands}
+use Rattle.cert_search.proofs.Rows.{all_of}
+use Rattle.cert_search.proofs.Tables.{made_len, hands_dealt}
+use Rattle.cert_search.proofs.dealing.deal.Goals as goal
+
+-- the hands are those of the deal
+hands_are : (c : goal.In_ok-hands_of) → AreHands c.args.claims c.args.workers c.args.workers c.in_ok-hands_of.field-0.items
+hands_are c =
+    let hands = c.in_ok-hands_of.field-0.items in
+    let claims = c.in_ok-rows.ensures.same.0 ∙ c.in_ok-table.ensures.0 in
+    let workers = c.in_ok-rows.ensures.same.1 ∙ c.in_ok-table.ensures.1 in
+    subst (λ n. AreHands c.args.claims n n hands) workers (subst (λ m. AreHands m c.rows.new.self.workers c.rows.new.self.workers hands) claims c.in_ok-hands_of.ensures)
+
+pub returns-clause-count : goal.returns-clause-count
+returns-clause-count c =
+    let long = made_len hand_plain (fresh_hand c.args.claims c.args.workers) c.args.workers c.in_ok-hands_of.field-0.items (hands_are c) in
+    omega (arith, long)
+
+pub returns-clause-dealt : goal.returns-clause-dealt
+returns-clause-dealt c = hands_dealt c.args.claims c.args.workers c.args.workers c.in_ok-hands_of.field-0.items (hands_are c)
+
+pub returns-clause-same : goal.returns-clause-same
+returns-clause-same c =
+    all_of (λ h. (dealt_claims h ≡ c.args.claims) × (dealt_workers h ≡ c.args.workers)) c.in_ok-hands_of.field-0.items
+    (λ k h lt e. let dealt = hands_dealt c.args.claims c.args.workers c.args.workers c.in_ok-hands_of.field-0.items (hands_are c) k h e in (dealt.claims_is, dealt.workers_is))

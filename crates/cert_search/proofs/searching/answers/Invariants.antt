@@ -1,0 +1,13 @@
+use Rattle.std.proofs.Common.{◌≡◌, length}
+use Rattle.plan.specs.NamedClaims.{all_placed}
+use Rattle.cert_search.specs.Answers.{EachAnswers}
+use Rattle.cert_search.specs.Places.{ArePlaces}
+use Rattle.cert_search.proofs.searching.answers.Given as goal
+
+-- the claims before have their answers
+abbrev pub invariant-loop-at : goal.invariant-loop-at
+invariant-loop-at l = record {
+  places : ArePlaces l.budget (all_placed l.claims) l.places.items;
+  long : length l.answers.items ≡ l.at;
+  each : EachAnswers l.budget (all_placed l.claims) l.answers.items;
+}

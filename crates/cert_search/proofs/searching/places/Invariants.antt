@@ -1,0 +1,7 @@
+use Rattle.std.proofs.Common.{◌≡◌, All, length}
+use Rattle.std.specs.Prelude.{None}
+use Rattle.cert_search.proofs.searching.places.Given as goal
+
+-- so many places so far, all empty
+abbrev pub invariant-loop : goal.invariant-loop
+invariant-loop l = (length l.places.items ≡ l.index) × All (λ p. p ≡ None) l.places.items

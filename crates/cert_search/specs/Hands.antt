@@ -1,0 +1,87 @@
+-- What contracts see of a hand.
+use Rattle.std.specs.Prelude.{◌≡◌, ◌≢◌, ◌<◌, ℕ, ◌%◌, List, [], ◌∷◌, ◌++◌, map, All, Some, slice_get}
+use Rattle.std.specs.List.{range_with_len}
+use Rattle.cert_search.specs.declared.deque.Had.{Had}
+use Rattle.cert_search.specs.declared.hand.Hand.{Hand}
+use Rattle.cert_search.specs.Deque.{claims_of}
+use Rattle.cert_search.specs.Sights.{Sight, sights, look, round_of}
+use Rattle.cert_search.specs.Dealing.{plain_of, fresh, fresh_row}
+
+-- how many claims were dealt
+abbrev pub dealt_claims : Hand → ℕ
+dealt_claims h = h.claims
+
+-- to how many workers they were dealt
+abbrev pub dealt_workers : Hand → ℕ
+dealt_workers h = h.workers
+
+-- the number of the hand's own deque
+abbrev pub own_deque : Hand → ℕ
+own_deque h = h.own.which
+
+-- what the hand knows of each deque, in the order in which it tries them
+abbrev pub sights_of : Hand → List Sight
+sights_of h = sights h.own h.others.items
+
+-- the deques that the hand reaches, in the order in which it tries them
+abbrev pub deques_of : Hand → List ℕ
+deques_of h = map (λ s. s.0) (sights_of h)
+
+-- what the hand knows of the deque d
+abbrev pub known_of : Hand → ℕ → Had
+known_of h d = look d (sights_of h)
+
+-- the claims that the deque d was dealt, as the hand knows
+abbrev pub dealt_to : Hand → ℕ → List ℕ
+dealt_to h d = (known_of h d).dealt
+
+-- the claims that the hand has had from the deque d, in the order in which it had them
+abbrev pub had_from : Hand → ℕ → List ℕ
+had_from h d = (known_of h d).got
+
+-- the hand reaches the deque d once
+abbrev pub ReachesOnce : Hand → ℕ → Type 0
+ReachesOnce h d = (k : ℕ) × (slice_get (deques_of h) k ≡ Some d) × ((j : ℕ) → slice_get (deques_of h) j ≡ Some d → j ≡ k)
+
+-- the hand of the worker i, as it is dealt
+pub record IsDealt (claims workers i : ℕ) (h : Hand) : Type 0 where
+  pub claims_is : dealt_claims h ≡ claims
+  pub workers_is : dealt_workers h ≡ workers
+  -- the i-th hand's own deque is deque i
+  pub own_is : own_deque h ≡ i
+  -- it tries its own deque first, and then the others from its right neighbour's round
+  pub round : deques_of h ≡ round_of workers i
+  -- it reaches each deque, each once
+  pub each_once : (d : ℕ) → d < workers → ReachesOnce h d
+  -- each deque d was dealt exactly the claims whose remainder is d, in growing order
+  pub dealt : (d : ℕ) → d < workers → dealt_to h d ≡ claims_of workers d claims
+  -- the hand has had no claim yet
+  pub none_had : (d : ℕ) → had_from h d ≡ []
+
+-- the hand has had the claim, which was dealt and comes from the deque of its remainder
+pub record TakesClaim (old : Hand) (claim : ℕ) (new : Hand) : Type 0 where
+  pub dealt : claim < dealt_claims old
+  -- it is above all that this hand has had from that deque
+  pub above : All (λ c. c < claim) (had_from old (claim % dealt_workers old))
+  -- the hand has had exactly this claim more from that deque
+  pub taken : had_from new (claim % dealt_workers old) ≡ had_from old (claim % dealt_workers old) ++ claim ∷ []
+  -- from the other deques it has had what it had
+  pub others : (d : ℕ) → d ≢ claim % dealt_workers old → had_from new d ≡ had_from old d
+
+-- the hand is of the same deal, and reaches the same deques
+pub record SameDeal (old new : Hand) : Type 0 where
+  pub claims : dealt_claims new ≡ dealt_claims old
+  pub workers : dealt_workers new ≡ dealt_workers old
+  pub deques : deques_of new ≡ deques_of old
+
+-- the size of the deal, and what the hand's views say of the deques
+abbrev pub hand_plain : Hand → ℕ × ℕ × List (ℕ × List ℕ × List ℕ)
+hand_plain h = (h.claims, h.workers, map plain_of (sights_of h))
+
+-- the hand of the worker i, with no claim had
+abbrev pub fresh_hand : ℕ → ℕ → ℕ → ℕ × ℕ × List (ℕ × List ℕ × List ℕ)
+fresh_hand claims workers i = (claims, workers, fresh claims workers i ∷ fresh_row claims workers i)
+
+-- the hands of the first n workers, in order
+abbrev pub AreHands : ℕ → ℕ → ℕ → List Hand → Type 0
+AreHands claims workers n hands = map hand_plain hands ≡ map (fresh_hand claims workers) (range_with_len 0 n)

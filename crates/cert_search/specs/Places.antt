@@ -1,0 +1,20 @@
+-- What workers find, and the places that it goes to.
+use Rattle.std.specs.Prelude.{◌≡◌, ℕ, All, List, Vec, length, Option, Some, slice_get}
+use Rattle.std.specs.declared.alloc.Global.{Global}
+use Rattle.refutation.specs.declared.certificate.Certificate.{Certificate}
+use Rattle.plan.specs.PlanClaims.{PlacedClaim}
+use Rattle.cert_search.specs.Answers.{IsAnswer}
+use Rattle.cert_search.specs.declared.working.Found.{Found}
+
+-- the answer is one to the claim of its number
+abbrev pub IsFound : ℕ → List PlacedClaim → Found → Type 0
+IsFound budget claims found = (c : PlacedClaim) → slice_get claims found.claim ≡ Some c → IsAnswer budget c.claim found.answer
+
+-- what a worker found
+pub record IsWork (budget : ℕ) (claims : List PlacedClaim) (founds : Vec Found Global) : Type 0 where
+  pub each : All (IsFound budget claims) founds.items
+
+-- a place for each claim, which is empty or has an answer to it
+pub record ArePlaces (budget : ℕ) (claims : List PlacedClaim) (places : List (Option (Option (Certificate Global)))) : Type 0 where
+  pub as_many : length places ≡ length claims
+  pub each : (i : ℕ) (c : PlacedClaim) (answer : Option (Certificate Global)) → slice_get claims i ≡ Some c → slice_get places i ≡ Some (Some answer) → IsAnswer budget c.claim answer

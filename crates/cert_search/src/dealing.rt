@@ -1,0 +1,46 @@
+//! Claims are dealt to workers, before any worker starts.
+ghost use Rattle.std.specs.Prelude.{◌≡◌, ◌<◌, ◌≤◌, ℕ, Some, slice_get, map, vec_len, All, IfOk, IfErr};
+ghost use Rattle.volume_model.specs.declared.fault.Fault.TheVariants.{NoMemory};
+ghost use Rattle.cert_search.specs.Dealing.{row_plain, AreRows};
+ghost use Rattle.cert_search.specs.Hands.{dealt_claims, dealt_workers, AreHands, IsDealt};
+
+use crate::hand::Hand;
+use crate::reach::Reach;
+use crate::table::Table;
+use std::alloc::{AllocError, Global};
+use volume_model::Fault;
+
+/// Deals the claims below `claims` to so many workers: claim c goes to the deque of the worker `c mod workers`. One hand a worker, in order.
+pub fn deal(alloc: Global, claims: usize, workers: usize) -> Result<Vec<Hand>, Fault>
+    requires some { 0 < workers }
+    requires few { workers ≤ 16 }
+    ensures count { IfOk result (λ hands. vec_len hands ≡ workers) }
+    ensures dealt { IfOk result (λ hands. (i : ℕ) (h : Hand) → slice_get hands.items i ≡ Some h → IsDealt claims workers i h) }
+    ensures same { IfOk result (λ hands. All (λ h. (dealt_claims h ≡ claims) × (dealt_workers h ≡ workers)) hands.items) }
+    ensures fault { IfErr result (λ f. f ≡ NoMemory) }
+{
+    let mut table = Table::new(alloc, claims, workers)?;
+    let rows = table.rows(alloc)?;
+    Ok(hands_of(alloc, table, rows)?)
+}
+
+// Each worker's own deque, with its views of the others.
+fn hands_of(alloc: Global, table: Table, rows: Vec<Vec<Reach>>) -> Result<Vec<Hand>, AllocError>
+    requires { AreRows table.claims table.workers table.workers (map (λ row. row_plain row.items) rows.items) }
+    ensures { IfOk result (λ hands. AreHands table.claims table.workers table.workers hands.items) }
+{
+    let Table {
+        claims,
+        workers,
+        owns,
+    } = table;
+    let mut hands = Vec::new(alloc);
+    let mut owners = owns.into_iter();
+    for others in rows {
+        let Some(own) = owners.next() else {
+            unreachable!()
+        };
+        hands.push(Hand::new(claims, workers, own, others))?;
+    }
+    Ok(hands)
+}

@@ -1,0 +1,91 @@
+//! The work of one worker.
+
+ghost use Rattle.std.specs.Prelude.{All, IfSome};
+ghost use Rattle.plan.specs.NamedClaims.{all_placed};
+ghost use Rattle.cert_search.specs.Places.{IsFound, IsWork};
+
+use crate::gate::Gate;
+use crate::hand::Hand;
+use crate::one::search_in;
+use bumpalo::Bump;
+use plan::NamedClaim;
+use refutation::Certificate;
+use std::alloc::Global;
+use std::sync::Wait;
+
+/// What a search answered of the claim with a number.
+#[derive(Drop)]
+pub struct Found {
+    pub claim: usize,
+    pub answer: Option<Certificate<Global>>,
+}
+
+/// The arena, empty again, or another where something in it is still held.
+fn emptied(alloc: Global, mut arena: Bump) -> Bump {
+    match arena.reset() {
+        Ok(()) => arena,
+        Err(_) => Bump::new(alloc),
+    }
+}
+
+/// What is found of the claim with a number, where there is memory for it.
+fn found_of(
+    alloc: Global,
+    arena: &Bump,
+    claims: &[NamedClaim],
+    claim: usize,
+    budget: u64,
+) -> Option<Found>
+    ensures { IfSome result (IsFound budget (all_placed claims.now)) }
+{
+    let named = claims.get(claim)?;
+    let answer = search_in(alloc, &arena, &named.claim, budget).ok()?;
+    Some(Found { claim, answer })
+}
+
+/// Searches a claim. Where memory runs out nothing is added.
+fn add<G: Gate>(
+    alloc: Global,
+    arena: &Bump,
+    claims: &[NamedClaim],
+    claim: usize,
+    budget: u64,
+    gate: &G,
+    founds: &mut Vec<Found>,
+)
+    requires { All (IsFound budget (all_placed claims.now)) founds.old.items }
+    ensures { All (IsFound budget (all_placed claims.now)) founds.new.items }
+{
+    gate.started(claim);
+    let Some(found) = found_of(alloc, arena, claims, claim, budget) else {
+        return;
+    };
+    match founds.push(found) {
+        Ok(()) => gate.finished(claim),
+        Err(_) => {}
+    }
+}
+
+/// Searches the claims that a hand takes, until each deque was found empty, in an arena that is emptied after each. A claim whose search
+/// finds no memory is left out.
+pub fn work<R: Wait, G: Gate>(
+    rt: &R,
+    alloc: Global,
+    claims: &[NamedClaim],
+    budget: u64,
+    gate: &G,
+    mut hand: Hand,
+) -> Vec<Found>
+    ensures { IsWork budget (all_placed claims.now) result }
+{
+    let mut arena = Bump::new(alloc);
+    let mut founds = Vec::new(alloc);
+    for _ in rt.forever() {
+        let Some(claim) = hand.take(rt) else {
+            break;
+        };
+        add(alloc, &arena, claims, claim, budget, gate, &mut founds);
+        arena = emptied(alloc, arena);
+    }
+    founds
+}
