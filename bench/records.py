@@ -7,10 +7,11 @@ It builds a small program over the crates `redo_record` and `pages` in a folder 
 time of many rounds less that of a few, so that its start doesn't count.
 """
 import pathlib
-import shutil
 import subprocess
 import tempfile
 import time
+
+from building import built
 
 PROGRAM = r"""//! Encodes records, decodes them, or makes a page of them, so often as it is told.
 #![tactic(auto)]
@@ -116,23 +117,6 @@ ROUNDS = {"encode": 3_000_000, "decode": 3_000_000, "page": 300_000}
 BYTES = {"encode": 109, "decode": 109}
 
 
-def built(folder):
-    """The program, built in this folder beside copies of the crates that it stands on."""
-    top = pathlib.Path(__file__).resolve().parent.parent
-    shutil.copy(top / "HANDLES", folder)
-    for crate in ("volume_model", "redo_record", "pages"):
-        shutil.copytree(top / "crates" / crate, folder / "crates" / crate)
-    work = folder / "crates" / "record_work"
-    (work / "src").mkdir(parents=True)
-    (work / "src" / "main.rt").write_text(PROGRAM)
-    (folder / "crates.txt").write_text(
-        "volume_model:\nredo_record: volume_model\npages: volume_model redo_record\n"
-        "record_work: volume_model redo_record pages\n"
-    )
-    subprocess.run(["rt", "run", "--", "encode", "1"], cwd=work, check=True, stdout=subprocess.DEVNULL)
-    return work / "out" / "record_work"
-
-
 def seconds(program, job, rounds):
     """The least time of five runs."""
     times = []
@@ -145,7 +129,7 @@ def seconds(program, job, rounds):
 
 def main():
     with tempfile.TemporaryDirectory() as folder:
-        program = built(pathlib.Path(folder))
+        program = built(pathlib.Path(folder), "record_work", PROGRAM, ["volume_model", "redo_record", "pages"], ["encode", "1"])
         for job, rounds in ROUNDS.items():
             each = (seconds(program, job, rounds) - seconds(program, job, 1)) / rounds
             if job in BYTES:

@@ -1,9 +1,9 @@
 -- Lists that are gone through from the front, and the trees that plain claims have.
 use Rattle.std.proofs.Common.{◌≡◌, ℕ, suc, ◌+◌, ◌<◌, ◌≤◌, List, [], ◌∷◌, ◌++◌, length, get_or, drop, map, append_assoc, refl, ap, ◌∙◌, sym, subst, arith, add-one, drop-cons, rules}
-use Rattle.std.specs.Prelude.{None, Option, Some, Vec, true, nat_le, ◌&&◌, max, Bool}
+use Rattle.std.specs.Prelude.{None, Option, Some, Vec, true, nat_le, ◌&&◌, Bool}
 use Rattle.std.proofs.lemmas.List.{length-map, map-append}
 use Rattle.std.proofs.lemmas.Bool.Decides.{nat_tests}
-use Rattle.volume_model.specs.Formula.{HasCounts, each_once}
+use Rattle.volume_model.specs.Formula.{HasCounts}
 use Rattle.volume_model.specs.FormulaLaws.{formulas-each_once, total_weight-each_once}
 use Rattle.quorum_expr.specs.declared.expression.Expr.{Expr}
 use Rattle.quorum_expr.specs.declared.expression.Expr.TheVariants.{KOf}
@@ -15,9 +15,9 @@ use Rattle.quorum_checker.specs.FirstFault.{children_of}
 use Rattle.refutation.specs.declared.Refutation.{Refutation}
 use Rattle.refutation.specs.declared.Refutation.TheVariants.{Clash, Match}
 use Rattle.refutation.specs.declared.Refutation.TheFolds.{the_lemmas}
-use Rattle.refutation.specs.Rule.{Rule, clash, pair_up, branches_of, branch_count, branch_depth}
+use Rattle.refutation.specs.Rule.{clash, pair_up, branches_of, branch_count, branch_depth}
 use Rattle.refutation.specs.Refutation.{rule_of}
-use Rattle.refutation.specs.Limits.{is_certificate, keeps_lists, each_keeps_lists, branch_nodes}
+use Rattle.refutation.specs.Limits.{is_certificate, each_keeps_lists, branch_nodes}
 use Rattle.cert_search.specs.Plain.{clashes, onto}
 
 -- the element at hand and those after it

@@ -1,6 +1,6 @@
 -- Places and the answers that come to them.
-use Rattle.std.proofs.Common.{◌≡◌, ◌≢◌, ℕ, ◌+◌, ◌<◌, List, [], ◌∷◌, ◌++◌, length, get_or, set, take, map, refl, ap, inl, inr, ◌∙◌, sym, subst, arith, All}
-use Rattle.std.specs.Prelude.{None, Option, Some, IfSome, slice_get, slice_index_or, slice_set, if◌then◌else◌, Bool, true, false}
+use Rattle.std.proofs.Common.{◌≡◌, ◌≢◌, ℕ, ◌+◌, ◌<◌, List, [], ◌∷◌, ◌++◌, length, get_or, refl, ap, inl, inr, ◌∙◌, sym, subst, arith, All}
+use Rattle.std.specs.Prelude.{None, Option, Some, IfSome, slice_get, slice_set, if◌then◌else◌, Bool, true, false}
 use Rattle.std.specs.declared.alloc.Global.{Global}
 use Rattle.std.proofs.lemmas.Bool.{cases_eq}
 use Rattle.std.proofs.lemmas.List.{get_or-set_same, get_or-set_other, get_or_append_left, get_or_push, length-append, length-set}

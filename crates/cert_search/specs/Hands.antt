@@ -3,7 +3,7 @@ use Rattle.std.specs.Prelude.{◌≡◌, ◌≢◌, ◌<◌, ℕ, ◌%◌, List,
 use Rattle.std.specs.List.{range_with_len}
 use Rattle.cert_search.specs.declared.deque.Had.{Had}
 use Rattle.cert_search.specs.declared.hand.Hand.{Hand}
-use Rattle.cert_search.specs.Deque.{claims_of}
+use Rattle.cert_search.specs.Deque.{claims_of, WasEmpty}
 use Rattle.cert_search.specs.Sights.{Sight, sights, look, round_of}
 use Rattle.cert_search.specs.Dealing.{plain_of, fresh, fresh_row}
 
@@ -58,6 +58,14 @@ pub record IsDealt (claims workers i : ℕ) (h : Hand) : Type 0 where
   -- the hand has had no claim yet
   pub none_had : (d : ℕ) → had_from h d ≡ []
 
+-- the i-th hand is the worker i's
+abbrev pub AreDealt : ℕ → ℕ → List Hand → Type 0
+AreDealt claims workers hands = (i : ℕ) (h : Hand) → slice_get hands i ≡ Some h → IsDealt claims workers i h
+
+-- the hand is of a deal of so many claims to so many workers
+abbrev pub IsOfDeal : ℕ → ℕ → Hand → Type 0
+IsOfDeal claims workers h = (dealt_claims h ≡ claims) × (dealt_workers h ≡ workers)
+
 -- the hand has had the claim, which was dealt and comes from the deque of its remainder
 pub record TakesClaim (old : Hand) (claim : ℕ) (new : Hand) : Type 0 where
   pub dealt : claim < dealt_claims old
@@ -67,6 +75,14 @@ pub record TakesClaim (old : Hand) (claim : ℕ) (new : Hand) : Type 0 where
   pub taken : had_from new (claim % dealt_workers old) ≡ had_from old (claim % dealt_workers old) ++ claim ∷ []
   -- from the other deques it has had what it had
   pub others : (d : ℕ) → d ≢ claim % dealt_workers old → had_from new d ≡ had_from old d
+
+-- each deque was empty at a moment
+abbrev pub AllWereEmpty : Hand → Type 0
+AllWereEmpty h = (d : ℕ) → d < dealt_workers h → WasEmpty (known_of h d)
+
+-- a claim of another's deque comes only where the hand's own deque was empty at a moment
+abbrev pub ComesAfterOwn : Hand → ℕ → Type 0
+ComesAfterOwn h claim = claim % dealt_workers h ≢ own_deque h → WasEmpty (known_of h (own_deque h))
 
 -- the hand is of the same deal, and reaches the same deques
 pub record SameDeal (old new : Hand) : Type 0 where

@@ -1,8 +1,8 @@
 //! Claims are dealt to workers, before any worker starts.
-ghost use Rattle.std.specs.Prelude.{◌≡◌, ◌<◌, ◌≤◌, ℕ, Some, slice_get, map, vec_len, All, IfOk, IfErr};
+ghost use Rattle.std.specs.Prelude.{◌≡◌, ◌<◌, ◌≤◌, map, vec_len, All, IfOk, IfErr};
 ghost use Rattle.volume_model.specs.declared.fault.Fault.TheVariants.{NoMemory};
 ghost use Rattle.cert_search.specs.Dealing.{row_plain, AreRows};
-ghost use Rattle.cert_search.specs.Hands.{dealt_claims, dealt_workers, AreHands, IsDealt};
+ghost use Rattle.cert_search.specs.Hands.{AreDealt, AreHands, IsOfDeal};
 
 use crate::hand::Hand;
 use crate::reach::Reach;
@@ -15,8 +15,8 @@ pub fn deal(alloc: Global, claims: usize, workers: usize) -> Result<Vec<Hand>, F
     requires some { 0 < workers }
     requires few { workers ≤ 16 }
     ensures count { IfOk result (λ hands. vec_len hands ≡ workers) }
-    ensures dealt { IfOk result (λ hands. (i : ℕ) (h : Hand) → slice_get hands.items i ≡ Some h → IsDealt claims workers i h) }
-    ensures same { IfOk result (λ hands. All (λ h. (dealt_claims h ≡ claims) × (dealt_workers h ≡ workers)) hands.items) }
+    ensures dealt { IfOk result (λ hands. AreDealt claims workers hands.items) }
+    ensures same { IfOk result (λ hands. All (IsOfDeal claims workers) hands.items) }
     ensures fault { IfErr result (λ f. f ≡ NoMemory) }
 {
     let mut table = Table::new(alloc, claims, workers)?;

@@ -18,15 +18,14 @@ pub struct Hand {
 }
 
 impl Hand {
-    ghost use Rattle.std.specs.Prelude.{◌≡◌, ◌≢◌, ◌<◌, ◌%◌, ℕ, IfSome, IfNone};
-    ghost use Rattle.cert_search.specs.Deque.{WasEmpty};
+    ghost use Rattle.std.specs.Prelude.{◌≡◌, IfSome, IfNone};
     ghost use Rattle.cert_search.specs.Sights.{sights, IsRound};
-    ghost use Rattle.cert_search.specs.Hands.{dealt_claims, dealt_workers, known_of, own_deque, sights_of, SameDeal, TakesClaim};
+    ghost use Rattle.cert_search.specs.Hands.{sights_of, AllWereEmpty, ComesAfterOwn, IsOfDeal, SameDeal, TakesClaim};
 
     // The hand of a worker that reaches each deque, each with its claims in it.
     pub(crate) fn new(claims: usize, workers: usize, own: Own, others: Vec<Reach>) -> Hand
         requires { IsRound claims workers own.which (sights own others.items) }
-        ensures deal { (dealt_claims result ≡ claims) × (dealt_workers result ≡ workers) }
+        ensures deal { IsOfDeal claims workers result }
         ensures sights { sights_of result ≡ sights own others.items }
     {
         Hand {
@@ -40,10 +39,8 @@ impl Hand {
     /// Takes a claim of its own, first to last, or else steals one. Where there is none, each deque was empty at a moment of the call. Takes no memory.
     pub fn take<R: Wait>(&mut self, rt: &R) -> Option<usize>
         ensures some { IfSome result (λ c. TakesClaim self.old c self.new) }
-
-        // it steals only where its own deque was empty at a moment
-        ensures own_first { IfSome result (λ c. c % dealt_workers self.old ≢ own_deque self.old → WasEmpty (known_of self.old (own_deque self.old))) }
-        ensures none { IfNone result ((d : ℕ) → d < dealt_workers self.old → WasEmpty (known_of self.old d)) }
+        ensures own_first { IfSome result (ComesAfterOwn self.old) }
+        ensures none { IfNone result (AllWereEmpty self.old) }
         ensures same { IfNone result (sights_of self.new ≡ sights_of self.old) }
         ensures deal { SameDeal self.old self.new }
     {

@@ -25,6 +25,3 @@ pub use gate::Gate;
 pub use hand::Hand;
 pub use one::search_one;
 pub use searching::search_all;
-
-#[cfg(test)]
-mod tests;

@@ -96,10 +96,7 @@ fn clashes<B: Allocator + Clone>(
 }
 
 /// A match of the only items.
-fn only_match<B: Allocator>(
-    pairs: Vec<(u8, u8), B>,
-    then: Vec<Refutation<B>, B>,
-) -> Refutation<B>
+fn only_match<B: Allocator>(pairs: Vec<(u8, u8), B>, then: Vec<Refutation<B>, B>) -> Refutation<B>
     ensures { rule_of result ≡ pair_up 0 0 pairs.items (branches_of (rules_of then.items)) }
 {
     Refutation::Match {

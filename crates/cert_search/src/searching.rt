@@ -148,9 +148,13 @@ fn found_by<R: Threads + Wait + Sync, G: Gate + Sync>(
 ) -> Result<Vec<Vec<Found>>, AllocError>
     ensures { IfOk result (λ v. All (IsWork budget (all_placed claims.now)) v.items) }
 {
-    thread::map_vec(rt, hands, &|hand: Hand| -> Vec<Found>
-        ensures { IsWork budget (all_placed claims.entry.now) result }
-    { work(rt, alloc, claims, budget, gate, hand) })
+    thread::map_vec(
+        rt,
+        hands,
+        &|hand: Hand| -> Vec<Found>
+            ensures { IsWork budget (all_placed claims.entry.now) result }
+        { work(rt, alloc, claims, budget, gate, hand) },
+    )
 }
 
 /// A place for each claim of a plan, in the order of [`claims`](plan::claims()): a certificate that refutes the claim, or

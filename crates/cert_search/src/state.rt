@@ -5,7 +5,7 @@ ghost use Rattle.std.specs.Prelude.{◌<◌};
 use crate::plain::is_member;
 use quorum_expr::{Expr, MemberSet, holds};
 use refutation::Side;
-use std::alloc::{Allocator, AllocError};
+use std::alloc::{AllocError, Allocator};
 
 /// Items at the end of a side's list.
 #[derive(Drop)]
@@ -23,7 +23,6 @@ pub struct State<'a, A: Allocator> {
     pub left: Row<'a, A>,
     pub right: Row<'a, A>,
 }
-
 
 impl<'a, A: Allocator> Row<'a, A> {
     /// The number that an item has on its side.

@@ -1,5 +1,5 @@
-use Rattle.std.proofs.Common.{◌≡◌, ◌∙◌, subst, arith}
-use Rattle.cert_search.specs.Hands.{dealt_claims, dealt_workers, hand_plain, fresh_hand, AreHands}
+use Rattle.std.proofs.Common.{◌∙◌, subst, arith}
+use Rattle.cert_search.specs.Hands.{IsOfDeal, hand_plain, fresh_hand, AreHands}
 use Rattle.cert_search.proofs.Rows.{all_of}
 use Rattle.cert_search.proofs.Tables.{made_len, hands_dealt}
 use Rattle.cert_search.proofs.dealing.deal.Goals as goal
@@ -22,5 +22,5 @@ returns-clause-dealt c = hands_dealt c.args.claims c.args.workers c.args.workers
 
 pub returns-clause-same : goal.returns-clause-same
 returns-clause-same c =
-    all_of (λ h. (dealt_claims h ≡ c.args.claims) × (dealt_workers h ≡ c.args.workers)) c.in_ok-hands_of.field-0.items
+    all_of (IsOfDeal c.args.claims c.args.workers) c.in_ok-hands_of.field-0.items
     (λ k h lt e. let dealt = hands_dealt c.args.claims c.args.workers c.args.workers c.in_ok-hands_of.field-0.items (hands_are c) k h e in (dealt.claims_is, dealt.workers_is))

@@ -1,5 +1,3 @@
-use Rattle.std.proofs.Common.{◌≡◌, ap, ◌∙◌, sym, subst, All}
-use Rattle.std.proofs.lemmas.List.Elements.{All-push}
 use Rattle.plan.specs.NamedClaims.{all_placed}
 use Rattle.cert_search.specs.Places.{IsFound}
 use Rattle.cert_search.proofs.Places.{added}

@@ -1,0 +1,40 @@
+"""Builds a small program over some of the repository's crates, in a folder of its own."""
+import pathlib
+import shutil
+import subprocess
+
+TOP = pathlib.Path(__file__).resolve().parent.parent
+
+
+def lines():
+    """Each crate of the repository with what it stands on."""
+    text = (TOP / "crates.txt").read_text().splitlines()
+    named = (line.split(":") for line in text if line and not line.startswith("#"))
+    return {name.split()[0]: deps.split() for name, deps in named}
+
+
+def below(crates, stands_on):
+    """These crates and those of the repository below them."""
+    wanted, left = set(), list(crates)
+    while left:
+        crate = left.pop()
+        if crate in stands_on and crate not in wanted:
+            wanted.add(crate)
+            left.extend(stands_on[crate])
+    return wanted
+
+
+def built(folder, name, program, crates, words):
+    """The program of this name, built and run once with these words. It takes some minutes where the crates weren't proved before."""
+    stands_on = lines()
+    wanted = below(crates, stands_on)
+    shutil.copy(TOP / "HANDLES", folder)
+    for crate in wanted:
+        shutil.copytree(TOP / "crates" / crate, folder / "crates" / crate)
+    work = folder / "crates" / name
+    (work / "src").mkdir(parents=True)
+    (work / "src" / "main.rt").write_text(program)
+    listed = [f"{crate}: {' '.join(stands_on[crate])}\n" for crate in stands_on if crate in wanted]
+    (folder / "crates.txt").write_text("".join(listed) + f"{name}: {' '.join(crates)}\n")
+    subprocess.run(["rt", "run", "--", *words], cwd=work, check=True, stdout=subprocess.DEVNULL)
+    return work / "out" / name
