@@ -5,6 +5,7 @@
 mod cases;
 mod dealing;
 mod deque;
+mod filling;
 mod gate;
 mod hand;
 mod leaves;

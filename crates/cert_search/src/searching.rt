@@ -1,6 +1,6 @@
 //! The search for all certificates of a plan, by several workers.
 
-ghost use Rattle.std.specs.Prelude.{◌≡◌, ◌≢◌, ◌<◌, ◌≤◌, All, Err, IfOk, IfErr, IfSome, length};
+ghost use Rattle.std.specs.Prelude.{◌≡◌, ◌≢◌, ◌<◌, ◌≤◌, All, Err, IfOk, IfErr, length};
 ghost use Rattle.volume_model.specs.declared.fault.Fault.TheVariants.{NoMemory};
 ghost use Rattle.plan.specs.NamedClaims.{all_placed};
 ghost use Rattle.plan.specs.Plan.{plan_data};
@@ -11,6 +11,7 @@ ghost use Rattle.cert_search.specs.Answers.{AreAnswers, AreAnswersOf};
 ghost use Rattle.cert_search.specs.Places.{ArePlaces, IsFound, IsWork};
 
 use crate::dealing::deal;
+use crate::filling::{Answer, empty_places, fill_all, take_out};
 use crate::gate::Gate;
 use crate::hand::Hand;
 use crate::one::search_one;
@@ -22,82 +23,6 @@ use std::sync::Wait;
 use std::thread;
 use std::thread::Threads;
 use volume_model::Fault;
-
-/// What a search answers of a claim.
-type Answer = Option<Certificate<Global>>;
-
-/// A place for each claim.
-fn places(
-    alloc: Global,
-    claims: &[NamedClaim],
-    budget: u64,
-) -> Result<Vec<Option<Answer>>, AllocError>
-    ensures { IfOk result (λ v. ArePlaces budget (all_placed claims.now) v.items) }
-{
-    let mut places = Vec::new(alloc);
-    for _ in claims {
-        places.push(None)?;
-    }
-    Ok(places)
-}
-
-/// Puts what was found into its place.
-fn fill(claims: &[NamedClaim], budget: u64, found: Found, places: &mut Vec<Option<Answer>>)
-    requires found { IsFound budget (all_placed claims.now) found }
-    requires places { ArePlaces budget (all_placed claims.now) places.old.items }
-    ensures { ArePlaces budget (all_placed claims.now) places.new.items }
-{
-    if found.claim < places.len() {
-        places[found.claim] = Some(found.answer);
-    }
-}
-
-/// Puts what a worker found into its places.
-fn fill_each(
-    claims: &[NamedClaim],
-    budget: u64,
-    mut founds: Vec<Found>,
-    places: &mut Vec<Option<Answer>>,
-)
-    requires found { IsWork budget (all_placed claims.now) founds }
-    requires places { ArePlaces budget (all_placed claims.now) places.old.items }
-    ensures { ArePlaces budget (all_placed claims.now) places.new.items }
-{
-    while let Some(found) = founds.pop() {
-        fill(claims, budget, found, places);
-    }
-}
-
-/// Puts what all workers found into its places.
-fn fill_all(
-    claims: &[NamedClaim],
-    budget: u64,
-    mut found: Vec<Vec<Found>>,
-    places: &mut Vec<Option<Answer>>,
-)
-    requires found { All (IsWork budget (all_placed claims.now)) found.items }
-    requires places { ArePlaces budget (all_placed claims.now) places.old.items }
-    ensures { ArePlaces budget (all_placed claims.now) places.new.items }
-{
-    while let Some(founds) = found.pop() {
-        fill_each(claims, budget, founds, places);
-    }
-}
-
-/// Takes out what stands at a claim's place.
-fn take_out(
-    claims: &[NamedClaim],
-    budget: u64,
-    places: &mut Vec<Option<Answer>>,
-    at: usize,
-) -> Option<Answer>
-    requires at { at < length claims.now }
-    requires places { ArePlaces budget (all_placed claims.now) places.old.items }
-    ensures places { ArePlaces budget (all_placed claims.now) places.new.items }
-    ensures answer { IfSome result (λ answer. IsFound budget (all_placed claims.now) (record { claim = at; answer = answer })) }
-{
-    places[at].take()
-}
 
 /// The answer to a claim: what stands at its place, or by a search where that is empty.
 fn answer(
@@ -157,6 +82,26 @@ fn found_by<R: Threads + Wait + Sync, G: Gate + Sync>(
     )
 }
 
+/// The answers to claims, by so many workers.
+fn searched<R: Threads + Wait + Sync, G: Gate + Sync>(
+    rt: &R,
+    alloc: Global,
+    claims: &[NamedClaim],
+    workers: usize,
+    budget: u64,
+    gate: &G,
+) -> Result<Vec<Answer>, Fault>
+    requires workers { (0 < workers) × (workers ≤ 16) }
+    ensures answers { IfOk result (λ v. AreAnswers budget (all_placed claims.now) v.items) }
+    ensures memory { IfErr result (λ e. e ≡ NoMemory) }
+{
+    let mut places = empty_places(alloc, claims, budget)?;
+    let hands = deal(alloc, claims.len(), workers)?;
+    let found = found_by(rt, alloc, claims, hands, budget, gate)?;
+    fill_all(claims, budget, found, &mut places);
+    answers(alloc, claims, budget, &mut places)
+}
+
 /// A place for each claim of a plan, in the order of [`claims`](plan::claims()): a certificate that refutes the claim, or
 /// none where the search gave up. The budget bounds how many nodes are tried for a claim.
 ///
@@ -180,24 +125,4 @@ pub fn search_all<R: Threads + Wait + Sync, G: Gate + Sync>(
         Err(fault) => return Err(fault.kind()),
     };
     searched(rt, alloc, claims.as_slice(), workers, budget, gate)
-}
-
-/// The answers to claims, by so many workers.
-fn searched<R: Threads + Wait + Sync, G: Gate + Sync>(
-    rt: &R,
-    alloc: Global,
-    claims: &[NamedClaim],
-    workers: usize,
-    budget: u64,
-    gate: &G,
-) -> Result<Vec<Answer>, Fault>
-    requires workers { (0 < workers) × (workers ≤ 16) }
-    ensures answers { IfOk result (λ v. AreAnswers budget (all_placed claims.now) v.items) }
-    ensures memory { IfErr result (λ e. e ≡ NoMemory) }
-{
-    let mut places = places(alloc, claims, budget)?;
-    let hands = deal(alloc, claims.len(), workers)?;
-    let found = found_by(rt, alloc, claims, hands, budget, gate)?;
-    fill_all(claims, budget, found, &mut places);
-    answers(alloc, claims, budget, &mut places)
 }

@@ -3,7 +3,7 @@ use Rattle.std.specs.Prelude.{IfSome}
 use Rattle.std.proofs.lemmas.List.Elements.{All-pop}
 use Rattle.plan.specs.NamedClaims.{all_placed}
 use Rattle.cert_search.specs.Places.{IsWork}
-use Rattle.cert_search.proofs.searching.fill_all.Goals as goal
+use Rattle.cert_search.proofs.filling.fill_all.Goals as goal
 
 pub fill_each-requires-clause-found : goal.fill_each-requires-clause-found
 fill_each-requires-clause-found c =

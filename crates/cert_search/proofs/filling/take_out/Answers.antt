@@ -4,7 +4,7 @@ use Rattle.std.proofs.lemmas.List.{length-map}
 use Rattle.plan.specs.NamedClaims.{all_placed, placed}
 use Rattle.cert_search.specs.Places.{ArePlaces}
 use Rattle.cert_search.proofs.Places.{emptied, taken}
-use Rattle.cert_search.proofs.searching.take_out.Goals as goal
+use Rattle.cert_search.proofs.filling.take_out.Goals as goal
 
 pub returns-clause-places : goal.returns-clause-places
 returns-clause-places c =

@@ -1,6 +1,6 @@
 use Rattle.std.proofs.Common.{◌≡◌, All, length}
 use Rattle.std.specs.Prelude.{None}
-use Rattle.cert_search.proofs.searching.places.Given as goal
+use Rattle.cert_search.proofs.filling.empty_places.Given as goal
 
 -- so many places so far, all empty
 abbrev pub invariant-loop : goal.invariant-loop
