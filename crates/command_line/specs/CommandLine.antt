@@ -1,10 +1,11 @@
 -- The command line, as clap reads it.
-use Rattle.std.specs.Prelude.{◌≡◌, codes, Some, true, false}
+use Rattle.std.specs.Prelude.{◌≡◌, [], ◌∷◌, codes, pos, Some, true, false}
 use Rattle.clap.specs.Words.{App, Rule, Text, app_of, new_app, new_rule, with_rule, with_subcommand}
 use Rattle.clap.specs.Simple.{on_top}
 use Rattle.clap.specs.declared.builder.command.Command.{Command}
 use Rattle.clap.specs.declared.builder.command.Command.TheViews.{out-Command}
 use Rattle.clap.specs.declared.builder.action.ArgAction.TheVariants.{Set}
+use Rattle.clap.specs.declared.builder.value_parser.ValueParser.TheVariants as parsers
 
 abbrev pub file_rule : Text → Rule
 file_rule id = record (new_rule id) { required = true; action = Some Set }
@@ -15,6 +16,20 @@ file_leaf name = with_rule (new_app name) (file_rule (codes "plan"))
 abbrev pub script_leaf : Text → App
 script_leaf name = with_rule (file_leaf name) (file_rule (codes "script"))
 
+-- how many workers there are: -w N or --workers N, from 1 to 16, and else 4
+abbrev pub workers_rule : Rule
+workers_rule = record (new_rule (codes "workers")) {
+  long = Some (codes "workers");
+  short = Some 119;
+  value_names = 1;
+  defaults = codes "4" ∷ [];
+  parser = Some (parsers.Signed (pos 1) (pos 16));
+}
+
+-- a subcommand of a plan's file and a number of workers
+abbrev pub workers_leaf : Text → App
+workers_leaf name = with_rule (file_leaf name) workers_rule
+
 -- a subcommand as it stands before it is added
 pub record IsLeaf (a : App) (c : Command) : Type 0 where
   pub app : app_of c ≡ a
@@ -24,6 +39,6 @@ pub record IsLeaf (a : App) (c : Command) : Type 0 where
 abbrev pub program : App
 program = on_top (λ s. record s { has_version = true; subcommand_required = true }) (new_app (codes "plan_tool"))
 
--- check FILE, run PLAN SCRIPT
+-- check FILE, run PLAN SCRIPT, search FILE -w N
 abbrev pub tool : App
-tool = with_subcommand (with_subcommand program (file_leaf (codes "check")).top) (script_leaf (codes "run")).top
+tool = with_subcommand (with_subcommand (with_subcommand program (file_leaf (codes "check")).top) (script_leaf (codes "run")).top) (workers_leaf (codes "search")).top

@@ -1,5 +1,7 @@
 //! What the program can do.
 
+ghost use Rattle.std.specs.Prelude.{◌≤◌};
+
 /// What the program is to do.
 #[derive(Clone, Copy, Debug, PartialEq, Eq)]
 pub enum Action {
@@ -7,9 +9,11 @@ pub enum Action {
     Check,
     /// Run a script over a plan.
     Run,
+    /// Search for the certificates of a plan.
+    Search,
 }
 
-/// An action and the files that it is done on, by their names as given.
+/// An action, the files that it is done on, by their names as given, and by how many workers.
 #[derive(Clone, Copy, Debug, PartialEq, Eq)]
 pub struct Job<'a> {
     /// What to do with the files.
@@ -18,4 +22,8 @@ pub struct Job<'a> {
     pub plan: &'a str,
     /// The script's file, empty where the action takes none.
     pub script: &'a str,
+    /// How many workers do it, 4 where the action takes no number of them.
+    pub workers: u8,
+    ghost some: { 1 ≤ workers },
+    ghost few: { workers ≤ 16 },
 }

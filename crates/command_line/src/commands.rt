@@ -3,9 +3,9 @@
 ghost use Rattle.std.specs.Prelude.{◌≡◌, IfOk, false};
 ghost use Rattle.clap.specs.Words.{app_of, rule_of, with_subcommand};
 ghost use Rattle.clap.specs.declared.builder.command.Command.TheViews.{out-Command as fields_of};
-ghost use Rattle.command_line.specs.CommandLine.{IsLeaf, file_rule, tool, program, file_leaf, script_leaf};
+ghost use Rattle.command_line.specs.CommandLine.{IsLeaf, file_rule, tool, program, file_leaf, script_leaf, workers_leaf, workers_rule};
 
-use clap::{Arg, ArgAction, Command};
+use clap::{Arg, ArgAction, Command, value_parser};
 use std::alloc::{AllocError, Global};
 
 fn file<'a>(alloc: Global, id: &'a str) -> Arg<'a>
@@ -20,7 +20,7 @@ fn program<'a>(alloc: Global) -> Command<'a>
     ensures { app_of result ≡ program }
 {
     Command::new(alloc, "plan_tool")
-        .about("Checks plans of a quorum log volume, and runs scripts over them")
+        .about("Checks plans of a quorum log volume, certifies them, and runs scripts over them")
         .version("0.1.0")
         .subcommand_required(true)
 }
@@ -32,6 +32,27 @@ fn of_file<'a>(alloc: Global, name: &'a str, about: &'a str) -> Result<Command<'
     Command::new(alloc, name)
         .about(about)
         .arg(file(alloc, "plan"))
+}
+
+/// The option of how many workers there are.
+fn workers<'a>(alloc: Global) -> Arg<'a>
+    ensures rule { rule_of result ≡ workers_rule }
+    ensures local { result.global ≡ false }
+{
+    Arg::new(alloc, "workers")
+        .short('w')
+        .long("workers")
+        .value_name("N")
+        .help("How many workers search")
+        .value_parser(value_parser!(u8).range(1..=16))
+        .default_value("4")
+}
+
+/// A subcommand of a plan's file and a number of workers.
+fn of_workers<'a>(alloc: Global, name: &'a str, about: &'a str) -> Result<Command<'a>, AllocError>
+    ensures { IfOk result (IsLeaf (workers_leaf name.entry.now)) }
+{
+    of_file(alloc, name, about)?.arg(workers(alloc))
 }
 
 /// A subcommand of a plan and a script.
@@ -57,5 +78,11 @@ pub fn command_line<'a>(alloc: Global) -> Result<Command<'a>, AllocError>
     let check = of_file(alloc, "check", "Says whether a plan's quorums all meet")?;
     let command = add(command, check)?;
     let run = of_script(alloc, "run", "Runs a script over a plan")?;
-    add(command, run)
+    let command = add(command, run)?;
+    let search = of_workers(
+        alloc,
+        "search",
+        "Writes a plan with certificates for its claims",
+    )?;
+    add(command, search)
 }

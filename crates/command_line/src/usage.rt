@@ -9,7 +9,7 @@ pub enum Usage {
     /// What clap says: a mistake in the words, or the help or the version that they ask for.
     #[error(transparent)]
     Words(#[from] clap::Error),
-    /// A subcommand or a file that clap let pass, though it asks for it.
+    /// A subcommand, a file or a number that clap let pass, though it asks for it.
     #[error("error: {0}\n")]
     Missing(&'static str),
     #[error("error: out of memory\n")]

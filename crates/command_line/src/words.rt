@@ -1,9 +1,9 @@
 //! What a command line asks for.
 
-ghost use Rattle.std.specs.Prelude.{◌≡◌, ◌≢◌, [], IfErr, IfNone, IfOk, IfSome, codes, map, option_map, unwrap_or};
-ghost use Rattle.clap.specs.Words.{first_of, found_of, rows_of, subcommand_of, subcommand_rows_of};
+ghost use Rattle.std.specs.Prelude.{◌≡◌, ◌≢◌, ◌≤◌, ◌<◌, ◌^◌, ℕ, [], IfErr, IfNone, IfOk, IfSome, codes, map, option_map, unwrap_or};
+ghost use Rattle.clap.specs.Words.{first_of, found_of, one_of, rows_of, subcommand_of, subcommand_rows_of};
 ghost use Rattle.command_line.specs.CommandLine.{tool};
-ghost use Rattle.command_line.specs.Jobs.{IsJob, name_of};
+ghost use Rattle.command_line.specs.Jobs.{IsJob, IsNumberOf, name_of};
 ghost use Rattle.command_line.specs.Usage.{IsMissing, IsRightFor};
 ghost use Rattle.command_line.specs.declared.action.Action.{Action as ActionName};
 
@@ -42,6 +42,7 @@ fn action_of(name: &str) -> Option<Action>
     match name {
         "check" => Some(Action::Check),
         "run" => Some(Action::Run),
+        "search" => Some(Action::Search),
         _ => None,
     }
 }
@@ -52,6 +53,30 @@ fn script_of<'a>(matches: &ArgMatches<'a>) -> &'a str
     match text_of(matches, "script") {
         Some(text) => text,
         None => "",
+    }
+}
+
+/// The number that the option of workers spells, 4 where there is none.
+fn number_of(matches: &ArgMatches<'_>) -> Option<u8>
+    ensures number { IfSome result (IsNumberOf (one_of (codes "workers") (rows_of (found_of matches.now)))) }
+    ensures none { IfNone result ((n : ℕ) → n < 2 ^ 8 → IsNumberOf (one_of (codes "workers") (rows_of (found_of matches.now))) n → ⊥) }
+{
+    match matches.try_get_one::<u8>("workers") {
+        Ok(None) => Some(4),
+        Ok(Some(number)) => Some(number),
+        Err(_) => None,
+    }
+}
+
+/// How many workers there are to be, 4 where no option says so.
+fn workers_of(matches: &ArgMatches<'_>) -> Option<u8>
+    ensures number { IfSome result (IsNumberOf (one_of (codes "workers") (rows_of (found_of matches.now)))) }
+    ensures range { IfSome result (λ n. (1 ≤ n) × (n ≤ 16)) }
+    ensures none { IfNone result ((n : ℕ) → 1 ≤ n → n ≤ 16 → IsNumberOf (one_of (codes "workers") (rows_of (found_of matches.now))) n → ⊥) }
+{
+    match number_of(matches) {
+        Some(number) if 1 <= number && number <= 16 => Some(number),
+        _ => None,
     }
 }
 
@@ -69,9 +94,13 @@ fn job_of<'a>(matches: &ArgMatches<'a>) -> Result<Job<'a>, Usage>
         return Err(Usage::Missing("no plan"));
     };
     let script = script_of(inner);
+    let Some(workers) = workers_of(inner) else {
+        return Err(Usage::Missing("no number of workers from 1 to 16"));
+    };
     Ok(Job {
         action,
         plan,
         script,
+        workers,
     })
 }
