@@ -1,2 +1,4 @@
+pub mod Findings
+pub mod Searching
 pub mod Stops
 pub mod Telling

@@ -1,9 +1,11 @@
-//! Checks plans of a quorum log volume, and runs scripts over them.
+//! Checks plans of a quorum log volume, certifies them, and runs scripts over them.
 #![tactic(auto)]
 
 mod files;
+mod inputs;
 mod perform;
 mod reply;
+mod search;
 mod streams;
 #[cfg(test)]
 mod tests;
@@ -15,6 +17,8 @@ use perform::perform;
 use std::alloc::{AllocError, Global};
 use std::process::ExitCode;
 use std::rt::Files;
+use std::sync::Wait;
+use std::thread::Threads;
 use std::{env, io};
 
 /// The file with a name; none has the empty name.
@@ -32,8 +36,8 @@ fn texts<'a>(alloc: Global, words: &'a [String]) -> Result<Vec<&'a str>, AllocEr
     words.iter().map(|word| word.as_str()).collect(alloc)
 }
 
-/// Reads the words of the command line, and does what they ask for.
-fn run(rt: &HostRuntime) -> io::Result<u8> {
+/// Reads the words of the command line, and does what they ask for; a search starts its threads by the second handle.
+fn run<H: Threads + Wait + Sync>(rt: &HostRuntime, threads: &H) -> io::Result<u8> {
     let alloc = rt.alloc();
     let words: Vec<String> = env::args(rt)?.collect(alloc)?;
     let words = texts(alloc, words.as_slice())?;
@@ -52,11 +56,19 @@ fn run(rt: &HostRuntime) -> io::Result<u8> {
     let mut script = source(rt, job.script);
     let mut out = io::writer(rt);
     let mut err = rt.stderr();
-    Ok(perform(alloc, &job, &mut plan, &mut script, &mut out, &mut err))
+    Ok(perform(
+        threads,
+        alloc,
+        &job,
+        &mut plan,
+        &mut script,
+        &mut out,
+        &mut err,
+    ))
 }
 
 fn main(rt: HostRuntime) -> ExitCode {
-    match run(&rt) {
+    match run(&rt, &rt) {
         Ok(status) => ExitCode::from(status),
         Err(_) => ExitCode::from(2),
     }

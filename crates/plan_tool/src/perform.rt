@@ -1,60 +1,33 @@
 //! A job, done on the contents of its files.
 
-ghost use Rattle.std.specs.Prelude.{◌≡◌, ◌≤◌, ◌<◌, None, Some, Ok, Err, IfOk, IfErr, IfSome, string_bytes, take};
+ghost use Rattle.std.specs.Prelude.{◌≡◌, ◌≢◌, ◌≤◌, ◌<◌, [], None, Some, Ok, Err, IfOk, IfErr, IfSome, string_bytes, take};
 ghost use Rattle.volume_model.specs.Plan.{IsCertified};
 ghost use Rattle.plan.specs.CheckedModel.{checked_model};
 ghost use Rattle.plan.specs.Plan.{plan_data};
 ghost use Rattle.plan.specs.PlanFaults.{plan_fault};
 ghost use Rattle.plan.specs.PlanText.{plan_of};
 ghost use Rattle.plan.specs.declared.fault.PlanFault.{PlanFault};
-ghost use Rattle.command_line.specs.declared.action.Action.TheVariants.{Check, Run};
+ghost use Rattle.command_line.specs.declared.action.Action.TheVariants.{Check, Run, Search};
 ghost use Rattle.std.specs.Arc.{arc_value};
 ghost use Rattle.std.specs.Io.KnownBytes.{Appends};
 ghost use Rattle.plan_tool.specs.Answers.{IsPlanOf, IsScriptOf, Prints, PrintsCheck, TellsCheck, TellsOrders, TellsRun, TellsScript};
+ghost use Rattle.plan_tool.specs.Searched.{PrintsSearch};
 ghost use Rattle.plan_tool.specs.Told.{plan_line};
 ghost use Rattle.plan_tool.specs.Verdict.{IsCertifiedText, IsFaultyText, Judges, StopsOnly};
 
+use crate::inputs::{PLAN_BYTES, SCRIPT_BYTES, contents, plan_in};
 use crate::reply::{Reply, Stop};
-use crate::streams::{emit, read_all};
+use crate::search::{Found, search};
+use crate::streams::{emit, emit_bytes};
 use crate::told::{checked_line, run_lines};
 use command_line::{Action, Job};
-use plan::{CheckedPlan, Plan, check_plan, read_plan};
+use plan::{CheckedPlan, Plan, check_plan};
 use script::{Script, ScriptFault, read_script};
 use std::alloc::Global;
 use std::io::{Read, Write};
-use std::sync::Arc;
+use std::sync::{Arc, Wait};
+use std::thread::Threads;
 use world::run_orders;
-
-/// The most bytes that are read of a plan's text: one more than it may have.
-const PLAN_BYTES: u64 = 16_777_217;
-
-/// The most bytes that are read of a script: one more than it may have.
-const SCRIPT_BYTES: u64 = 16_777_217;
-
-/// The bytes of a file, but no more than `most` of them.
-fn contents<R: Read>(alloc: Global, name: &str, reader: &mut R, most: u64) -> Result<Vec<u8>, Stop>
-    ensures bytes { IfOk result (λ v. IfSome (R.remaining reader.old) (λ bytes. v.items ≡ take most bytes)) }
-    ensures stop { IfErr result (StopsOnly ⊥) }
-{
-    match read_all(alloc, reader, most) {
-        Ok(bytes) => Ok(bytes),
-        Err(_) => Err(Stop::Reply(Reply {
-            status: 2,
-            text: format!(in alloc; "input: cannot read {name}\n")?,
-        })),
-    }
-}
-
-/// The plan that a text spells.
-fn plan_in(alloc: Global, text: &[u8]) -> Result<Plan, Stop>
-    ensures plan { IfOk result (λ plan. plan_of text.now ≡ Ok (plan_data plan)) }
-    ensures stop { IfErr result (StopsOnly ((fault : PlanFault) × (plan_of text.now ≡ Err fault))) }
-{
-    match read_plan(alloc, text) {
-        Ok(plan) => Ok(plan),
-        Err(fault) => Err(Stop::of_plan(alloc, fault)),
-    }
-}
 
 /// The plan, where it has no fault.
 fn checked_plan(alloc: Global, plan: Plan) -> Result<CheckedPlan, Stop>
@@ -172,24 +145,6 @@ fn run<P: Read, S: Read>(
     }
 }
 
-/// What the job says.
-fn reply<P: Read, S: Read>(
-    alloc: Global,
-    job: &Job<'_>,
-    plan: &mut P,
-    script: &mut S,
-) -> Result<Reply, Stop>
-    ensures judges { IfSome (P.remaining plan.old) (λ bytes. Judges result (take 16777217 bytes)) }
-    ensures yes { job.now.action ≡ Check → IfOk result (λ reply. reply.status ≡ 0) }
-    ensures checks { job.now.action ≡ Check → IfOk result (λ reply. IfSome (P.remaining plan.old) (λ bytes. TellsCheck (take 16777217 bytes) reply.status (string_bytes reply.text))) }
-    ensures runs { job.now.action ≡ Run → IfOk result (λ reply. IfSome (P.remaining plan.old) (λ bytes. IfSome (S.remaining script.old) (λ lines. TellsRun (take 16777217 bytes) (take 16777217 lines) reply.status (string_bytes reply.text)))) }
-{
-    match job.action {
-        Action::Check => check(alloc, job, plan),
-        Action::Run => run(alloc, job, plan, script),
-    }
-}
-
 /// Writes a reply to its output, and gives the exit status: 2 where it can't be written.
 fn answer<O: Write, E: Write>(reply: &Reply, out: &mut O, err: &mut E) -> u8
     ensures status { result ≤ 2 }
@@ -206,9 +161,100 @@ fn answer<O: Write, E: Write>(reply: &Reply, out: &mut O, err: &mut E) -> u8
     if written.is_err() { 2 } else { reply.status }
 }
 
+/// Writes what a search says: the plan to the output, and what is unfound to `err`; and gives the exit status: 2 where they can't be
+/// written.
+fn answer_found<O: Write, E: Write>(found: &Found, out: &mut O, err: &mut E) -> u8
+    ensures status { result ≤ 2 }
+    ensures same { result < 2 → result ≡ found.now.status }
+    ensures printed { result < 2 → Appends (O.contents out.old) (O.contents out.new) found.now.plan.items }
+    ensures told { result < 2 → Appends (E.contents err.old) (E.contents err.new) (string_bytes found.now.unfound) }
+    ensures quiet { result < 2 → string_bytes found.now.unfound ≡ [] → err.new ≡ err.old }
+{
+    if emit_bytes(out, found.plan.as_slice()).is_err() {
+        return 2;
+    }
+    if found.unfound.is_empty() {
+        return found.status;
+    }
+    match emit(err, found.unfound.as_str()) {
+        Ok(()) => found.status,
+        Err(_) => 2,
+    }
+}
+
+/// Says that memory ran out.
+fn no_memory<E: Write>(err: &mut E) -> u8
+    ensures { result ≡ 2 }
+{
+    let _ = emit(err, "input: 9 NoMemory\n");
+    2
+}
+
+/// Does a check, as [`perform`] does.
+fn perform_check<P: Read, O: Write, E: Write>(
+    alloc: Global,
+    job: &Job<'_>,
+    plan: &mut P,
+    out: &mut O,
+    err: &mut E,
+) -> u8
+    ensures status { result ≤ 2 }
+    ensures yes { result ≡ 0 → IfSome (P.remaining plan.old) (λ bytes. IsCertifiedText (take 16777217 bytes)) }
+    ensures no { result ≡ 1 → IfSome (P.remaining plan.old) (λ bytes. IsFaultyText (take 16777217 bytes)) }
+    ensures quiet { result < 2 → err.new ≡ err.old }
+    ensures prints { result ≡ 0 → IfSome (P.remaining plan.old) (λ bytes. PrintsCheck (take 16777217 bytes) result (O.contents out.old) (O.contents out.new)) }
+{
+    match check(alloc, job, plan) {
+        Ok(reply) => answer(&reply, out, err),
+        Err(Stop::Reply(reply)) => answer(&reply, out, err),
+        Err(Stop::NoMemory) => no_memory(err),
+    }
+}
+
+/// Runs a script, as [`perform`] does.
+fn perform_run<P: Read, S: Read, O: Write, E: Write>(
+    alloc: Global,
+    job: &Job<'_>,
+    plan: &mut P,
+    script: &mut S,
+    out: &mut O,
+    err: &mut E,
+) -> u8
+    ensures status { result ≤ 2 }
+    ensures yes { result ≡ 0 → IfSome (P.remaining plan.old) (λ bytes. IsCertifiedText (take 16777217 bytes)) }
+    ensures quiet { result < 2 → err.new ≡ err.old }
+    ensures prints { result < 2 → IfSome (P.remaining plan.old) (λ bytes. IfSome (S.remaining script.old) (λ lines. Prints (take 16777217 bytes) (take 16777217 lines) result (O.contents out.old) (O.contents out.new))) }
+{
+    match run(alloc, job, plan, script) {
+        Ok(reply) => answer(&reply, out, err),
+        Err(Stop::Reply(reply)) => answer(&reply, out, err),
+        Err(Stop::NoMemory) => no_memory(err),
+    }
+}
+
+/// Searches for certificates, as [`perform`] does.
+fn perform_search<H: Threads + Wait + Sync, P: Read, O: Write, E: Write>(
+    rt: &H,
+    alloc: Global,
+    job: &Job<'_>,
+    plan: &mut P,
+    out: &mut O,
+    err: &mut E,
+) -> u8
+    ensures status { result ≤ 2 }
+    ensures prints { result < 2 → IfSome (P.remaining plan.old) (λ bytes. PrintsSearch E.contents (take 16777217 bytes) result (O.contents out.old) (O.contents out.new) err.old err.new) }
+{
+    match search(rt, alloc, job, plan) {
+        Ok(found) => answer_found(&found, out, err),
+        Err(Stop::Reply(reply)) => answer(&reply, out, err),
+        Err(Stop::NoMemory) => no_memory(err),
+    }
+}
+
 /// Does a job on the contents of its files, writes what it says, and gives the exit status: 0 for yes, 1 for a refusal, 2 for
-/// an input fault, which is written to `err` alone. The script is read by `run` alone.
-pub fn perform<P: Read, S: Read, O: Write, E: Write>(
+/// an input fault, which is written to `err` alone. The script is read by `run` alone, and `search` alone starts threads.
+pub fn perform<H: Threads + Wait + Sync, P: Read, S: Read, O: Write, E: Write>(
+    rt: &H,
     alloc: Global,
     job: &Job<'_>,
     plan: &mut P,
@@ -218,12 +264,12 @@ pub fn perform<P: Read, S: Read, O: Write, E: Write>(
 ) -> u8
     ensures status { result ≤ 2 }
 
-    // The status 0 says that the plan's text spells a plan without a fault, whose quorums all meet.
-    ensures yes { result ≡ 0 → IfSome (P.remaining plan.old) (λ bytes. IsCertifiedText (take 16777217 bytes)) }
+    // The status 0 of a check or a run says that the plan's text spells a plan without a fault, whose quorums all meet.
+    ensures yes { job.now.action ≢ Search → result ≡ 0 → IfSome (P.remaining plan.old) (λ bytes. IsCertifiedText (take 16777217 bytes)) }
 
     // A check answers 1 only where the text has a fault.
     ensures no { job.now.action ≡ Check → result ≡ 1 → IfSome (P.remaining plan.old) (λ bytes. IsFaultyText (take 16777217 bytes)) }
-    ensures quiet { result < 2 → err.new ≡ err.old }
+    ensures quiet { job.now.action ≢ Search → result < 2 → err.new ≡ err.old }
 
     // What is printed for the status 0 of a check is the line of the plan that the text spells.
     ensures checks { job.now.action ≡ Check → result ≡ 0 → IfSome (P.remaining plan.old) (λ bytes. PrintsCheck (take 16777217 bytes) result (O.contents out.old) (O.contents out.new)) }
@@ -231,13 +277,14 @@ pub fn perform<P: Read, S: Read, O: Write, E: Write>(
     // What a run prints is what the model's run of the script that the text spells tells, over the plan that the other text spells;
     // or that text has a fault.
     ensures runs { job.now.action ≡ Run → result < 2 → IfSome (P.remaining plan.old) (λ bytes. IfSome (S.remaining script.old) (λ lines. Prints (take 16777217 bytes) (take 16777217 lines) result (O.contents out.old) (O.contents out.new))) }
+
+    // What a search prints is the plan that the text spells with what was found for its claims, and the claims for which nothing was;
+    // or that text or its claims have a fault.
+    ensures searches { job.now.action ≡ Search → result < 2 → IfSome (P.remaining plan.old) (λ bytes. PrintsSearch E.contents (take 16777217 bytes) result (O.contents out.old) (O.contents out.new) err.old err.new) }
 {
-    match reply(alloc, job, plan, script) {
-        Ok(reply) => answer(&reply, out, err),
-        Err(Stop::Reply(reply)) => answer(&reply, out, err),
-        Err(Stop::NoMemory) => {
-            let _ = emit(err, "input: 9 NoMemory\n");
-            2
-        }
+    match job.action {
+        Action::Check => perform_check(alloc, job, plan, out, err),
+        Action::Run => perform_run(alloc, job, plan, script, out, err),
+        Action::Search => perform_search(rt, alloc, job, plan, out, err),
     }
 }

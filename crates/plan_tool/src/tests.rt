@@ -10,6 +10,7 @@ mod refutations;
 mod said;
 mod samples;
 mod scripts;
+mod searches;
 mod volumes;
 mod words;
 mod written;

@@ -122,7 +122,7 @@ fn first_faults_of_certificates(rt: HostRuntime) -> Result<(), AllocError> {
     for (certificate, want) in FAULTY {
         let text = root(alloc, READ, WRITE, certificate)?;
         let line = format!(in alloc; "no: 33 group 0 configuration 0 meets: {want}\n")?;
-        let said = checked(alloc, &text);
+        let said = checked(&rt, alloc, &text);
         assert!(rt; said.is(1, &line), "{want}");
     }
     Ok(())
@@ -222,7 +222,7 @@ const UNREADABLE: [(&str, u8, &str); 15] = [
 fn first_faults_of_texts(rt: HostRuntime) {
     let alloc = rt.alloc();
     for (text, status, line) in UNREADABLE {
-        let said = checked(alloc, text);
+        let said = checked(&rt, alloc, text);
         assert!(rt; said.is(status, line), "{line}");
     }
 }

@@ -26,7 +26,7 @@ impl Read for Breaks<'_> {
 
 /// Takes so many bytes, one at a time, and then fails.
 #[derive(Drop)]
-struct Room(usize);
+pub struct Room(pub usize);
 
 impl Write for Room {
     fn write(&mut self, buf: &[u8]) -> io::Result<usize> {
@@ -53,22 +53,22 @@ fn files_that_fail(rt: HostRuntime) -> Result<(), AllocError> {
     let no_plan = "input: cannot read p.json\n";
     let no_script = "input: cannot read s.txt\n";
     for k in 0..plan.len() {
-        let end = said(alloc, Action::Check, &plan[..k], script);
+        let end = said(&rt, alloc, Action::Check, &plan[..k], script);
         assert!(rt; end.is(2, "input: 13 Malformed\n"), "{k}");
-        let end = said(alloc, Action::Run, Breaks(&plan[..k]), script);
+        let end = said(&rt, alloc, Action::Run, Breaks(&plan[..k]), script);
         assert!(rt; end.is(2, no_plan), "{k}");
     }
     for k in 0..script.len() {
-        let end = said(alloc, Action::Run, plan, Breaks(&script[..k]));
+        let end = said(&rt, alloc, Action::Run, plan, Breaks(&script[..k]));
         assert!(rt; end.is(2, no_script), "{k}");
     }
-    let end = said(alloc, Action::Check, Source::<&[u8]>::Missing, script);
+    let end = said(&rt, alloc, Action::Check, Source::<&[u8]>::Missing, script);
     assert!(rt; end.is(2, no_plan));
-    let end = said(alloc, Action::Run, plan, Source::<&[u8]>::Missing);
+    let end = said(&rt, alloc, Action::Run, plan, Source::<&[u8]>::Missing);
     assert!(rt; end.is(2, no_script));
-    let end = said(alloc, Action::Run, b"{}".as_slice(), Breaks(b""));
+    let end = said(&rt, alloc, Action::Run, b"{}".as_slice(), Breaks(b""));
     assert!(rt; end.is(2, "input: 13 Malformed\n"));
-    let end = said(alloc, Action::Check, io::repeat(b' '), script);
+    let end = said(&rt, alloc, Action::Check, io::repeat(b' '), script);
     assert!(rt; end.is(1, "no: 34 OverLimit\n"));
     Ok(())
 }
@@ -80,6 +80,7 @@ fn outputs_that_fail(rt: HostRuntime) {
         action: Action::Check,
         plan: "p.json",
         script: "",
+        workers: 4,
     };
     let line = "yes: 1 groups, 1 configurations, 1 certificates\n";
     for room in 0..line.len() + 2 {
@@ -87,6 +88,7 @@ fn outputs_that_fail(rt: HostRuntime) {
         let mut plan = SIX_COPIES.as_bytes();
         let mut script = Source::<&[u8]>::Empty;
         let status = perform(
+            &rt,
             alloc,
             &job,
             &mut plan,

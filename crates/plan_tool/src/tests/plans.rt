@@ -102,7 +102,7 @@ fn plans_of_one_configuration(rt: HostRuntime) -> Result<(), AllocError> {
     let alloc = rt.alloc();
     for (read, write, meets, status, line) in ROOTS {
         let text = root(alloc, read, write, &meets.text(alloc)?)?;
-        let said = checked(alloc, &text);
+        let said = checked(&rt, alloc, &text);
         assert!(rt; said.is(status, line), "{line}");
     }
     Ok(())
@@ -180,10 +180,10 @@ fn plans_of_steps(rt: HostRuntime) -> Result<(), AllocError> {
     ];
     for (sample, status, line) in rows {
         let text = sample.text(alloc)?;
-        let said = checked(alloc, &text);
+        let said = checked(&rt, alloc, &text);
         assert!(rt; said.is(status, line), "{line}");
     }
-    let said = checked(alloc, &largest(alloc)?);
+    let said = checked(&rt, alloc, &largest(alloc)?);
     assert!(rt;
         said.is(
             0,

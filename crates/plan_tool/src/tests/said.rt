@@ -3,6 +3,8 @@ use crate::perform::perform;
 use command_line::{Action, Job};
 use std::alloc::Global;
 use std::io::Read;
+use std::sync::Wait;
+use std::thread::Threads;
 
 /// A plan of six copies, as it is written by hand.
 pub const SIX_COPIES: &str = "{\"format\":1,\"lal\":10,\"groups\":[{\"configurations\":[
@@ -35,27 +37,41 @@ impl Outputs {
     }
 }
 
-/// What is said of these files.
-pub fn said<P: Read + Drop, S: Read + Drop>(
+/// What is said of a job on these files.
+pub fn done<H: Threads + Wait + Sync, P: Read + Drop, S: Read + Drop>(
+    rt: &H,
     alloc: Global,
-    action: Action,
+    job: &Job<'_>,
     mut plan: P,
     mut script: S,
+) -> Outputs {
+    let mut out = Vec::new(alloc);
+    let mut err = Vec::new(alloc);
+    let status = perform(rt, alloc, job, &mut plan, &mut script, &mut out, &mut err);
+    Outputs { status, out, err }
+}
+
+/// What is said of these files.
+pub fn said<H: Threads + Wait + Sync, P: Read + Drop, S: Read + Drop>(
+    rt: &H,
+    alloc: Global,
+    action: Action,
+    plan: P,
+    script: S,
 ) -> Outputs {
     let job = Job {
         action,
         plan: "p.json",
         script: "s.txt",
+        workers: 4,
     };
-    let mut out = Vec::new(alloc);
-    let mut err = Vec::new(alloc);
-    let status = perform(alloc, &job, &mut plan, &mut script, &mut out, &mut err);
-    Outputs { status, out, err }
+    done(rt, alloc, &job, plan, script)
 }
 
 /// What is said of a check of this plan.
-pub fn checked(alloc: Global, plan: &str) -> Outputs {
+pub fn checked<H: Threads + Wait + Sync>(rt: &H, alloc: Global, plan: &str) -> Outputs {
     said(
+        rt,
         alloc,
         Action::Check,
         plan.as_bytes(),

@@ -28,11 +28,18 @@ fn scripts(rt: HostRuntime) -> Result<(), AllocError> {
         ),
     ];
     for (script, status, lines) in rows {
-        let said = said(alloc, Action::Run, SIX_COPIES.as_bytes(), script.as_bytes());
+        let said = said(
+            &rt,
+            alloc,
+            Action::Run,
+            SIX_COPIES.as_bytes(),
+            script.as_bytes(),
+        );
         assert!(rt; said.is(status, lines), "{lines}");
     }
     let longest = "\n".repeat(alloc, 100_000)?;
     let end = said(
+        &rt,
         alloc,
         Action::Run,
         SIX_COPIES.as_bytes(),
@@ -40,7 +47,13 @@ fn scripts(rt: HostRuntime) -> Result<(), AllocError> {
     );
     assert!(rt; end.is(0, "writer 1 durable 0 next 1\n"));
     let longer = "\n".repeat(alloc, 100_001)?;
-    let end = said(alloc, Action::Run, SIX_COPIES.as_bytes(), longer.as_bytes());
+    let end = said(
+        &rt,
+        alloc,
+        Action::Run,
+        SIX_COPIES.as_bytes(),
+        longer.as_bytes(),
+    );
     assert!(rt; end.is(2, "input: line 100001\n"));
     Ok(())
 }
@@ -97,7 +110,13 @@ fn lines_outside_the_grammar(rt: HostRuntime) -> Result<(), AllocError> {
         let mut script = Vec::new(alloc);
         script.extend_from_slice(b"issue 1 0:0:0:61\n")?;
         script.extend_from_slice(line)?;
-        let said = said(alloc, Action::Run, SIX_COPIES.as_bytes(), script.as_slice());
+        let said = said(
+            &rt,
+            alloc,
+            Action::Run,
+            SIX_COPIES.as_bytes(),
+            script.as_slice(),
+        );
         assert!(rt; said.is(2, "input: line 2\n"), "{script:?}");
     }
     for (bytes, status, told) in [
@@ -106,7 +125,13 @@ fn lines_outside_the_grammar(rt: HostRuntime) -> Result<(), AllocError> {
     ] {
         let hex = "61".repeat(alloc, bytes)?;
         let script = format!(in alloc; "issue 1 0:0:0:{hex}")?;
-        let said = said(alloc, Action::Run, SIX_COPIES.as_bytes(), script.as_bytes());
+        let said = said(
+            &rt,
+            alloc,
+            Action::Run,
+            SIX_COPIES.as_bytes(),
+            script.as_bytes(),
+        );
         assert!(rt; said.is(status, told));
     }
     Ok(())

@@ -3,6 +3,8 @@ use super::configurations::{plan, tails, two};
 use super::said::{SIX_COPIES, said};
 use command_line::Action;
 use std::alloc::{AllocError, Global};
+use std::sync::Wait;
+use std::thread::Threads;
 
 /// Three bytes, written to four of six segments.
 const WRITTEN: &str =
@@ -97,7 +99,8 @@ fn printed(alloc: Global, told: &str, end: &str) -> Result<String, AllocError> {
 }
 
 /// Whether a script over a plan tells this of its lines, and this at the end.
-fn tells(
+fn tells<H: Threads + Wait + Sync>(
+    rt: &H,
     alloc: Global,
     plan: &str,
     script: &str,
@@ -106,19 +109,26 @@ fn tells(
 ) -> Result<bool, AllocError> {
     let status = u8::from(told.contains("refused"));
     let printed = printed(alloc, told, end)?;
-    let said = said(alloc, Action::Run, plan.as_bytes(), script.as_bytes());
+    let said = said(rt, alloc, Action::Run, plan.as_bytes(), script.as_bytes());
     Ok(said.is(status, printed.as_str()))
 }
 
 /// These lines after what was written.
-fn after_written(alloc: Global, more: &str, told: &str, end: &str) -> Result<bool, AllocError> {
+fn after_written<H: Threads + Wait + Sync>(
+    rt: &H,
+    alloc: Global,
+    more: &str,
+    told: &str,
+    end: &str,
+) -> Result<bool, AllocError> {
     let script = format!(in alloc; "{WRITTEN}{more}")?;
     let told = format!(in alloc; "{WRITTEN_TOLD}{told}")?;
-    tells(alloc, SIX_COPIES, script.as_str(), told.as_str(), end)
+    tells(rt, alloc, SIX_COPIES, script.as_str(), told.as_str(), end)
 }
 
 /// These lines after a recovery.
-fn after_recovered(
+fn after_recovered<H: Threads + Wait + Sync>(
+    rt: &H,
     alloc: Global,
     recovered: &str,
     more: &str,
@@ -127,16 +137,16 @@ fn after_recovered(
 ) -> Result<bool, AllocError> {
     let script = format!(in alloc; "{recovered}{more}")?;
     let told = format!(in alloc; "{RECOVERED_TOLD}{told}")?;
-    after_written(alloc, script.as_str(), told.as_str(), end)
+    after_written(rt, alloc, script.as_str(), told.as_str(), end)
 }
 
 #[test]
 fn writing(rt: HostRuntime) -> Result<(), AllocError> {
     let alloc = rt.alloc();
-    assert!(rt; after_written(alloc, "", "", "writer 1 durable 3 next 4\n")?);
+    assert!(rt; after_written(&rt, alloc, "", "", "writer 1 durable 3 next 4\n")?);
     let read = "read 1 0 0\ndeliver 0 0 20.1\ndeliver 0 4 20.1\n";
     let told = ",1,1,refused 61 PointAhead";
-    assert!(rt; after_written(alloc, read, told, "writer 1 durable 3 next 4\n")?);
+    assert!(rt; after_written(&rt, alloc, read, told, "writer 1 durable 3 next 4\n")?);
     Ok(())
 }
 
@@ -151,6 +161,7 @@ fn records_out_of_order(rt: HostRuntime) -> Result<(), AllocError> {
     let told = "2,1,1,1,1,0,0,0,0";
     assert!(rt;
         tells(
+            &rt,
             alloc,
             SIX_COPIES,
             second,
@@ -161,7 +172,7 @@ fn records_out_of_order(rt: HostRuntime) -> Result<(), AllocError> {
     let script = format!(in alloc; "{second}{first}{again}")?;
     let told = format!(in alloc; "{told},1,1,1,1,0,0,0,0,1,0")?;
     let end = "writer 1 durable 2 next 3\n";
-    assert!(rt; tells(alloc, SIX_COPIES, script.as_str(), told.as_str(), end)?);
+    assert!(rt; tells(&rt, alloc, SIX_COPIES, script.as_str(), told.as_str(), end)?);
     Ok(())
 }
 
@@ -172,7 +183,16 @@ fn pages_of_tail_segments(rt: HostRuntime) -> Result<(), AllocError> {
     let script = format!(in alloc; "{WRITTEN}read 1 0 0\ndeliver 0 0 20.1\ndeliver 0 1 20.1\n")?;
     let told = format!(in alloc; "{WRITTEN_TOLD},1,1,refused 60 TailSegment")?;
     let end = "writer 1 durable 3 next 4\n";
-    assert!(rt; tells(alloc, plan.as_str(), script.as_str(), told.as_str(), end)?);
+    assert!(rt;
+        tells(
+            &rt,
+            alloc,
+            plan.as_str(),
+            script.as_str(),
+            told.as_str(),
+            end
+        )?
+    );
     Ok(())
 }
 
@@ -191,7 +211,7 @@ fn recoveries(rt: HostRuntime) -> Result<(), AllocError> {
         (RECOVERED_MORE, "", "", further),
     ] {
         assert!(rt;
-            after_recovered(alloc, recovered, more, told, end)?,
+            after_recovered(&rt, alloc, recovered, more, told, end)?,
             "{end}"
         );
     }
@@ -218,6 +238,7 @@ fn recoveries_after_recoveries(rt: HostRuntime) -> Result<(), AllocError> {
         let told = format!(in alloc; "{THIRD_TOLD}{told}")?;
         let end = format!(in alloc; "{end}{last}")?;
         let is = after_recovered(
+            &rt,
             alloc,
             RECOVERED_MORE,
             more.as_str(),
@@ -243,7 +264,7 @@ fn recoveries_over_two_groups(rt: HostRuntime) -> Result<(), AllocError> {
     let alloc = rt.alloc();
     let plan = two_groups(alloc)?;
     let end = "writer 1 durable 0 next 3\nrecovery 2 cut 2 start 12\nrecovery 3 cut 0 start 22\n";
-    assert!(rt; tells(alloc, plan.as_str(), TWO_GROUPS, TWO_GROUPS_TOLD, end)?);
+    assert!(rt; tells(&rt, alloc, plan.as_str(), TWO_GROUPS, TWO_GROUPS_TOLD, end)?);
     Ok(())
 }
 
@@ -269,7 +290,10 @@ fn members_replaced(rt: HostRuntime) -> Result<(), AllocError> {
             "writer 1 durable 0 next 1\n",
         ),
     ] {
-        assert!(rt; tells(alloc, plan.as_str(), script, told, end)?, "{end}");
+        assert!(rt;
+            tells(&rt, alloc, plan.as_str(), script, told, end)?,
+            "{end}"
+        );
     }
     Ok(())
 }
@@ -291,7 +315,14 @@ fn acknowledgements_of_an_earlier_epoch(rt: HostRuntime) -> Result<(), AllocErro
         let end = format!(in alloc; "writer 1 durable {durable} next 2\n")?;
         let told = "1,1,1,1,1,1,1,0,0,0,0,0";
         assert!(rt;
-            tells(alloc, plan.as_str(), script.as_str(), told, end.as_str())?,
+            tells(
+                &rt,
+                alloc,
+                plan.as_str(),
+                script.as_str(),
+                told,
+                end.as_str()
+            )?,
             "{end}"
         );
     }

@@ -1,0 +1,58 @@
+-- What a search prints of the bytes of its file.
+use Rattle.std.specs.Prelude.{◌≡◌, ◌⊎◌, ℕ, List, ◌++◌, length, Option, Result, Ok, Err, IfSome, IsSome, Some, codes, slice_get}
+use Rattle.std.specs.Io.KnownBytes.{Appends}
+use Rattle.refutation.specs.Rule.{Rule}
+use Rattle.quorum_checker.specs.Refutes.{State, Refutes}
+use Rattle.plan.specs.declared.fault.PlanFault.{PlanFault}
+use Rattle.plan.specs.PlanData.{PlanData}
+use Rattle.plan.specs.PlanText.{◌>=>◌, plan_of}
+use Rattle.plan.specs.PlanClaims.{PlacedClaim, claims_in}
+use Rattle.plan.specs.WithCertificates.{with_certificates}
+use Rattle.plan.specs.Written.{IsCompact, spelt}
+use Rattle.cert_search.specs.Plain.{IsPlain}
+use Rattle.plan_tool.specs.Unfound.{found_status, unfound_lines}
+
+-- the claims of the plan that a text spells, or the first fault of the text or of its claims
+abbrev pub claims_of : List ℕ → Result (List PlacedClaim) PlanFault
+claims_of text = plan_of text >=> claims_in
+
+-- the text has a fault of its own, or one that keeps its plan from having claims
+abbrev pub HasNoClaims : List ℕ → Type 0
+HasNoClaims text = (fault : PlanFault) × (claims_of text ≡ Err fault)
+
+-- What was found for a claim: nothing, or a rule that refutes it. For a plain claim it is a rule.
+pub record IsFinding (claim : State) (rule : Option Rule) : Type 0 where
+  pub refutes : IfSome rule (λ r. Refutes r claim)
+  pub plain : IsPlain claim → IsSome rule
+
+-- what was found for each claim, in the order of the claims
+pub record AreFindings (claims : List PlacedClaim) (rules : List (Option Rule)) : Type 0 where
+  pub as_many : length rules ≡ length claims
+  pub each : (i : ℕ) (c : PlacedClaim) (rule : Option Rule) → slice_get claims i ≡ Some c → slice_get rules i ≡ Some rule → IsFinding c.claim rule
+
+-- a line of compact JSON that spells this plan
+pub record IsPlanLine (plan : PlanData) (line : List ℕ) : Type 0 where
+  pub text : List ℕ
+  pub spelled : spelt text ≡ Ok plan
+  pub compact : IsCompact text
+  pub line_is : line ≡ text ++ codes "\n"
+
+-- The plan's text spells a plan that has claims, and what is printed is a line that spells this plan with what was found for its
+-- claims, and a line for each of them for which nothing was. The status is 0 exactly where there is no such line.
+pub record TellsSearch (plan : List ℕ) (status : ℕ) (text notes : List ℕ) : Type 0 where
+  pub data_of : PlanData
+  pub spelled : plan_of plan ≡ Ok data_of
+  pub claims : List PlacedClaim
+  pub listed : claims_in data_of ≡ Ok claims
+  pub rules : List (Option Rule)
+  pub found : AreFindings claims rules
+  pub line : IsPlanLine (with_certificates data_of rules) text
+  pub notes_are : notes ≡ unfound_lines claims rules
+  pub status_is : status ≡ found_status rules
+
+-- What `search` prints, where its status is below 2: the plan's text has a fault or its claims have, the status is 1, and nothing is
+-- written to standard error; or both outputs tell of the search.
+abbrev pub PrintsSearch : {E : Type 0} → (E → Option (List ℕ)) → List ℕ → ℕ → Option (List ℕ) → Option (List ℕ) → E → E → Type 0
+PrintsSearch contents plan status old new old_err new_err =
+    (HasNoClaims plan × (status ≡ 1) × (new_err ≡ old_err))
+    ⊎ ((text : List ℕ) × (notes : List ℕ) × TellsSearch plan status text notes × Appends old new text × Appends (contents old_err) (contents new_err) notes)
