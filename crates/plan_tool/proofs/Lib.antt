@@ -1,3 +1,4 @@
+pub mod Certifies
 pub mod Findings
 pub mod Searching
 pub mod Stops

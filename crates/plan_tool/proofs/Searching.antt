@@ -1,5 +1,5 @@
 -- What a search says of what was found.
-use Rattle.std.proofs.Common.{◌≡◌, ◌∙◌, ap, sym, refl, ℕ, ◌+◌, ◌<◌, Bool, true, false, List, [], ◌∷◌, ◌++◌, Option, Some, None, Result, Ok, Err, option_map, is_none, if◌then◌else◌, length, drop, get_or, map, add-one, drop-cons}
+use Rattle.std.proofs.Common.{◌≡◌, ◌∙◌, ap, sym, refl, ℕ, ◌+◌, ◌<◌, Bool, true, false, List, [], ◌∷◌, ◌++◌, Option, Some, None, Result, Ok, Err, option_map, is_none, if◌then◌else◌, length, drop, get_or, map, add-one, drop-cons, arith}
 use mir.Val.{bool_byte}
 use Rattle.std.specs.Prelude.{IsOkAnd}
 use Rattle.std.specs.List.{list_any}
@@ -12,7 +12,8 @@ use Rattle.refutation.specs.Rule.{Rule}
 use Rattle.plan.specs.declared.placed.NamedClaim.{NamedClaim}
 use Rattle.plan.specs.NamedClaims.{all_placed, placed}
 use Rattle.plan.specs.PlanClaims.{PlacedClaim}
-use Rattle.plan_tool.specs.Unfound.{unfound_line, unfound_lines}
+use Rattle.plan_tool.specs.Searched.{TellsSearch}
+use Rattle.plan_tool.specs.Unfound.{found_status, unfound_line, unfound_lines}
 
 -- an Ok has a value
 pub ok_and : {X E : Type 0} (r : Result X E) (P : X → Type 0) → IsOkAnd r P → (x : X) × (r ≡ Ok x) × P x
@@ -40,6 +41,14 @@ status_by gap = if gap then 1 else 0
 pub status-is : (gap : Bool) (byte : ℕ) → byte ≡ bool_byte gap → byte ≡ status_by gap
 status-is true byte e = e
 status-is false byte e = e
+
+no_one : (gap : Bool) → status_by gap ≡ 0 → gap ≡ false
+no_one true e = absurd (omega arith)
+no_one false e = refl
+
+-- the status 0 says that no claim is without a rule
+pub no_gap : (rules : List (Option Rule)) → found_status rules ≡ 0 → list_any (λ rule. is_none rule) rules ≡ false
+no_gap rules e = no_one (list_any (λ rule. is_none rule) rules) e
 
 -- one claim more
 pub unfound_more : (claims : List NamedClaim) (left later : List (Option (Certificate Global))) (i : ℕ) (claim : NamedClaim) (certificate : Option (Certificate Global)) (all old new : List ℕ)
@@ -74,3 +83,7 @@ all_found [] rules h = refl
 all_found (c ∷ cs) [] h = refl
 all_found (c ∷ cs) (None ∷ rules) h = absurd cc
 all_found (c ∷ cs) (Some r ∷ rules) h = all_found cs rules h
+
+-- with the status 0 there is no line
+pub is_quiet : (plan : List ℕ) (status : ℕ) (text notes : List ℕ) → TellsSearch plan status text notes → status ≡ 0 → notes ≡ []
+is_quiet plan status text notes told zero = told.notes_are ∙ all_found told.claims told.rules (no_gap told.rules (sym told.status_is ∙ zero))

@@ -1,10 +1,11 @@
 -- What a search prints of the bytes of its file.
-use Rattle.std.specs.Prelude.{◌≡◌, ◌⊎◌, ℕ, List, ◌++◌, length, Option, Result, Ok, Err, IfSome, IsSome, Some, codes, slice_get}
+use Rattle.std.specs.Prelude.{◌≡◌, ◌⊎◌, ℕ, List, ◌++◌, length, Option, None, Result, Ok, Err, IfSome, IsSome, Some, codes, slice_get}
 use Rattle.std.specs.Io.KnownBytes.{Appends}
 use Rattle.refutation.specs.Rule.{Rule}
 use Rattle.quorum_checker.specs.Refutes.{State, Refutes}
 use Rattle.plan.specs.declared.fault.PlanFault.{PlanFault}
 use Rattle.plan.specs.PlanData.{PlanData}
+use Rattle.plan.specs.PlanFaults.{plan_fault}
 use Rattle.plan.specs.PlanText.{◌>=>◌, plan_of}
 use Rattle.plan.specs.PlanClaims.{PlacedClaim, claims_in}
 use Rattle.plan.specs.WithCertificates.{with_certificates}
@@ -38,7 +39,8 @@ pub record IsPlanLine (plan : PlanData) (line : List ℕ) : Type 0 where
   pub line_is : line ≡ text ++ codes "\n"
 
 -- The plan's text spells a plan that has claims, and what is printed is a line that spells this plan with what was found for its
--- claims, and a line for each of them for which nothing was. The status is 0 exactly where there is no such line.
+-- claims, and a line for each of them for which nothing was. The status is 0 exactly where there is no such line, and then that
+-- plan has no fault.
 pub record TellsSearch (plan : List ℕ) (status : ℕ) (text notes : List ℕ) : Type 0 where
   pub data_of : PlanData
   pub spelled : plan_of plan ≡ Ok data_of
@@ -49,6 +51,7 @@ pub record TellsSearch (plan : List ℕ) (status : ℕ) (text notes : List ℕ) 
   pub line : IsPlanLine (with_certificates data_of rules) text
   pub notes_are : notes ≡ unfound_lines claims rules
   pub status_is : status ≡ found_status rules
+  pub faultless : status ≡ 0 → plan_fault (with_certificates data_of rules) ≡ None
 
 -- What `search` prints, where its status is below 2: the plan's text has a fault or its claims have, the status is 1, and nothing is
 -- written to standard error; or both outputs tell of the search.

@@ -1,11 +1,10 @@
 //! A job, done on the contents of its files.
 
-ghost use Rattle.std.specs.Prelude.{◌≡◌, ◌≢◌, ◌≤◌, ◌<◌, [], None, Some, Ok, Err, IfOk, IfErr, IfSome, string_bytes, take};
+ghost use Rattle.std.specs.Prelude.{◌≡◌, ◌≢◌, ◌≤◌, ◌<◌, [], None, Some, IfOk, IfErr, IfSome, string_bytes, take};
 ghost use Rattle.volume_model.specs.Plan.{IsCertified};
 ghost use Rattle.plan.specs.CheckedModel.{checked_model};
 ghost use Rattle.plan.specs.Plan.{plan_data};
 ghost use Rattle.plan.specs.PlanFaults.{plan_fault};
-ghost use Rattle.plan.specs.PlanText.{plan_of};
 ghost use Rattle.plan.specs.declared.fault.PlanFault.{PlanFault};
 ghost use Rattle.command_line.specs.declared.action.Action.TheVariants.{Check, Run, Search};
 ghost use Rattle.std.specs.Arc.{arc_value};
@@ -242,6 +241,7 @@ fn perform_search<H: Threads + Wait + Sync, P: Read, O: Write, E: Write>(
     err: &mut E,
 ) -> u8
     ensures status { result ≤ 2 }
+    ensures quiet { result ≡ 0 → err.new ≡ err.old }
     ensures prints { result < 2 → IfSome (P.remaining plan.old) (λ bytes. PrintsSearch E.contents (take 16777217 bytes) result (O.contents out.old) (O.contents out.new) err.old err.new) }
 {
     match search(rt, alloc, job, plan) {
@@ -270,6 +270,9 @@ pub fn perform<H: Threads + Wait + Sync, P: Read, S: Read, O: Write, E: Write>(
     // A check answers 1 only where the text has a fault.
     ensures no { job.now.action ≡ Check → result ≡ 1 → IfSome (P.remaining plan.old) (λ bytes. IsFaultyText (take 16777217 bytes)) }
     ensures quiet { job.now.action ≢ Search → result < 2 → err.new ≡ err.old }
+
+    // With the status 0 nothing is written to `err`, by a search neither.
+    ensures silent { result ≡ 0 → err.new ≡ err.old }
 
     // What is printed for the status 0 of a check is the line of the plan that the text spells.
     ensures checks { job.now.action ≡ Check → result ≡ 0 → IfSome (P.remaining plan.old) (λ bytes. PrintsCheck (take 16777217 bytes) result (O.contents out.old) (O.contents out.new)) }

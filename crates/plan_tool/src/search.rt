@@ -1,6 +1,6 @@
 //! The search for the certificates of a plan's claims.
 
-ghost use Rattle.std.specs.Prelude.{◌≡◌, ◌<◌, ◌≤◌, ◌++◌, Err, IfErr, IfOk, IfSome, Ok, OnOk, is_none, length, map, option_map, string_bytes, take};
+ghost use Rattle.std.specs.Prelude.{◌≡◌, ◌<◌, ◌≤◌, ◌++◌, [], Err, IfErr, IfOk, IfSome, Ok, OnOk, is_none, length, map, option_map, string_bytes, take};
 ghost use Rattle.std.specs.List.{list_any};
 ghost use Rattle.refutation.specs.Certificate.{certificate_rule};
 ghost use Rattle.plan.specs.FaultText.{claim_text};
@@ -19,7 +19,7 @@ use crate::inputs::{PLAN_BYTES, contents, plan_in};
 use crate::reply::Stop;
 use cert_search::{Gate, search_all};
 use command_line::Job;
-use plan::{NamedClaim, Plan, claims, write_plan};
+use plan::{NamedClaim, Plan, claims, no_fault_is_certified, write_plan};
 use refutation::Certificate;
 use std::alloc::{AllocError, Global};
 use std::io::Read;
@@ -166,6 +166,7 @@ fn searched<H: Threads + Wait + Sync>(
     ensures told { IfOk result (λ found. TellsSearch text.now found.status found.plan.items (string_bytes found.unfound)) }
     ensures stop { IfErr result (StopsOnly (HasNoClaims text.now)) }
 {
+    no_fault_is_certified();
     let plan = plan_in(alloc, text)?;
     let claims = claims_of(alloc, &plan)?;
     let certificates = answers(rt, alloc, &plan, workers)?;
@@ -187,6 +188,7 @@ pub fn search<H: Threads + Wait + Sync, P: Read>(
     plan: &mut P,
 ) -> Result<Found, Stop>
     ensures told { IfOk result (λ found. IfSome (P.remaining plan.old) (λ bytes. TellsSearch (take 16777217 bytes) found.status found.plan.items (string_bytes found.unfound))) }
+    ensures quiet { IfOk result (λ found. found.status ≡ 0 → string_bytes found.unfound ≡ []) }
     ensures stop { IfErr result (λ stop. IfSome (P.remaining plan.old) (λ bytes. StopsOnly (HasNoClaims (take 16777217 bytes)) stop)) }
 {
     let text = contents(alloc, job.plan, plan, PLAN_BYTES)?;

@@ -13,9 +13,10 @@ use Rattle.plan.specs.Written.{rewritten}
 use Rattle.plan.proofs.Reread.{ok_is}
 use Rattle.cert_search.specs.Answers.{AreAnswersOf}
 use Rattle.plan_tool.specs.Searched.{IsPlanLine}
-use Rattle.plan_tool.specs.Unfound.{unfound_lines}
+use Rattle.plan_tool.specs.Unfound.{found_status, unfound_lines}
+use Rattle.plan_tool.proofs.Certifies.{all_shown, certifies}
 use Rattle.plan_tool.proofs.Findings.{are_findings, rewritten-is}
-use Rattle.plan_tool.proofs.Searching.{gap-map, rule_in, status_by, status-is}
+use Rattle.plan_tool.proofs.Searching.{gap-map, no_gap, rule_in, status_by, status-is}
 use Rattle.plan_tool.proofs.search.searched.Goals as goal
 
 pub returns-clause-told : goal.returns-clause-told
@@ -33,14 +34,17 @@ returns-clause-told g c =
     let is : line.0 ≡ with_certificates plan rules = ok_is line.0 (with_certificates plan rules) (sym given ∙ rewritten-is text plan claims rules c.in_ok-plan.ensures.plan listed) in
     let gap = λ (xs : List (Option (Certificate Global))). list_any (λ x. is_none x) xs in
     let byte : c.from-status.result ≡ status_by c.has_gap.result = status-is c.has_gap.result c.from-status.result c.from-status.ensures in
+    let found = are_findings claims answers answered in
+    let status : c.from-status.result ≡ found_status rules = byte ∙ ap status_by (c.has_gap.ensures ∙ (ap gap c.deref-4.ensures.value ∙ gap-map certificate_rule answers)) in
     record {
       data_of = plan;
       spelled = c.in_ok-plan.ensures.plan;
       claims = claims;
       listed = listed;
       rules = rules;
-      found = are_findings claims answers answered;
+      found = found;
       line = subst (λ (p : PlanData). IsPlanLine p c.in_ok-line.line.items) is line.2;
       notes_are = c.in_ok-unfound.ensures ∙ ap₂ (λ xs ys. unfound_lines (all_placed xs) (rules_of ys)) c.deref-2.ensures.value c.deref-3.ensures.value;
-      status_is = byte ∙ ap status_by (c.has_gap.ensures ∙ (ap gap c.deref-4.ensures.value ∙ gap-map certificate_rule answers));
+      status_is = status;
+      faultless = λ zero. c.no_fault_is_certified.ensures.fault_free (with_certificates plan rules) (certifies plan claims rules listed (all_shown claims rules found (no_gap rules (sym status ∙ zero))));
     }
