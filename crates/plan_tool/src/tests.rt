@@ -3,6 +3,8 @@ mod configurations;
 mod expressions;
 mod faults;
 mod files;
+mod gates;
+mod hands;
 mod lineages;
 mod plans;
 mod records;

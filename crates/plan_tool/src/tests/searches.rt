@@ -1,4 +1,4 @@
-//! What `search` prints. Where it is to find certificates, this needs a `cert_search` that searches.
+//! What `search` prints.
 
 ghost use Rattle.std.specs.Prelude.{◌≤◌};
 
