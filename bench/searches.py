@@ -4,14 +4,13 @@
     python3 bench/searches.py
 
 It builds a small program over the crates `plan` and `cert_search` in a folder of its own, which takes some minutes, and then times it on two plans: one of
-2,032 claims that hold by counting equal members, and one whose claims are those of steps among sets of six. Each time is that of many rounds less
-that of one, so that reading the plan doesn't count, and the least of five.
+2,032 claims that hold by counting equal members, and one whose claims are those of steps among sets of six. It times `search_all` alone, many
+times in one process, and the best of five processes counts.
 """
 import json
 import pathlib
 import subprocess
 import tempfile
-import time
 
 from big_plan import plan_text
 from building import built
@@ -19,14 +18,17 @@ from building import built
 PROGRAM = r"""//! Searches the certificates of a plan, with so many workers and so often as it is told.
 #![tactic(auto)]
 
+ghost use Rattle.std.specs.Prelude.{◌<◌, ◌≤◌};
+
 use cert_search::{Gate, search_all};
 use plan::{Plan, read_plan};
 use std::alloc::Global;
 use std::fs::read;
 use std::process::ExitCode;
-use std::rt::{Env, Files};
+use std::rt::{Clock, Env, Files};
 use std::sync::Wait;
 use std::thread::Threads;
+use std::time::Instant;
 use std::{env, io};
 
 /// A gate that lets all claims through.
@@ -39,30 +41,52 @@ impl Gate for Through {
     fn finished(&self, _claim: usize) {}
 }
 
-fn run<R: Files + Env + Threads + Wait + Sync>(rt: &R, alloc: Global) -> io::Result<usize> {
+/// The nanoseconds of so many searches, where each finds all certificates.
+fn searched<R: Clock + Threads + Wait + Sync>(
+    rt: &R,
+    alloc: Global,
+    plan: &Plan,
+    workers: usize,
+    rounds: u64,
+) -> io::Result<Option<u128>>
+    requires { (0 < workers) × (workers ≤ 16) }
+{
+    let mut took = 0u128;
+    for _ in 0..rounds {
+        let start = Instant::now(rt)?;
+        let answers = search_all(rt, alloc, plan, workers, 100_000, &Through);
+        took = took.saturating_add(start.elapsed(rt)?.as_nanos());
+        let Ok(answers) = answers else {
+            return Ok(None);
+        };
+        if answers.iter().any(|answer| answer.is_none()) {
+            return Ok(None);
+        }
+    }
+    Ok(Some(took))
+}
+
+fn run<R: Clock + Print + Files + Env + Threads + Wait + Sync>(rt: &R, alloc: Global) -> io::Result<()> {
     let words: Vec<String> = env::args(&(rt, alloc))?.collect(alloc)?;
     let [_, file, workers, rounds] = words.as_slice() else {
-        return Ok(0);
+        return Ok(());
     };
     let text = read(&(rt, alloc), file.as_str())?;
     let Ok(plan) = read_plan(alloc, text.as_slice()) else {
-        return Ok(0);
+        return Ok(());
     };
     let workers = workers.as_str().parse::<usize>().unwrap_or(1).clamp(1, 16);
-    let mut found = 0usize;
-    for _ in 0..rounds.as_str().parse::<u64>().unwrap_or(0) {
-        let Ok(answers) = search_all(rt, alloc, &plan, workers, 100_000, &Through) else {
-            return Ok(0);
-        };
-        found = answers.iter().filter(|answer| answer.is_some()).count();
+    let rounds = rounds.as_str().parse::<u64>().unwrap_or(0);
+    if let Some(took) = searched(rt, alloc, &plan, workers, rounds)? {
+        println!(rt; "{took}")?;
     }
-    Ok(found)
+    Ok(())
 }
 
 fn main(rt: HostRuntime) -> ExitCode {
     match run(&rt, rt.alloc()) {
-        Ok(found) if found > 0 => ExitCode::from(0),
-        _ => ExitCode::from(1),
+        Ok(()) => ExitCode::from(0),
+        Err(_) => ExitCode::from(1),
     }
 }
 """
@@ -93,14 +117,11 @@ def steps_text():
     return json.dumps({"format": 1, "lal": 10, "groups": [group] * 16}, separators=(",", ":"))
 
 
-def seconds(words, rounds):
-    """The least time of five runs."""
-    times = []
-    for _ in range(5):
-        start = time.perf_counter()
-        subprocess.run([*words, str(rounds)], check=True)
-        times.append(time.perf_counter() - start)
-    return min(times)
+def microseconds(program, plan, workers, rounds):
+    """The microseconds a claim, in the best of five runs of so many searches."""
+    words = [program, str(plan), str(workers), str(rounds)]
+    best = min(int(subprocess.run(words, check=True, capture_output=True, text=True).stdout) for _ in range(5))
+    return best / rounds / 2032 / 1000
 
 
 def main():
@@ -110,11 +131,10 @@ def main():
         plain.write_text(plan_text(16))
         steps.write_text(steps_text())
         program = built(top, "search_work", PROGRAM, ["plan", "cert_search"], [str(plain), "1", "1"])
-        for name, plan, rounds in ("plain claims", plain, 20), ("claims of steps among sets", steps, 3):
+        for name, plan, rounds in ("plain claims", plain, 100), ("claims of steps among sets", steps, 20):
             for workers in 1, 2, 4:
-                words = [program, str(plan), str(workers)]
-                each = (seconds(words, rounds + 1) - seconds(words, 1)) / rounds / 2032
-                print(f"{name}, {workers} workers: {1 / each:,.0f} a second, {each * 1e6:.1f} us each")
+                each = microseconds(program, plan, workers, rounds)
+                print(f"{name}, {workers} workers: {1e6 / each:,.0f} a second, {each:.2f} us each")
 
 
 if __name__ == "__main__":
