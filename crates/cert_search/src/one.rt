@@ -1,6 +1,7 @@
 //! The search for one claim's certificate.
 
-ghost use Rattle.std.specs.Prelude.{◌≡◌, ◌≤◌, true, IfOk, IfErr, IfSome, IsSome};
+ghost use Rattle.std.specs.Prelude.{◌≡◌, ◌≤◌, true, IfOk, IfErr, IfSome, IsSome, Ok};
+ghost use Rattle.volume_model.specs.Answer.{Gives};
 ghost use Rattle.volume_model.specs.declared.fault.Fault.TheVariants.{NoMemory};
 ghost use Rattle.refutation.specs.Certificate.{certificate_rule};
 ghost use Rattle.refutation.specs.Limits.{is_certificate};
@@ -27,9 +28,9 @@ use volume_model::Fault;
 const PLAIN_NODES: u64 = 100;
 
 /// The certificate that a tree is, where it refutes the claim.
-fn certified<B: Allocator>(
+fn certified<A: Allocator, B: Allocator>(
     alloc: Global,
-    claim: &Claim<Global>,
+    claim: &Claim<A>,
     tree: Refutation<B>,
 ) -> Result<Option<Certificate<Global>>, Fault>
     ensures refutes { IfOk result (λ answer. IfSome answer (λ c. Refutes (certificate_rule c) (first_state claim.now))) }
@@ -47,10 +48,10 @@ fn certified<B: Allocator>(
 }
 
 /// The certificate of a plain claim.
-fn plain<B: Allocator + Clone>(
+fn plain<A: Allocator, B: Allocator + Clone>(
     alloc: Global,
     arena: &B,
-    claim: &Claim<Global>,
+    claim: &Claim<A>,
 ) -> Result<Option<Certificate<Global>>, Fault>
     ensures refutes { IfOk result (λ answer. IfSome answer (λ c. Refutes (certificate_rule c) (first_state claim.now))) }
     ensures found { IsPlain (first_state claim.now) → IfOk result (λ answer. IsSome answer) }
@@ -97,7 +98,7 @@ fn tree_of<A: Allocator, B: Allocator + Clone>(
 
 /// The same claim in other memory.
 fn claim_in<B: Allocator + Clone>(arena: &B, claim: &Claim<Global>) -> Result<Claim<B>, Fault>
-    ensures memory { IfErr result (λ e. e ≡ NoMemory) }
+    ensures same { Gives first_state result (Ok (first_state claim.now)) }
 {
     let left = copy_in(&claim.left, arena.clone()?)?;
     let right = copy_in(&claim.right, arena.clone()?)?;
@@ -108,11 +109,11 @@ fn claim_in<B: Allocator + Clone>(arena: &B, claim: &Claim<Global>) -> Result<Cl
     })
 }
 
-/// The certificate of a claim, by a search whose expressions, items and trees lie in an arena.
-pub fn search_in<B: Allocator + Clone>(
+/// The certificate of a claim, by a search whose items and trees lie in an arena.
+pub fn search_in<A: Allocator, B: Allocator + Clone>(
     alloc: Global,
     arena: &B,
-    claim: &Claim<Global>,
+    claim: &Claim<A>,
     budget: u64,
 ) -> Result<Option<Certificate<Global>>, Fault>
     ensures answer { IfOk result (IsAnswer budget (first_state claim.now)) }
@@ -123,7 +124,7 @@ pub fn search_in<B: Allocator + Clone>(
             return Ok(Some(certificate));
         }
     }
-    match tree_of(arena, &claim_in(arena, claim)?, budget)? {
+    match tree_of(arena, claim, budget)? {
         Some(tree) => certified(alloc, claim, tree),
         None => Ok(None),
     }
@@ -143,5 +144,6 @@ pub fn search_one(
     ensures memory { IfErr result (λ e. e ≡ NoMemory) }
 {
     let arena = Bump::new(alloc);
-    search_in(alloc, &&arena, claim, budget)
+    let own = claim_in(&&arena, claim)?;
+    search_in(alloc, &&arena, &own, budget)
 }

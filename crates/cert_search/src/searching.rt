@@ -2,7 +2,7 @@
 
 ghost use Rattle.std.specs.Prelude.{◌≡◌, ◌≢◌, ◌<◌, ◌≤◌, All, Err, IfOk, IfErr, length};
 ghost use Rattle.volume_model.specs.declared.fault.Fault.TheVariants.{NoMemory};
-ghost use Rattle.plan.specs.NamedClaims.{all_placed};
+ghost use Rattle.plan.specs.LentClaims.{all_lent};
 ghost use Rattle.plan.specs.Plan.{plan_data};
 ghost use Rattle.plan.specs.PlanClaims.{claims_in};
 ghost use Rattle.plan.specs.FaultKinds.{kind_of};
@@ -16,7 +16,7 @@ use crate::gate::Gate;
 use crate::hand::Hand;
 use crate::one::search_one;
 use crate::working::{Found, work};
-use plan::{NamedClaim, Plan, claims};
+use plan::{LentClaim, Plan, lent_claims};
 use refutation::Certificate;
 use std::alloc::{AllocError, Global};
 use std::sync::Wait;
@@ -27,32 +27,32 @@ use volume_model::Fault;
 /// The answer to a claim: what stands at its place, or by a search where that is empty.
 fn answer(
     alloc: Global,
-    claims: &[NamedClaim],
+    claims: &[LentClaim<'_>],
     budget: u64,
     places: &mut Vec<Option<Answer>>,
     at: usize,
 ) -> Result<Answer, Fault>
     requires at { at < length claims.now }
-    requires places { ArePlaces budget (all_placed claims.now) places.old.items }
-    ensures places { ArePlaces budget (all_placed claims.now) places.new.items }
-    ensures answer { IfOk result (λ answer. IsFound budget (all_placed claims.now) (record { claim = at; answer = answer })) }
+    requires places { ArePlaces budget (all_lent claims.now) places.old.items }
+    ensures places { ArePlaces budget (all_lent claims.now) places.new.items }
+    ensures answer { IfOk result (λ answer. IsFound budget (all_lent claims.now) (record { claim = at; answer = answer })) }
     ensures memory { IfErr result (λ e. e ≡ NoMemory) }
 {
     match take_out(claims, budget, places, at) {
         Some(answer) => Ok(answer),
-        None => search_one(alloc, &claims[at].claim, budget),
+        None => search_one(alloc, &claims[at].claim_in(alloc)?, budget),
     }
 }
 
 /// The answers at the places, and by a search where a place is empty.
 fn answers(
     alloc: Global,
-    claims: &[NamedClaim],
+    claims: &[LentClaim<'_>],
     budget: u64,
     places: &mut Vec<Option<Answer>>,
 ) -> Result<Vec<Answer>, Fault>
-    requires { ArePlaces budget (all_placed claims.now) places.old.items }
-    ensures answers { IfOk result (λ v. AreAnswers budget (all_placed claims.now) v.items) }
+    requires { ArePlaces budget (all_lent claims.now) places.old.items }
+    ensures answers { IfOk result (λ v. AreAnswers budget (all_lent claims.now) v.items) }
     ensures memory { IfErr result (λ e. e ≡ NoMemory) }
 {
     let mut answers = Vec::new(alloc);
@@ -66,18 +66,18 @@ fn answers(
 fn found_by<R: Threads + Wait + Sync, G: Gate + Sync>(
     rt: &R,
     alloc: Global,
-    claims: &[NamedClaim],
+    claims: &[LentClaim<'_>],
     hands: Vec<Hand>,
     budget: u64,
     gate: &G,
 ) -> Result<Vec<Vec<Found>>, AllocError>
-    ensures { IfOk result (λ v. All (IsWork budget (all_placed claims.now)) v.items) }
+    ensures { IfOk result (λ v. All (IsWork budget (all_lent claims.now)) v.items) }
 {
     thread::map_vec(
         rt,
         hands,
         &|hand: Hand| -> Vec<Found>
-            ensures { IsWork budget (all_placed claims.entry.now) result }
+            ensures { IsWork budget (all_lent claims.entry.now) result }
         { work(rt, alloc, claims, budget, gate, hand) },
     )
 }
@@ -86,13 +86,13 @@ fn found_by<R: Threads + Wait + Sync, G: Gate + Sync>(
 fn searched<R: Threads + Wait + Sync, G: Gate + Sync>(
     rt: &R,
     alloc: Global,
-    claims: &[NamedClaim],
+    claims: &[LentClaim<'_>],
     workers: usize,
     budget: u64,
     gate: &G,
 ) -> Result<Vec<Answer>, Fault>
     requires workers { (0 < workers) × (workers ≤ 16) }
-    ensures answers { IfOk result (λ v. AreAnswers budget (all_placed claims.now) v.items) }
+    ensures answers { IfOk result (λ v. AreAnswers budget (all_lent claims.now) v.items) }
     ensures memory { IfErr result (λ e. e ≡ NoMemory) }
 {
     let mut places = empty_places(alloc, claims, budget)?;
@@ -120,7 +120,7 @@ pub fn search_all<R: Threads + Wait + Sync, G: Gate + Sync>(
     ensures answers { IfOk result (λ v. AreAnswersOf budget (claims_in (plan_data plan.now)) v.items) }
     ensures fault { IfErr result (λ e. e ≢ NoMemory → (fault : PlanFault) × (claims_in (plan_data plan.now) ≡ Err fault) × (e ≡ kind_of fault)) }
 {
-    let claims = match claims(alloc, plan) {
+    let claims = match lent_claims(alloc, plan) {
         Ok(claims) => claims,
         Err(fault) => return Err(fault.kind()),
     };

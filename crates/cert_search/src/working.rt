@@ -1,17 +1,19 @@
 //! The work of one worker.
 
-ghost use Rattle.std.specs.Prelude.{All, IfSome};
-ghost use Rattle.plan.specs.NamedClaims.{all_placed};
+ghost use Rattle.std.specs.Prelude.{All, IfOk, IfSome};
+ghost use Rattle.plan.specs.LentClaims.{all_lent, lent_state};
+ghost use Rattle.cert_search.specs.Answers.{IsAnswer};
 ghost use Rattle.cert_search.specs.Places.{IsFound, IsWork};
 
 use crate::gate::Gate;
 use crate::hand::Hand;
 use crate::one::search_in;
 use bumpalo::Bump;
-use plan::NamedClaim;
+use plan::LentClaim;
 use refutation::Certificate;
 use std::alloc::Global;
 use std::sync::Wait;
+use volume_model::Fault;
 
 /// What a search answered of the claim with a number.
 #[derive(Drop)]
@@ -28,18 +30,31 @@ fn emptied(alloc: Global, mut arena: Bump) -> Bump {
     }
 }
 
+/// The answer to a claim, whose expressions, items and trees are made in an arena.
+fn answer_in(
+    alloc: Global,
+    arena: &Bump,
+    lent: &LentClaim<'_>,
+    budget: u64,
+) -> Result<Option<Certificate<Global>>, Fault>
+    ensures { IfOk result (IsAnswer budget (lent_state lent.now)) }
+{
+    let claim = lent.claim_in(arena)?;
+    search_in(alloc, &arena, &claim, budget)
+}
+
 /// What is found of the claim with a number, where there is memory for it.
 fn found_of(
     alloc: Global,
     arena: &Bump,
-    claims: &[NamedClaim],
+    claims: &[LentClaim<'_>],
     claim: usize,
     budget: u64,
 ) -> Option<Found>
-    ensures { IfSome result (IsFound budget (all_placed claims.now)) }
+    ensures { IfSome result (IsFound budget (all_lent claims.now)) }
 {
-    let named = claims.get(claim)?;
-    let answer = search_in(alloc, &arena, &named.claim, budget).ok()?;
+    let lent = claims.get(claim)?;
+    let answer = answer_in(alloc, arena, lent, budget).ok()?;
     Some(Found { claim, answer })
 }
 
@@ -47,14 +62,14 @@ fn found_of(
 fn add<G: Gate>(
     alloc: Global,
     arena: &Bump,
-    claims: &[NamedClaim],
+    claims: &[LentClaim<'_>],
     claim: usize,
     budget: u64,
     gate: &G,
     founds: &mut Vec<Found>,
 )
-    requires { All (IsFound budget (all_placed claims.now)) founds.old.items }
-    ensures { All (IsFound budget (all_placed claims.now)) founds.new.items }
+    requires { All (IsFound budget (all_lent claims.now)) founds.old.items }
+    ensures { All (IsFound budget (all_lent claims.now)) founds.new.items }
 {
     gate.started(claim);
     let Some(found) = found_of(alloc, arena, claims, claim, budget) else {
@@ -71,12 +86,12 @@ fn add<G: Gate>(
 pub fn work<R: Wait, G: Gate>(
     rt: &R,
     alloc: Global,
-    claims: &[NamedClaim],
+    claims: &[LentClaim<'_>],
     budget: u64,
     gate: &G,
     mut hand: Hand,
 ) -> Vec<Found>
-    ensures { IsWork budget (all_placed claims.now) result }
+    ensures { IsWork budget (all_lent claims.now) result }
 {
     let mut arena = Bump::new(alloc);
     let mut founds = Vec::new(alloc);

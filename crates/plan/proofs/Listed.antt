@@ -52,3 +52,7 @@ claims-fault (suc n) i f xs fault h before here =
 -- the fault of a number below the bound, where those before have none
 pub Reads-below : (n i : ℕ) (f : ℕ → Result (List PlacedClaim) PlanFault) (xs : List PlacedClaim) (fault : PlanFault) → i < n → claims_below i f ≡ Ok xs → (fault ≢ Text NoMemory → f i ≡ Err fault) → fault ≢ Text NoMemory → claims_below n f ≡ Err fault
 Reads-below n i f xs fault h before here other = claims-fault n i f xs fault h before (here other)
+
+-- a list of two that were pushed
+pub two-pushed : {A : Type 0} {xs ys zs : List A} {a b : A} → xs ≡ [] → ys ≡ xs ++ a ∷ [] → zs ≡ ys ++ b ∷ [] → zs ≡ a ∷ b ∷ []
+two-pushed {A} {xs} {ys} {zs} {a} {b} none one two = two ∙ ap (λ l. l ++ b ∷ []) (one ∙ ap (λ l. l ++ a ∷ []) none)

@@ -5,7 +5,7 @@ use Rattle.std.proofs.lemmas.Bool.{cases_lt}
 use Rattle.std.proofs.lemmas.Bool.Decides.{nat_tests}
 use Rattle.std.proofs.lemmas.List.{length-map, get_or_past}
 use Rattle.std.specs.Ordering.{nat_cmp}
-use Rattle.std.specs.FinSet.{FinSet, contains, empty, contains-empty}
+use Rattle.std.specs.FinSet.{contains, empty, contains-empty}
 use Rattle.volume_model.specs.Lists.{any, some_below}
 use Rattle.volume_model.specs.Sets.{listed}
 use Rattle.volume_model.specs.Plan as model
@@ -13,7 +13,7 @@ use Rattle.volume_model.specs.Plan.{has_member, is_full, is_named}
 use Rattle.plan.specs.declared.configurations.Group.{Group}
 use Rattle.plan.specs.declared.configurations.Plan.{Plan}
 use Rattle.plan.specs.declared.configurations.Configuration.{Configuration}
-use Rattle.plan.specs.PlanData.{PlanData, no_configuration, configuration_at, group_at, model_of, shown, epoch_within}
+use Rattle.plan.specs.PlanData.{PlanData, no_configuration, configuration_at, group_at, model_of, shown}
 use Rattle.plan.specs.Plan.{configuration_data, group_data, plan_data}
 use Rattle.plan.specs.CheckedModel.{Shows}
 use Rattle.plan.proofs.Lookups.{item-at, any-listed, contains-below}

@@ -8,6 +8,7 @@ pub mod TextForms
 pub mod FaultKinds
 pub mod PlanClaims
 pub mod NamedClaims
+pub mod LentClaims
 pub mod FaultText
 pub mod PlanFaultText
 pub mod WithCertificates

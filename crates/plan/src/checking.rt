@@ -20,14 +20,17 @@ use crate::parents::check_shape;
 use quorum_checker::{Claim, FaultAt, check, no_fault_refutes};
 use quorum_expr::{MemberSet, copy_in, dual_in};
 use refutation::Certificate;
-use std::alloc::Global;
+use std::alloc::{Allocator, Global};
 use volume_model::Fault;
 
 /// That read sets meet write sets.
-pub fn meets_claim(alloc: Global, configuration: &Configuration) -> Result<Claim<Global>, Fault>
+pub fn meets_claim<B: Allocator + Clone>(
+    alloc: B,
+    configuration: &Configuration,
+) -> Result<Claim<B>, Fault>
     ensures { Gives first_state result (Ok (meets_claim (configuration_data configuration.now))) }
 {
-    let left = copy_in(&configuration.read, alloc)?;
+    let left = copy_in(&configuration.read, alloc.clone()?)?;
     let right = copy_in(&configuration.write, alloc)?;
     Ok(Claim {
         left,
@@ -37,14 +40,14 @@ pub fn meets_claim(alloc: Global, configuration: &Configuration) -> Result<Claim
 }
 
 /// That read sets of the child without a fresh member meet what satisfies the dual of the parent's read expression.
-pub fn step_claim(
-    alloc: Global,
+pub fn step_claim<B: Allocator + Clone>(
+    alloc: B,
     child: &Configuration,
     parent: &Configuration,
-) -> Result<Claim<Global>, Fault>
+) -> Result<Claim<B>, Fault>
     ensures { Gives first_state result (Ok (claim_state (formula_of child.now.read) (dual_of (formula_of parent.now.read)) (difference child.now.members parent.now.members))) }
 {
-    let left = copy_in(&child.read, alloc)?;
+    let left = copy_in(&child.read, alloc.clone()?)?;
     let right = dual_in(&parent.read, alloc)?;
     Ok(Claim {
         left,

@@ -1,57 +1,58 @@
 //! The list of a plan's claims.
 
-ghost use Rattle.std.specs.Prelude.{◌≡◌, ◌<◌, ◌≤◌, length, map};
+ghost use Rattle.std.specs.Prelude.{◌≡◌, ◌<◌, ◌≤◌, Ok, length, map};
 ghost use Rattle.plan.specs.Plan.{configuration_data, group_data, plan_data};
 ghost use Rattle.plan.specs.PlanText.{Reads};
 ghost use Rattle.plan.specs.NamedClaims.{all_placed};
+ghost use Rattle.plan.specs.LentClaims.{all_lent};
 ghost use Rattle.plan.specs.PlanClaims.{configuration_claims, group_claims, claims_of_groups, claims_in};
 
-use crate::checking::{meets_claim, step_claim};
 use crate::configurations::{Configuration, Group, Plan};
 use crate::fault::PlanFault;
+use crate::lent::LentClaim;
 use crate::parents::check_shape;
 use crate::placed::NamedClaim;
 use std::alloc::Global;
 
 /// The claims of a configuration.
-fn of_configuration(
+fn of_configuration<'p>(
     alloc: Global,
     group: u8,
-    configurations: &[Configuration],
+    configurations: &'p [Configuration],
     configuration: u8,
-) -> Result<Vec<NamedClaim>, PlanFault>
+) -> Result<Vec<LentClaim<'p>>, PlanFault>
     requires { configuration < length configurations.now }
-    ensures { Reads (λ v. all_placed v.items) result (configuration_claims group (map configuration_data configurations.now) configuration) }
+    ensures { Reads (λ v. all_lent v.items) result (configuration_claims group (map configuration_data configurations.entry.now) configuration) }
 {
     check_shape(group, configurations, configuration)?;
     let this = &configurations[usize::from(configuration)];
     let mut list = Vec::new(alloc);
-    list.push(NamedClaim {
+    list.push(LentClaim {
         group,
         configuration,
-        step: false,
-        claim: meets_claim(alloc, this)?,
+        this,
+        parent: None,
     })?;
     let Some(parent) = this.parent else {
         return Ok(list);
     };
-    list.push(NamedClaim {
+    list.push(LentClaim {
         group,
         configuration,
-        step: true,
-        claim: step_claim(alloc, this, &configurations[parent as usize])?,
+        this,
+        parent: Some(&configurations[parent as usize]),
     })?;
     Ok(list)
 }
 
 /// The claims of a group's configurations.
-fn of_group(
+fn of_group<'p>(
     alloc: Global,
     group: u8,
-    configurations: &[Configuration],
-) -> Result<Vec<NamedClaim>, PlanFault>
+    configurations: &'p [Configuration],
+) -> Result<Vec<LentClaim<'p>>, PlanFault>
     requires { length configurations.now ≤ 64 }
-    ensures { Reads (λ v. all_placed v.items) result (group_claims group (map configuration_data configurations.now)) }
+    ensures { Reads (λ v. all_lent v.items) result (group_claims group (map configuration_data configurations.entry.now)) }
 {
     let mut list = Vec::new(alloc);
     for configuration in 0..configurations.len() as u8 {
@@ -62,9 +63,9 @@ fn of_group(
 }
 
 /// The claims of all groups.
-fn of_groups(alloc: Global, groups: &[Group]) -> Result<Vec<NamedClaim>, PlanFault>
+fn of_groups<'p>(alloc: Global, groups: &'p [Group]) -> Result<Vec<LentClaim<'p>>, PlanFault>
     requires { length groups.now ≤ 16 }
-    ensures { Reads (λ v. all_placed v.items) result (claims_of_groups (map group_data groups.now)) }
+    ensures { Reads (λ v. all_lent v.items) result (claims_of_groups (map group_data groups.entry.now)) }
 {
     let mut list = Vec::new(alloc);
     for group in 0..groups.len() as u8 {
@@ -74,13 +75,40 @@ fn of_groups(alloc: Global, groups: &[Group]) -> Result<Vec<NamedClaim>, PlanFau
     Ok(list)
 }
 
-/// The claims of a plan, in order of group and configuration and that of a step last.
+/// The claims of a plan by what it lends, in order of group and configuration and that of a step last.
 ///
 /// # Errors
 /// The first [`PlanFault::BadParent`] or [`PlanFault::MemberReused`].
 #[tactic(auto, unfolding(crate::specs::PlanClaims::claims_in))]
+pub fn lent_claims<'p>(alloc: Global, plan: &'p Plan) -> Result<Vec<LentClaim<'p>>, PlanFault>
+    ensures { Reads (λ v. all_lent v.items) result (claims_in (plan_data plan.entry.now)) }
+{
+    of_groups(alloc, &plan.groups)
+}
+
+/// The same claims in memory of their own.
+fn named(alloc: Global, lent: &[LentClaim<'_>]) -> Result<Vec<NamedClaim>, PlanFault>
+    ensures { Reads (λ v. all_placed v.items) result (Ok (all_lent lent.now)) }
+{
+    let mut list = Vec::new(alloc);
+    for claim in lent {
+        list.push(NamedClaim {
+            group: claim.group,
+            configuration: claim.configuration,
+            step: claim.parent.is_some(),
+            claim: claim.claim_in(alloc)?,
+        })?;
+    }
+    Ok(list)
+}
+
+/// The claims of a plan, in order of group and configuration and that of a step last.
+///
+/// # Errors
+/// The first [`PlanFault::BadParent`] or [`PlanFault::MemberReused`].
 pub fn claims(alloc: Global, plan: &Plan) -> Result<Vec<NamedClaim>, PlanFault>
     ensures { Reads (λ v. all_placed v.items) result (claims_in (plan_data plan.now)) }
 {
-    of_groups(alloc, &plan.groups)
+    let lent = lent_claims(alloc, plan)?;
+    named(alloc, lent.as_slice())
 }

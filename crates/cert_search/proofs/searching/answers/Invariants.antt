@@ -1,5 +1,5 @@
 use Rattle.std.proofs.Common.{◌≡◌, length}
-use Rattle.plan.specs.NamedClaims.{all_placed}
+use Rattle.plan.specs.LentClaims.{all_lent}
 use Rattle.cert_search.specs.Answers.{EachAnswers}
 use Rattle.cert_search.specs.Places.{ArePlaces}
 use Rattle.cert_search.proofs.searching.answers.Given as goal
@@ -7,7 +7,7 @@ use Rattle.cert_search.proofs.searching.answers.Given as goal
 -- the claims before have their answers
 abbrev pub invariant-loop-at : goal.invariant-loop-at
 invariant-loop-at l = record {
-  places : ArePlaces l.budget (all_placed l.claims) l.places.items;
+  places : ArePlaces l.budget (all_lent l.claims) l.places.items;
   long : length l.answers.items ≡ l.at;
-  each : EachAnswers l.budget (all_placed l.claims) l.answers.items;
+  each : EachAnswers l.budget (all_lent l.claims) l.answers.items;
 }

@@ -2,7 +2,7 @@ use Rattle.std.proofs.Common.{◌<◌, ◌∙◌, length, map, ap, sym, get_or, 
 use Rattle.std.proofs.lemmas.List.{length-map, map-append}
 use Rattle.std.proofs.lemmas.Result.{err_from_is_err_and}
 use Rattle.plan.specs.Plan.{configuration_data, group_data}
-use Rattle.plan.specs.NamedClaims.{placed, all_placed}
+use Rattle.plan.specs.LentClaims.{lent_placed, all_lent}
 use Rattle.plan.specs.PlanClaims.{group_claims}
 use Rattle.plan.proofs.Lookups.{item-at}
 use Rattle.plan.proofs.Listed.{claims-more, Reads-below}
@@ -14,14 +14,14 @@ returns-in_err-claims c =
     let p = err_from_is_err_and c.from_residual.result c.from_residual.ensures.1 in
     let here = item-at group_data c.args.groups.now c.loop-group.group c.index-groups-from.result [] c.loop-group-test.true (c.index-groups-from.is ∙ ap (λ i. get_or c.args.groups.now i c.index-groups-from.result) c.from.ensures)
     ∙ ap (λ y. map configuration_data y.configurations.items) c.index-groups-from.is ∙ ap (map configuration_data) (sym c.deref.ensures.value) in
-    rw (p.1, p.2) (Reads-below (length (map group_data c.args.groups.now)) c.loop-group.group (λ g. group_claims g (slice_index_or (map group_data c.args.groups.now) g [])) (all_placed c.loop-group.list.items) c.in_err-claims.field-0.0 within c.loop-group.invariant
+    rw (p.1, p.2) (Reads-below (length (map group_data c.args.groups.now)) c.loop-group.group (λ g. group_claims g (slice_index_or (map group_data c.args.groups.now) g [])) (all_lent c.loop-group.list.items) c.in_err-claims.field-0.0 within c.loop-group.invariant
     (λ other. ap (group_claims c.loop-group.group) here ∙ c.in_err-claims.ensures other))
 
 pub loop-group-preserved : goal.loop-group-preserved
 loop-group-preserved c =
-    claims-more c.loop-group.group (λ g. group_claims g (slice_index_or (map group_data c.args.groups.now) g [])) (all_placed c.loop-group.list.items) (all_placed c.in_ok-claims.claims.items) c.loop-group.invariant
+    claims-more c.loop-group.group (λ g. group_claims g (slice_index_or (map group_data c.args.groups.now) g [])) (all_lent c.loop-group.list.items) (all_lent c.in_ok-claims.claims.items) c.loop-group.invariant
     (ap (group_claims c.loop-group.group)
     (item-at group_data c.args.groups.now c.loop-group.group c.index-groups-from.result [] c.loop-group-test.true (c.index-groups-from.is ∙ ap (λ i. get_or c.args.groups.now i c.index-groups-from.result) c.from.ensures)
     ∙ ap (λ y. map configuration_data y.configurations.items) c.index-groups-from.is ∙ ap (map configuration_data) (sym c.deref.ensures.value))
     ∙ c.in_ok-claims.ensures)
-    ∙ ap Ok (sym (ap all_placed c.in_ok-append.ensures.items ∙ map-append placed c.loop-group.list.items c.in_ok-claims.claims.items))
+    ∙ ap Ok (sym (ap all_lent c.in_ok-append.ensures.items ∙ map-append lent_placed c.loop-group.list.items c.in_ok-claims.claims.items))
