@@ -86,7 +86,7 @@ pub record IsGoodMove (plan : Plan) (world : World) (v : ℕ) (step : ClientStep
 head_of : (plan : Plan) (world : World) (v : ℕ) (client : Client) → IsCutClient plan world v client → last_epoch client.lineage ≡ v
 head_of plan world v client k = elim k.origin [ inl root ↦ ap last_epoch root.lineage ∙ sym root.one | inr child ↦ ap last_epoch child.lineage ]
 
-put-same : {A : Type 0} (f : ℕ → A) (x : ℕ) (value : A) → put f x value x ≡ value
+pub put-same : {A : Type 0} (f : ℕ → A) (x : ℕ) (value : A) → put f x value x ≡ value
 put-same f x value = rw (eq-eqb x x refl) refl
 
 -- counts: where each comes from
@@ -352,7 +352,7 @@ module _ (plan : Plan) (certified : IsCertified plan) (world : World) (kept : Is
         | inr k ↦ issued_says after cut places start more (r ∷ log) within m k
       ]
 
-  issued_good : (changes : List Change) (step : ClientStep) → issued plan v client changes ≡ Ok step → IsGoodMove plan world v step
+  pub issued_good : (changes : List Change) (step : ClientStep) → issued plan v client changes ≡ Ok step → IsGoodMove plan world v step
   issued_good changes step h =
       let start : ℕ = last_start client.lineage in
       let last : ℕ = max (last_lsn client.log) start + length changes in
@@ -396,7 +396,7 @@ module _ (plan : Plan) (certified : IsCertified plan) (world : World) (kept : Is
         says = issued_says after cut (place_of client.groups) start changes client.log (λ r i. i);
       })
 
-  resent_good : (lsn : ℕ) (step : ClientStep) → resent v client lsn ≡ Ok step → IsGoodMove plan world v step
+  pub resent_good : (lsn : ℕ) (step : ClientStep) → resent v client lsn ≡ Ok step → IsGoodMove plan world v step
   resent_good lsn step h =
       let (z, h0) = refuse_if-ok (not (is_born client.stage)) NoActor _ step h in
       let (a, h1) = refuse_if-ok (not (is_open client.stage)) NotOpen _ step h0 in
@@ -412,7 +412,7 @@ module _ (plan : Plan) (certified : IsCertified plan) (world : World) (kept : Is
             | inr z ↦ absurd z
           ])))
 
-  asked_good : (group block : ℕ) (step : ClientStep) → page_asked plan v client group block ≡ Ok step → IsGoodMove plan world v step
+  pub asked_good : (group block : ℕ) (step : ClientStep) → page_asked plan v client group block ≡ Ok step → IsGoodMove plan world v step
   asked_good group block step h =
       let (z, h0) = refuse_if-ok (not (is_born client.stage)) NoActor _ step h in
       let (a, h1) = refuse_if-ok (not (is_open client.stage)) NotOpen _ step h0 in
@@ -424,7 +424,7 @@ module _ (plan : Plan) (certified : IsCertified plan) (world : World) (kept : Is
         | inr z ↦ absurd z
       ])))
 
-  opened_good : (step : ClientStep) → opened plan client ≡ Ok step → IsGoodMove plan world v step
+  pub opened_good : (step : ClientStep) → opened plan client ≡ Ok step → IsGoodMove plan world v step
   opened_good step h =
       let (z, h0) = refuse_if-ok (not (is_born client.stage)) NoActor _ step h in
       let (a, h1) = refuse_if-ok (is_open client.stage) AlreadyDone _ step h0 in
@@ -444,7 +444,7 @@ module _ (plan : Plan) (certified : IsCertified plan) (world : World) (kept : Is
       let (group, l, e) = each_below-from plan.groups test (λ group. Fence group (label_of v places group)) m i in
       subst (λ z. ClientSays v after z) (sym e) tt
 
-  cut_good : (step : ClientStep) → cut_client plan v client ≡ Ok step → IsGoodMove plan world v step
+  pub cut_good : (step : ClientStep) → cut_client plan v client ≡ Ok step → IsGoodMove plan world v step
   cut_good step h =
       let reported : List Contents = all_reports (reports_of client.groups) plan.groups in
       let parent : Lineage = newest reported in
@@ -729,7 +729,7 @@ module _ (plan : Plan) (certified : IsCertified plan) (world : World) (kept : Is
   taken_good (CopyReport group epoch sender c) made step h = cc
   taken_good (PageAsk group l block point) made step h = cc
 
-  take_good : (number : ℕ) (step : ClientStep) → take plan v client (numbered world.messages number) ≡ Ok step → IsGoodMove plan world v step
+  pub take_good : (number : ℕ) (step : ClientStep) → take plan v client (numbered world.messages number) ≡ Ok step → IsGoodMove plan world v step
   take_good number step h = go (numbered world.messages number) refl h
     where
       go : (found : Option Message) → numbered world.messages number ≡ found → take plan v client found ≡ Ok step → IsGoodMove plan world v step

@@ -314,13 +314,13 @@ later_above (s ∷ later) log c r (inl e) =
     last_grows (s ∷ later) log c = let link : last_lsn (later ++ log) < s.lsn = c.0.above in let l : last_lsn log ≤ last_lsn (later ++ log) = last_grows later log c.1 in omega arith
 later_above (s ∷ later) log c r (inr i) = later_above later log c.1 r i
 
-cut_from_open : (stage : Stage) → is_open stage ≡ true → has_cut stage ≡ true
+pub cut_from_open : (stage : Stage) → is_open stage ≡ true → has_cut stage ≡ true
 cut_from_open Unborn h = h
 cut_from_open Reading h = h
 cut_from_open Installing h = refl
 cut_from_open Writing h = refl
 
-IsChain-rest : (later log : List Redo) → IsChain (later ++ log) → IsChain log
+pub IsChain-rest : (later log : List Redo) → IsChain (later ++ log) → IsChain log
 IsChain-rest [] log c = c
 IsChain-rest (s ∷ later) log c = IsChain-rest later log c.1
 

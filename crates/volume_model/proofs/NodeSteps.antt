@@ -51,7 +51,7 @@ pub record IsGoodStep (plan : Plan) (world : World) (group x : ℕ) (step : Node
   pub node : NodeKept plan world group x step.node
   pub says : (m : Message) → IsIn m step.made → NodeSays world group x step.node m
 
-put_at-same : {A : Type 0} (f : ℕ → ℕ → A) (g x : ℕ) (value : A) → put_at f g x value g x ≡ value
+pub put_at-same : {A : Type 0} (f : ℕ → ℕ → A) (g x : ℕ) (value : A) → put_at f g x value g x ≡ value
 put_at-same f g x value = rw (eq-eqb g g refl, eq-eqb x x refl) refl
 
 module _ (plan : Plan) (certified : IsCertified plan) (world : World) (kept : IsKept plan world) (group x : ℕ) where
@@ -338,7 +338,7 @@ module _ (plan : Plan) (certified : IsCertified plan) (world : World) (kept : Is
     reaction_good (Page to l from block point bytes) made step h = cc
 
     -- becoming whole
-    hydrated_good : (step : NodeStep) → hydrated plan group x node ≡ Ok step → IsGoodStep plan world group x step
+    pub hydrated_good : (step : NodeStep) → hydrated plan group x node ≡ Ok step → IsGoodStep plan world group x step
     hydrated_good step h =
         let (w, h1) = refuse_if-ok node.whole AlreadyWhole _ step h in
         let (b, h2) = refuse_if-ok (not (has_configuration plan group x node && sat (plan.configuration group node.place.configuration).read (senders node.copies))) NotEnough _ step h1 in
@@ -411,7 +411,7 @@ module _ (plan : Plan) (certified : IsCertified plan) (world : World) (kept : Is
               says = said_nothing (record { volume = max node.volume last; place = node.place; whole = true; contents = q; copies = node.copies });
             }
 
-    restarted_good : IsGoodStep plan world group x (record { made = []; node = restarted node })
+    pub restarted_good : IsGoodStep plan world group x (record { made = []; node = restarted node })
     restarted_good = record {
       grows = record { volume = omega arith; epoch = omega arith; whole = λ h. h; contents = λ h. source_same node.contents };
       node = record { place = now.place; copies = λ from i. absurd i; whole = λ h. record { copy = (now.whole h).copy; below = (now.whole h).below; sourced = (now.whole h).sourced; ordered = (now.whole h).ordered } };
@@ -419,7 +419,7 @@ module _ (plan : Plan) (certified : IsCertified plan) (world : World) (kept : Is
     }
 
     -- one of its records, for the others
-    offered_good : (lsn : ℕ) (step : NodeStep) → offered group node lsn ≡ Ok step → IsGoodStep plan world group x step
+    pub offered_good : (lsn : ℕ) (step : NodeStep) → offered group node lsn ≡ Ok step → IsGoodStep plan world group x step
     offered_good lsn step h =
         let (a, h1) = refuse_if-ok (not node.whole) NotWhole _ step h in
         let (b, h2) = refuse_if-ok (not (node.volume == lineage_epoch node)) NotInstalled _ step h1 in
@@ -446,7 +446,7 @@ module _ (plan : Plan) (certified : IsCertified plan) (world : World) (kept : Is
               ]);
             })
 
-    delivered_good : (number : ℕ) (step : NodeStep) → deliver plan group x node (numbered world.messages number) ≡ Ok step → IsGoodStep plan world group x step
+    pub delivered_good : (number : ℕ) (step : NodeStep) → deliver plan group x node (numbered world.messages number) ≡ Ok step → IsGoodStep plan world group x step
     delivered_good number step h = go (numbered world.messages number) refl h
       where
         go : (found : Option Message) → numbered world.messages number ≡ found → deliver plan group x node found ≡ Ok step → IsGoodStep plan world group x step

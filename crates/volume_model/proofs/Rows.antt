@@ -7,7 +7,8 @@ use Rattle.std.proofs.lemmas.Bool.Decides.{nat_tests}
 use Rattle.volume_model.specs.Meets.{Meets}
 use Rattle.volume_model.specs.Sets.{contains-put}
 use Rattle.volume_model.specs.Claims.{KeepsClaim, KeepsStepClaim, KeepsClaims}
-use Rattle.volume_model.specs.Formula.{Formula, member, at_least, each_once}
+use Rattle.volume_model.specs.Formula.{member}
+use Rattle.volume_model.specs.WorkedPlans.{six_root, six_copies, both_sixes}
 use Rattle.volume_model.specs.Redo.{Redo, cut_of}
 use Rattle.volume_model.specs.Plan.{Configuration, Plan, has_member, ancestor, is_fresh}
 use Rattle.volume_model.specs.Client.{Change, durable_point}
@@ -15,41 +16,10 @@ use Rattle.volume_model.specs.World.{Event, opening, run, results}
 use Rattle.volume_model.specs.World.Event.{Assign, Advance, Refresh, Issue, Take, Cut, Open, Resend, Deliver, Hydrate, Restart, Offer}
 use Rattle.volume_model.specs.declared.fault.Fault.TheVariants.{NotEnough, NotWhole, Superseded}
 
--- so many of these members
-abbrev count_of : ℕ → List ℕ → Formula
-count_of k members = at_least k (each_once (map member members))
-
--- members 0 to 5
-abbrev six : List ℕ
-six = 0 ∷ 1 ∷ 2 ∷ 3 ∷ 4 ∷ 5 ∷ []
-
--- member 6 in place of 5
-abbrev other : List ℕ
-other = 0 ∷ 1 ∷ 2 ∷ 3 ∷ 4 ∷ 6 ∷ []
-
--- three of six read, four of six write
-abbrev root : Configuration
-root = record { parent = 0; epoch = 1; members = six; full = six; read = count_of 3 six; write = count_of 4 six }
-
--- read in either six, write in both
-abbrev stepped_on : Configuration
-stepped_on = record {
-  parent = 0;
-  epoch = 2;
-  members = 0 ∷ 1 ∷ 2 ∷ 3 ∷ 4 ∷ 5 ∷ 6 ∷ [];
-  full = 0 ∷ 1 ∷ 2 ∷ 3 ∷ 4 ∷ 5 ∷ 6 ∷ [];
-  read = at_least 1 (each_once (count_of 3 six ∷ count_of 3 other ∷ []));
-  write = at_least 2 (each_once (count_of 4 six ∷ count_of 4 other ∷ []));
-}
-
 -- the root, and then the step
 abbrev one_or_two : ℕ → Configuration
-one_or_two zero = root
-one_or_two (suc c) = stepped_on
-
--- one configuration
-abbrev plain : Plan
-plain = record { lal = 10; groups = 1; configurations = λ g. 1; configuration = λ g c. root }
+one_or_two zero = six_root
+one_or_two (suc c) = both_sixes
 
 -- two configurations
 abbrev stepped : Plan
@@ -78,26 +48,26 @@ recovered =
     ++ Issue 1 (write_of 3 100 ∷ write_of 4 101 ∷ []) ∷ Deliver 0 0 16 ∷ Deliver 0 0 17 ∷ Assign ∷ Take 2 20 ∷ []
     ++ deliver_to (1 ∷ 2 ∷ 3 ∷ []) 21 ++ take_all 2 (22 ∷ 23 ∷ 24 ∷ []) ++ Cut 2 ∷ []
 
-recovered_results : results plain (opening plain) recovered ≡ Ok 3 ∷ Ok 1 ∷ Ok 1 ∷ Ok 1 ∷ Ok 1 ∷ Ok 1 ∷ Ok 1 ∷ Ok 1 ∷ Ok 1 ∷ Ok 1 ∷ Ok 1 ∷ Ok 1 ∷ Ok 1 ∷ Ok 0 ∷ Ok 0 ∷ Ok 0 ∷ Ok 0 ∷ Ok 2 ∷ Ok 1 ∷ Ok 1 ∷ Ok 1 ∷ Ok 1 ∷ Ok 1 ∷ Ok 1 ∷ Ok 1 ∷ Ok 0 ∷ Ok 0 ∷ Ok 0 ∷ Ok 1 ∷ []
+recovered_results : results six_copies (opening six_copies) recovered ≡ Ok 3 ∷ Ok 1 ∷ Ok 1 ∷ Ok 1 ∷ Ok 1 ∷ Ok 1 ∷ Ok 1 ∷ Ok 1 ∷ Ok 1 ∷ Ok 1 ∷ Ok 1 ∷ Ok 1 ∷ Ok 1 ∷ Ok 0 ∷ Ok 0 ∷ Ok 0 ∷ Ok 0 ∷ Ok 2 ∷ Ok 1 ∷ Ok 1 ∷ Ok 1 ∷ Ok 1 ∷ Ok 1 ∷ Ok 1 ∷ Ok 1 ∷ Ok 0 ∷ Ok 0 ∷ Ok 0 ∷ Ok 1 ∷ []
 recovered_results = refl
 
-recovered_durable : durable_point ((run plain (opening plain) recovered).clients 1) ≡ 3
+recovered_durable : durable_point ((run six_copies (opening six_copies) recovered).clients 1) ≡ 3
 recovered_durable = refl
 
-recovered_lineage : ((run plain (opening plain) recovered).clients 2).lineage ≡ record { volume = 2; cut = 3; start = 13 } ∷ record { volume = 1; cut = 0; start = 0 } ∷ []
+recovered_lineage : ((run six_copies (opening six_copies) recovered).clients 2).lineage ≡ record { volume = 2; cut = 3; start = 13 } ∷ record { volume = 1; cut = 0; start = 0 } ∷ []
 recovered_lineage = refl
 
-recovered_found : map (λ r. r.lsn) ((run plain (opening plain) recovered).clients 2).found ≡ 3 ∷ 2 ∷ 1 ∷ []
+recovered_found : map (λ r. r.lsn) ((run six_copies (opening six_copies) recovered).clients 2).found ≡ 3 ∷ 2 ∷ 1 ∷ []
 recovered_found = refl
 
 -- installed on four members, opened, and one record more
 abbrev reopened : List Event
 reopened = recovered ++ deliver_to (0 ∷ 1 ∷ 2 ∷ 3 ∷ []) 25 ++ take_all 2 (26 ∷ 27 ∷ 28 ∷ 29 ∷ []) ++ Open 2 ∷ Issue 2 (write_of 5 102 ∷ []) ∷ Resend 2 14 ∷ Resend 2 4 ∷ []
 
-reopened_log : map (λ r. r.lsn) ((run plain (opening plain) reopened).clients 2).log ≡ 14 ∷ 3 ∷ 2 ∷ 1 ∷ []
+reopened_log : map (λ r. r.lsn) ((run six_copies (opening six_copies) reopened).clients 2).log ≡ 14 ∷ 3 ∷ 2 ∷ 1 ∷ []
 reopened_log = refl
 
-reopened_durable : durable_point ((run plain (opening plain) reopened).clients 2) ≡ 3
+reopened_durable : durable_point ((run six_copies (opening six_copies) reopened).clients 2) ≡ 3
 reopened_durable = refl
 
 -- an acknowledgement of a later membership epoch isn't counted

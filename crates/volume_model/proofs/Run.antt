@@ -102,7 +102,7 @@ module _ (plan : Plan) (certified : IsCertified plan) (world : World) (kept : Is
   refresh_kept : (volume : ℕ) → IsKept plan (after_step world (of_authority world (refreshed plan world.authority volume)))
   refresh_kept volume = authority_step (refreshed plan world.authority volume) (refreshed_good volume)
 
-  event_kept : (event : Event) → IsKept plan (after plan world event)
+  pub event_kept : (event : Event) → IsKept plan (after plan world event)
   event_kept Assign = assign_kept
   event_kept (Advance group c) = advance_kept group c
   event_kept (Refresh volume) = refresh_kept volume

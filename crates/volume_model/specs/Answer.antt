@@ -1,6 +1,6 @@
 -- What a call answers beside what its definition gives. Want of memory is answered only where a growth was refused, so no
 -- definition speaks of it.
-use Rattle.std.specs.Prelude.{◌≡◌, Result, Ok, Err}
+use Rattle.std.specs.Prelude.{◌≡◌, Bool, true, false, Result, Ok, Err}
 use Rattle.volume_model.specs.declared.fault.Fault.{Fault}
 use Rattle.volume_model.specs.declared.fault.Fault.TheVariants.{NoMemory}
 
@@ -19,3 +19,34 @@ Fails fault defined = defined ≡ Err fault
 abbrev pub Gives : {X Y : Type 0} → (X → Y) → Result X Fault → Result Y Fault → Type 0
 Gives view (Ok x) defined = defined ≡ Ok (view x)
 Gives view (Err fault) defined = Fails fault defined
+
+-- no refusal comes after want of memory: every refusal of a call is found before it makes any growth
+abbrev pub never_late : Fault → Bool
+never_late fault = false
+
+-- The definition refuses nothing, but with a fault that may come after want of memory.
+abbrev pub may_want_memory : {T : Type 0} → (Fault → Bool) → Result T Fault → Bool
+may_want_memory late (Ok step) = true
+may_want_memory late (Err fault) = late fault
+
+-- What a call of an actor answers, that was old and is new: the step that is defined, seen with the actor as it is then; or the refusal that is
+-- defined, and the actor is what it was. Want of memory leaves the actor as it was too, and is answered only where the definition refuses
+-- nothing, but with a late fault.
+abbrev pub AnswersLate : {R S T : Type 0} → (Fault → Bool) → (R → S → T) → Result T Fault → S → Result R Fault → S → Type 0
+AnswersLate late step defined old (Ok made) new = defined ≡ Ok (step made new)
+AnswersLate late step defined old (Err NoMemory) new = (may_want_memory late defined ≡ true) × (new ≡ old)
+AnswersLate late step defined old (Err fault) new = (defined ≡ Err fault) × (new ≡ old)
+
+-- The same of a call that finds every refusal before it makes any growth.
+abbrev pub Answers : {R S T : Type 0} → (R → S → T) → Result T Fault → S → Result R Fault → S → Type 0
+Answers step defined old result new = AnswersLate never_late step defined old result new
+
+-- whether a call is refused, and why, without its step
+abbrev pub refusal_of : {T : Type 0} → Result T Fault → Result (Unit {0}) Fault
+refusal_of (Ok step) = Ok tt
+refusal_of (Err fault) = Err fault
+
+-- The same of a call that makes no growth, and so never wants memory.
+abbrev pub AnswersAlways : {R S T : Type 0} → (R → S → T) → Result T Fault → S → Result R Fault → S → Type 0
+AnswersAlways step defined old (Ok made) new = defined ≡ Ok (step made new)
+AnswersAlways step defined old (Err fault) new = (defined ≡ Err fault) × (new ≡ old)

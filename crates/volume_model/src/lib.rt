@@ -3,11 +3,23 @@
 
 ghost use Rattle.volume_model.specs.Headline.{VolumeKeepsCommits, PagesAreTrue, AcknowledgementsLast};
 ghost use Rattle.volume_model.specs.Claims.{ClaimsCertify};
-ghost use Rattle.volume_model.specs.Stage.{StageKeepsCommits};
 
+mod actors;
 mod fault;
+mod laws;
 
+pub use actors::{
+    agrees_at_last, leaves_others, messages_are_found, messages_grow, refusals_are_own,
+    refusals_last, runs_go_on, steps_alike, steps_are_of_actors,
+};
 pub use fault::Fault;
+pub use laws::{
+    complete_and_durable_points_are_greatest, complete_point_is_greatest, cut_is_greatest,
+    finds_last, found_is_reported, full_and_tail_certified, group_point_is_greatest,
+    log_found_leads_down, member_replaced_certified, newest_is_newest, one_lineage_an_epoch,
+    opens_at_its_cut, record_at_is_first, records_live, runs_are_orderly, six_copies_certified,
+    steps_are_few,
+};
 
 /// Whatever certified plan, and whatever list of events: every commit that any writer acknowledges stands, with the
 /// whole log before it, in the log found by every recovery of a later volume epoch, and no two records are
@@ -19,11 +31,6 @@ pub fn volume_keeps_commits()
 /// Every page that any node makes for any writer is the page of that writer's log at the point asked.
 pub fn pages_are_true()
     ensures { PagesAreTrue }
-{}
-
-/// The same of a program in which any events are refused that aren't built yet.
-pub fn stage_keeps_commits()
-    ensures { StageKeepsCommits }
 {}
 
 /// What a writer has acknowledged it has acknowledged for good, with the same log before it.

@@ -1,0 +1,137 @@
+-- What each actor refuses by itself.
+use Rattle.std.proofs.Common.{◌≡◌, ℕ, Bool, true, false, not, List, Option, Some, None, Result}
+use Rattle.volume_model.specs.declared.fault.Fault.{Fault}
+use Rattle.volume_model.specs.declared.fault.Fault.TheVariants.{NoLogRecord}
+use Rattle.volume_model.specs.Refusal.{refuse_if}
+use Rattle.volume_model.specs.Redo.{Redo, record_at}
+use Rattle.volume_model.specs.Plan.{Plan}
+use Rattle.volume_model.specs.Message.{Label, Place, Message}
+use Rattle.volume_model.specs.Message.Message.{View, StepTo, Fence, Report, Install, Write, Gossip, Ack, CopyAsk, CopyReport, PageAsk, Page}
+use Rattle.volume_model.specs.Node.{Node, NodeStep, NodeAnswer, label_checks, take_record, reaction, hydrated, offered, gossip_of}
+use Rattle.volume_model.specs.Client.{Client, ClientStep, Change, is_born, issued, taken, cut_client, opened, resent, write_of, page_asked}
+use Rattle.volume_model.specs.World.{Authority, AuthorityStep, assigned, advanced, refreshed}
+use Rattle.volume_model.specs.Told.{Refuses, IsOwn, IsOwnOfClient}
+
+module _ {A : Type 0} (P : Fault → Type 0) where
+  -- one refusal before others
+  pub refuses_if : (b : Bool) (fault : Fault) (rest : Result A Fault) → P fault → Refuses P rest → Refuses P (refuse_if b fault rest)
+  refuses_if true fault rest here later = here
+  refuses_if false fault rest here later = later
+
+  -- one that can't come
+  pub refuses_not : (b : Bool) (fault : Fault) (rest : Result A Fault) → b ≡ true → Refuses P rest → Refuses P (refuse_if (not b) fault rest)
+  refuses_not true fault rest is later = later
+  refuses_not false fault rest is later = absurd (cc)
+
+pub assigned_own : (plan : Plan) (a : Authority) → Refuses IsOwn (assigned plan a)
+assigned_own plan a = search (refuses_if {A = AuthorityStep} IsOwn) depth 12
+
+pub advanced_own : (plan : Plan) (a : Authority) (g c : ℕ) → Refuses IsOwn (advanced plan a g c)
+advanced_own plan a g c = search (refuses_if {A = AuthorityStep} IsOwn) depth 12
+
+pub refreshed_own : (plan : Plan) (a : Authority) (v : ℕ) → Refuses IsOwn (refreshed plan a v)
+refreshed_own plan a v = search (refuses_if {A = AuthorityStep} IsOwn) depth 12
+
+-- the tests of a label
+label_own : (node : Node) (label : Label) (rest : NodeAnswer) → Refuses IsOwn rest → Refuses IsOwn (label_checks node label rest)
+label_own node label rest h = search (refuses_if {A = NodeStep} IsOwn, h) depth 12
+
+take_record_own : (group member : ℕ) (node : Node) (label : Label) (r : Redo) → Refuses IsOwn (take_record group member node label r)
+take_record_own group member node label r = search (refuses_if {A = NodeStep} IsOwn) depth 12
+
+pub reaction_own : (plan : Plan) (group member : ℕ) (node : Node) (m : Message) → Refuses IsOwn (reaction plan group member node m)
+reaction_own plan group member node (Fence to label) = search (refuses_if {A = NodeStep} IsOwn) depth 12
+reaction_own plan group member node (Install to label contents) = search (refuses_if {A = NodeStep} IsOwn) depth 12
+reaction_own plan group member node (Write to label r) = search (refuses_if {A = NodeStep} IsOwn) depth 12
+reaction_own plan group member node (Gossip to label r) = search (refuses_if {A = NodeStep} IsOwn) depth 12
+reaction_own plan group member node (StepTo to place) = search (refuses_if {A = NodeStep} IsOwn) depth 12
+reaction_own plan group member node (CopyAsk to epoch) = search (refuses_if {A = NodeStep} IsOwn) depth 12
+reaction_own plan group member node (CopyReport to epoch sender contents) = search (refuses_if {A = NodeStep} IsOwn) depth 12
+reaction_own plan group member node (PageAsk to label block point) = search (refuses_if {A = NodeStep} IsOwn) depth 12
+reaction_own plan group member node (View volume places) = tt
+reaction_own plan group member node (Report to label sender contents) = tt
+reaction_own plan group member node (Ack to label sender reached) = tt
+reaction_own plan group member node (Page to label sender block point bytes) = tt
+
+pub hydrated_own : (plan : Plan) (group member : ℕ) (node : Node) → Refuses IsOwn (hydrated plan group member node)
+hydrated_own plan group member node = search (refuses_if {A = NodeStep} IsOwn) depth 12
+
+gossip_own : (group : ℕ) (node : Node) (o : Option Redo) → Refuses IsOwn (gossip_of group node o)
+gossip_own group node None = tt
+gossip_own group node (Some r) = tt
+
+pub offered_own : (group : ℕ) (node : Node) (lsn : ℕ) → Refuses IsOwn (offered group node lsn)
+offered_own group node lsn =
+    let found = gossip_own group node (record_at node.contents.records lsn) in search (refuses_if {A = NodeStep} IsOwn, found) depth 12
+
+write_own : (P : Fault → Type 0) → P NoLogRecord → (volume : ℕ) (client : Client) (o : Option Redo) → Refuses P (write_of volume client o)
+write_own P p volume client None = p
+write_own P p volume client (Some r) = tt
+
+pub issued_own : (plan : Plan) (volume : ℕ) (client : Client) (changes : List Change) → Refuses IsOwnOfClient (issued plan volume client changes)
+issued_own plan volume client changes = search (refuses_if {A = ClientStep} IsOwnOfClient) depth 12
+
+-- of a client that is born
+pub issued_own_born : (plan : Plan) (volume : ℕ) (client : Client) (changes : List Change) → is_born client.stage ≡ true → Refuses IsOwn (issued plan volume client changes)
+issued_own_born plan volume client changes born = search (refuses_if {A = ClientStep} IsOwn, refuses_not {A = ClientStep} IsOwn, born) depth 12
+
+pub cut_own : (plan : Plan) (volume : ℕ) (client : Client) → Refuses IsOwnOfClient (cut_client plan volume client)
+cut_own plan volume client = search (refuses_if {A = ClientStep} IsOwnOfClient) depth 12
+
+-- of a client that is born
+pub cut_own_born : (plan : Plan) (volume : ℕ) (client : Client) → is_born client.stage ≡ true → Refuses IsOwn (cut_client plan volume client)
+cut_own_born plan volume client born = search (refuses_if {A = ClientStep} IsOwn, refuses_not {A = ClientStep} IsOwn, born) depth 12
+
+pub opened_own : (plan : Plan) (client : Client) → Refuses IsOwnOfClient (opened plan client)
+opened_own plan client = search (refuses_if {A = ClientStep} IsOwnOfClient) depth 12
+
+-- of a client that is born
+pub opened_own_born : (plan : Plan) (client : Client) → is_born client.stage ≡ true → Refuses IsOwn (opened plan client)
+opened_own_born plan client born = search (refuses_if {A = ClientStep} IsOwn, refuses_not {A = ClientStep} IsOwn, born) depth 12
+
+pub resent_own : (volume : ℕ) (client : Client) (lsn : ℕ) → Refuses IsOwnOfClient (resent volume client lsn)
+resent_own volume client lsn = let found = write_own IsOwnOfClient tt volume client (record_at client.log lsn) in search (refuses_if {A = ClientStep} IsOwnOfClient, found) depth 12
+
+-- of a client that is born
+pub resent_own_born : (volume : ℕ) (client : Client) (lsn : ℕ) → is_born client.stage ≡ true → Refuses IsOwn (resent volume client lsn)
+resent_own_born volume client lsn born = let found = write_own IsOwn tt volume client (record_at client.log lsn) in search (refuses_if {A = ClientStep} IsOwn, refuses_not {A = ClientStep} IsOwn, born, found) depth 12
+
+pub page_asked_own : (plan : Plan) (volume : ℕ) (client : Client) (group block : ℕ) → Refuses IsOwnOfClient (page_asked plan volume client group block)
+page_asked_own plan volume client group block = search (refuses_if {A = ClientStep} IsOwnOfClient) depth 12
+
+-- of a client that is born
+pub page_asked_own_born : (plan : Plan) (volume : ℕ) (client : Client) (group block : ℕ) → is_born client.stage ≡ true → Refuses IsOwn (page_asked plan volume client group block)
+page_asked_own_born plan volume client group block born = search (refuses_if {A = ClientStep} IsOwn, refuses_not {A = ClientStep} IsOwn, born) depth 12
+
+pub taken_own : (plan : Plan) (volume : ℕ) (client : Client) (m : Message) → Refuses IsOwnOfClient (taken plan volume client m)
+taken_own plan volume client (View of places) = search (refuses_if {A = ClientStep} IsOwnOfClient) depth 12
+taken_own plan volume client (Report group label sender contents) = search (refuses_if {A = ClientStep} IsOwnOfClient) depth 12
+taken_own plan volume client (Ack group label sender reached) = search (refuses_if {A = ClientStep} IsOwnOfClient) depth 12
+taken_own plan volume client (Page group label sender block point bytes) = search (refuses_if {A = ClientStep} IsOwnOfClient) depth 12
+taken_own plan volume client (StepTo group place) = tt
+taken_own plan volume client (Fence group label) = tt
+taken_own plan volume client (Install group label contents) = tt
+taken_own plan volume client (Write group label r) = tt
+taken_own plan volume client (Gossip group label r) = tt
+taken_own plan volume client (CopyAsk group epoch) = tt
+taken_own plan volume client (CopyReport group epoch sender contents) = tt
+taken_own plan volume client (PageAsk group label block point) = tt
+
+-- of a client that is born
+pub taken_own_born : (plan : Plan) (volume : ℕ) (client : Client) (m : Message) → is_born client.stage ≡ true → Refuses IsOwn (taken plan volume client m)
+taken_own_born plan volume client (View of places) born = search (refuses_if {A = ClientStep} IsOwn) depth 12
+taken_own_born plan volume client (Report group label sender contents) born = search (refuses_if {A = ClientStep} IsOwn, refuses_not {A = ClientStep} IsOwn, born) depth 12
+taken_own_born plan volume client (Ack group label sender reached) born = search (refuses_if {A = ClientStep} IsOwn, refuses_not {A = ClientStep} IsOwn, born) depth 12
+taken_own_born plan volume client (Page group label sender block point bytes) born = search (refuses_if {A = ClientStep} IsOwn, refuses_not {A = ClientStep} IsOwn, born) depth 12
+taken_own_born plan volume client (StepTo group place) born = tt
+taken_own_born plan volume client (Fence group label) born = tt
+taken_own_born plan volume client (Install group label contents) born = tt
+taken_own_born plan volume client (Write group label r) born = tt
+taken_own_born plan volume client (Gossip group label r) born = tt
+taken_own_born plan volume client (CopyAsk group epoch) born = tt
+taken_own_born plan volume client (CopyReport group epoch sender contents) born = tt
+taken_own_born plan volume client (PageAsk group label block point) born = tt
+
+-- a View is never refused for want of a client
+pub view_own : (plan : Plan) (volume : ℕ) (client : Client) (epoch : ℕ) (places : List Place) → Refuses IsOwn (taken plan volume client (View epoch places))
+view_own plan volume client epoch places = search (refuses_if {A = ClientStep} IsOwn) depth 12

@@ -1,0 +1,122 @@
+-- Actors, and what each does by itself, over the messages that it is handed.
+use Rattle.std.specs.Prelude.{◌≡◌, ℕ, Bool, true, false, ◌&&◌, ◌==◌, List, [], ◌∷◌, Option, Some, None, Result, Ok, Err}
+use Rattle.volume_model.specs.declared.fault.Fault.{Fault}
+use Rattle.volume_model.specs.Lists.{added, numbered, put, put_at, IsBeginningOf}
+use Rattle.volume_model.specs.Plan.{Plan}
+use Rattle.volume_model.specs.Message.{Message}
+use Rattle.volume_model.specs.Node as node
+use Rattle.volume_model.specs.Node.{NodeAnswer, hydrated, offered, restarted}
+use Rattle.volume_model.specs.Client as client
+use Rattle.volume_model.specs.Client.{ClientAnswer, cut_client, issued, opened, page_asked, resent}
+use Rattle.volume_model.specs.World.{World, Event, Authority, AuthorityStep, Step, advanced, assigned, deliver, if_named, refreshed, take}
+use Rattle.volume_model.specs.World.Event.{Assign, Advance, Refresh, Issue, Take, Cut, Open, Resend, Read, Deliver, Hydrate, Restart, Offer}
+
+-- an actor: the authority, the client of a volume epoch, or the node of a group and member
+pub data Actor : Type 0 where
+  TheAuthority : Actor
+  Client : (volume : ℕ) → Actor
+  Node : (group member : ℕ) → Actor
+
+-- whose step an event is
+abbrev pub actor_of : Event → Actor
+actor_of Assign = Actor.TheAuthority
+actor_of (Advance group configuration) = Actor.TheAuthority
+actor_of (Refresh volume) = Actor.TheAuthority
+actor_of (Issue volume changes) = Actor.Client volume
+actor_of (Take volume number) = Actor.Client volume
+actor_of (Cut volume) = Actor.Client volume
+actor_of (Open volume) = Actor.Client volume
+actor_of (Resend volume lsn) = Actor.Client volume
+actor_of (Read volume group block) = Actor.Client volume
+actor_of (Deliver group member number) = Actor.Node group member
+actor_of (Hydrate group member) = Actor.Node group member
+actor_of (Restart group member) = Actor.Node group member
+actor_of (Offer group member lsn) = Actor.Node group member
+
+-- both are one actor
+abbrev pub same_actor : Actor → Actor → Bool
+same_actor Actor.TheAuthority Actor.TheAuthority = true
+same_actor Actor.TheAuthority (Actor.Client b) = false
+same_actor Actor.TheAuthority (Actor.Node h b) = false
+same_actor (Actor.Client a) Actor.TheAuthority = false
+same_actor (Actor.Client a) (Actor.Client b) = a == b
+same_actor (Actor.Client a) (Actor.Node h b) = false
+same_actor (Actor.Node g a) Actor.TheAuthority = false
+same_actor (Actor.Node g a) (Actor.Client b) = false
+same_actor (Actor.Node g a) (Actor.Node h b) = g == h && a == b
+
+-- what an actor is
+abbrev pub State : Actor → Type 0
+State Actor.TheAuthority = Authority
+State (Actor.Client volume) = client.Client
+State (Actor.Node group member) = node.Node
+
+-- what an actor is in a world
+abbrev pub state_in : World → (actor : Actor) → State actor
+state_in w Actor.TheAuthority = w.authority
+state_in w (Actor.Client volume) = w.clients volume
+state_in w (Actor.Node group member) = w.nodes group member
+
+-- what a step of an actor leaves: the messages that it makes, and the actor
+pub record Acted (actor : Actor) : Type 0 where
+  pub made : List Message
+  pub state : State actor
+
+-- the answer of the authority, as that of an actor
+abbrev pub authority_acted : Result AuthorityStep Fault → Result (Acted Actor.TheAuthority) Fault
+authority_acted (Err fault) = Err fault
+authority_acted (Ok s) = Ok (record { made = s.made ∷ []; state = s.authority })
+
+-- the answer of a client, as that of an actor
+abbrev pub client_acted : (volume : ℕ) → ClientAnswer → Result (Acted (Actor.Client volume)) Fault
+client_acted volume (Err fault) = Err fault
+client_acted volume (Ok s) = Ok (record { made = s.made; state = s.client })
+
+-- the answer of a node, as that of an actor
+abbrev pub node_acted : (group member : ℕ) → NodeAnswer → Result (Acted (Actor.Node group member)) Fault
+node_acted group member (Err fault) = Err fault
+node_acted group member (Ok s) = Ok (record { made = s.made; state = s.node })
+
+-- what the actor of an event does, where these messages were made, newest first
+abbrev pub acted : Plan → List Message → (event : Event) → State (actor_of event) → Result (Acted (actor_of event)) Fault
+acted plan messages Assign now = authority_acted (assigned plan now)
+acted plan messages (Advance group configuration) now = authority_acted (advanced plan now group configuration)
+acted plan messages (Refresh volume) now = authority_acted (refreshed plan now volume)
+acted plan messages (Issue volume changes) now = client_acted volume (issued plan volume now changes)
+acted plan messages (Take volume number) now = client_acted volume (take plan volume now (numbered messages number))
+acted plan messages (Cut volume) now = client_acted volume (cut_client plan volume now)
+acted plan messages (Open volume) now = client_acted volume (opened plan now)
+acted plan messages (Resend volume lsn) now = client_acted volume (resent volume now lsn)
+acted plan messages (Read volume group block) now = client_acted volume (page_asked plan volume now group block)
+acted plan messages (Deliver group member number) now = node_acted group member (if_named plan group member (deliver plan group member now (numbered messages number)))
+acted plan messages (Hydrate group member) now = node_acted group member (if_named plan group member (hydrated plan group member now))
+acted plan messages (Restart group member) now = node_acted group member (if_named plan group member (Ok (record { made = []; node = restarted now })))
+acted plan messages (Offer group member lsn) now = node_acted group member (if_named plan group member (offered group now lsn))
+
+-- a world in which one actor is this
+abbrev pub with_state : World → (actor : Actor) → State actor → World
+with_state w Actor.TheAuthority now = record w { authority = now }
+with_state w (Actor.Client volume) now = record w { clients = put w.clients volume now }
+with_state w (Actor.Node group member) now = record w { nodes = put_at w.nodes group member now }
+
+-- the step of an actor, in a world: the actor has changed, and the messages that it made are added
+abbrev pub in_world : World → (actor : Actor) → Result (Acted actor) Fault → Result Step Fault
+in_world w actor (Err fault) = Err fault
+in_world w actor (Ok s) =
+    Ok (record { made = s.made; world = record (with_state w actor s.state) { messages = added s.made w.messages } })
+
+-- both worlds have this actor in one state
+abbrev pub Agree : Actor → World → World → Type 0
+Agree Actor.TheAuthority w v = w.authority ≡ v.authority
+Agree (Actor.Client c) w v = w.clients c ≡ v.clients c
+Agree (Actor.Node g m) w v = w.nodes g m ≡ v.nodes g m
+
+-- v has the messages of w, and perhaps newer ones
+abbrev pub Keeps : World → World → Type 0
+Keeps w v = IsBeginningOf w.messages v.messages
+
+-- the message that an event names
+abbrev pub named_by : Event → Option ℕ
+named_by (Take volume number) = Some number
+named_by (Deliver group member number) = Some number
+named_by event = None

@@ -1,0 +1,42 @@
+-- What the entries of a journal come to.
+use Rattle.std.specs.Prelude.{◌≡◌, ℕ, suc, if◌then◌else◌, List, [], ◌∷◌, length, map, take, Some, slice_get}
+use Rattle.volume_model.specs.Plan.{Plan}
+use Rattle.volume_model.specs.Message.{Message}
+use Rattle.volume_model.specs.World.{World, Event, opening, step, run}
+use Rattle.volume_model.specs.Actor.{Actor, actor_of, same_actor}
+use Rattle.volume_model.specs.Told.{makes}
+
+-- one step: what happened, the messages that it made, and how many were made before
+pub record Entry : Type 0 where
+  pub event : Event
+  pub made : List Message
+  pub first : ℕ
+
+-- what happened
+abbrev pub events : List Entry → List Event
+events = map (λ e. e.event)
+
+-- the world after these entries
+abbrev pub world_at : Plan → List Entry → World
+world_at plan es = run plan (opening plan) (events es)
+
+-- the entry is a step of this world, which makes these messages, numbered from the next number on
+abbrev pub Goes : Plan → World → Entry → Type 0
+Goes plan w e = (makes (step plan w e.event) ≡ Some e.made) × (e.first ≡ length w.messages)
+
+-- one after the other, the events are steps from the opening world, none refused, which make these messages
+abbrev pub IsRun : Plan → List Entry → Type 0
+IsRun plan es = (k : ℕ) (e : Entry) → slice_get es k ≡ Some e → Goes plan (world_at plan (take k es)) e
+
+-- the number of an actor's last entry: it stands one place before it. Else n
+abbrev pub last_from : Actor → ℕ → ℕ → List Entry → ℕ
+last_from actor n at [] = n
+last_from actor n at (e ∷ es) = last_from actor (if same_actor (actor_of e.event) actor then suc at else n) (suc at) es
+
+-- the number of an actor's last entry, 0 where it has none
+abbrev pub last_of : Actor → List Entry → ℕ
+last_of actor es = last_from actor 0 0 es
+
+-- how many messages were made before the step at a place
+abbrev pub before : Plan → List Entry → ℕ → ℕ
+before plan es k = length (world_at plan (take k es)).messages

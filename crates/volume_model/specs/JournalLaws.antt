@@ -1,0 +1,72 @@
+-- The laws of actors, and of runs that are kept as entries of a journal.
+use Rattle.std.specs.Prelude.{◌≡◌, ℕ, ◌+◌, ◌≤◌, true, false, List, [], ◌∷◌, ◌++◌, length, Some, Err, slice_get}
+use mathlib.Core.List.{IsPrefix}
+use Rattle.volume_model.specs.declared.fault.Fault.{Fault}
+use Rattle.volume_model.specs.declared.fault.Fault.TheVariants.{NoMessage}
+use Rattle.volume_model.specs.Lists.{added, numbered}
+use Rattle.volume_model.specs.Plan.{Plan}
+use Rattle.volume_model.specs.Message.{Message}
+use Rattle.volume_model.specs.Node.{Node, reaction, hydrated, offered}
+use Rattle.volume_model.specs.Client.{Client, Change, is_born, issued, taken, cut_client, opened, resent, page_asked}
+use Rattle.volume_model.specs.World.{World, Event, Authority, step, after, assigned, advanced, refreshed}
+use Rattle.volume_model.specs.Actor.{Actor, acted, actor_of, in_world, named_by, same_actor, state_in, Agree, Keeps}
+use Rattle.volume_model.specs.Told.{makes, Refuses, IsOwn, IsOwnOfClient}
+use Rattle.volume_model.specs.Journal.{Entry, world_at, Goes, IsRun, last_of, before}
+use Rattle.volume_model.specs.Judging.{Refusal, IsRefused, Exact, IsNoted}
+
+-- a step of the world is the step of the event's actor, over what the actor is there and the messages made so far
+abbrev pub StepsAreOfActors : Type 0
+StepsAreOfActors = (plan : Plan) (w : World) (e : Event) → step plan w e ≡ in_world w (actor_of e) (acted plan w.messages e (state_in w (actor_of e)))
+
+-- an event leaves all actors but its own as they are
+abbrev pub LeavesOthers : Type 0
+LeavesOthers = (plan : Plan) (w : World) (e : Event) (actor : Actor) → same_actor (actor_of e) actor ≡ false → Agree actor w (after plan w e)
+
+-- the messages that an event makes are put before the others, in their order; a refused event changes nothing
+pub record MessagesGrow : Type 0 where
+  pub grow : (plan : Plan) (w : World) (e : Event) (ms : List Message) → makes (step plan w e) ≡ Some ms → ((after plan w e).messages ≡ added ms w.messages) × (length (after plan w e).messages ≡ length w.messages + length ms)
+  pub refused : (plan : Plan) (w : World) (e : Event) (fault : Fault) → step plan w e ≡ Err fault → after plan w e ≡ w
+
+-- a beginning that has the last entry of an actor has its state
+abbrev pub AgreesAtLast : Type 0
+AgreesAtLast = (plan : Plan) (actor : Actor) (seen es : List Entry) → IsPrefix seen es → last_of actor es ≤ length seen → Agree actor (world_at plan seen) (world_at plan es)
+
+-- a run and one step more is a run, and the first number of an entry is how many messages were made before it
+pub record RunsGoOn : Type 0 where
+  pub push : (plan : Plan) (es : List Entry) (e : Entry) → IsRun plan es → Goes plan (world_at plan es) e → IsRun plan (es ++ e ∷ [])
+  pub firsts : (plan : Plan) (es : List Entry) (k : ℕ) (e : Entry) → IsRun plan es → slice_get es k ≡ Some e → e.first ≡ before plan es k
+  pub messages : (plan : Plan) (es : List Entry) (e : Entry) → Goes plan (world_at plan es) e → length (world_at plan (es ++ e ∷ [])).messages ≡ e.first + length e.made
+
+-- where two worlds have the actor of an event alike, and the second has the messages of the first: the same refusal,
+-- but that there was no message, and else the same messages
+pub record StepsAlike : Type 0 where
+  pub refused : (plan : Plan) (w v : World) (e : Event) (fault : Fault) → (fault ≡ NoMessage → ⊥) → Agree (actor_of e) w v → Keeps w v → step plan w e ≡ Err fault → step plan v e ≡ Err fault
+  pub made : (plan : Plan) (w v : World) (e : Event) (ms : List Message) → Agree (actor_of e) w v → Keeps w v → makes (step plan w e) ≡ Some ms → makes (step plan v e) ≡ Some ms
+
+-- a message keeps its number, which its entry and its place in it tell
+pub record MessagesAreFound : Type 0 where
+  pub later : (plan : Plan) (es fs : List Entry) → IsPrefix es fs → (n : ℕ) (x : Message) → numbered (world_at plan es).messages n ≡ Some x → numbered (world_at plan fs).messages n ≡ Some x
+  pub made : (plan : Plan) (es : List Entry) (k index : ℕ) (x : Message) (e : Entry) → IsRun plan es → slice_get es k ≡ Some e → slice_get e.made index ≡ Some x → numbered (world_at plan es).messages (e.first + index + 1) ≡ Some x
+  pub named : (plan : Plan) (es : List Entry) → IsRun plan es → (k : ℕ) (e : Entry) (n : ℕ) → slice_get es k ≡ Some e → named_by e.event ≡ Some n → n ≤ before plan es k
+
+-- an actor by itself doesn't refuse for want of a message, an actor, a slot or a cell; but a client that isn't born does
+pub record RefusalsAreOwn : Type 0 where
+  pub deliver : (plan : Plan) (group member : ℕ) (node : Node) (m : Message) → Refuses IsOwn (reaction plan group member node m)
+  pub hydrate : (plan : Plan) (group member : ℕ) (node : Node) → Refuses IsOwn (hydrated plan group member node)
+  pub offer : (group : ℕ) (node : Node) (lsn : ℕ) → Refuses IsOwn (offered group node lsn)
+  pub assign : (plan : Plan) (a : Authority) → Refuses IsOwn (assigned plan a)
+  pub advance : (plan : Plan) (a : Authority) (group c : ℕ) → Refuses IsOwn (advanced plan a group c)
+  pub refresh : (plan : Plan) (a : Authority) (volume : ℕ) → Refuses IsOwn (refreshed plan a volume)
+  pub issue : (plan : Plan) (volume : ℕ) (client : Client) (changes : List Change) → is_born client.stage ≡ true → Refuses IsOwn (issued plan volume client changes)
+  pub take : (plan : Plan) (volume : ℕ) (client : Client) (m : Message) → is_born client.stage ≡ true → Refuses IsOwn (taken plan volume client m)
+  pub take_unborn : (plan : Plan) (volume : ℕ) (client : Client) (m : Message) → Refuses IsOwnOfClient (taken plan volume client m)
+  pub cut : (plan : Plan) (volume : ℕ) (client : Client) → is_born client.stage ≡ true → Refuses IsOwn (cut_client plan volume client)
+  pub opening : (plan : Plan) (client : Client) → is_born client.stage ≡ true → Refuses IsOwn (opened plan client)
+  pub resend : (volume : ℕ) (client : Client) (lsn : ℕ) → is_born client.stage ≡ true → Refuses IsOwn (resent volume client lsn)
+  pub read : (plan : Plan) (volume : ℕ) (client : Client) (group block : ℕ) → is_born client.stage ≡ true → Refuses IsOwn (page_asked plan volume client group block)
+
+-- what the model refuses may be noted, and stays true as the journal grows
+pub record RefusalsLast : Type 0 where
+  pub noted : (plan : Plan) (slots cells number : ℕ) (es : List Entry) (event : Event) (fault : Fault) → IsNoted fault → number ≤ length es → last_of (actor_of event) es ≤ number
+      → Exact plan slots cells es event fault → IsRefused plan slots cells es (record { event = event; fault = fault; number = number })
+  pub longer : (plan : Plan) (slots cells : ℕ) (es fs : List Entry) (n : Refusal) → IsPrefix es fs → length fs ≤ cells → IsRefused plan slots cells es n → IsRefused plan slots cells fs n

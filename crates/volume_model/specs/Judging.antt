@@ -1,0 +1,59 @@
+-- What a refusal that was noted says of a journal, however long it grows.
+use Rattle.std.specs.Prelude.{◌≡◌, ℕ, ◌≤◌, List, length, take}
+use Rattle.volume_model.specs.declared.fault.Fault.{Fault}
+use Rattle.volume_model.specs.declared.fault.Fault.TheVariants.{NoMemory, NoMessage, NoSlot, JournalFull}
+use Rattle.volume_model.specs.Lists.{put, put_at}
+use Rattle.volume_model.specs.Numbers.{number_of}
+use Rattle.volume_model.specs.Plan.{Plan}
+use Rattle.volume_model.specs.World.{World, Event, step}
+use Rattle.volume_model.specs.Actor.{Actor, actor_of}
+use Rattle.volume_model.specs.Told.{refusal}
+use Rattle.volume_model.specs.Journal.{Entry, world_at}
+
+-- the world v, but for one actor, which is as in w
+abbrev pub placed : Actor → World → World → World
+placed Actor.TheAuthority w v = record v { authority = w.authority }
+placed (Actor.Client c) w v = record v { clients = put v.clients c (w.clients c) }
+placed (Actor.Node g m) w v = record v { nodes = put_at v.nodes g m (w.nodes g m) }
+
+-- the world of these entries, but for the actor of an event, which is as after so many of them
+abbrev pub judged : Plan → List Entry → ℕ → Event → World
+judged plan es number event = placed (actor_of event) (world_at plan (take number es)) (world_at plan es)
+
+-- What a refusal says is that these two numbers are one: the last volume epoch and the number of slots, the length of the journal and the number
+-- of cells, or the number of the refusal with which the event is refused and its own. Want of memory and of a message are not noted
+abbrev pub found_in : Plan → List Entry → ℕ → Event → Fault → ℕ
+found_in plan es number event NoMemory = 0
+found_in plan es number event NoMessage = 0
+found_in plan es number event NoSlot = (world_at plan (take number es)).authority.last_volume
+found_in plan es number event JournalFull = length es
+found_in plan es number event fault = refusal (step plan (judged plan es number event) event)
+
+abbrev pub wanted : ℕ → ℕ → Fault → ℕ
+wanted slots cells NoSlot = slots
+wanted slots cells JournalFull = cells
+wanted slots cells fault = number_of fault
+
+-- what is noted of a refusal: the event, the fault, and how many entries the actor had seen
+pub record Refusal : Type 0 where
+  pub event : Event
+  pub fault : Fault
+  pub number : ℕ
+
+-- the refusal is true of this journal
+pub record IsRefused (plan : Plan) (slots cells : ℕ) (es : List Entry) (n : Refusal) : Type 0 where
+  pub within : n.number ≤ length es
+  pub told : found_in plan es n.number n.event n.fault ≡ wanted slots cells n.fault
+
+-- the refusal is the one of the model after these entries. Want of memory says nothing
+abbrev pub Exact : Plan → ℕ → ℕ → List Entry → Event → Fault → Type 0
+Exact plan slots cells es event NoMemory = Unit {0}
+Exact plan slots cells es event NoSlot = (actor_of event ≡ Actor.TheAuthority) × ((world_at plan es).authority.last_volume ≡ slots)
+Exact plan slots cells es event JournalFull = (refusal (step plan (world_at plan es) event) ≡ 0) × (length es ≡ cells)
+Exact plan slots cells es event fault = refusal (step plan (world_at plan es) event) ≡ number_of fault
+
+-- a fault that is noted
+abbrev pub IsNoted : Fault → Type 0
+IsNoted NoMemory = ⊥
+IsNoted NoMessage = ⊥
+IsNoted fault = Unit {0}

@@ -1,0 +1,20 @@
+-- Where a writer begins.
+use Rattle.std.specs.Prelude.{◌≡◌, ℕ, List, [], ◌∷◌, Ok}
+use Rattle.volume_model.specs.Lineage.{Lineage}
+use Rattle.volume_model.specs.Plan.{Plan, IsCertified}
+use Rattle.volume_model.specs.Client.{Client, durable_point}
+use Rattle.volume_model.specs.World.{Event, Step, opening, run, step}
+use Rattle.volume_model.specs.World.Event.{Open}
+
+-- the cut of the last entry, and 0 where there is none
+abbrev pub last_cut : Lineage → ℕ
+last_cut [] = 0
+last_cut (e ∷ older) = e.cut
+
+-- the durable point of the writer is the cut of its own entry
+abbrev pub IsAtItsCut : Client → Type 0
+IsAtItsCut client = durable_point client ≡ last_cut client.lineage
+
+-- in every run of a certified plan a client that opens opens with its cut as its durable point
+abbrev pub OpensAtItsCut : Type 0
+OpensAtItsCut = (plan : Plan) → IsCertified plan → (events : List Event) (volume : ℕ) (opened : Step) → step plan (run plan (opening plan) events) (Open volume) ≡ Ok opened → IsAtItsCut (opened.world.clients volume)

@@ -1,0 +1,35 @@
+-- What the laws on live records, complete points and cuts ask of lineages and records is so in every run.
+use Rattle.std.specs.Prelude.{ℕ, ◌<◌, List}
+use Rattle.volume_model.specs.Lists.{IsIn}
+use Rattle.volume_model.specs.Redo.{Redo}
+use Rattle.volume_model.specs.Lineage.{Lineage, Contents}
+use Rattle.volume_model.specs.Message.{Label}
+use Rattle.volume_model.specs.Message.Message.{Report, Install, Write, Gossip, CopyReport}
+use Rattle.volume_model.specs.Plan.{Plan, IsCertified}
+use Rattle.volume_model.specs.World.{World, Event, opening, run}
+use Rattle.volume_model.specs.Live.{EpochsGrow}
+use Rattle.volume_model.specs.Finds.{Carries}
+
+-- the numbers before a record in its group and in the volume are smaller than its own
+pub record LinksFall (r : Redo) : Type 0 where
+  pub in_group : r.prev_group < r.lsn
+  pub in_volume : r.prev_volume < r.lsn
+
+-- A node or a client's log has the record, or a message brings it.
+pub data Brings (world : World) (r : Redo) : Type 0 where
+  in_node : (group member : ℕ) → IsIn r (world.nodes group member).contents.records → Brings world r
+  in_log : (volume : ℕ) → IsIn r (world.clients volume).log → Brings world r
+  in_report : (group : ℕ) (label : Label) (sender : ℕ) (contents : Contents) → IsIn (Report group label sender contents) world.messages → IsIn r contents.records → Brings world r
+  in_install : (group : ℕ) (label : Label) (contents : Contents) → IsIn (Install group label contents) world.messages → IsIn r contents.records → Brings world r
+  in_copy : (group epoch sender : ℕ) (contents : Contents) → IsIn (CopyReport group epoch sender contents) world.messages → IsIn r contents.records → Brings world r
+  in_write : (group : ℕ) (label : Label) → IsIn (Write group label r) world.messages → Brings world r
+  in_gossip : (group : ℕ) (label : Label) → IsIn (Gossip group label r) world.messages → Brings world r
+
+-- in each lineage the epochs grow, and each record's links fall
+pub record IsOrderly (world : World) : Type 0 where
+  pub lineages : (lineage : Lineage) → Carries world lineage → EpochsGrow lineage
+  pub records : (r : Redo) → Brings world r → LinksFall r
+
+-- over every list of events, from the opening world of a certified plan
+abbrev pub RunsAreOrderly : Type 0
+RunsAreOrderly = (plan : Plan) → IsCertified plan → (events : List Event) → IsOrderly (run plan (opening plan) events)

@@ -1,0 +1,105 @@
+//! Laws of the model, in the words of sets and of whole runs.
+
+ghost use Rattle.volume_model.specs.Live.{RecordsLive};
+ghost use Rattle.volume_model.specs.Grounded.{CompletePointIsGreatest};
+ghost use Rattle.volume_model.specs.Leading.{RecordAtIsFirst, CutIsGreatest, LogFoundLeadsDown};
+ghost use Rattle.volume_model.specs.Points.{GroupPointIsGreatest, CompleteAndDurablePointsAreGreatest};
+ghost use Rattle.volume_model.specs.Finds.{FindsLast, OneLineageAnEpoch};
+ghost use Rattle.volume_model.specs.Found.{FoundIsReported, NewestIsNewest};
+ghost use Rattle.volume_model.specs.Opens.{OpensAtItsCut};
+ghost use Rattle.volume_model.specs.Few.{StepsAreFew};
+ghost use Rattle.volume_model.specs.Orderly.{RunsAreOrderly};
+ghost use Rattle.volume_model.specs.WorkedPlans.{SixCopiesCertified, FullAndTailCertified, MemberReplacedCertified};
+
+/// A record is live in a lineage whose epochs grow exactly where its volume epoch has an entry, its number is above that
+/// entry's start, and no later entry's cut is below it.
+pub fn records_live()
+    ensures { RecordsLive }
+{}
+
+/// The complete point of a set of records is the greatest number of a record from which the numbers before in the group
+/// lead through the set down to 0, and 0 where there is none.
+pub fn complete_point_is_greatest()
+    ensures { CompletePointIsGreatest }
+{}
+
+/// Of the records with one number the one that counts is the first in order of bytes.
+pub fn record_at_is_first()
+    ensures { RecordAtIsFirst }
+{}
+
+/// The cut is the greatest number of a consistency point from which the numbers before in the volume lead down to 0, and 0
+/// where there is none.
+pub fn cut_is_greatest()
+    ensures { CutIsGreatest }
+{}
+
+/// The log found is the records on the way from the cut down to 0, newest first.
+pub fn log_found_leads_down()
+    ensures { LogFoundLeadsDown }
+{}
+
+/// A group's point is raised to the greatest number that members have reached who satisfy the write expression, and never
+/// falls.
+pub fn group_point_is_greatest()
+    ensures { GroupPointIsGreatest }
+{}
+
+/// The complete point is the greatest number of a log up to which each record is covered by its group's point, and the
+/// durable point the greatest consistency point up to there; the numbers of each client's log grow, in every run.
+pub fn complete_and_durable_points_are_greatest()
+    ensures { CompleteAndDurablePointsAreGreatest }
+{}
+
+/// What a recovery or a hydration unites are exactly the live records of all reports.
+pub fn found_is_reported()
+    ensures { FoundIsReported }
+{}
+
+/// The newest lineage is that of a report, and no report's last volume epoch is above its own.
+pub fn newest_is_newest()
+    ensures { NewestIsNewest }
+{}
+
+/// A client that has cut stays one that has cut, with the same lineage and the same log found, whatever events follow.
+pub fn finds_last()
+    ensures { FindsLast }
+{}
+
+/// In no run do two lineages with the same last volume epoch differ, whether nodes or clients have them or messages say
+/// them.
+pub fn one_lineage_an_epoch()
+    ensures { OneLineageAnEpoch }
+{}
+
+/// A client that opens has its cut as its durable point.
+pub fn opens_at_its_cut()
+    ensures { OpensAtItsCut }
+{}
+
+/// In every run each lineage's epochs grow, and the numbers before each record are smaller than its own: what the laws
+/// on live records, complete points and cuts ask.
+pub fn runs_are_orderly()
+    ensures { RunsAreOrderly }
+{}
+
+/// The plan of six copies is certified: one group whose members are 0 to 5, of which three read and four write.
+pub fn six_copies_certified()
+    ensures { SixCopiesCertified }
+{}
+
+/// The plan of full and tail segments is certified: three of six members keep whole pages, and what reads has one of these.
+pub fn full_and_tail_certified()
+    ensures { FullAndTailCertified }
+{}
+
+/// The plan in which a member is replaced, by a step that is kept or taken back, is certified.
+pub fn member_replaced_certified()
+    ensures { MemberReplacedCertified }
+{}
+
+/// A transaction makes at most one message a change, a message that a client takes or a cut at most one a group, a record sent again or a
+/// question for a page one.
+pub fn steps_are_few()
+    ensures { StepsAreFew }
+{}
