@@ -1,11 +1,10 @@
 -- What an authority is, as the model's, and what it answers.
-use Rattle.std.specs.Prelude.{◌≡◌, Result, Ok, Err}
+use Rattle.std.specs.Prelude.{ℕ, slice_set}
 use Rattle.std.specs.Arc.{arc_value}
-use Rattle.volume_model.specs.declared.fault.Fault.{Fault}
-use Rattle.volume_model.specs.declared.fault.Fault.TheVariants.{NoMemory}
 use Rattle.volume_model.specs.Plan.{Plan}
 use Rattle.volume_model.specs.World as model
-use Rattle.volume_model.specs.World.{AuthorityStep}
+use Rattle.volume_model.specs.World.{AuthorityStep, place_now}
+use Rattle.volume_model.specs.Message.Message.{StepTo}
 use Rattle.plan.specs.CheckedModel.{checked_model}
 use Rattle.wire.specs.declared.message.Message.{Message}
 use Rattle.wire.specs.Message.{message_of}
@@ -19,13 +18,12 @@ authority_plan a = checked_model (arc_value a.plan)
 abbrev pub authority_of : Authority → model.Authority
 authority_of a = record { last_volume = a.last_volume; configurations = a.configurations.items }
 
--- An authority makes the message that is defined and is then what the definition leaves; after a refusal, or where memory ran
--- out, it is what it was.
-abbrev pub Answers : Result AuthorityStep Fault → model.Authority → Result Message Fault → model.Authority → Type 0
-Answers defined old (Ok message) new = defined ≡ Ok (record { made = message_of message; authority = new })
-Answers defined old (Err NoMemory) new = new ≡ old
-Answers defined old (Err fault) new = (defined ≡ Err fault) × (new ≡ old)
+-- the step of an authority that makes this message and is then this
+abbrev pub told : Message → model.Authority → AuthorityStep
+told message authority = record { made = message_of message; authority = authority }
 
--- it makes the message that is defined, and stays what it is
-abbrev pub Tells : Result AuthorityStep Fault → model.Authority → Result Message Fault → Type 0
-Tells defined now result = Answers defined now result now
+-- the step that leads a group to a configuration
+abbrev pub advance_of : Plan → model.Authority → ℕ → ℕ → AuthorityStep
+advance_of plan authority group configuration =
+    let now = record authority { configurations = slice_set authority.configurations group configuration } in
+    record { made = StepTo group (place_now plan now group); authority = now }

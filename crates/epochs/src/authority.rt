@@ -22,11 +22,11 @@ pub struct Authority {
 }
 
 impl Authority {
-    ghost use Rattle.std.specs.Prelude.{Ok, IfOk, map};
-    ghost use Rattle.volume_model.specs.Answer.{Gives};
+    ghost use Rattle.std.specs.Prelude.{◌<◌, Err, Ok, IfErr, IfOk, OnOk, map};
+    ghost use Rattle.volume_model.specs.Answer.{refusal_of, Answers, AnswersAlways, Gives};
     ghost use Rattle.volume_model.specs.World.{opening, places_now, place_now, assigned, advanced, refreshed};
     ghost use Rattle.wire.specs.Message.{place_of};
-    ghost use Rattle.epochs.specs.Authority.{authority_of, authority_plan, Answers, Tells};
+    ghost use Rattle.epochs.specs.Authority.{advance_of, authority_of, authority_plan, told};
 
     /// The authority of a new volume: volume epoch 1 is assigned, and each group stands at its root.
     pub fn new(alloc: Global, plan: Arc<CheckedPlan>) -> Result<Authority, Fault>
@@ -76,9 +76,20 @@ impl Authority {
         Ok(places)
     }
 
-    /// Assigns the next volume epoch, and makes the View that begins its recovery. `EpochsSpent` where no volume epoch is left.
+    /// Whether it would assign a volume epoch: `EpochsSpent` where none is left. Takes no memory.
+    pub fn admits_assign(&self) -> Result<(), Fault>
+        ensures { result ≡ refusal_of (assigned (authority_plan self.now) (authority_of self.now)) }
+    {
+        if self.last_volume >= u32::MAX {
+            return Err(Fault::EpochsSpent);
+        }
+        Ok(())
+    }
+
+    /// Assigns the next volume epoch, and makes the View that begins its recovery. `EpochsSpent` where no volume epoch is left,
+    /// `NoMemory` where there is no memory for the View.
     pub fn assign(&mut self, alloc: Global) -> Result<Message, Fault>
-        ensures answers { Answers (assigned (authority_plan self.old) (authority_of self.old)) (authority_of self.old) result (authority_of self.new) }
+        ensures answers { Answers told (assigned (authority_plan self.old) (authority_of self.old)) (authority_of self.old) result (authority_of self.new) }
         ensures plan { authority_plan self.new ≡ authority_plan self.old }
     {
         if self.last_volume == u32::MAX {
@@ -92,11 +103,13 @@ impl Authority {
         }))
     }
 
-    /// Leads a group to a child of its configuration, and makes the message that tells its nodes. `NoGroup` where the volume has no such
-    /// group, `NotInPlan` where the group's configuration has no such child.
-    pub fn advance(&mut self, group: u8, configuration: u32) -> Result<Message, Fault>
-        ensures answers { Answers (advanced (authority_plan self.old) (authority_of self.old) group configuration) (authority_of self.old) result (authority_of self.new) }
-        ensures plan { authority_plan self.new ≡ authority_plan self.old }
+    /// The child of a group's configuration that has a number. `NoGroup` where the volume has no such group, `NotInPlan` where the group's
+    /// configuration has no such child.
+    fn child(&self, group: u8, configuration: u32) -> Result<u8, Fault>
+        ensures number { IfOk result (λ child. child ≡ configuration) }
+        ensures group { OnOk result (group < (authority_plan self.now).groups) }
+        ensures step { OnOk result (advanced (authority_plan self.now) (authority_of self.now) group configuration ≡ Ok (advance_of (authority_plan self.now) (authority_of self.now) group configuration)) }
+        ensures refused { IfErr result (λ fault. advanced (authority_plan self.now) (authority_of self.now) group configuration ≡ Err fault) }
     {
         let Some(present) = self.configurations.get(usize::from(group)) else {
             return Err(Fault::NoGroup);
@@ -108,6 +121,30 @@ impl Authority {
         if !self.plan.is_child(group, child, *present) {
             return Err(Fault::NotInPlan);
         }
+        Ok(child)
+    }
+
+    /// Whether it would lead a group to a child of its configuration: else `NoGroup` where the volume has no such group, `NotInPlan` where
+    /// the group's configuration has no such child. Takes no memory.
+    pub fn admits_advance(&self, group: u8, configuration: u32) -> Result<(), Fault>
+        ensures { result ≡ refusal_of (advanced (authority_plan self.now) (authority_of self.now) group configuration) }
+    {
+        match self.child(group, configuration) {
+            Ok(_) => Ok(()),
+            Err(fault) => Err(fault),
+        }
+    }
+
+    /// Leads a group to a child of its configuration, and makes the message that tells its nodes. Refused as
+    /// [`Authority::admits_advance`] says. Takes no memory.
+    pub fn advance(&mut self, group: u8, configuration: u32) -> Result<Message, Fault>
+        ensures answers { AnswersAlways told (advanced (authority_plan self.old) (authority_of self.old) group configuration) (authority_of self.old) result (authority_of self.new) }
+        ensures plan { authority_plan self.new ≡ authority_plan self.old }
+    {
+        let child = match self.child(group, configuration) {
+            Ok(child) => child,
+            Err(fault) => return Err(fault),
+        };
         self.configurations[usize::from(group)] = child;
         Ok(Message::StepTo(StepTo {
             group,
@@ -115,9 +152,21 @@ impl Authority {
         }))
     }
 
-    /// Tells the client of the last volume epoch where the groups stand now. `Superseded` for any other volume epoch.
+    /// Whether it would tell the client of a volume epoch where the groups stand: `Superseded` for any but the last volume epoch. Takes no
+    /// memory.
+    pub fn admits_refresh(&self, volume: u32) -> Result<(), Fault>
+        ensures { result ≡ refusal_of (refreshed (authority_plan self.now) (authority_of self.now) volume) }
+    {
+        if self.last_volume != volume {
+            return Err(Fault::Superseded);
+        }
+        Ok(())
+    }
+
+    /// Tells the client of the last volume epoch where the groups stand now. `Superseded` for any other volume epoch, `NoMemory` where
+    /// there is no memory for the View.
     pub fn refresh(&self, alloc: Global, volume: u32) -> Result<Message, Fault>
-        ensures { Tells (refreshed (authority_plan self.now) (authority_of self.now) volume) (authority_of self.now) result }
+        ensures { Answers told (refreshed (authority_plan self.now) (authority_of self.now) volume) (authority_of self.now) result (authority_of self.now) }
     {
         if volume != self.last_volume {
             return Err(Fault::Superseded);

@@ -42,6 +42,10 @@ fn steps_and_views(rt: HostRuntime) -> Result<(), Fail> {
     let checked = check_plan(alloc, plan).ok().ok_or("the plan is certified")?;
     let mut authority = Authority::new(alloc, Arc::new(alloc, checked)?)?;
 
+    assert_eq!(rt; authority.admits_advance(1, 0), Err(Fault::NoGroup));
+    assert_eq!(rt; authority.admits_advance(0, 1), Ok(()));
+    assert_eq!(rt; authority.admits_assign(), Ok(()));
+    assert_eq!(rt; authority.admits_refresh(2), Err(Fault::Superseded));
     assert_eq!(rt; step_of(authority.advance(1, 0)), Err(Fault::NoGroup));
     assert_eq!(rt; step_of(authority.advance(0, 0)), Err(Fault::NotInPlan));
     assert_eq!(rt;

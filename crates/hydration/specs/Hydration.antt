@@ -1,12 +1,12 @@
-use Rattle.std.specs.Prelude.{◌≡◌, ℕ, ◌<◌, ◌≤◌, true, false, if◌then◌else◌, List, length, vec_capacity, Option, Some, None, Result, Ok, Err}
+use Rattle.std.specs.Prelude.{◌≡◌, ℕ, ◌<◌, false, nat_le, if◌then◌else◌, List, [], ◌∷◌, ◌++◌, length, vec_capacity, Option, Some, None, Result, Ok, Err}
 use Rattle.volume_model.specs.declared.fault.Fault.{Fault}
-use Rattle.volume_model.specs.declared.fault.Fault.TheVariants.{NoMemory}
+use Rattle.volume_model.specs.declared.fault.Fault.TheVariants.{NotAddressed}
+use Rattle.volume_model.specs.Refusal.{refuse_if}
 use Rattle.volume_model.specs.Formula.{Formula, sat}
 use Rattle.volume_model.specs.Lineage as model
 use Rattle.volume_model.specs.Lineage.{last_epoch, newest, found_in}
 use Rattle.volume_model.specs.Node as nodes
 use Rattle.volume_model.specs.Node.{From, senders, with_first}
-use Rattle.volume_model.specs.declared.fault.Fault.TheVariants as faults
 use Rattle.wire.specs.declared.message.CopyReport.{CopyReport}
 use Rattle.wire.specs.Contents.{contents_of}
 use Rattle.hydration.specs.declared.copied.Copied.{Copied}
@@ -38,19 +38,18 @@ finished read copies =
 abbrev pub reported : CopyReport → From
 reported report = record { sender = report.from; contents = contents_of report.contents }
 
--- the first report of each sender is kept, and none of a sender that is no member; where memory ran out nothing has changed
-abbrev pub Takes : Result (Unit {0}) Fault → List From → CopyReport → List From → Type 0
-Takes (Ok u) old report new = (report.from < 64) × (new ≡ with_first (reported report) old)
-Takes (Err NoMemory) old report new = new ≡ old
-Takes (Err fault) old report new = (64 ≤ report.from) × (fault ≡ faults.NotAddressed) × (new ≡ old)
+-- What is kept after a member's report: the first of each sender. A sender that is no member is refused.
+abbrev pub kept_after : CopyReport → List From → Result (List From) Fault
+kept_after report copies = refuse_if (nat_le 64 report.from) NotAddressed (Ok (with_first (reported report) copies))
 
--- the report's copy is made ready where it is its sender's first, and none where its sender has sent one before; a sender that is
--- no member is refused
-abbrev pub Prepares : Result (Option Copied) Fault → List From → CopyReport → Type 0
-Prepares (Ok (Some copied)) copies report = (report.from < 64) × (senders copies report.from ≡ false) × (copy_of copied ≡ reported report)
-Prepares (Ok None) copies report = (report.from < 64) × (senders copies report.from ≡ true)
-Prepares (Err NoMemory) copies report = Unit {0}
-Prepares (Err fault) copies report = (64 ≤ report.from) × (fault ≡ faults.NotAddressed)
+-- the copies, once one that was made ready is kept; none is made ready of a sender that has sent one before
+abbrev pub with_ready : Option Copied → List From → List From
+with_ready None copies = copies
+with_ready (Some copied) copies = copies ++ copy_of copied ∷ []
+
+-- the copies as they are
+abbrev pub just : Unit {0} → List From → List From
+just u copies = copies
 
 -- there is room for the copy, and its sender has sent none before
 pub record CanKeep (h : Hydration) (copied : Copied) : Type 0 where

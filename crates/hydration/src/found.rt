@@ -1,6 +1,6 @@
 //! What copies hold together.
 
-ghost use Rattle.std.specs.Prelude.{◌≡◌, ◌+◌, ◌++◌, IfOk, OnOk, length};
+ghost use Rattle.std.specs.Prelude.{◌≡◌, ◌+◌, ◌++◌, IfOk, OnErr, OnOk, length, take};
 ghost use Rattle.std.specs.FinSet as set;
 ghost use Rattle.volume_model.specs.Lineage.{found_in, newest};
 ghost use Rattle.volume_model.specs.Node.{contents_of, senders};
@@ -26,14 +26,29 @@ pub fn senders(copies: &[Copied]) -> MemberSet
 }
 
 /// Adds the lineages of copies, in their order. Where memory runs out, those are left that were added before.
-pub fn add_lineages(copies: &[Copied], lineages: &mut Vec<Lineage>) -> Result<(), AllocError>
+fn push_lineages(copies: &[Copied], lineages: &mut Vec<Lineage>) -> Result<(), AllocError>
     ensures lineages { OnOk result (lineages_of lineages.new.items ≡ lineages_of lineages.old.items ++ copied_lineages copies.now) }
     ensures many { OnOk result (length lineages.new.items ≡ length lineages.old.items + length copies.now) }
+    ensures front { take (length lineages.old.items) lineages.new.items ≡ lineages.old.items }
 {
     for copy in copies {
         lineages.push(copy.contents.lineage.clone()?)?;
     }
     Ok(())
+}
+
+/// Adds the lineages of copies, in their order. Where memory runs out the list is what it was.
+pub fn add_lineages(copies: &[Copied], lineages: &mut Vec<Lineage>) -> Result<(), AllocError>
+    ensures lineages { OnOk result (lineages_of lineages.new.items ≡ lineages_of lineages.old.items ++ copied_lineages copies.now) }
+    ensures many { OnOk result (length lineages.new.items ≡ length lineages.old.items + length copies.now) }
+    ensures same { OnErr result (lineages.new.items ≡ lineages.old.items) }
+{
+    let before = lineages.len();
+    let added = push_lineages(copies, lineages);
+    if added.is_err() {
+        lineages.truncate(before);
+    }
+    added
 }
 
 /// The newest of the copies' lineages, and none where there is no copy.

@@ -1,12 +1,13 @@
 //! Copies that are gathered until they are those of a read set.
 
-ghost use Rattle.std.specs.Prelude.{◌≡◌, [], ◌∷◌, ◌++◌, Ok, IfOk, option_map};
+ghost use Rattle.std.specs.Prelude.{◌≡◌, [], ◌∷◌, ◌++◌, Err, Ok, IfOk, IsSome, OnErr, option_map};
 ghost use Rattle.std.specs.FinSet as set;
-ghost use Rattle.volume_model.specs.Answer.{Gives};
+ghost use Rattle.volume_model.specs.Answer.{Answers, Gives};
+ghost use Rattle.volume_model.specs.declared.fault.Fault.TheVariants.{NoMemory};
 ghost use Rattle.quorum_expr.specs.Expr.{formula_of};
 ghost use Rattle.volume_model.specs.Node.{senders};
 ghost use Rattle.hydration.specs.Copies.{copy_of};
-ghost use Rattle.hydration.specs.Hydration.{copies_of, finished, state_of, CanKeep, CanKeepAny, Prepares, Takes};
+ghost use Rattle.hydration.specs.Hydration.{copies_of, finished, just, kept_after, state_of, with_ready, CanKeep, CanKeepAny};
 
 use crate::copied::{Copied, State};
 use crate::found::{found_in, newest_lineage, senders};
@@ -41,7 +42,7 @@ impl Hydration {
     /// Makes ready to keep what a member says that it holds: makes the room and the copy, and `None` where the member has sent one
     /// before. `NotAddressed` where the sender is no member.
     pub fn prepare(&mut self, report: &CopyReport) -> Result<Option<Copied>, Fault>
-        ensures copy { Prepares result (copies_of self.old) report.now }
+        ensures copy { Answers with_ready (kept_after report.now (copies_of self.old)) (copies_of self.old) result (copies_of self.old) }
         ensures ready { IfOk result (λ copied. CanKeepAny self.new copied) }
         ensures same { copies_of self.new ≡ copies_of self.old }
     {
@@ -68,7 +69,7 @@ impl Hydration {
 
     /// Keeps what a member says that it holds, where it is the member's first report. `NotAddressed` where the sender is no member.
     pub fn take(&mut self, report: &CopyReport) -> Result<(), Fault>
-        ensures { Takes result (copies_of self.old) report.now (copies_of self.new) }
+        ensures { Answers just (kept_after report.now (copies_of self.old)) (copies_of self.old) result (copies_of self.new) }
     {
         if let Some(copied) = self.prepare(report)? {
             self.keep(copied);
@@ -83,9 +84,11 @@ impl Hydration {
         self.copies.clear();
     }
 
-    /// What a node becomes from these copies, where they are those of a read set.
+    /// What a node becomes from these copies, where they are those of a read set; want of memory comes only where they are.
     pub fn finish(&self, alloc: Global, read: &Expr<Global>) -> Result<Option<State>, Fault>
-        ensures { Gives (option_map state_of) result (Ok (finished (formula_of read.now) (copies_of self.now))) }
+        ensures state { Gives (option_map state_of) result (Ok (finished (formula_of read.now) (copies_of self.now))) }
+        ensures memory { OnErr result (result ≡ Err NoMemory) }
+        ensures enough { OnErr result (IsSome (finished (formula_of read.now) (copies_of self.now))) }
     {
         if !holds(read, self.senders()) {
             return Ok(None);

@@ -3,6 +3,7 @@ pub mod Settled
 pub mod Edits
 pub mod Taking
 pub mod Sets
-pub mod Paging
 pub mod Offering
 pub mod Hydrating
+pub mod Ready
+pub mod Refusing

@@ -1,19 +1,19 @@
-use Rattle.std.specs.Prelude.{true, [], ◌∷◌, ◌++◌, Option}
+use Rattle.std.specs.Prelude.{true, [], ◌∷◌, ◌++◌, List}
 use Rattle.volume_model.specs.Redo.{with_record}
 use Rattle.volume_model.specs.Node.{Node, NodeStep}
 use Rattle.redo_record.specs.Packet.{packet_redo}
 use Rattle.lineage.specs.Lineage.{lineage_of}
 use Rattle.wire.specs.declared.message.Message.{Message}
-use Rattle.wire.specs.Message.{made_of, place_of}
+use Rattle.wire.specs.Message.{messages_of, place_of}
 use Rattle.hydration.specs.Copies.{copy_of}
 use Rattle.segment_core.specs.declared.prepared.Effect.{Effect}
 use Rattle.segment_core.specs.declared.prepared.Effect.TheVariants.{Nothing, Enter, Promise, Move, Replace, Keep, Hydrate}
 use Rattle.segment_core.specs.declared.prepared.Prepared.{Prepared}
 use Rattle.segment_core.specs.Records.{records_of}
 
--- the message that the step makes
-abbrev pub answer_of : Prepared → Option Message
-answer_of prepared = prepared.answer
+-- the messages that the step makes
+abbrev pub answers_of : Prepared → List Message
+answers_of prepared = prepared.answers.items
 
 -- what the effect makes of a node
 abbrev pub effected : Effect → Node → Node
@@ -28,10 +28,6 @@ effected (Keep copied) node = record node { copies = node.copies ++ copy_of copi
 effected (Hydrate volume lineage records) node =
     record node { volume = volume; whole = true; contents = record { lineage = lineage_of lineage; records = records_of records } }
 
--- a step that makes no message
-abbrev pub silent_step : Node → Effect → NodeStep
-silent_step node effect = record { made = []; node = effected effect node }
-
 -- what the step makes of a node
-abbrev pub step_of : Node → Prepared → NodeStep
-step_of node prepared = record { made = made_of prepared.answer; node = effected prepared.effect node }
+abbrev pub step_of : Prepared → Node → NodeStep
+step_of prepared node = record { made = messages_of (answers_of prepared); node = effected prepared.effect node }

@@ -1,4 +1,4 @@
-use Rattle.std.specs.Prelude.{◌≡◌, ℕ, true, false, not, ◌&&◌, ◌==◌, nat_lt, List, [], ◌∷◌, Option, Some, None, Result, Ok, Err}
+use Rattle.std.specs.Prelude.{◌≡◌, ◌⊎◌, ℕ, Bool, true, false, not, ◌&&◌, ◌==◌, nat_lt, List, [], ◌∷◌, Option, Some, None, Result, Ok, Err, Vec}
 use Rattle.std.specs.Arc.{arc_value}
 use Rattle.std.specs.Borrow.{Bor}
 use Rattle.std.specs.Global.{Global}
@@ -6,26 +6,27 @@ use Rattle.volume_model.specs.Plan as model
 use Rattle.volume_model.specs.Formula.{sat}
 use Rattle.volume_model.specs.Lineage.{last_epoch, newest, found_in}
 use Rattle.volume_model.specs.Redo.{scl}
-use Rattle.volume_model.specs.Node.{Node, NodeAnswer, NodeStep, born_node, contents_of, has_configuration, lineage_epoch, page_of, senders}
+use Rattle.volume_model.specs.Node.{Node, NodeAnswer, NodeStep, born_node, contents_of, has_configuration, hydrated, lineage_epoch, page_of, reaction, senders}
+use Rattle.volume_model.specs.Message as model_message
 use Rattle.volume_model.specs.Message.{Label}
-use Rattle.volume_model.specs.Message.Message.{Page}
-use Rattle.volume_model.specs.Answer.{◌>>=◌}
 use Rattle.volume_model.specs.Refusal.{refuse_if}
 use Rattle.volume_model.specs.declared.fault.Fault.{Fault}
-use Rattle.volume_model.specs.declared.fault.Fault.TheVariants.{NoActor, NoMemory, NotEnough, NotInstalled, NotWhole, PointAhead, TailSegment}
+use Rattle.volume_model.specs.declared.fault.Fault.TheVariants.{Full, NoActor, NotEnough, NotInstalled, NotWhole, PointAhead, TailSegment}
 use Rattle.quorum_expr.specs.declared.expression.Expr.{Expr}
 use Rattle.quorum_expr.specs.Expr.{formula_of}
 use Rattle.plan.specs.CheckedModel.{checked_model}
 use Rattle.redo_record.specs.Packet.{packet_redo}
 use Rattle.lineage.specs.Lineage.{lineage_of}
 use Rattle.wire.specs.declared.message.Message.{Message}
-use Rattle.wire.specs.Message.{made_of, message_of}
-use Rattle.hydration.specs.Hydration.{copies_of, CanKeep, Hydrated}
+use Rattle.wire.specs.Message.{message_of, messages_of}
+use Rattle.hydration.specs.declared.copied.State.{State}
+use Rattle.hydration.specs.Hydration.{copies_of, state_of, CanKeep, Hydrated}
 use Rattle.segment_core.specs.declared.prepared.Effect.{Effect}
 use Rattle.segment_core.specs.declared.prepared.Effect.TheVariants.{Enter, Keep}
 use Rattle.segment_core.specs.declared.prepared.Prepared.{Prepared}
 use Rattle.segment_core.specs.declared.segment.Segment.{Segment}
 use Rattle.redo_record.specs.Places.{IsPlaceFor}
+use Rattle.segment_core.specs.Prepared.{step_of}
 use Rattle.segment_core.specs.Records.{records_of, HasRoom}
 
 -- the node of the model that a segment is
@@ -66,27 +67,30 @@ pub record IsSameActor (old new : Segment) : Type 0 where
 abbrev pub born : model.Plan → ℕ → ℕ → Result Node Fault
 born plan group member = refuse_if (not (model.is_named plan group member)) NoActor (Ok (born_node plan group member))
 
--- a page of a node that keeps whole pages, or the first refusal
-unfoldable pub full_page : model.Plan → ℕ → ℕ → Node → ℕ → ℕ → Result (List ℕ) Fault
-full_page plan group member node block point =
+-- what the copies have made of a node, which is still as it was
+abbrev pub gathered_state : State → Node → Hydrated
+gathered_state state node = state_of state
+
+-- refused where the member keeps no whole pages, or the segment isn't complete up to the point
+unfoldable pub page_checks : {A : Type 0} → model.Plan → ℕ → ℕ → Node → ℕ → Result A Fault → Result A Fault
+page_checks plan group member node point rest =
     refuse_if (not (has_configuration plan group member node && model.is_full (plan.configuration group node.place.configuration) member)) TailSegment (
-    refuse_if (nat_lt (scl node.contents.records) point) PointAhead (
-    Ok (page_of node.contents.records block point)))
+    refuse_if (nat_lt (scl node.contents.records) point) PointAhead rest)
 
 -- the page of a whole node
 abbrev pub paged : model.Plan → ℕ → ℕ → Node → ℕ → ℕ → Result (List ℕ) Fault
-paged plan group member node block point = refuse_if (not node.whole) NotWhole (full_page plan group member node block point)
+paged plan group member node block point =
+    refuse_if (not node.whole) NotWhole (page_checks plan group member node point (Ok (page_of node.contents.records block point)))
 
 -- what a node answers to a question for a page whose label is right
 unfoldable pub page_answer : model.Plan → ℕ → ℕ → Node → Label → ℕ → ℕ → NodeAnswer
 page_answer plan group member node label block point =
-    refuse_if (not (lineage_epoch node == label.volume)) NotInstalled (
-    full_page plan group member node block point >>= λ bytes.
-    Ok (record { made = Page group label member block point bytes ∷ []; node = node }))
+    refuse_if (not (lineage_epoch node == label.volume)) NotInstalled (page_checks plan group member node point (
+    Ok (record { made = model_message.Message.Page group label member block point (page_of node.contents.records block point) ∷ []; node = node })))
 
--- the step that an offered message is
-abbrev pub offer_step : Node → Message → NodeStep
-offer_step node message = record { made = message_of message ∷ []; node = node }
+-- the step of a node that makes this message and becomes this
+abbrev pub offered_step : Message → Node → NodeStep
+offered_step message node = record { made = message_of message ∷ []; node = node }
 
 -- the read expression of the configuration that the node took last, and none where the member isn't one of it
 abbrev pub IsReadExpression : Option (Bor (Expr Global)) → model.Plan → ℕ → ℕ → Node → Type 0
@@ -101,26 +105,38 @@ gathered plan group member node =
     refuse_if (not (has_configuration plan group member node && sat (plan.configuration group node.place.configuration).read (senders node.copies))) NotEnough (
     Ok (record { volume = last_epoch lineage; contents = record { lineage = lineage; records = found_in lineage (contents_of node.copies) } }))
 
+-- what a segment does with a message, as the node that it is
+abbrev pub reaction_of : Segment → model_message.Message → NodeAnswer
+reaction_of s message = reaction (segment_plan s) (segment_group s) (segment_member s) (node_of s) message
+
+-- how a segment becomes whole, as the node that it is
+abbrev pub hydration_of : Segment → NodeAnswer
+hydration_of s = hydrated (segment_plan s) (segment_group s) (segment_member s) (node_of s)
+
 -- there is room for what enters, in its place, and what is to be kept can be kept
 abbrev pub CanTake : Segment → Effect → Type 0
 CanTake s (Enter entrant) = HasRoom s.records × IsPlaceFor (records_of s.records) (packet_redo entrant.packet) entrant.place
 CanTake s (Keep copied) = CanKeep s.copies copied
 CanTake s effect = Unit {0}
 
--- the segment is ready to take the step
+-- a step that the segment may take as it is: one by a message, or that by which it becomes whole
+abbrev pub MayStep : Segment → NodeStep → Type 0
+MayStep s step = ((message : model_message.Message) × (reaction_of s message ≡ Ok step)) ⊎ (hydration_of s ≡ Ok step)
+
+-- The segment is ready to take the step: it is one of the steps of this very state, and there is room for it.
 pub record IsReady (s : Segment) (prepared : Prepared) : Type 0 where
+  pub may_step : MayStep s (step_of prepared (node_of s))
   pub can_take : CanTake s prepared.effect
 
--- a refused node stays as it was, and so does one that is refused memory; otherwise it makes its answer and becomes what the
--- definition says
-abbrev pub Reacts : NodeAnswer → Node → Result (Option Message) Fault → Node → Type 0
-Reacts defined old (Ok answer) new = defined ≡ Ok (record { made = made_of answer; node = new })
-Reacts defined old (Err NoMemory) new = new ≡ old
-Reacts defined old (Err fault) new = (defined ≡ Err fault) × (new ≡ old)
+-- the step of a node that makes these messages and becomes this
+abbrev pub answered : Vec Message Global → Node → NodeStep
+answered messages node = record { made = messages_of messages.items; node = node }
 
--- a node that makes no message becomes what the definition says; a refused node stays as it was, and so does one that is refused
--- memory
-abbrev pub Becomes : NodeAnswer → Node → Result (Unit {0}) Fault → Node → Type 0
-Becomes defined old (Ok u) new = defined ≡ Ok (record { made = []; node = new })
-Becomes defined old (Err NoMemory) new = new ≡ old
-Becomes defined old (Err fault) new = (defined ≡ Err fault) × (new ≡ old)
+-- the step of a node that makes no message and becomes this
+abbrev pub became : Unit {0} → Node → NodeStep
+became u node = record { made = []; node = node }
+
+-- that more records were found than a segment holds may be said after want of memory, since they must be gathered first
+abbrev pub is_full : Fault → Bool
+is_full Full = true
+is_full fault = false

@@ -43,18 +43,18 @@ pub enum Effect {
 /// A step that a segment is ready to take.
 #[derive(Drop)]
 pub struct Prepared {
-    pub(crate) answer: Option<Message>,
+    pub(crate) answers: Vec<Message>,
     pub(crate) effect: Effect,
 }
 
 impl Prepared {
-    ghost use Rattle.std.specs.Prelude.{◌≡◌, option_copied};
-    ghost use Rattle.segment_core.specs.Prepared.{answer_of};
+    ghost use Rattle.std.specs.Prelude.{◌≡◌};
+    ghost use Rattle.segment_core.specs.Prepared.{answers_of};
 
-    /// The message that the step makes.
-    pub fn answer(&self) -> Option<&Message>
-        ensures { option_copied result ≡ answer_of self.now }
+    /// The messages that the step makes.
+    pub fn answers(&self) -> &[Message]
+        ensures { result.now ≡ answers_of self.now }
     {
-        self.answer.as_ref()
+        self.answers.as_slice()
     }
 }

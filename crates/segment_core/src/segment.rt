@@ -13,7 +13,7 @@ use std::sync::Arc;
 use volume_model::Fault;
 use wire::{
     Ack, Contents, CopyAsk, CopyReport, Fence, Gossip, Install, Label, Message, Page, PageAsk,
-    Report, StepTo,
+    Report, StepTo, only,
 };
 
 /// How many records a segment holds at most.
@@ -39,21 +39,22 @@ pub struct Segment {
 }
 
 impl Segment {
-    ghost use Rattle.std.specs.Prelude.{◌≡◌, ◌==◌, not, [], ◌∷◌, Ok, Err, IfOk, OnOk, OnErr, MatchResult};
+    ghost use Rattle.std.specs.Prelude.{◌≡◌, ◌==◌, ℕ, not, List, [], ◌∷◌, Result, Ok, Err, IfErr, IfOk, MatchResult, ◌≢◌};
     ghost use Rattle.std.specs.Arc.{arc_value};
-    ghost use Rattle.volume_model.specs.Answer.{Gives};
+    ghost use Rattle.volume_model.specs.Answer.{Answers, AnswersAlways, AnswersLate, Gives};
     ghost use Rattle.volume_model.specs.Refusal.{refuse_if};
-    ghost use Rattle.volume_model.specs.declared.fault.Fault.TheVariants.{NotAddressed, NotInstalled};
+    ghost use Rattle.volume_model.specs.declared.fault.Fault.{Fault as FaultName};
+    ghost use Rattle.volume_model.specs.declared.fault.Fault.TheVariants.{NoMemory, NotAddressed, NotInstalled};
     ghost use Rattle.volume_model.specs.Redo.{record_at, scl};
-    ghost use Rattle.volume_model.specs.Node.{NodeAnswer, gossip_of, has_configuration, hydrated, label_checks, lineage_epoch, offered, reaction, restarted, take_record};
+    ghost use Rattle.volume_model.specs.Node.{NodeAnswer, gossip_of, has_configuration, label_checks, lineage_epoch, offered, restarted, take_record};
     ghost use Rattle.plan.specs.CheckedModel.{checked_model};
     ghost use Rattle.redo_record.specs.Packet.{packet_redo};
     ghost use Rattle.volume_model.specs.Message as model;
     ghost use Rattle.wire.specs.Contents.{contents_of};
-    ghost use Rattle.wire.specs.Message.{label_of, message_of, made_of};
+    ghost use Rattle.wire.specs.Message.{label_of, message_of, messages_of};
     ghost use Rattle.hydration.specs.Hydration.{state_of};
-    ghost use Rattle.segment_core.specs.Prepared.{answer_of, effected, silent_step, step_of};
-    ghost use Rattle.segment_core.specs.Segment.{node_of, segment_plan, segment_group, segment_member, born, full_page, gathered, offer_step, page_answer, paged, Becomes, CanTake, IsReadExpression, IsSegmentOf, IsSameActor, IsReady, Reacts};
+    ghost use Rattle.segment_core.specs.Prepared.{answers_of, effected, step_of};
+    ghost use Rattle.segment_core.specs.Segment.{node_of, segment_plan, segment_group, segment_member, answered, became, born, gathered, gathered_state, hydration_of, is_full, offered_step, page_checks, paged, page_answer, reaction_of, CanTake, IsReadExpression, IsSegmentOf, IsSameActor, IsReady};
 
     /// The segment of a member of a group, as it is born. Refused 82 where the plan names no such member.
     pub fn new(
@@ -125,7 +126,8 @@ impl Segment {
 
     /// The tests of a message's label.
     fn check_label(&self, label: Label) -> Result<(), Fault>
-        ensures { MatchResult result (λ _. (rest : NodeAnswer) → label_checks (node_of self.now) (label_of label) rest ≡ rest) (λ fault. (rest : NodeAnswer) → label_checks (node_of self.now) (label_of label) rest ≡ Err fault) }
+        ensures own { IfErr result (λ fault. fault ≢ NoMemory) }
+        ensures checks { MatchResult result (λ _. (rest : NodeAnswer) → label_checks (node_of self.now) (label_of label) rest ≡ rest) (λ fault. (rest : NodeAnswer) → label_checks (node_of self.now) (label_of label) rest ≡ Err fault) }
     {
         if label.member < self.epoch {
             return Err(Fault::StaleMember);
@@ -143,26 +145,33 @@ impl Segment {
     }
 
     /// The step that acknowledges what is held after it.
-    fn acknowledged(&self, label: Label, scl: u64, effect: Effect) -> Prepared
-        ensures made { made_of (answer_of result) ≡ model.Message.Ack (segment_group self.now) (label_of label) (segment_member self.now) scl ∷ [] }
-        ensures effect { result.effect ≡ effect }
+    fn acknowledged(
+        &self,
+        alloc: Global,
+        label: Label,
+        scl: u64,
+        effect: Effect,
+    ) -> Result<Prepared, AllocError>
+        ensures made { IfOk result (λ prepared. messages_of (answers_of prepared) ≡ model.Message.Ack (segment_group self.now) (label_of label) (segment_member self.now) scl ∷ []) }
+        ensures effect { IfOk result (λ prepared. prepared.effect ≡ effect) }
     {
         let from = self.member;
-        Prepared {
-            answer: Some(Message::Ack(Ack {
-                group: self.group,
-                label,
-                from,
-                scl,
-            })),
+        let ack = Ack {
+            group: self.group,
+            label,
+            from,
+            scl,
+        };
+        Ok(Prepared {
+            answers: only(alloc, Message::Ack(ack))?,
             effect,
-        }
+        })
     }
 
     /// Makes ready to promise a recovery its volume epoch.
     fn prepare_fence(&self, alloc: Global, fence: &Fence) -> Result<Prepared, Fault>
-        ensures step { Gives (step_of (node_of self.now)) result (reaction (segment_plan self.now) (segment_group self.now) (segment_member self.now) (node_of self.now) (message_of (Message.Fence fence.now))) }
-        ensures ready { IfOk result (λ prepared. IsReady self.now prepared) }
+        ensures step { Answers step_of (reaction_of self.now (message_of (Message.Fence fence.now))) (node_of self.now) result (node_of self.now) }
+        ensures ready { IfOk result (λ prepared. CanTake self.now prepared.effect) }
     {
         if fence.group != self.group {
             return Err(Fault::NotAddressed);
@@ -175,15 +184,15 @@ impl Segment {
             contents: self.contents(alloc)?,
         };
         Ok(Prepared {
-            answer: Some(Message::Report(report)),
+            answers: only(alloc, Message::Report(report))?,
             effect: Effect::Promise(fence.label.volume),
         })
     }
 
     /// Makes ready to hold what a recovery found.
     fn prepare_install(&self, alloc: Global, install: &Install) -> Result<Prepared, Fault>
-        ensures step { Gives (step_of (node_of self.now)) result (reaction (segment_plan self.now) (segment_group self.now) (segment_member self.now) (node_of self.now) (message_of (Message.Install install.now))) }
-        ensures ready { IfOk result (λ prepared. IsReady self.now prepared) }
+        ensures step { Answers step_of (reaction_of self.now (message_of (Message.Install install.now))) (node_of self.now) result (node_of self.now) }
+        ensures ready { IfOk result (λ prepared. CanTake self.now prepared.effect) }
     {
         if !install.is_for(self.group) {
             return Err(Fault::NotAddressed);
@@ -195,7 +204,7 @@ impl Segment {
         let volume = install.label.volume;
         if self.lineage.last_epoch() == volume {
             let scl = self.records.complete_point();
-            return Ok(self.acknowledged(install.label, scl, Effect::Promise(volume)));
+            return Ok(self.acknowledged(alloc, install.label, scl, Effect::Promise(volume))?);
         }
         let lineage = install.contents.lineage.clone()?;
         let records = Records::from_set(alloc, &install.contents.records)?;
@@ -205,13 +214,18 @@ impl Segment {
             lineage,
             records,
         };
-        Ok(self.acknowledged(install.label, scl, effect))
+        Ok(self.acknowledged(alloc, install.label, scl, effect)?)
     }
 
     /// Makes ready to take a record of its group.
-    fn prepare_record(&mut self, label: Label, packet: &Packet) -> Result<Prepared, Fault>
-        ensures step { Gives (step_of (node_of self.old)) result (take_record (segment_group self.old) (segment_member self.old) (node_of self.old) (label_of label) (packet_redo packet.now)) }
-        ensures ready { IfOk result (λ prepared. IsReady self.new prepared) }
+    fn prepare_record(
+        &mut self,
+        alloc: Global,
+        label: Label,
+        packet: &Packet,
+    ) -> Result<Prepared, Fault>
+        ensures step { Answers step_of (take_record (segment_group self.old) (segment_member self.old) (node_of self.old) (label_of label) (packet_redo packet.now)) (node_of self.old) result (node_of self.old) }
+        ensures ready { IfOk result (λ prepared. CanTake self.new prepared.effect) }
         ensures node { node_of self.new ≡ node_of self.old }
         ensures actor { IsSameActor self.old self.new }
     {
@@ -221,7 +235,7 @@ impl Segment {
         }
         let Some(place) = self.records.place_for(packet) else {
             let scl = self.records.complete_point();
-            return Ok(self.acknowledged(label, scl, Effect::Nothing));
+            return Ok(self.acknowledged(alloc, label, scl, Effect::Nothing)?);
         };
         if self.records.len() >= MOST_RECORDS {
             return Err(Fault::Full);
@@ -232,13 +246,13 @@ impl Segment {
             place,
             packet: *packet,
         };
-        Ok(self.acknowledged(label, scl, Effect::Enter(entrant)))
+        Ok(self.acknowledged(alloc, label, scl, Effect::Enter(entrant))?)
     }
 
     /// Makes ready to stand elsewhere.
-    fn prepare_step(&self, step: &StepTo) -> Result<Prepared, Fault>
-        ensures step { Gives (step_of (node_of self.now)) result (reaction (segment_plan self.now) (segment_group self.now) (segment_member self.now) (node_of self.now) (message_of (Message.StepTo step.now))) }
-        ensures ready { IfOk result (λ prepared. IsReady self.now prepared) }
+    fn prepare_step(&self, alloc: Global, step: &StepTo) -> Result<Prepared, Fault>
+        ensures step { Answers step_of (reaction_of self.now (message_of (Message.StepTo step.now))) (node_of self.now) result (node_of self.now) }
+        ensures ready { IfOk result (λ prepared. CanTake self.now prepared.effect) }
     {
         if step.group != self.group {
             return Err(Fault::NotAddressed);
@@ -258,10 +272,10 @@ impl Segment {
             epoch: place.epoch,
         };
         Ok(Prepared {
-            answer: if self.whole {
-                None
+            answers: if self.whole {
+                Vec::new(alloc)
             } else {
-                Some(Message::CopyAsk(ask))
+                only(alloc, Message::CopyAsk(ask))?
             },
             effect: Effect::Move(place),
         })
@@ -269,8 +283,8 @@ impl Segment {
 
     /// Makes ready to say what it holds to a node that isn't whole.
     fn prepare_copy(&self, alloc: Global, ask: &CopyAsk) -> Result<Prepared, Fault>
-        ensures step { Gives (step_of (node_of self.now)) result (reaction (segment_plan self.now) (segment_group self.now) (segment_member self.now) (node_of self.now) (message_of (Message.CopyAsk ask.now))) }
-        ensures ready { IfOk result (λ prepared. IsReady self.now prepared) }
+        ensures step { Answers step_of (reaction_of self.now (message_of (Message.CopyAsk ask.now))) (node_of self.now) result (node_of self.now) }
+        ensures ready { IfOk result (λ prepared. CanTake self.now prepared.effect) }
     {
         if ask.group != self.group {
             return Err(Fault::NotAddressed);
@@ -289,7 +303,7 @@ impl Segment {
                 contents: self.contents(alloc)?,
             };
             Ok(Prepared {
-                answer: Some(Message::CopyReport(report)),
+                answers: only(alloc, Message::CopyReport(report))?,
                 effect: Effect::Nothing,
             })
         } else {
@@ -298,9 +312,9 @@ impl Segment {
     }
 
     /// Makes ready to keep what another node holds.
-    fn prepare_copied(&mut self, report: &CopyReport) -> Result<Prepared, Fault>
-        ensures step { Gives (step_of (node_of self.old)) result (reaction (segment_plan self.old) (segment_group self.old) (segment_member self.old) (node_of self.old) (message_of (Message.CopyReport report.now))) }
-        ensures ready { IfOk result (λ prepared. IsReady self.new prepared) }
+    fn prepare_copied(&mut self, alloc: Global, report: &CopyReport) -> Result<Prepared, Fault>
+        ensures step { Answers step_of (reaction_of self.old (message_of (Message.CopyReport report.now))) (node_of self.old) result (node_of self.old) }
+        ensures ready { IfOk result (λ prepared. CanTake self.new prepared.effect) }
         ensures node { node_of self.new ≡ node_of self.old }
         ensures actor { IsSameActor self.old self.new }
     {
@@ -321,7 +335,7 @@ impl Segment {
             None => Effect::Nothing,
         };
         Ok(Prepared {
-            answer: None,
+            answers: Vec::new(alloc),
             effect,
         })
     }
@@ -336,11 +350,12 @@ impl Segment {
                 .has_member(self.group, self.configuration, self.member)
     }
 
-    /// The page of a block at a point, of a member that keeps whole pages. Refused 60 where it keeps none, 61 where the segment isn't
-    /// complete up to the point.
-    #[tactic(auto, unfolding(crate::specs::Segment::full_page))]
-    fn full_page(&self, block: u32, point: u64) -> Result<[u8; BLOCK], Fault>
-        ensures { Gives (λ page. page) result (full_page (segment_plan self.now) (segment_group self.now) (segment_member self.now) (node_of self.now) block point) }
+    /// The tests of a question for a page: 60 where the member keeps no whole pages, 61 where the segment isn't complete up to the point.
+    #[tactic(auto, unfolding(crate::specs::Segment::page_checks))]
+    fn check_page(&self, point: u64) -> Result<(), Fault>
+        ensures own { IfErr result (λ fault. fault ≢ NoMemory) }
+        ensures answers { MatchResult result (λ _. (rest : NodeAnswer) → page_checks (segment_plan self.now) (segment_group self.now) (segment_member self.now) (node_of self.now) point rest ≡ rest) (λ fault. (rest : NodeAnswer) → page_checks (segment_plan self.now) (segment_group self.now) (segment_member self.now) (node_of self.now) point rest ≡ Err fault) }
+        ensures pages { MatchResult result (λ _. (rest : Result (List ℕ) FaultName) → page_checks (segment_plan self.now) (segment_group self.now) (segment_member self.now) (node_of self.now) point rest ≡ rest) (λ fault. (rest : Result (List ℕ) FaultName) → page_checks (segment_plan self.now) (segment_group self.now) (segment_member self.now) (node_of self.now) point rest ≡ Err fault) }
     {
         if !self.has_configuration()
             || !self
@@ -352,49 +367,49 @@ impl Segment {
         if self.records.complete_point() < point {
             return Err(Fault::PointAhead);
         }
-        Ok(self.records.page(block, point))
+        Ok(())
     }
 
     /// The page of a block at a point. Refused 54 before the segment is whole, 60 where the member keeps no whole pages, 61 where the
-    /// segment isn't complete up to the point.
+    /// segment isn't complete up to the point. Takes no memory.
     pub fn page_at(&self, block: u32, point: u64) -> Result<[u8; BLOCK], Fault>
-        ensures { Gives (λ page. page) result (paged (segment_plan self.now) (segment_group self.now) (segment_member self.now) (node_of self.now) block point) }
+        ensures { result ≡ paged (segment_plan self.now) (segment_group self.now) (segment_member self.now) (node_of self.now) block point }
     {
-        if self.whole {
-            self.full_page(block, point)
-        } else {
-            Err(Fault::NotWhole)
+        if !self.whole {
+            return Err(Fault::NotWhole);
         }
+        self.check_page(point)?;
+        Ok(self.records.page(block, point))
     }
 
     /// The step that answers a question with a page.
     #[tactic(auto, unfolding(crate::specs::Segment::page_answer))]
     fn answer_page(&self, alloc: Global, ask: &PageAsk) -> Result<Prepared, Fault>
-        ensures step { Gives (step_of (node_of self.now)) result (page_answer (segment_plan self.now) (segment_group self.now) (segment_member self.now) (node_of self.now) (label_of ask.now.label) ask.now.block ask.now.point) }
-        ensures ready { IfOk result (λ prepared. IsReady self.now prepared) }
+        ensures step { Answers step_of (page_answer (segment_plan self.now) (segment_group self.now) (segment_member self.now) (node_of self.now) (label_of ask.now.label) ask.now.block ask.now.point) (node_of self.now) result (node_of self.now) }
+        ensures ready { IfOk result (λ prepared. CanTake self.now prepared.effect) }
     {
         if self.lineage.last_epoch() != ask.label.volume {
             return Err(Fault::NotInstalled);
         }
-        let bytes = self.full_page(ask.block, ask.point)?;
+        self.check_page(ask.point)?;
         let page = Page {
             group: self.group,
             label: ask.label,
             from: self.member,
             block: ask.block,
             point: ask.point,
-            bytes: Box::new(alloc, bytes)?,
+            bytes: Box::new(alloc, self.records.page(ask.block, ask.point))?,
         };
         Ok(Prepared {
-            answer: Some(Message::Page(page)),
+            answers: only(alloc, Message::Page(page))?,
             effect: Effect::Nothing,
         })
     }
 
     /// Makes ready to answer with a page.
     fn prepare_page(&self, alloc: Global, ask: &PageAsk) -> Result<Prepared, Fault>
-        ensures step { Gives (step_of (node_of self.now)) result (refuse_if (not (ask.now.group == segment_group self.now)) NotAddressed (label_checks (node_of self.now) (label_of ask.now.label) (page_answer (segment_plan self.now) (segment_group self.now) (segment_member self.now) (node_of self.now) (label_of ask.now.label) ask.now.block ask.now.point))) }
-        ensures ready { IfOk result (λ prepared. IsReady self.now prepared) }
+        ensures step { Answers step_of (refuse_if (not (ask.now.group == segment_group self.now)) NotAddressed (label_checks (node_of self.now) (label_of ask.now.label) (page_answer (segment_plan self.now) (segment_group self.now) (segment_member self.now) (node_of self.now) (label_of ask.now.label) ask.now.block ask.now.point))) (node_of self.now) result (node_of self.now) }
+        ensures ready { IfOk result (λ prepared. CanTake self.now prepared.effect) }
     {
         if ask.group != self.group {
             return Err(Fault::NotAddressed);
@@ -405,7 +420,7 @@ impl Segment {
 
     /// A record that it holds, for the other nodes of its group.
     fn gossip(&self, lsn: u64) -> Result<Message, Fault>
-        ensures { Gives (offer_step (node_of self.now)) result (refuse_if (not ((node_of self.now).volume == lineage_epoch (node_of self.now))) NotInstalled (gossip_of (segment_group self.now) (node_of self.now) (record_at (node_of self.now).contents.records lsn))) }
+        ensures { AnswersAlways offered_step (refuse_if (not ((node_of self.now).volume == lineage_epoch (node_of self.now))) NotInstalled (gossip_of (segment_group self.now) (node_of self.now) (record_at (node_of self.now).contents.records lsn))) (node_of self.now) result (node_of self.now) }
     {
         if self.volume != self.lineage.last_epoch() {
             return Err(Fault::NotInstalled);
@@ -426,9 +441,9 @@ impl Segment {
 
     /// A record that it holds, for the other nodes of its group, of several with the number the first in the order of their bytes.
     /// Refused 54 before the segment is whole, 53 where its lineage isn't that of the volume epoch that it has promised, 58 where it
-    /// holds no such record.
+    /// holds no such record. Takes no memory.
     pub fn offer(&self, lsn: u64) -> Result<Message, Fault>
-        ensures { Gives (offer_step (node_of self.now)) result (offered (segment_group self.now) (node_of self.now) lsn) }
+        ensures { AnswersAlways offered_step (offered (segment_group self.now) (node_of self.now) lsn) (node_of self.now) result (node_of self.now) }
     {
         if self.whole {
             self.gossip(lsn)
@@ -437,10 +452,10 @@ impl Segment {
         }
     }
 
-    /// Makes ready to take a message: gives every refusal, makes every growth, and works out the answer.
-    pub fn prepare(&mut self, alloc: Global, message: &Message) -> Result<Prepared, Fault>
-        ensures step { Gives (step_of (node_of self.old)) result (reaction (segment_plan self.old) (segment_group self.old) (segment_member self.old) (node_of self.old) (message_of message.now)) }
-        ensures ready { IfOk result (λ prepared. IsReady self.new prepared) }
+    /// Makes ready for a message, as [`Segment::prepare`] does.
+    fn prepared(&mut self, alloc: Global, message: &Message) -> Result<Prepared, Fault>
+        ensures step { Answers step_of (reaction_of self.old (message_of message.now)) (node_of self.old) result (node_of self.old) }
+        ensures ready { IfOk result (λ prepared. CanTake self.new prepared.effect) }
         ensures node { node_of self.new ≡ node_of self.old }
         ensures actor { IsSameActor self.old self.new }
     {
@@ -448,17 +463,29 @@ impl Segment {
             Message::Fence(fence) => self.prepare_fence(alloc, fence),
             Message::Install(install) => self.prepare_install(alloc, install),
             Message::Write(write) if write.is_for(self.group) => {
-                self.prepare_record(write.label, &write.packet)
+                self.prepare_record(alloc, write.label, &write.packet)
             }
             Message::Gossip(gossip) if gossip.is_for(self.group) => {
-                self.prepare_record(gossip.label, &gossip.packet)
+                self.prepare_record(alloc, gossip.label, &gossip.packet)
             }
-            Message::StepTo(step) => self.prepare_step(step),
+            Message::StepTo(step) => self.prepare_step(alloc, step),
             Message::CopyAsk(ask) => self.prepare_copy(alloc, ask),
-            Message::CopyReport(report) => self.prepare_copied(report),
+            Message::CopyReport(report) => self.prepare_copied(alloc, report),
             Message::PageAsk(ask) => self.prepare_page(alloc, ask),
             _ => Err(Fault::NotAddressed),
         }
+    }
+
+    /// Makes ready to take a message: gives every refusal, makes every growth, and works out the answers. Nothing that the segment
+    /// holds has changed, and what was made ready is a step of the segment as it is now.
+    pub fn prepare(&mut self, alloc: Global, message: &Message) -> Result<Prepared, Fault>
+        ensures step { Answers step_of (reaction_of self.old (message_of message.now)) (node_of self.old) result (node_of self.old) }
+        ensures ready { IfOk result (λ prepared. IsReady self.new prepared) }
+        ensures node { node_of self.new ≡ node_of self.old }
+        ensures actor { IsSameActor self.old self.new }
+    {
+        let prepared = self.prepared(alloc, message)?;
+        Ok(prepared)
     }
 
     /// The read expression of the configuration that it took last, `None` where its member isn't one of it.
@@ -475,18 +502,25 @@ impl Segment {
     /// What the copies make of it.
     #[tactic(auto, unfolding(crate::specs::Segment::gathered))]
     fn gathered(&self, alloc: Global) -> Result<State, Fault>
-        ensures { Gives state_of result (gathered (segment_plan self.now) (segment_group self.now) (segment_member self.now) (node_of self.now)) }
+        ensures { Answers gathered_state (gathered (segment_plan self.now) (segment_group self.now) (segment_member self.now) (node_of self.now)) (node_of self.now) result (node_of self.now) }
     {
         let Some(read) = self.read_expression() else {
             return Err(Fault::NotEnough);
         };
-        self.copies.finish(alloc, read)?.ok_or(Fault::NotEnough)
+        match self.copies.finish(alloc, read) {
+            Ok(Some(state)) => Ok(state),
+            Ok(None) => Err(Fault::NotEnough),
+            Err(_) => Err(Fault::NoMemory),
+        }
     }
 
-    /// Makes ready to become whole.
-    fn prepare_hydration(&self, alloc: Global) -> Result<Effect, Fault>
-        ensures step { Gives (silent_step (node_of self.now)) result (hydrated (segment_plan self.now) (segment_group self.now) (segment_member self.now) (node_of self.now)) }
-        ensures ready { IfOk result (λ effect. CanTake self.now effect) }
+    /// Makes ready to become whole. Refused 56 where it is whole, 57 where its member isn't one of the configuration that it took last or
+    /// the copies aren't those of a read set of it, 55 where more records were found than a segment holds; want of memory may come
+    /// before 55.
+    pub fn prepare_hydration(&self, alloc: Global) -> Result<Prepared, Fault>
+        ensures silent { IfOk result (λ prepared. answers_of prepared ≡ []) }
+        ensures step { AnswersLate is_full step_of (hydration_of self.now) (node_of self.now) result (node_of self.now) }
+        ensures ready { IfOk result (λ prepared. IsReady self.now prepared) }
     {
         if self.whole {
             return Err(Fault::AlreadyWhole);
@@ -496,10 +530,13 @@ impl Segment {
             return Err(Fault::Full);
         }
         let records = Records::from_set(alloc, &contents.records)?;
-        Ok(Effect::Hydrate {
-            volume: self.volume.max(volume),
-            lineage: contents.lineage,
-            records,
+        Ok(Prepared {
+            answers: Vec::new(alloc),
+            effect: Effect::Hydrate {
+                volume: self.volume.max(volume),
+                lineage: contents.lineage,
+                records,
+            },
         })
     }
 
@@ -541,35 +578,34 @@ impl Segment {
         }
     }
 
-    /// Takes the step that it made ready for last, and answers the message that the step makes.
-    pub fn apply(&mut self, prepared: Prepared) -> Option<Message>
+    /// Takes a step that it was made ready for, and answers the messages that the step makes. Takes no memory.
+    pub fn apply(&mut self, prepared: Prepared) -> Vec<Message>
         requires { IsReady self.old prepared }
-        ensures answer { result ≡ answer_of prepared }
-        ensures node { node_of self.new ≡ (step_of (node_of self.old) prepared).node }
+        ensures answers { result.items ≡ answers_of prepared }
+        ensures node { node_of self.new ≡ (step_of prepared (node_of self.old)).node }
         ensures actor { IsSameActor self.old self.new }
     {
-        let Prepared { answer, effect } = prepared;
+        let Prepared { answers, effect } = prepared;
         self.take(effect);
-        answer
+        answers
     }
 
-    /// Takes a message: the first refusal that applies, and the segment unchanged, or else its effect and its answer.
-    pub fn deliver(&mut self, alloc: Global, message: &Message) -> Result<Option<Message>, Fault>
-        ensures reacts { Reacts (reaction (segment_plan self.old) (segment_group self.old) (segment_member self.old) (node_of self.old) (message_of message.now)) (node_of self.old) result (node_of self.new) }
+    /// Takes a message: the first refusal that applies, and the segment unchanged, or else its effect and its answers.
+    pub fn deliver(&mut self, alloc: Global, message: &Message) -> Result<Vec<Message>, Fault>
+        ensures answers { Answers answered (reaction_of self.old (message_of message.now)) (node_of self.old) result (node_of self.new) }
         ensures actor { IsSameActor self.old self.new }
     {
         let prepared = self.prepare(alloc, message)?;
         Ok(self.apply(prepared))
     }
 
-    /// Becomes whole: takes the newest lineage of its copies and all their records that are live in it. Refused 56 where it is whole, 57
-    /// where its member isn't one of the configuration that it took last or the copies aren't those of a read set of it, 55 where
-    /// more records were found than a segment holds. Where memory runs out nothing has changed; that may be said before 55.
+    /// Becomes whole: takes the newest lineage of its copies and all their records that are live in it. Refused as
+    /// [`Segment::prepare_hydration`] says, and then nothing has changed.
     pub fn hydrate(&mut self, alloc: Global) -> Result<(), Fault>
-        ensures node { Becomes (hydrated (segment_plan self.old) (segment_group self.old) (segment_member self.old) (node_of self.old)) (node_of self.old) result (node_of self.new) }
+        ensures answers { AnswersLate is_full became (hydration_of self.old) (node_of self.old) result (node_of self.new) }
         ensures actor { IsSameActor self.old self.new }
     {
-        let effect = self.prepare_hydration(alloc)?;
+        let Prepared { effect, .. } = self.prepare_hydration(alloc)?;
         self.take(effect);
         Ok(())
     }

@@ -1,4 +1,4 @@
-use Rattle.std.specs.Prelude.{List, [], ◌∷◌, map, Option, Some, None}
+use Rattle.std.specs.Prelude.{List, map}
 use Rattle.volume_model.specs.Message as model
 use Rattle.redo_record.specs.Packet.{packet_redo}
 use Rattle.wire.specs.declared.label.Label.{Label}
@@ -29,11 +29,6 @@ message_of (CopyAsk m) = model.Message.CopyAsk m.group m.epoch
 message_of (CopyReport m) = model.Message.CopyReport m.group m.epoch m.from (contents_of m.contents)
 message_of (PageAsk m) = model.Message.PageAsk m.group (label_of m.label) m.block m.point
 message_of (Page m) = model.Message.Page m.group (label_of m.label) m.from m.block m.point m.bytes.value
-
--- the messages that an answer is
-abbrev pub made_of : Option Message → List model.Message
-made_of None = []
-made_of (Some message) = message_of message ∷ []
 
 -- the messages of the model that these are, in their order
 abbrev pub messages_of : List Message → List model.Message

@@ -3,11 +3,13 @@
 
 mod contents;
 mod label;
+mod list;
 mod message;
 mod view;
 
 pub use contents::Contents;
 pub use label::{Label, Place};
+pub use list::only;
 pub use message::{
     Ack, CopyAsk, CopyReport, Fence, Gossip, Install, Message, Page, PageAsk, Report, StepTo, Write,
 };

@@ -5,15 +5,15 @@ use std::test::*;
 use wire::Message;
 
 /// The kind of an answer, and its number that matters: a complete point, how many records, a membership epoch, a page's first byte.
-fn told(answer: Option<&Message>) -> (&'static str, u64) {
-    match answer {
-        None => ("nothing", 0),
-        Some(Message::Ack(ack)) => ("acknowledgement", ack.scl),
-        Some(Message::Report(report)) => ("report", report.contents.records.len() as u64),
-        Some(Message::CopyReport(copy)) => ("copy", copy.contents.records.len() as u64),
-        Some(Message::CopyAsk(ask)) => ("question", u64::from(ask.epoch)),
-        Some(Message::Page(page)) => ("page", u64::from(page.bytes[0])),
-        Some(_) => ("another", 0),
+fn told(answers: &[Message]) -> (&'static str, u64) {
+    match answers {
+        [] => ("nothing", 0),
+        [Message::Ack(ack)] => ("acknowledgement", ack.scl),
+        [Message::Report(report)] => ("report", report.contents.records.len() as u64),
+        [Message::CopyReport(copy)] => ("copy", copy.contents.records.len() as u64),
+        [Message::CopyAsk(ask)] => ("question", u64::from(ask.epoch)),
+        [Message::Page(page)] => ("page", u64::from(page.bytes[0])),
+        _ => ("another", 0),
     }
 }
 
@@ -21,8 +21,8 @@ fn told(answer: Option<&Message>) -> (&'static str, u64) {
 fn answer(alloc: Global, at: At, message: &Message) -> Result<(&'static str, u64), Fail> {
     let mut node = node(alloc, at)?;
     let _first = node.deliver(alloc, &write(0, LABEL, packet(1, 0)?));
-    let answer = node.deliver(alloc, message)?;
-    Ok(told(answer.as_ref()))
+    let answers = node.deliver(alloc, message)?;
+    Ok(told(answers.as_slice()))
 }
 
 /// The answer to each message.
@@ -60,15 +60,18 @@ fn answers(rt: HostRuntime) -> Result<(), Fail> {
     Ok(())
 }
 
-/// A step in two parts: what was prepared shows its answer, and nothing has changed before it is applied.
+/// A step in two parts: what was prepared shows its answers, and nothing has changed before it is applied.
 #[test]
 fn prepared(rt: HostRuntime) -> Result<(), Fail> {
     let alloc = rt.alloc();
     let mut node = node(alloc, At::Whole)?;
     let prepared = node.prepare(alloc, &write(0, LABEL, packet(1, 0)?))?;
-    assert_eq!(rt; told(prepared.answer()), ("acknowledgement", 1));
+    assert_eq!(rt; told(prepared.answers()), ("acknowledgement", 1));
     assert_eq!(rt; node.scl(), 0);
-    assert_eq!(rt; told(node.apply(prepared).as_ref()), ("acknowledgement", 1));
+    assert_eq!(rt;
+        told(node.apply(prepared).as_slice()),
+        ("acknowledgement", 1)
+    );
     assert_eq!(rt; node.scl(), 1);
     Ok(())
 }

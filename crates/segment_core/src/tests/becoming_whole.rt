@@ -43,7 +43,8 @@ fn before_it_is_whole(rt: HostRuntime) -> Result<(), Fail> {
     );
     assert_eq!(rt; node.page_at(0, 0).err(), Some(Fault::NotWhole));
     assert_eq!(rt; node.offer(1).err(), Some(Fault::NotWhole));
-    let Some(Message::CopyAsk(ask)) = node.deliver(alloc, &step(0, 1, 2))? else {
+    let answers = node.deliver(alloc, &step(0, 1, 2))?;
+    let [Message::CopyAsk(ask)] = answers.as_slice() else {
         return Err(Fail::from("a question for copies"));
     };
     assert_eq!(rt; ask.epoch, 2);
@@ -64,6 +65,20 @@ fn copies_of_a_read_set(rt: HostRuntime) -> Result<(), Fail> {
     assert_eq!(rt; node.hydrate(alloc), Ok(()));
     assert_eq!(rt; node.scl(), 1);
     assert_eq!(rt; node.hydrate(alloc), Err(Fault::AlreadyWhole));
+    Ok(())
+}
+
+/// What was made ready to become whole is no more than that until it is applied.
+#[test]
+fn hydration_in_two_parts(rt: HostRuntime) -> Result<(), Fail> {
+    let alloc = rt.alloc();
+    let mut node = joined(alloc)?;
+    copy(alloc, &mut node, &[0, 1, 2])?;
+    let prepared = node.prepare_hydration(alloc)?;
+    assert_eq!(rt; prepared.answers().len(), 0);
+    assert_eq!(rt; node.scl(), 0);
+    assert_eq!(rt; node.apply(prepared).len(), 0);
+    assert_eq!(rt; node.scl(), 1);
     Ok(())
 }
 

@@ -45,7 +45,7 @@ fn too_many_installed(rt: HostRuntime) -> Result<(), Fail> {
     let mut node = node(alloc, At::Whole)?;
     let refused = node.deliver(alloc, &many(alloc, MOST + 1)?);
     assert_eq!(rt; refused.err(), Some(Fault::Full));
-    assert!(rt; node.deliver(alloc, &many(alloc, MOST)?)?.is_some());
+    assert_eq!(rt; node.deliver(alloc, &many(alloc, MOST)?)?.len(), 1);
     assert_eq!(rt; node.scl(), MOST);
     Ok(())
 }

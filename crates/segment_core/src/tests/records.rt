@@ -7,9 +7,9 @@ use volume_model::Fault;
 use wire::Message;
 
 /// The complete point that the segment acknowledges, or why it refuses.
-fn scl_of(answer: Result<Option<Message>, Fault>) -> Result<u64, Fault> {
-    match answer? {
-        Some(Message::Ack(ack)) => Ok(ack.scl),
+fn scl_of(answers: Result<Vec<Message>, Fault>) -> Result<u64, Fault> {
+    match answers?.as_slice() {
+        [Message::Ack(ack)] => Ok(ack.scl),
         _ => Err(Fault::NoMessage),
     }
 }

@@ -1,5 +1,6 @@
-use Rattle.std.proofs.Common.{◌≡◌, ◌≢◌, ◌<◌, false, not, ◌&&◌, nat_le, [], ◌∷◌, length, List, ap, sym, ◌∙◌, arith}
+use Rattle.std.proofs.Common.{◌≡◌, ◌≢◌, ◌<◌, false, not, ◌&&◌, nat_le, [], ◌∷◌, length, List, ap, refl, sym, ◌∙◌, arith}
 use Rattle.std.proofs.lemmas.Bool.{lt-leb}
+use Rattle.std.proofs.lemmas.Result.{err_from_is_err_and}
 use Rattle.volume_model.specs.Redo.{Redo, with_record, holds_record, scl}
 use Rattle.volume_model.specs.Message as model
 use Rattle.volume_model.specs.Node.{Node, lineage_epoch, most_records}
@@ -8,7 +9,7 @@ use Rattle.wire.specs.Message.{label_of}
 use Rattle.redo_record.specs.Places.{IsHeldIn, IsPlaceFor}
 use Rattle.segment_core.specs.Prepared.{effected}
 use Rattle.segment_core.specs.Segment.{node_of}
-use Rattle.segment_core.proofs.Taking.{not_installed, takes}
+use Rattle.segment_core.proofs.Taking.{not_installed, takes, wants}
 use Rattle.segment_core.proofs.segment.Segment.prepare_record.Goals as goal
 
 pub returns-then-last_epoch-label-clause-step : goal.returns-then-last_epoch-label-clause-step
@@ -16,7 +17,7 @@ returns-then-last_epoch-label-clause-step c =
     let node : Node = node_of c.args.self.now in
     let r : Redo = packet_redo c.args.packet.now in
     let apart : lineage_epoch node ≢ c.args.label.volume = (λ e. c.if-last_epoch-label.true (c.last_epoch.ensures ∙ e)) in
-    not_installed c.args.self.now.group c.args.self.now.member node (label_of c.args.label) r c.in_ok-check_label.ensures apart
+    (not_installed c.args.self.now.group c.args.self.now.member node (label_of c.args.label) r c.in_ok-check_label.ensures.checks apart, refl)
 
 pub returns-in_default-clause-step : goal.returns-in_default-clause-step
 returns-in_default-clause-step c =
@@ -26,9 +27,9 @@ returns-in_default-clause-step c =
     let told : lineage_epoch node ≡ c.args.label.volume = omega arith in
     let fits : (not (holds_record r node.contents.records) && nat_le most_records (length node.contents.records)) ≡ false = ap (λ b. not b && nat_le most_records (length node.contents.records)) held.holds in
     let point : c.complete_point-scl.result ≡ scl (with_record r node.contents.records) = c.complete_point-scl.ensures ∙ ap scl (sym held.same) in
-    takes c.args.self.now.group c.args.self.now.member node (label_of c.args.label) r c.acknowledged.result c.in_ok-check_label.ensures told fits
-    (c.acknowledged.ensures.made ∙ ap (λ n. model.Message.Ack c.args.self.now.group (label_of c.args.label) c.args.self.now.member n ∷ []) point)
-    (ap (λ e. effected e node) c.acknowledged.ensures.effect ∙ ap (λ (rs : List Redo). record node { contents = record { lineage = node.contents.lineage; records = rs } }) (sym held.same))
+    takes c.args.self.now.group c.args.self.now.member node (label_of c.args.label) r c.in_ok-check_label.ensures.checks told fits c.in_ok-acknowledged.field-0
+    (c.in_ok-acknowledged.ensures.made ∙ ap (λ n. model.Message.Ack c.args.self.now.group (label_of c.args.label) c.args.self.now.member n ∷ []) point)
+    (ap (λ e. effected e node) c.in_ok-acknowledged.ensures.effect ∙ ap (λ (rs : List Redo). record node { contents = record { lineage = node.contents.lineage; records = rs } }) (sym held.same))
 
 pub returns-clause-step : goal.returns-clause-step
 returns-clause-step c =
@@ -39,6 +40,17 @@ returns-clause-step c =
     let few : length node.contents.records < most_records = omega arith in
     let fits : (not (holds_record r node.contents.records) && nat_le most_records (length node.contents.records)) ≡ false = ap (λ b. not b && nat_le most_records (length node.contents.records)) place.new ∙ lt-leb most_records (length node.contents.records) few in
     let point : c.complete_point_with-scl.result ≡ scl (with_record r node.contents.records) = c.complete_point_with-scl.ensures.point ∙ ap (λ rs. scl (with_record r rs)) c.in_ok-make_room.ensures.same in
-    takes c.args.self.now.group c.args.self.now.member node (label_of c.args.label) r c.acknowledged-2.result c.in_ok-check_label.ensures told fits
-    (c.acknowledged-2.ensures.made ∙ ap (λ n. model.Message.Ack c.args.self.now.group (label_of c.args.label) c.args.self.now.member n ∷ []) point)
-    (ap (λ e. effected e node) c.acknowledged-2.ensures.effect)
+    takes c.args.self.now.group c.args.self.now.member node (label_of c.args.label) r c.in_ok-check_label.ensures.checks told fits c.in_ok-acknowledged-2.field-0
+    (c.in_ok-acknowledged-2.ensures.made ∙ ap (λ n. model.Message.Ack c.args.self.now.group (label_of c.args.label) c.args.self.now.member n ∷ []) point)
+    (ap (λ e. effected e node) c.in_ok-acknowledged-2.ensures.effect)
+
+pub returns-in_err-acknowledged-2-clause-step : goal.returns-in_err-acknowledged-2-clause-step
+returns-in_err-acknowledged-2-clause-step c =
+    let node : Node = node_of c.args.self.now in
+    let r : Redo = packet_redo c.args.packet.now in
+    let place : IsPlaceFor node.contents.records r c.in-Some.place = c.in-Some.ensures in
+    let told : lineage_epoch node ≡ c.args.label.volume = omega arith in
+    let few : length node.contents.records < most_records = omega arith in
+    let fits : (not (holds_record r node.contents.records) && nat_le most_records (length node.contents.records)) ≡ false = ap (λ b. not b && nat_le most_records (length node.contents.records)) place.new ∙ lt-leb most_records (length node.contents.records) few in
+    let p = err_from_is_err_and c.from_residual-in_err-acknowledged-2.result c.from_residual-in_err-acknowledged-2.ensures.1 in
+    rw (p.1, p.2) (wants c.args.self.now.group c.args.self.now.member node (label_of c.args.label) r c.in_ok-check_label.ensures.checks told fits, refl)
