@@ -3,7 +3,8 @@ use Rattle.std.proofs.Common.{◌≡◌, ℕ, zero, suc, ◌+◌, ◌^◌, ◌�
 use Rattle.std.proofs.lemmas.Bool.{cases_Bool}
 use Rattle.std.proofs.lemmas.List.{take_more, take_all}
 use Rattle.volume_model.specs.declared.fault.Fault.{Fault}
-use Rattle.volume_model.specs.declared.fault.Fault.TheVariants.{LsnSpent, NotReady}
+use Rattle.volume_model.specs.declared.fault.Fault.TheVariants.{LsnSpent, NoMemory, NotReady}
+use Rattle.volume_model.specs.Answer.{AnswersLate, Gives, may_want_memory}
 use Rattle.volume_model.specs.Refusal.{refuse_if}
 use Rattle.volume_model.specs.Plan.{Plan}
 use Rattle.volume_model.specs.Message as model
@@ -18,8 +19,8 @@ use Rattle.writer_core.specs.Logs.{log_of}
 use Rattle.writer_core.specs.Groups.{keeping}
 use Rattle.recovery.specs.declared.found.Found.{Found}
 use Rattle.recovery.specs.Reported.{reports_in}
-use Rattle.recovery.specs.Finds.{Find, find_of, live_records, found_by}
-use Rattle.recovery.specs.Recoveries.{client_with}
+use Rattle.recovery.specs.Finds.{Find, find_of, is_spent, live_records, found_by}
+use Rattle.recovery.specs.Recoveries.{client_with, cut_step}
 use Rattle.recovery.proofs.OneMore.{reports-append}
 
 -- ---- records that are found alike
@@ -170,3 +171,18 @@ cut-err plan volume groups before fault many none ready h =
       | inl e ↦ (let q : Err LsnSpent ≡ Err fault = rw e at h in let f : LsnSpent ≡ fault = cc in rw (ready, e) (ap Err f))
       | inr e ↦ (let q : Ok (record { lineage = extended (newest (reports_in groups)) volume (cut_of (live_records groups)) plan.lal; log = log_found (live_records groups) }) ≡ Err fault = rw e at h in cc)
     ]
+
+cut-late : (plan : Plan) (volume : ℕ) (groups : List ClientGroup) (before : Option Found) → length groups ≡ plan.groups → before ≡ None → has_read plan (keeping groups) ≡ true → may_want_memory is_spent (cut_client plan volume (client_with groups before)) ≡ true
+cut-late plan volume groups before many none ready =
+    ap (λ b. may_want_memory is_spent (cut_client plan volume (client_with groups b))) none ∙ ap (may_want_memory is_spent) (cut-with plan volume groups many)
+    ∙ elim (cases_Bool (nat_lt (2 ^ 62) (max (cut_of (live_records groups)) (last_start (newest (reports_in groups))) + plan.lal))) [
+      | inl e ↦ rw (ready, e) refl
+      | inr e ↦ rw (ready, e) refl
+    ]
+
+-- what a recovery finds that hasn't cut, and has read enough, is what its cut leaves
+pub cut-found : (plan : Plan) (volume : ℕ) (groups : List ClientGroup) (before : Option Found) (result : Result Found Fault) → length groups ≡ plan.groups → before ≡ None → has_read plan (keeping groups) ≡ true
+    → Gives find_of result (found_by plan volume groups) → AnswersLate is_spent (cut_step plan volume) (cut_client plan volume (client_with groups before)) groups result groups
+cut-found plan volume groups before (Ok found) many none ready h = cut-ok plan volume groups before found (installs plan volume (place_of groups) (lineage_of found.lineage) (log_of found.log.items) (λ group. true)) many none ready h refl
+cut-found plan volume groups before (Err NoMemory) many none ready h = (cut-late plan volume groups before many none ready, refl)
+cut-found plan volume groups before (Err fault) many none ready h = (cut-err plan volume groups before fault many none ready h, refl)

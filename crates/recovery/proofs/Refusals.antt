@@ -1,58 +1,38 @@
--- A refusal of a part is one of the whole.
-use Rattle.std.proofs.Common.{◌≡◌, Err, Result, refl}
+-- Refusals, as answers of a recovery.
+use Rattle.std.proofs.Common.{◌≡◌, ℕ, Bool, true, false, List, Ok, Err, Result, refl, sym, ap, ◌∙◌, inl, inr}
+use Rattle.std.proofs.lemmas.Bool.{cases_Bool, true≢false, eq-eqb}
+use Rattle.volume_model.specs.Answer.{Answers, AnswersLate, may_want_memory, never_late, refusal_of}
+use Rattle.volume_model.specs.Plan.{Plan}
+use Rattle.volume_model.specs.Message as model
 use Rattle.volume_model.specs.declared.fault.Fault.{Fault}
-use Rattle.volume_model.specs.declared.fault.Fault.TheVariants.{Short, BadField, Trailing, NoMemory, BadCount, TooDeep, NotAMember, Malformed, NoSuchItem, NotDead, NoClash, NotAll, TooFewPicked, BadPair, CountTooSmall, BranchCount, BadParent, MemberReused, NoCertificate, Certificate, OverLimit, Superseded, NotInPlan, NoGroup, EpochsSpent, StaleVolume, StaleMember, AheadMember, NotInstalled, NotWhole, Full, AlreadyWhole, NotEnough, NoRecord, TailSegment, PointAhead, NotOpen, LimitReached, BadTransaction, LsnSpent, NotReady, AlreadyDone, NoLogRecord, NoMessage, NotAddressed, NoActor, NoSlot, JournalFull}
-use Rattle.volume_model.specs.Answer.{Fails}
-use Rattle.volume_model.specs.Client.{Client, ClientAnswer}
-use Rattle.writer_core.specs.Writers.{Acts}
+use Rattle.volume_model.specs.declared.fault.Fault.TheVariants.{NoMemory}
+use Rattle.volume_model.specs.Client.{are_places, taken, unborn}
+use Rattle.writer_core.specs.Groups.{found_at, groups_made}
+use Rattle.recovery.specs.Recoveries.{admitted, begun}
+use Rattle.recovery.proofs.Views.{birth-refused}
 
--- a client that stays what it was after a part has failed
-pub acts-fails : {X : Type 0} (fault : Fault) (part : Result X Fault) (defined : ClientAnswer) (client : Client) → (part ≡ Err fault → defined ≡ Err fault) → Fails fault part → Acts defined client (Err fault) client
-acts-fails Short part defined client more h = (more h, refl)
-acts-fails BadField part defined client more h = (more h, refl)
-acts-fails Trailing part defined client more h = (more h, refl)
-acts-fails NoMemory part defined client more h = refl
-acts-fails BadCount part defined client more h = (more h, refl)
-acts-fails TooDeep part defined client more h = (more h, refl)
-acts-fails NotAMember part defined client more h = (more h, refl)
-acts-fails Malformed part defined client more h = (more h, refl)
-acts-fails NoSuchItem part defined client more h = (more h, refl)
-acts-fails NotDead part defined client more h = (more h, refl)
-acts-fails NoClash part defined client more h = (more h, refl)
-acts-fails NotAll part defined client more h = (more h, refl)
-acts-fails TooFewPicked part defined client more h = (more h, refl)
-acts-fails BadPair part defined client more h = (more h, refl)
-acts-fails CountTooSmall part defined client more h = (more h, refl)
-acts-fails BranchCount part defined client more h = (more h, refl)
-acts-fails BadParent part defined client more h = (more h, refl)
-acts-fails MemberReused part defined client more h = (more h, refl)
-acts-fails NoCertificate part defined client more h = (more h, refl)
-acts-fails Certificate part defined client more h = (more h, refl)
-acts-fails OverLimit part defined client more h = (more h, refl)
-acts-fails Superseded part defined client more h = (more h, refl)
-acts-fails NotInPlan part defined client more h = (more h, refl)
-acts-fails NoGroup part defined client more h = (more h, refl)
-acts-fails EpochsSpent part defined client more h = (more h, refl)
-acts-fails StaleVolume part defined client more h = (more h, refl)
-acts-fails StaleMember part defined client more h = (more h, refl)
-acts-fails AheadMember part defined client more h = (more h, refl)
-acts-fails NotInstalled part defined client more h = (more h, refl)
-acts-fails NotWhole part defined client more h = (more h, refl)
-acts-fails Full part defined client more h = (more h, refl)
-acts-fails AlreadyWhole part defined client more h = (more h, refl)
-acts-fails NotEnough part defined client more h = (more h, refl)
-acts-fails NoRecord part defined client more h = (more h, refl)
-acts-fails TailSegment part defined client more h = (more h, refl)
-acts-fails PointAhead part defined client more h = (more h, refl)
-acts-fails NotOpen part defined client more h = (more h, refl)
-acts-fails LimitReached part defined client more h = (more h, refl)
-acts-fails BadTransaction part defined client more h = (more h, refl)
-acts-fails LsnSpent part defined client more h = (more h, refl)
-acts-fails NotReady part defined client more h = (more h, refl)
-acts-fails AlreadyDone part defined client more h = (more h, refl)
-acts-fails NoLogRecord part defined client more h = (more h, refl)
-acts-fails NoMessage part defined client more h = (more h, refl)
-acts-fails NotAddressed part defined client more h = (more h, refl)
-acts-fails NoActor part defined client more h = (more h, refl)
-acts-fails NoSlot part defined client more h = (more h, refl)
-acts-fails JournalFull part defined client more h = (more h, refl)
+-- ---- the same refusal, of another answer
+
+still-late : {T : Type 0} (late : Fault → Bool) (defined : Result T Fault) → may_want_memory late (refusal_of defined) ≡ may_want_memory late defined
+still-late late (Ok step) = refl
+still-late late (Err fault) = refl
+
+-- a refusal is one of the judge
+pub judged-late : {R S T : Type 0} (late : Fault → Bool) (step : R → S → T) (fault : Fault) (defined : Result T Fault) (state : S)
+    → AnswersLate late step defined state (Err fault) state → AnswersLate late admitted (refusal_of defined) tt (Err fault) tt
+judged-late late step NoMemory defined state h = (still-late late defined ∙ h.0, refl)
+judged-late late step fault defined state h = (ap refusal_of h.0, refl)
+
+-- ---- birth
+
+found-late : (plan : Plan) (volume : ℕ) (places : List model.Place) → may_want_memory never_late (found_at plan places) ≡ true → may_want_memory never_late (taken plan volume unborn (model.Message.View volume places)) ≡ true
+found-late plan volume places h =
+    elim (cases_Bool (are_places plan places)) [
+      | inl e ↦ rw (eq-eqb volume volume refl, e) refl
+      | inr e ↦ (let q : false ≡ true = rw e at h in absurd (true≢false (sym q)))
+    ]
+
+-- where a client can't come to its places, it isn't born
+pub birth-fails : (plan : Plan) (volume : ℕ) (places : List model.Place) (fault : Fault) → Answers groups_made (found_at plan places) tt (Err fault) tt → Answers begun (taken plan volume unborn (model.Message.View volume places)) tt (Err fault) tt
+birth-fails plan volume places NoMemory h = (found-late plan volume places h.0, refl)
+birth-fails plan volume places fault h = (birth-refused plan volume places fault h.0, refl)

@@ -1,5 +1,5 @@
 -- What a recovery finds.
-use Rattle.std.specs.Prelude.{ℕ, ◌^◌, nat_lt, List, Result, Ok}
+use Rattle.std.specs.Prelude.{ℕ, ◌^◌, Bool, true, false, nat_lt, List, Result, Ok}
 use Rattle.volume_model.specs.Refusal.{refuse_if}
 use Rattle.volume_model.specs.declared.fault.Fault.{Fault}
 use Rattle.volume_model.specs.declared.fault.Fault.TheVariants.{LsnSpent}
@@ -30,3 +30,8 @@ abbrev pub found_by : Plan → ℕ → List ClientGroup → Result Find Fault
 found_by plan volume groups =
     let lineage = extended (newest (reports_in groups)) volume (cut_of (live_records groups)) plan.lal in
     refuse_if (nat_lt (2 ^ 62) (last_start lineage)) LsnSpent (Ok (record { lineage = lineage; log = log_found (live_records groups) }))
+
+-- that the recovery's own numbers would begin above the greatest may be said after want of memory, since the log must be found first
+abbrev pub is_spent : Fault → Bool
+is_spent LsnSpent = true
+is_spent fault = false

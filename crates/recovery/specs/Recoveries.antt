@@ -1,5 +1,5 @@
 -- What a recovery is, as the model's client, and what it answers.
-use Rattle.std.specs.Prelude.{◌≡◌, ℕ, List, [], Option, Some, None, Result, Ok, Err}
+use Rattle.std.specs.Prelude.{◌≡◌, ℕ, true, List, [], Option, Some, None, Result, Ok, Err}
 use Rattle.std.specs.Prelude.{Vec}
 use Rattle.std.specs.Global.{Global}
 use Rattle.volume_model.specs.declared.fault.Fault.{Fault}
@@ -7,7 +7,7 @@ use Rattle.volume_model.specs.declared.fault.Fault.TheVariants.{NotAddressed}
 use Rattle.volume_model.specs.Plan.{Plan}
 use Rattle.volume_model.specs.Message as model
 use Rattle.volume_model.specs.Message.Message.{View, StepTo, Fence, Report, Install, Write, Gossip, Ack, CopyAsk, CopyReport, PageAsk, Page}
-use Rattle.volume_model.specs.Client.{Client, ClientGroup, ClientStep, ClientAnswer, unborn, taken}
+use Rattle.volume_model.specs.Client.{Client, ClientGroup, ClientStep, ClientAnswer, installs, place_of, unborn, taken}
 use Rattle.volume_model.specs.Client.Stage.{Reading, Installing}
 use Rattle.lineage.specs.Lineage.{lineage_of}
 use Rattle.wire.specs.declared.message.Message.{Message}
@@ -26,6 +26,10 @@ recovery_plan r = standings_plan r.standings
 -- its volume epoch
 abbrev pub recovery_volume : Recovery → ℕ
 recovery_volume r = r.volume
+
+-- what it keeps of its groups
+abbrev pub recovery_groups : Recovery → List ClientGroup
+recovery_groups r = groups_in r.standings
 
 -- the client that keeps these of its groups: before its cut, and after it
 abbrev pub client_with : List ClientGroup → Option Found → Client
@@ -67,8 +71,19 @@ view_volume (PageAsk group label block point) = 0
 view_volume (Page group label sender block point bytes) = 0
 
 -- a new recovery with the messages that it makes, as a step
-abbrev pub step_of : Recovery × Vec Message Global → ClientStep
-step_of (r, messages) = record { made = messages_of messages.items; client = client_of r }
+abbrev pub begun : Recovery × Vec Message Global → Unit {0} → ClientStep
+begun (r, messages) u = record { made = messages_of messages.items; client = client_of r }
+
+-- the cut of a recovery that keeps these of its groups, with what it finds
+abbrev pub cut_step : Plan → ℕ → Found → List ClientGroup → ClientStep
+cut_step plan volume found groups = record {
+  made = installs plan volume (place_of groups) (lineage_of found.lineage) (log_of found.log.items) (λ group. true);
+  client = client_with groups (Some found);
+}
+
+-- a call isn't refused
+abbrev pub admitted : Unit {0} → Unit {0} → Unit {0}
+admitted u v = u
 
 -- A recovery becomes the writer that is defined, or refuses as is defined and is handed back as it was.
 abbrev pub Opens : ClientAnswer → Recovery → Result Writer (Fault × Recovery) → Type 0

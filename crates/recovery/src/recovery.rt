@@ -13,7 +13,7 @@ use std::alloc::Global;
 use std::sync::Arc;
 use volume_model::Fault;
 use wire::{Ack, Message, Report, View};
-use writer_core::{Standings, Writer};
+use writer_core::{Standings, Writer, are_places};
 
 /// A recovery of a volume epoch: it reads until it cuts, and then installs what it has found.
 #[derive(Drop)]
@@ -27,29 +27,48 @@ pub struct Recovery {
 }
 
 impl Recovery {
-    ghost use Rattle.std.specs.Prelude.{false, IfOk, MatchOption};
+    ghost use Rattle.std.specs.Prelude.{◌≢◌, ◌==◌, ◌&&◌, nat_lt, false, map, IfErr, IfOk, MatchOption, OnOk};
     ghost use Rattle.std.specs.Arc.{arc_value};
-    ghost use Rattle.volume_model.specs.Answer.{Gives};
-    ghost use Rattle.volume_model.specs.Client.{has_cut, taken, cut_client, opened};
+    ghost use Rattle.volume_model.specs.Answer.{Answers, AnswersLate, refusal_of};
+    ghost use Rattle.volume_model.specs.declared.fault.Fault.TheVariants.{NoMemory};
+    ghost use Rattle.volume_model.specs.Node.{in_group};
+    ghost use Rattle.volume_model.specs.Client.{are_places, has_cut, taken, cut_client, opened};
     ghost use Rattle.plan.specs.CheckedModel.{checked_model};
-    ghost use Rattle.wire.specs.Message.{message_of};
+    ghost use Rattle.wire.specs.Message.{message_of, place_of};
+    ghost use Rattle.wire.specs.Contents.{contents_of};
     ghost use Rattle.lineage.specs.Lineage.{lineage_of};
     ghost use Rattle.writer_core.specs.Logs.{log_of};
-    ghost use Rattle.writer_core.specs.Writers.{writer_plan, writer_volume, Acts, Takes};
+    ghost use Rattle.writer_core.specs.Writers.{writer_plan, writer_volume, acted, silent};
     ghost use Rattle.lineage.specs.Lineage.{last_cut};
-    ghost use Rattle.recovery.specs.Recoveries.{client_of, recovery_plan, recovery_volume, birth_of, view_volume, step_of, Opens};
+    ghost use Rattle.recovery.specs.Recoveries.{client_of, recovery_groups, recovery_plan, recovery_volume, admitted, begun, birth_of, cut_step, view_volume, Opens};
+    ghost use Rattle.recovery.specs.Finds.{is_spent};
 
-    /// A recovery from its first View, with one Fence a group. `NotAddressed` where the message is no View, `NotInPlan` where its places
-    /// aren't those of the plan's groups, each at one of its configurations.
+    /// Whether a message makes a recovery: `NotAddressed` where it is no View, `NotInPlan` where its places aren't those of the plan's
+    /// groups, each at one of its configurations. Takes no memory.
+    pub fn admits_birth(plan: &CheckedPlan, message: &Message) -> Result<(), Fault>
+        ensures refusal { result ≡ refusal_of (birth_of (checked_model plan.now) (message_of message.now)) }
+        ensures own { IfErr result (λ fault. fault ≢ NoMemory) }
+    {
+        let Message::View(view) = message else {
+            return Err(Fault::NotAddressed);
+        };
+        if !are_places(plan, view.places.as_slice()) {
+            return Err(Fault::NotInPlan);
+        }
+        Ok(())
+    }
+
+    /// A recovery from its first View, with one Fence a group. Refused as [`Recovery::admits_birth`] says.
     pub fn new(
         alloc: Global,
         plan: Arc<CheckedPlan>,
         message: &Message,
     ) -> Result<(Recovery, Vec<Message>), Fault>
-        ensures birth { Gives step_of result (birth_of (checked_model (arc_value plan)) (message_of message.now)) }
+        ensures birth { Answers begun (birth_of (checked_model (arc_value plan)) (message_of message.now)) tt result tt }
         ensures plan { IfOk result (λ made. recovery_plan made.0 ≡ checked_model (arc_value plan)) }
         ensures volume { IfOk result (λ made. recovery_volume made.0 ≡ view_volume (message_of message.now)) }
     {
+        Recovery::admits_birth(&plan, message)?;
         let view = match message {
             Message::View(view) => view,
             _ => return Err(Fault::NotAddressed),
@@ -81,21 +100,32 @@ impl Recovery {
         self.standings.plan().groups()
     }
 
-    /// Takes a later View. Each group moves to its place where that is one of a later epoch; for each such group it makes a Fence
-    /// before its cut, when the group's reports no longer count, and an Install after it. `NotAddressed` where the View is one of another
-    /// volume epoch, `NotInPlan` where its places aren't those of the plan's groups, each at one of its configurations.
-    pub fn view(&mut self, alloc: Global, view: &View) -> Result<Vec<Message>, Fault>
-        ensures acts { Acts (taken (recovery_plan self.old) (recovery_volume self.old) (client_of self.old) (message_of (Message.View view.now))) (client_of self.old) result (client_of self.new) }
-        ensures plan { recovery_plan self.new ≡ recovery_plan self.old }
-        ensures volume { recovery_volume self.new ≡ recovery_volume self.old }
+    /// Whether a later View can be taken: `NotAddressed` where it is one of another volume epoch, `NotInPlan` where its places aren't
+    /// those of the plan's groups, each at one of its configurations. Takes no memory.
+    pub fn admits_view(&self, view: &View) -> Result<(), Fault>
+        ensures refusal { result ≡ refusal_of (taken (recovery_plan self.now) (recovery_volume self.now) (client_of self.now) (message_of (Message.View view.now))) }
+        ensures epoch { OnOk result (view.now.volume ≡ recovery_volume self.now) }
+        ensures places { OnOk result (are_places (recovery_plan self.now) (map place_of view.now.places.items) ≡ true) }
+        ensures own { IfErr result (λ fault. fault ≢ NoMemory) }
     {
         if view.volume != self.volume {
             return Err(Fault::NotAddressed);
         }
-        let places = view.places.as_slice();
-        if !self.standings.are_places(places) {
+        if !self.standings.are_places(view.places.as_slice()) {
             return Err(Fault::NotInPlan);
         }
+        Ok(())
+    }
+
+    /// Takes a later View. Each group moves to its place where that is one of a later epoch; for each such group it makes a Fence
+    /// before its cut, when the group's reports no longer count, and an Install after it. Refused as [`Recovery::admits_view`] says.
+    pub fn view(&mut self, alloc: Global, view: &View) -> Result<Vec<Message>, Fault>
+        ensures answers { Answers acted (taken (recovery_plan self.old) (recovery_volume self.old) (client_of self.old) (message_of (Message.View view.now))) (client_of self.old) result (client_of self.new) }
+        ensures plan { recovery_plan self.new ≡ recovery_plan self.old }
+        ensures volume { recovery_volume self.new ≡ recovery_volume self.old }
+    {
+        self.admits_view(view)?;
+        let places = view.places.as_slice();
         match &self.found {
             None => {
                 let messages = later_fences(alloc, self.volume, &self.standings, places)?;
@@ -110,17 +140,27 @@ impl Recovery {
         }
     }
 
-    /// Takes what a node says that it holds. `NotAddressed` where it isn't said to this recovery, of a group of the volume with
-    /// records of that group, by a member. It counts before the cut, where its membership epoch is the group's and its lineage is
-    /// older than the recovery, and it is the member's first; else it changes nothing.
-    pub fn take_report(&mut self, report: &Report) -> Result<(), Fault>
-        ensures takes { Takes (taken (recovery_plan self.old) (recovery_volume self.old) (client_of self.old) (message_of (Message.Report report.now))) (client_of self.old) result (client_of self.new) }
-        ensures plan { recovery_plan self.new ≡ recovery_plan self.old }
-        ensures volume { recovery_volume self.new ≡ recovery_volume self.old }
+    /// Whether what a node says that it holds can be taken: `NotAddressed` where it isn't said to this recovery, of a group of the volume
+    /// with records of that group, by a member. Takes no memory.
+    pub fn admits_report(&self, report: &Report) -> Result<(), Fault>
+        ensures refusal { result ≡ refusal_of (taken (recovery_plan self.now) (recovery_volume self.now) (client_of self.now) (message_of (Message.Report report.now))) }
+        ensures can { OnOk result ((report.now.label.volume == recovery_volume self.now && (nat_lt report.now.group (recovery_plan self.now).groups && (in_group report.now.group (contents_of report.now.contents) && nat_lt report.now.from 64))) ≡ true) }
+        ensures own { IfErr result (λ fault. fault ≢ NoMemory) }
     {
         if !report.is_to(self.volume, self.groups()) {
             return Err(Fault::NotAddressed);
         }
+        Ok(())
+    }
+
+    /// Takes what a node says that it holds. Refused as [`Recovery::admits_report`] says. It counts before the cut, where its membership
+    /// epoch is the group's and its lineage is older than the recovery, and it is the member's first; else it changes nothing.
+    pub fn take_report(&mut self, report: &Report) -> Result<(), Fault>
+        ensures answers { Answers silent (taken (recovery_plan self.old) (recovery_volume self.old) (client_of self.old) (message_of (Message.Report report.now))) (client_of self.old) result (client_of self.new) }
+        ensures plan { recovery_plan self.new ≡ recovery_plan self.old }
+        ensures volume { recovery_volume self.new ≡ recovery_volume self.old }
+    {
+        self.admits_report(report)?;
         if self.found.is_some()
             || report.label.member != self.standings.epoch(report.group)
             || report.contents.lineage.last_epoch() >= self.volume
@@ -135,16 +175,27 @@ impl Recovery {
         Ok(())
     }
 
-    /// Takes an acknowledgement. `NotAddressed` where it isn't one to this recovery, of a group of the volume and a member. It is
-    /// counted after the cut, where its membership epoch is at most the group's; else it changes nothing.
-    pub fn take_ack(&mut self, ack: &Ack) -> Result<(), Fault>
-        ensures takes { Takes (taken (recovery_plan self.old) (recovery_volume self.old) (client_of self.old) (message_of (Message.Ack ack.now))) (client_of self.old) result (client_of self.new) }
-        ensures plan { recovery_plan self.new ≡ recovery_plan self.old }
-        ensures volume { recovery_volume self.new ≡ recovery_volume self.old }
+    /// Whether an acknowledgement can be taken: `NotAddressed` where it isn't one to this recovery, of a group of the volume and a
+    /// member. Takes no memory.
+    pub fn admits_ack(&self, ack: &Ack) -> Result<(), Fault>
+        ensures refusal { result ≡ refusal_of (taken (recovery_plan self.now) (recovery_volume self.now) (client_of self.now) (message_of (Message.Ack ack.now))) }
+        ensures can { OnOk result ((ack.now.label.volume == recovery_volume self.now && (nat_lt ack.now.group (recovery_plan self.now).groups && nat_lt ack.now.from 64)) ≡ true) }
+        ensures own { IfErr result (λ fault. fault ≢ NoMemory) }
     {
         if !ack.is_to(self.volume, self.groups()) {
             return Err(Fault::NotAddressed);
         }
+        Ok(())
+    }
+
+    /// Takes an acknowledgement. Refused as [`Recovery::admits_ack`] says. It is counted after the cut, where its membership epoch is at
+    /// most the group's; else it changes nothing.
+    pub fn take_ack(&mut self, ack: &Ack) -> Result<(), Fault>
+        ensures answers { Answers silent (taken (recovery_plan self.old) (recovery_volume self.old) (client_of self.old) (message_of (Message.Ack ack.now))) (client_of self.old) result (client_of self.new) }
+        ensures plan { recovery_plan self.new ≡ recovery_plan self.old }
+        ensures volume { recovery_volume self.new ≡ recovery_volume self.old }
+    {
+        self.admits_ack(ack)?;
         if self.found.is_none() || ack.label.member > self.standings.epoch(ack.group) {
             return Ok(());
         }
@@ -152,13 +203,9 @@ impl Recovery {
         Ok(())
     }
 
-    /// Cuts the log that the reports hold, and makes one Install a group with what it has found: the newest lineage with its own
-    /// entry, and the log up to the cut. `AlreadyDone` where it has cut, `NotReady` where in some group the senders of its reports are no read
-    /// set, `LsnSpent` where its own numbers would begin above the greatest.
-    pub fn cut(&mut self, alloc: Global) -> Result<Vec<Message>, Fault>
-        ensures acts { Acts (cut_client (recovery_plan self.old) (recovery_volume self.old) (client_of self.old)) (client_of self.old) result (client_of self.new) }
-        ensures plan { recovery_plan self.new ≡ recovery_plan self.old }
-        ensures volume { recovery_volume self.new ≡ recovery_volume self.old }
+    /// What a cut finds, refused as [`Recovery::admits_cut`] says.
+    fn find_cut(&self, alloc: Global) -> Result<Found, Fault>
+        ensures { AnswersLate is_spent (cut_step (recovery_plan self.now) (recovery_volume self.now)) (cut_client (recovery_plan self.now) (recovery_volume self.now) (client_of self.now)) (recovery_groups self.now) result (recovery_groups self.now) }
     {
         if self.found.is_some() {
             return Err(Fault::AlreadyDone);
@@ -166,7 +213,29 @@ impl Recovery {
         if !self.standings.has_read() {
             return Err(Fault::NotReady);
         }
-        let found = match find(alloc, self.volume, &self.standings) {
+        find(alloc, self.volume, &self.standings)
+    }
+
+    /// Whether it can cut the log that the reports hold: `AlreadyDone` where it has cut, `NotReady` where in some group the senders of its
+    /// reports are no read set, `LsnSpent` where its own numbers would begin above the greatest; want of memory may come before
+    /// `LsnSpent`, since the log is found first.
+    pub fn admits_cut(&self, alloc: Global) -> Result<(), Fault>
+        ensures { AnswersLate is_spent admitted (refusal_of (cut_client (recovery_plan self.now) (recovery_volume self.now) (client_of self.now))) tt result tt }
+    {
+        match self.find_cut(alloc) {
+            Ok(_) => Ok(()),
+            Err(fault) => Err(fault),
+        }
+    }
+
+    /// Cuts the log that the reports hold, and makes one Install a group with what it has found: the newest lineage with its own
+    /// entry, and the log up to the cut. Refused as [`Recovery::admits_cut`] says.
+    pub fn cut(&mut self, alloc: Global) -> Result<Vec<Message>, Fault>
+        ensures answers { AnswersLate is_spent acted (cut_client (recovery_plan self.old) (recovery_volume self.old) (client_of self.old)) (client_of self.old) result (client_of self.new) }
+        ensures plan { recovery_plan self.new ≡ recovery_plan self.old }
+        ensures volume { recovery_volume self.new ≡ recovery_volume self.old }
+    {
+        let found = match self.find_cut(alloc) {
             Ok(found) => found,
             Err(fault) => return Err(fault),
         };
@@ -180,6 +249,18 @@ impl Recovery {
         ensures { MatchOption result (has_cut (client_of self.now).stage ≡ false) (λ found. (has_cut (client_of self.now).stage ≡ true) × (log_of found.now.log.items ≡ (client_of self.now).found) × (lineage_of found.now.lineage ≡ (client_of self.now).lineage) × (found.now.cut ≡ last_cut (client_of self.now).lineage)) }
     {
         self.found.as_ref()
+    }
+
+    /// Whether it can become a writer: `NotReady` before its cut, and until the members of a write set of each group have acknowledged
+    /// what it installed. Takes no memory.
+    pub fn admits_open(&self) -> Result<(), Fault>
+        ensures refusal { result ≡ refusal_of (opened (recovery_plan self.now) (client_of self.now)) }
+        ensures own { IfErr result (λ fault. fault ≢ NoMemory) }
+    {
+        if self.found.is_none() || !self.standings.has_installed() {
+            return Err(Fault::NotReady);
+        }
+        Ok(())
     }
 
     /// The writer that it becomes once the members of a write set of each group have acknowledged what it installed; `NotReady` before

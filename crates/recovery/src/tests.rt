@@ -134,8 +134,43 @@ fn reading(rt: HostRuntime) -> Result<(), Fail> {
     assert_eq!(rt; recovery.view(alloc, &view(alloc)?)?.len(), 0);
     assert!(rt; recovery.found().is_none());
     recovery.take_report(&report(alloc, 0, 4)?)?;
+    assert_eq!(rt; recovery.admits_cut(alloc), Err(Fault::NotReady));
     assert_eq!(rt; recovery.cut(alloc).err(), Some(Fault::NotReady));
     Ok(())
+}
+
+#[test]
+fn judges(rt: HostRuntime) -> Result<(), Fail> {
+    let alloc = rt.alloc();
+    let (recovery, _) = born(alloc)?;
+    let mut other = report(alloc, 0, 4)?;
+    assert_eq!(rt; recovery.admits_report(&other), Ok(()));
+    other.group = 1;
+    assert_eq!(rt; recovery.admits_report(&other), Err(Fault::NotAddressed));
+    assert_eq!(rt; recovery.admits_view(&view(alloc)?), Ok(()));
+    assert_eq!(rt; recovery.admits_ack(&ack(0)), Ok(()));
+    assert_eq!(rt; recovery.admits_ack(&ack(64)), Err(Fault::NotAddressed));
+    assert_eq!(rt; recovery.admits_open(), Err(Fault::NotReady));
+    let plan = read_plan(alloc, SIX).ok().ok_or("the text is a plan")?;
+    let checked = check_plan(alloc, plan).ok().ok_or("the plan is certified")?;
+    let first = Message::View(view(alloc)?);
+    assert_eq!(rt; Recovery::admits_birth(&checked, &first), Ok(()));
+    let told = Message::Ack(ack(0));
+    assert_eq!(rt;
+        Recovery::admits_birth(&checked, &told),
+        Err(Fault::NotAddressed)
+    );
+    Ok(())
+}
+
+/// A member says that it holds the records up to 3.
+fn ack(from: u8) -> Ack {
+    Ack {
+        group: 0,
+        label: LABEL,
+        from,
+        scl: 3,
+    }
 }
 
 #[test]
@@ -151,12 +186,7 @@ fn opening(rt: HostRuntime) -> Result<(), Fail> {
     };
     assert_eq!(rt; recovery.cut(alloc).err(), Some(Fault::AlreadyDone));
     for from in 0..4 {
-        recovery.take_ack(&Ack {
-            group: 0,
-            label: LABEL,
-            from,
-            scl: 3,
-        })?;
+        recovery.take_ack(&ack(from))?;
     }
     let mut writer = recovery.open().ok().ok_or("four have installed")?;
     let change = Change {

@@ -4,6 +4,7 @@ pub mod Counting
 pub mod Covering
 pub mod Entering
 pub mod Finding
+pub mod Answering
 pub mod Growing
 pub mod OneMore
 pub mod Placing

@@ -15,6 +15,10 @@ use Rattle.writer_core.specs.Standings.{groups_of}
 abbrev pub groups_in : Standings → List ClientGroup
 groups_in s = groups_of s.list.items
 
+-- the same of groups that a call has come to
+abbrev pub groups_made : Standings → Unit {0} → List ClientGroup
+groups_made s u = groups_in s
+
 -- the plan whose groups they are
 abbrev pub standings_plan : Standings → Plan
 standings_plan s = checked_model (arc_value s.plan)

@@ -1,13 +1,11 @@
 -- What a writer is, as the model's client, and what it answers.
-use Rattle.std.specs.Prelude.{◌≡◌, ℕ, ◌+◌, ◌^◌, ◌≤◌, true, List, [], ◌∷◌, length, max, take, Result, Ok, Err}
+use Rattle.std.specs.Prelude.{◌≡◌, ℕ, ◌+◌, ◌^◌, ◌≤◌, true, List, [], ◌∷◌, length, max, take}
 use Rattle.std.specs.Prelude.{Vec}
 use Rattle.std.specs.Global.{Global}
-use Rattle.volume_model.specs.declared.fault.Fault.{Fault}
-use Rattle.volume_model.specs.declared.fault.Fault.TheVariants.{NoMemory}
 use Rattle.volume_model.specs.Plan.{Plan}
 use Rattle.volume_model.specs.Redo.{Redo, last_lsn}
 use Rattle.volume_model.specs.Lineage.{Lineage, last_start}
-use Rattle.volume_model.specs.Client.{Client, ClientGroup, Change, ClientStep, ClientAnswer, is_transaction, issued_log, issued_writes, place_of, raised}
+use Rattle.volume_model.specs.Client.{Client, ClientGroup, Change, ClientStep, is_transaction, issued_log, issued_writes, place_of, raised}
 use Rattle.volume_model.specs.Client.Stage.{Writing}
 use Rattle.lineage.specs.Lineage.{lineage_of}
 use Rattle.wire.specs.declared.message.Message.{Message}
@@ -44,20 +42,14 @@ pub record CanIssue (plan : Plan) (client : Client) (changes : List Change) : Ty
   pub good : is_transaction plan.groups changes ≡ true
   pub room : max (last_lsn client.log) (last_start client.lineage) + length changes ≤ 2 ^ 62
 
--- A client's answer is the one defined, and it is then what the definition leaves; after a refusal, or where memory ran out, it is
--- what it was.
-abbrev pub Acts : ClientAnswer → Client → Result (Vec Message Global) Fault → Client → Type 0
-Acts defined old (Ok messages) new = defined ≡ Ok (record { made = messages_of messages.items; client = new })
-Acts defined old (Err NoMemory) new = new ≡ old
-Acts defined old (Err fault) new = (defined ≡ Err fault) × (new ≡ old)
+-- the step of a client that makes these messages and becomes this
+abbrev pub acted : Vec Message Global → Client → ClientStep
+acted messages client = record { made = messages_of messages.items; client = client }
 
--- The same of an answer that makes no message.
-abbrev pub Takes : ClientAnswer → Client → Result (Unit {0}) Fault → Client → Type 0
-Takes defined old (Ok u) new = defined ≡ Ok (record { made = []; client = new })
-Takes defined old (Err NoMemory) new = new ≡ old
-Takes defined old (Err fault) new = (defined ≡ Err fault) × (new ≡ old)
+-- the step of a client that makes no message and becomes this
+abbrev pub silent : Unit {0} → Client → ClientStep
+silent u client = record { made = []; client = client }
 
--- A client makes the message that is defined, or refuses as is defined, and stays what it is.
-abbrev pub Asks : ClientAnswer → Client → Result Message Fault → Type 0
-Asks defined client (Ok message) = defined ≡ Ok (record { made = message_of message ∷ []; client = client })
-Asks defined client (Err fault) = defined ≡ Err fault
+-- the step of a client that makes this message and becomes this
+abbrev pub asked : Message → Client → ClientStep
+asked message client = record { made = message_of message ∷ []; client = client }

@@ -16,6 +16,7 @@ mod writer;
 
 pub use change::Change;
 pub use count::Count;
+pub use moving::are_places;
 pub use standing::Standing;
 pub use standings::Standings;
 pub use writer::Writer;

@@ -26,13 +26,13 @@ pub struct Standings {
 
 impl Standings {
     ghost use Rattle.std.specs.Prelude.{◌<◌, ◌≤◌, true, IfOk, OnOk, OnErr, MatchOption, map, replicate};
-    ghost use Rattle.volume_model.specs.Answer.{Gives};
+    ghost use Rattle.volume_model.specs.Answer.{Answers};
     ghost use Rattle.volume_model.specs.Client.{newly_at, at_root, group_of, point_of, moved, later_group, reread_group, raised, are_places, has_read, has_installed};
     ghost use Rattle.volume_model.specs.Client as client;
     ghost use Rattle.wire.specs.Message.{place_of, label_of};
     ghost use Rattle.hydration.specs.Copies.{copy_of};
     ghost use Rattle.writer_core.specs.Standings.{group_at, counted_in, reported_in};
-    ghost use Rattle.writer_core.specs.Groups.{groups_in, standings_plan, found_at, keeping};
+    ghost use Rattle.writer_core.specs.Groups.{groups_in, groups_made, standings_plan, found_at, keeping};
 
     /// As a client comes to a new volume: each group at its root.
     pub fn at_roots(alloc: Global, plan: Arc<CheckedPlan>) -> Result<Standings, AllocError>
@@ -58,7 +58,7 @@ impl Standings {
         plan: Arc<CheckedPlan>,
         places: &[Place],
     ) -> Result<Standings, Fault>
-        ensures groups { Gives groups_in result (found_at (checked_model (arc_value plan)) (map place_of places.now)) }
+        ensures groups { Answers groups_made (found_at (checked_model (arc_value plan)) (map place_of places.now)) tt result tt }
         ensures plan { IfOk result (λ s. standings_plan s ≡ checked_model (arc_value plan)) }
     {
         if !are_places(&plan, places) {

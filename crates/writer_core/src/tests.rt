@@ -203,3 +203,17 @@ fn views_of_others(rt: HostRuntime) -> Result<(), Fail> {
     assert_eq!(rt; six.view(&other), Err(Fault::NotAddressed));
     Ok(())
 }
+
+#[test]
+fn judges(rt: HostRuntime) -> Result<(), Fail> {
+    let alloc = rt.alloc();
+    let six = writer(alloc, SIX)?;
+    let many = changes(alloc, 33)?;
+    assert_eq!(rt; six.admits(many.as_slice()), Err(Fault::BadTransaction));
+    let one = changes(alloc, 1)?.clone()?;
+    assert_eq!(rt; six.admits(one.as_slice()), Ok(()));
+    assert_eq!(rt; six.admits_ack(&ack(5, 1)), Ok(()));
+    assert_eq!(rt; six.admits_ack(&ack(64, 1)), Err(Fault::NotAddressed));
+    assert_eq!(rt; six.admits_view(&child(alloc)?), Err(Fault::NotInPlan));
+    Ok(())
+}

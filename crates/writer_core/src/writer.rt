@@ -46,16 +46,16 @@ pub struct Writer {
 }
 
 impl Writer {
-    ghost use Rattle.std.specs.Prelude.{◌<◌, Ok, OnOk, IfOk, IfErr, MatchResult};
+    ghost use Rattle.std.specs.Prelude.{◌<◌, ◌≢◌, map, ◌==◌, ◌&&◌, nat_lt, Ok, OnOk, IfOk, IfErr, MatchResult};
     ghost use Rattle.std.specs.Arc.{arc_value};
     ghost use Rattle.plan.specs.CheckedModel.{checked_model};
-    ghost use Rattle.volume_model.specs.Answer.{Gives};
-    ghost use Rattle.volume_model.specs.Client.{acknowledged, first_writer, issued, complete_point, durable_point, taken, resent, page_asked};
-    ghost use Rattle.volume_model.specs.declared.fault.Fault.TheVariants.{NoGroup};
-    ghost use Rattle.wire.specs.Message.{message_of};
+    ghost use Rattle.volume_model.specs.Answer.{Answers, AnswersAlways, Gives, refusal_of};
+    ghost use Rattle.volume_model.specs.Client.{acknowledged, are_places, first_writer, issued, complete_point, durable_point, taken, resent, page_asked};
+    ghost use Rattle.volume_model.specs.declared.fault.Fault.TheVariants.{NoGroup, NoMemory};
+    ghost use Rattle.wire.specs.Message.{message_of, place_of};
     ghost use Rattle.volume_model.specs.Lineage.{last_start};
     ghost use Rattle.writer_core.specs.Changes.{changes_of};
-    ghost use Rattle.writer_core.specs.Writers.{client_of, writer_plan, writer_volume, issue_of, opened_of, CanIssue, Acts, Takes, Asks};
+    ghost use Rattle.writer_core.specs.Writers.{client_of, writer_plan, writer_volume, issue_of, opened_of, CanIssue, acted, silent, asked};
     ghost use Rattle.writer_core.specs.Groups.{standings_plan};
     ghost use Rattle.lineage.specs.Lineage.{lineage_of};
 
@@ -159,16 +159,27 @@ impl Writer {
         self.covered.durable
     }
 
-    /// Takes an acknowledgement. `NotAddressed` where it isn't one to this writer, of a group of the volume and a member. It is counted
-    /// where its membership epoch is at most the one that the writer knows of the group; a later one changes nothing.
-    pub fn take_ack(&mut self, ack: &Ack) -> Result<(), Fault>
-        ensures takes { Takes (taken (writer_plan self.old) (writer_volume self.old) (client_of self.old) (message_of (Message.Ack ack.now))) (client_of self.old) result (client_of self.new) }
-        ensures plan { writer_plan self.new ≡ writer_plan self.old }
-        ensures volume { writer_volume self.new ≡ writer_volume self.old }
+    /// Whether an acknowledgement can be taken: `NotAddressed` where it isn't one to this writer, of a group of the volume and a
+    /// member. Takes no memory.
+    pub fn admits_ack(&self, ack: &Ack) -> Result<(), Fault>
+        ensures refusal { result ≡ refusal_of (taken (writer_plan self.now) (writer_volume self.now) (client_of self.now) (message_of (Message.Ack ack.now))) }
+        ensures can { OnOk result ((ack.now.label.volume == writer_volume self.now && (nat_lt ack.now.group (writer_plan self.now).groups && nat_lt ack.now.from 64)) ≡ true) }
+        ensures own { IfErr result (λ fault. fault ≢ NoMemory) }
     {
         if !ack.is_to(self.volume, self.groups()) {
             return Err(Fault::NotAddressed);
         }
+        Ok(())
+    }
+
+    /// Takes an acknowledgement. Refused as [`Writer::admits_ack`] says. It is counted where its membership epoch is at most the one
+    /// that the writer knows of the group; a later one changes nothing.
+    pub fn take_ack(&mut self, ack: &Ack) -> Result<(), Fault>
+        ensures answers { Answers silent (taken (writer_plan self.old) (writer_volume self.old) (client_of self.old) (message_of (Message.Ack ack.now))) (client_of self.old) result (client_of self.new) }
+        ensures plan { writer_plan self.new ≡ writer_plan self.old }
+        ensures volume { writer_volume self.new ≡ writer_volume self.old }
+    {
+        self.admits_ack(ack)?;
         if ack.label.member > self.standings.epoch(ack.group) {
             return Ok(());
         }
@@ -178,13 +189,13 @@ impl Writer {
         Ok(())
     }
 
-    /// Takes a View: each group moves to its place where that is one of a later epoch, and the points of all groups are raised.
-    /// `NotAddressed` where it is one of another volume epoch, `NotInPlan` where its places aren't those of the plan's groups, each at
-    /// one of its configurations. Takes no memory.
-    pub fn view(&mut self, view: &View) -> Result<(), Fault>
-        ensures takes { Takes (taken (writer_plan self.old) (writer_volume self.old) (client_of self.old) (message_of (Message.View view.now))) (client_of self.old) result (client_of self.new) }
-        ensures plan { writer_plan self.new ≡ writer_plan self.old }
-        ensures volume { writer_volume self.new ≡ writer_volume self.old }
+    /// Whether a View can be taken: `NotAddressed` where it is one of another volume epoch, `NotInPlan` where its places aren't those
+    /// of the plan's groups, each at one of its configurations. Takes no memory.
+    pub fn admits_view(&self, view: &View) -> Result<(), Fault>
+        ensures refusal { result ≡ refusal_of (taken (writer_plan self.now) (writer_volume self.now) (client_of self.now) (message_of (Message.View view.now))) }
+        ensures epoch { OnOk result (view.now.volume ≡ writer_volume self.now) }
+        ensures places { OnOk result (are_places (writer_plan self.now) (map place_of view.now.places.items) ≡ true) }
+        ensures own { IfErr result (λ fault. fault ≢ NoMemory) }
     {
         if view.volume != self.volume {
             return Err(Fault::NotAddressed);
@@ -192,15 +203,28 @@ impl Writer {
         if !self.standings.are_places(view.places.as_slice()) {
             return Err(Fault::NotInPlan);
         }
+        Ok(())
+    }
+
+    /// Takes a View: each group moves to its place where that is one of a later epoch, and the points of all groups are raised.
+    /// Refused as [`Writer::admits_view`] says. Takes no memory.
+    pub fn view(&mut self, view: &View) -> Result<(), Fault>
+        ensures answers { AnswersAlways silent (taken (writer_plan self.old) (writer_volume self.old) (client_of self.old) (message_of (Message.View view.now))) (client_of self.old) result (client_of self.new) }
+        ensures own { IfErr result (λ fault. fault ≢ NoMemory) }
+        ensures plan { writer_plan self.new ≡ writer_plan self.old }
+        ensures volume { writer_volume self.new ≡ writer_volume self.old }
+    {
+        self.admits_view(view)?;
         self.standings.follow(view.places.as_slice());
         self.standings.raise();
         self.covered.follow(self.log.as_slice(), &self.standings);
         Ok(())
     }
 
-    /// The Write that carries a record of the log once more. `NoLogRecord` where the log has none with this LSN.
+    /// The Write that carries a record of the log once more. `NoLogRecord` where the log has none with this LSN. Takes no memory.
     pub fn resend(&self, lsn: u64) -> Result<Message, Fault>
-        ensures { Asks (resent (writer_volume self.now) (client_of self.now) lsn) (client_of self.now) result }
+        ensures answers { AnswersAlways asked (resent (writer_volume self.now) (client_of self.now) lsn) (client_of self.now) result (client_of self.now) }
+        ensures own { IfErr result (λ fault. fault ≢ NoMemory) }
     {
         match record_at(self.log.as_slice(), lsn) {
             Some(record) => Ok(write_of(self.volume, &self.standings, &record)),
@@ -208,9 +232,10 @@ impl Writer {
         }
     }
 
-    /// A question for a block's bytes at the durable point. `NoGroup` where the volume has no such group.
+    /// A question for a block's bytes at the durable point. `NoGroup` where the volume has no such group. Takes no memory.
     pub fn read(&self, group: u8, block: u32) -> Result<Message, Fault>
-        ensures { Asks (page_asked (writer_plan self.now) (writer_volume self.now) (client_of self.now) group block) (client_of self.now) result }
+        ensures answers { AnswersAlways asked (page_asked (writer_plan self.now) (writer_volume self.now) (client_of self.now) group block) (client_of self.now) result (client_of self.now) }
+        ensures own { IfErr result (λ fault. fault ≢ NoMemory) }
     {
         if group >= self.standings.plan().groups() {
             return Err(Fault::NoGroup);
@@ -241,13 +266,14 @@ impl Writer {
         is_point(self.log.as_slice(), lsn) && lsn <= self.durable_point()
     }
 
-    /// Whether a transaction can be issued: else `BadTransaction` where it isn't one of 1 to 32 good changes, `LsnSpent` where
-    /// no log sequence numbers are left for it, `LimitReached` where the last of its records would stand further above the
-    /// durable point and the start than the plan allows.
-    fn admits(&self, changes: &[Change]) -> Result<(), Fault>
+    /// Whether a transaction can be issued: `BadTransaction` where it isn't one of 1 to 32 good changes, `LsnSpent` where no log
+    /// sequence numbers are left for it, `LimitReached` where the last of its records would stand further above the durable point
+    /// and the start than the plan allows. Takes no memory.
+    pub fn admits(&self, changes: &[Change]) -> Result<(), Fault>
+        ensures refusal { result ≡ refusal_of (issued (writer_plan self.now) (writer_volume self.now) (client_of self.now) (changes_of changes.now)) }
         ensures ok { OnOk result (issued (writer_plan self.now) (writer_volume self.now) (client_of self.now) (changes_of changes.now) ≡ Ok (issue_of (writer_volume self.now) (client_of self.now) (changes_of changes.now))) }
-        ensures err { IfErr result (λ fault. issued (writer_plan self.now) (writer_volume self.now) (client_of self.now) (changes_of changes.now) ≡ Err fault) }
         ensures can { OnOk result (CanIssue (writer_plan self.now) (client_of self.now) (changes_of changes.now)) }
+        ensures own { IfErr result (λ fault. fault ≢ NoMemory) }
     {
         if !is_transaction(usize::from(self.standings.plan().groups()), changes) {
             return Err(Fault::BadTransaction);
@@ -270,10 +296,10 @@ impl Writer {
     }
 
     /// Gives a transaction's changes their records, all or none, and makes the Writes that carry them, in order. The last is
-    /// a consistency point. Refused as `admits` says. Where memory runs out the log is what it was, and its last LSNs are read off it
-    /// anew at the next transaction.
+    /// a consistency point. Refused as [`Writer::admits`] says. Where memory runs out the log is what it was, and its last LSNs are
+    /// read off it anew at the next transaction.
     pub fn issue(&mut self, alloc: Global, changes: &[Change]) -> Result<Vec<Message>, Fault>
-        ensures acts { Acts (issued (writer_plan self.old) (writer_volume self.old) (client_of self.old) (changes_of changes.now)) (client_of self.old) result (client_of self.new) }
+        ensures answers { Answers acted (issued (writer_plan self.old) (writer_volume self.old) (client_of self.old) (changes_of changes.now)) (client_of self.old) result (client_of self.new) }
         ensures plan { writer_plan self.new ≡ writer_plan self.old }
         ensures volume { writer_volume self.new ≡ writer_volume self.old }
     {

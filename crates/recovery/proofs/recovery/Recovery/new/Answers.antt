@@ -1,6 +1,6 @@
-use Rattle.std.proofs.Common.{◌≡◌, List, map, Ok, true, sym, ap, ◌∙◌, subst}
+use Rattle.std.proofs.Common.{◌≡◌, List, map, Ok, Err, true, sym, ap, ◌∙◌, subst}
 use Rattle.std.specs.Arc.{arc_value}
-use Rattle.quorum_expr.proofs.Levels.{Fails-at}
+use Rattle.volume_model.specs.Answer.{Answers}
 use Rattle.volume_model.specs.Plan.{Plan}
 use Rattle.plan.specs.CheckedModel.{checked_model}
 use Rattle.wire.specs.declared.label.Place.{Place}
@@ -8,9 +8,10 @@ use Rattle.wire.specs.declared.message.Message.{Message}
 use Rattle.wire.specs.Message.{place_of, message_of, messages_of}
 use Rattle.volume_model.specs.Client as client
 use Rattle.volume_model.specs.Client.{fences}
-use Rattle.writer_core.specs.Groups.{groups_in, found_at}
-use Rattle.recovery.specs.Recoveries.{birth_of}
-use Rattle.recovery.proofs.Views.{birth-is, birth-refused, found-older}
+use Rattle.writer_core.specs.Groups.{groups_in, groups_made, found_at}
+use Rattle.recovery.specs.Recoveries.{begun, birth_of}
+use Rattle.recovery.proofs.Views.{birth-is, found-older}
+use Rattle.recovery.proofs.Refusals.{birth-fails}
 use Rattle.recovery.proofs.recovery.Recovery.new.Goals as goal
 
 pub invariant_of-recovery-clause-older : goal.invariant_of-recovery-clause-older
@@ -22,9 +23,8 @@ returns-in-Err-clause-birth c =
     let plan : Plan = checked_model (arc_value c.args.plan) in
     let view = c.in-View.view in
     let fault = c.in-Err.fault in
-    let birth = λ (m : Message). birth_of plan (message_of m) in
-    Fails-at fault (found_at plan (map place_of c.as_slice.result.now)) (birth c.args.message.now)
-    (λ e. ap birth c.in-View.is ∙ birth-refused plan view.volume (map place_of view.places.items) fault (ap (λ (xs : List Place). found_at plan (map place_of xs)) (sym c.as_slice.ensures.value) ∙ e)) c.in-Err.ensures.groups
+    let found = subst (λ (xs : List Place). Answers groups_made (found_at plan (map place_of xs)) tt (Err fault) tt) c.as_slice.ensures.value c.in-Err.ensures.groups in
+    subst (λ (m : Message). Answers begun (birth_of plan (message_of m)) tt (Err fault) tt) (sym c.in-View.is) (birth-fails plan view.volume (map place_of view.places.items) fault found)
 
 pub returns-clause-birth : goal.returns-clause-birth
 returns-clause-birth c =

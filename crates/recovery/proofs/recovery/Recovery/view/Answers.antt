@@ -21,35 +21,35 @@ invariant_of-self-in-None-clause-older c =
     let self = c.args.self.now in
     subst (λ gs. are_older self.volume gs ≡ true) (sym c.reread.ensures.groups) (older-reread self.volume (groups_in self.standings) (map place_of c.as_slice-places.result.now) self.older)
 
-pub returns-in_ok-messages-in-None-clause-acts : goal.returns-in_ok-messages-in-None-clause-acts
-returns-in_ok-messages-in-None-clause-acts c =
+pub returns-in_ok-messages-in-None-clause-answers : goal.returns-in_ok-messages-in-None-clause-answers
+returns-in_ok-messages-in-None-clause-answers c =
     let self = c.args.self.now in
     let plan : Plan = standings_plan self.standings in
     let groups : List ClientGroup = groups_in self.standings in
     let items : List Place = c.args.view.now.places.items in
     let value : c.as_slice-places.result.now ≡ items = c.as_slice-places.ensures.value in
     let many : length groups ≡ plan.groups = length-map self.standings.list.items group_at ∙ self.standings.each_group in
-    let good : are_places plan (map place_of items) ≡ true = subst (λ (xs : List Place). are_places plan (map place_of xs) ≡ true) value (sym c.are_places.ensures ∙ c.if-not-are_places.false) in
+    let good : are_places plan (map place_of items) ≡ true = c.in_ok-admits_view.ensures.places in
     let now : groups_in c.reread.new.self ≡ moved reread_group groups (map place_of items) = subst (λ (xs : List Place). groups_in c.reread.new.self ≡ moved reread_group groups (map place_of xs)) value c.reread.ensures.groups in
     let made : List model.Message = messages_of c.in_ok-messages-in-None.messages.items in
     let said = subst (λ (xs : List Place). made ≡ fences plan self.volume (place_in (map place_of xs)) (raised_in (client.place_of groups) (place_in (map place_of xs)))) value c.in_ok-messages-in-None.ensures in
-    view-reading plan self.volume c.args.view.now.volume groups (groups_in c.reread.new.self) (map place_of items) self.found made c.if-view-self.false many good c.in-None.is now said
+    view-reading plan self.volume c.args.view.now.volume groups (groups_in c.reread.new.self) (map place_of items) self.found made c.in_ok-admits_view.ensures.epoch many good c.in-None.is now said
 
 pub invariant_of-self-in-Some-clause-older : goal.invariant_of-self-in-Some-clause-older
 invariant_of-self-in-Some-clause-older c =
     let self = c.args.self.now in
     subst (λ gs. are_older self.volume gs ≡ true) (sym c.follow.ensures.groups) (older-later self.volume (groups_in self.standings) (map place_of c.as_slice-places.result.now) self.older)
 
-pub returns-in_ok-messages-in-Some-clause-acts : goal.returns-in_ok-messages-in-Some-clause-acts
-returns-in_ok-messages-in-Some-clause-acts c =
+pub returns-in_ok-messages-in-Some-clause-answers : goal.returns-in_ok-messages-in-Some-clause-answers
+returns-in_ok-messages-in-Some-clause-answers c =
     let self = c.args.self.now in
     let plan : Plan = standings_plan self.standings in
     let groups : List ClientGroup = groups_in self.standings in
     let items : List Place = c.args.view.now.places.items in
     let value : c.as_slice-places.result.now ≡ items = c.as_slice-places.ensures.value in
     let many : length groups ≡ plan.groups = length-map self.standings.list.items group_at ∙ self.standings.each_group in
-    let good : are_places plan (map place_of items) ≡ true = subst (λ (xs : List Place). are_places plan (map place_of xs) ≡ true) value (sym c.are_places.ensures ∙ c.if-not-are_places.false) in
+    let good : are_places plan (map place_of items) ≡ true = c.in_ok-admits_view.ensures.places in
     let now : groups_in c.follow.new.self ≡ moved later_group groups (map place_of items) = subst (λ (xs : List Place). groups_in c.follow.new.self ≡ moved later_group groups (map place_of xs)) value c.follow.ensures.groups in
     let made : List model.Message = messages_of c.in_ok-messages-in-Some.messages.items in
     let said = subst (λ (xs : List Place). made ≡ installs plan self.volume (place_in (map place_of xs)) (lineage_of c.in-Some.found.lineage) (log_of c.in-Some.found.log.items) (raised_in (client.place_of groups) (place_in (map place_of xs)))) value c.in_ok-messages-in-Some.ensures in
-    view-installing plan self.volume c.args.view.now.volume groups (groups_in c.follow.new.self) (map place_of items) self.found c.in-Some.found made c.if-view-self.false many good c.in-Some.is now said
+    view-installing plan self.volume c.args.view.now.volume groups (groups_in c.follow.new.self) (map place_of items) self.found c.in-Some.found made c.in_ok-admits_view.ensures.epoch many good c.in-Some.is now said

@@ -11,11 +11,11 @@ use Rattle.writer_core.proofs.writer.Writer.view.Goals as goal
 pub follow-requires-2-clause-front : goal.follow-requires-2-clause-front
 follow-requires-2-clause-front c =
     let self = c.args.self.now in
-    let places = map place_of c.as_slice-2.result.now in
+    let places = map place_of c.as_slice.result.now in
     let plan = standings_plan c.follow.new.self in
     let old = groups_in self.standings in
     let now : groups_in c.raise.new.self ≡ raised plan (moved later_group old places) = c.raise.ensures.groups ∙ ap (raised plan) c.follow.ensures.groups in
     let rises : (k : ℕ) → point_of old k ≤ point_of (groups_in c.raise.new.self) k =
     λ k. subst (λ (groups : List ClientGroup). point_of old k ≤ point_of groups k) (sym now) (point_of-moved plan old places k) in
-    subst (λ (log : List Record). CoversFront self.covered (point_of (groups_in c.raise.new.self)) log) (sym c.as_slice-3.ensures.value)
+    subst (λ (log : List Record). CoversFront self.covered (point_of (groups_in c.raise.new.self)) log) (sym c.as_slice-2.ensures.value)
     (covers-raised self.covered (point_of old) (point_of (groups_in c.raise.new.self)) self.log.items rises self.covers.front)

@@ -1,0 +1,22 @@
+use Rattle.std.proofs.Common.{◌≡◌, List, Option, Some, None, length, is_some, false, refl, sym, ◌∙◌}
+use Rattle.std.proofs.lemmas.List.{length-map}
+use Rattle.std.proofs.lemmas.Bool.{true≢false}
+use Rattle.volume_model.specs.Plan.{Plan}
+use Rattle.volume_model.specs.Client.{ClientGroup}
+use Rattle.writer_core.specs.Standings.{group_at}
+use Rattle.writer_core.specs.Groups.{groups_in, standings_plan}
+use Rattle.recovery.specs.declared.found.Found.{Found}
+use Rattle.recovery.proofs.Leaves.{cut-found}
+use Rattle.recovery.proofs.recovery.Recovery.find_cut.Goals as goal
+
+is-none : (o : Option Found) → is_some o ≡ false → o ≡ None
+is-none None h = refl
+is-none (Some x) h = absurd (true≢false h)
+
+pub returns : goal.returns
+returns c =
+    let self = c.args.self.now in
+    let plan : Plan = standings_plan self.standings in
+    let groups : List ClientGroup = groups_in self.standings in
+    let many : length groups ≡ plan.groups = length-map self.standings.list.items group_at ∙ self.standings.each_group in
+    cut-found plan self.volume groups self.found c.find.result many (is-none self.found (sym c.is_some.ensures ∙ c.if-is_some.false)) (sym c.has_read.ensures ∙ c.if-not-has_read.false) c.find.ensures

@@ -1,0 +1,40 @@
+use Rattle.std.proofs.Common.{◌≡◌, ℕ, true, length, take, List, Result, Err, sym, ap, ◌∙◌, subst, arith}
+use Rattle.std.specs.Prelude.{Vec}
+use Rattle.std.specs.Global.{Global}
+use Rattle.std.proofs.lemmas.Result.{err_from_is_err_and}
+use Rattle.redo_record.specs.declared.«record».Record.{Record}
+use Rattle.wire.specs.declared.message.Message.{Message}
+use Rattle.volume_model.specs.Answer.{Answers}
+use Rattle.volume_model.specs.Client.{Client, ClientAnswer, issued, point_of}
+use Rattle.volume_model.specs.declared.fault.Fault.{Fault}
+use Rattle.writer_core.specs.Changes.{changes_of}
+use Rattle.writer_core.specs.Covered.{CoversLog}
+use Rattle.writer_core.specs.Groups.{groups_in}
+use Rattle.writer_core.specs.Logs.{log_of, is_growing}
+use Rattle.writer_core.specs.Writers.{acted, client_of, writer_plan, writer_volume}
+use Rattle.writer_core.proofs.Answering.{judged, refused}
+use Rattle.writer_core.proofs.writer.Writer.issue.Goals as goal
+
+pub returns-in_err-admits-clause-answers : goal.returns-in_err-admits-clause-answers
+returns-in_err-admits-clause-answers c =
+    let self = c.args.self.now in
+    let client : Client = client_of self in
+    let defined : ClientAnswer = issued (writer_plan self) (writer_volume self) client (changes_of c.args.changes.now) in
+    let fault : Fault = c.in_err-admits.field-0.0 in
+    let p = err_from_is_err_and c.from_residual.result c.from_residual.ensures.1 in
+    let same : c.from_residual.result ≡ Err fault = p.1 ∙ ap Err p.2 in
+    subst (λ (r : Result (Vec Message Global) Fault). Answers acted defined client r client) (sym same) (refused acted fault defined client c.in_err-admits.ensures.own (judged fault defined c.in_err-admits.ensures.refusal))
+
+pub invariant_of-self-in-Err-clause-growing : goal.invariant_of-self-in-Err-clause-growing
+invariant_of-self-in-Err-clause-growing c =
+    let self = c.args.self.now in
+    let many : c.len-length.result ≡ length self.log.items = omega arith in
+    let back : c.truncate.new.self.items ≡ self.log.items = c.truncate.ensures.items ∙ ap (λ (n : ℕ). take n c.append.new.log.items) many ∙ c.append.ensures.front in
+    subst (λ (xs : List Record). is_growing (log_of xs) ≡ true) (sym back) self.growing
+
+pub invariant_of-self-in-Err-clause-covers : goal.invariant_of-self-in-Err-clause-covers
+invariant_of-self-in-Err-clause-covers c =
+    let self = c.args.self.now in
+    let many : c.len-length.result ≡ length self.log.items = omega arith in
+    let back : c.truncate.new.self.items ≡ self.log.items = c.truncate.ensures.items ∙ ap (λ (n : ℕ). take n c.append.new.log.items) many ∙ c.append.ensures.front in
+    subst (λ (xs : List Record). CoversLog self.covered (point_of (groups_in self.standings)) xs) (sym back) self.covers
