@@ -52,25 +52,9 @@ none_yet clients e = λ j w. ap client_or_unborn (no_client clients e w) j
 pub none_kept : (clients : BTreeMap ℕ Client) → clients.entries ≡ [] → (plan : Plan) → AreClients plan clients
 none_kept clients e plan w client found = let h : None ≡ Some client = sym (no_client clients e w) ∙ found in absurd cc
 
--- one client was taken out
-abbrev pub IsOut : BTreeMap ℕ Client → ℕ → BTreeMap ℕ Client → Type 0
-IsOut old v without = (w : ℕ) → get nat_cmp without w ≡ cond (is_at (nat_cmp v) w) None (get nat_cmp old w)
-
--- a client that was taken out and put back
-pub put_back : (old without new : BTreeMap ℕ Client) (v : ℕ) (client : Client) → IsOut old v without → IsPut without v client new → IsPut old v client new
-put_back old without new v client out is w = is w ∙ ap (cond (is_at (nat_cmp v) w) (Some client)) (out w) ∙ twice (is_at (nat_cmp v) w)
-  where
-    twice : (b : Bool) → cond b (Some client) (cond b None (get nat_cmp old w)) ≡ cond b (Some client) (get nat_cmp old w)
-    twice true = refl
-    twice false = refl
-
 -- clients that stay the same
 pub same_clients : (plan : Plan) (old new : BTreeMap ℕ Client) → new.entries ≡ old.entries → AreClients plan old → AreClients plan new
 same_clients plan old new e all w client found = all w client (ap (lookup (is_at (nat_cmp w))) (sym e) ∙ found)
 
-pub clients_without : (plan : Plan) (old without : BTreeMap ℕ Client) (v : ℕ) → IsOut old v without → AreClients plan old → AreClients plan without
-clients_without plan old without v out all w client found = all w client (there (is_at (nat_cmp v) w) (sym (out w) ∙ found))
-  where
-    there : (b : Bool) → cond b None (get nat_cmp old w) ≡ Some client → get nat_cmp old w ≡ Some client
-    there true h = absurd cc
-    there false h = h
+pub clients_same : (old new : BTreeMap ℕ Client) → new.entries ≡ old.entries → clients_of new ≡ clients_of old
+clients_same old new e = λ j w. client_or_unborn (lookup (is_at (nat_cmp w)) (e j))

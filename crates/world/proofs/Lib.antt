@@ -5,3 +5,4 @@ pub mod Low
 pub mod Steps
 pub mod Numbers
 pub mod Runs
+pub mod Moving

@@ -1,5 +1,5 @@
 -- One event more of a run.
-use Rattle.std.proofs.Common.{◌≡◌, ◌≢◌, ℕ, ◌+◌, List, [], ◌∷◌, ◌++◌, Result, Ok, Err, length, refl, sym, ap, ap₂, ◌∙◌, append_assoc, arith, drop, get_or, ◌<◌, drop-cons, add-one, subst}
+use Rattle.std.proofs.Common.{◌≡◌, ◌≢◌, ℕ, Bool, ◌+◌, List, [], ◌∷◌, ◌++◌, Result, Ok, Err, length, refl, sym, ap, ap₂, ◌∙◌, append_assoc, arith, drop, get_or, ◌<◌, drop-cons, add-one, subst}
 use Rattle.volume_model.specs.declared.fault.Fault.{Fault}
 use Rattle.volume_model.specs.declared.fault.Fault.TheVariants.{NoMemory}
 use Rattle.volume_model.specs.Headline.{AcknowledgementsLast, StaysSo}
@@ -7,19 +7,29 @@ use Rattle.volume_model.specs.Plan.{Plan, IsCertified}
 use Rattle.volume_model.specs.World.{World, Event, Step, step, after, after_step, opening, told, run, results}
 use Rattle.world.specs.declared.event.Order.{Order}
 use Rattle.world.specs.Events.{made_by, total_made, ordered, events_from}
-use Rattle.world.specs.Actors.{Steps}
+use Rattle.world.specs.Actors.{moved, moved_of, Moved, Steps}
 use Rattle.world.specs.Outcomes.{KeepsAcknowledgements}
 use Rattle.world.proofs.Numbers.{grows, total_made-push}
 
 -- what is told where memory didn't run out
-pub steps_told : (defined : Result Step Fault) (old new : World) (result : Result ℕ Fault) → result ≢ Err NoMemory → Steps defined old result new → (told defined ≡ result) × (after_step old defined ≡ new)
-steps_told defined old new (Ok made) ne steps = steps
-steps_told defined old new (Err NoMemory) ne steps = absurd (ne refl)
-steps_told defined old new (Err fault) ne steps = steps
+told_moved : (defined : Result Step Fault) (old new : World) (count : ℕ) → moved_of defined ≡ Ok (moved count new) → (told defined ≡ Ok count) × (after_step old defined ≡ new)
+told_moved (Err fault) old new count e = absurd cc
+told_moved (Ok step) old new count e =
+    let same : record { count = length step.made; world = step.world } ≡ moved count new = cc in
+    (ap (λ (m : Moved). Ok m.count) same, ap (λ (m : Moved). m.world) same)
 
-module _ (plan : Plan) (old new : World) (event : Event) (result : Result ℕ Fault) (ne : result ≢ Err NoMemory) (steps : Steps (step plan old event) old result new) (so_far : List (Result ℕ Fault)) (later : List Event) where
+told_refused : (defined : Result Step Fault) (old new : World) (fault : Fault) → moved_of defined ≡ Err fault → new ≡ old → (told defined ≡ Err fault) × (after_step old defined ≡ new)
+told_refused (Err other) old new fault e same = let is : other ≡ fault = cc in (ap Err is, sym same)
+told_refused (Ok step) old new fault e same = absurd cc
+
+pub steps_told : (late : Fault → Bool) (defined : Result Step Fault) (old new : World) (result : Result ℕ Fault) → result ≢ Err NoMemory → Steps late defined old result new → (told defined ≡ result) × (after_step old defined ≡ new)
+steps_told late defined old new (Ok made) ne steps = told_moved defined old new made steps
+steps_told late defined old new (Err NoMemory) ne steps = absurd (ne refl)
+steps_told late defined old new (Err fault) ne steps = told_refused defined old new fault steps.0 steps.1
+
+module _ (late : Fault → Bool) (plan : Plan) (old new : World) (event : Event) (result : Result ℕ Fault) (ne : result ≢ Err NoMemory) (steps : Steps late (step plan old event) old result new) (so_far : List (Result ℕ Fault)) (later : List Event) where
   both : (told (step plan old event) ≡ result) × (after_step old (step plan old event) ≡ new)
-  both = steps_told (step plan old event) old new result ne steps
+  both = steps_told late (step plan old event) old new result ne steps
 
   pub told_on : (so_far ++ result ∷ []) ++ results plan new later ≡ so_far ++ results plan old (event ∷ later)
   told_on = append_assoc so_far (result ∷ []) (results plan new later) ∙ sym (ap₂ (λ (r : Result ℕ Fault) (w : World). so_far ++ r ∷ results plan w later) both.0 both.1)
@@ -28,18 +38,18 @@ module _ (plan : Plan) (old new : World) (event : Event) (result : Result ℕ Fa
   run_on = sym (ap (λ (w : World). run plan w later) both.1)
 
 -- what is left of orders, when one was followed
-pub order_rest : (plan : Plan) (old new : World) (results : List (Result ℕ Fault)) (orders : List Order) (i : ℕ) (order : Order) → i < length orders → order ≡ get_or orders i order → (result : Result ℕ Fault) → result ≢ Err NoMemory → Steps (step plan old (ordered results order)) old result new
+pub order_rest : (late : Fault → Bool) (plan : Plan) (old new : World) (results : List (Result ℕ Fault)) (orders : List Order) (i : ℕ) (order : Order) → i < length orders → order ≡ get_or orders i order → (result : Result ℕ Fault) → result ≢ Err NoMemory → Steps late (step plan old (ordered results order)) old result new
     → events_from plan old results (drop i orders) ≡ ordered results order ∷ events_from plan new (results ++ result ∷ []) (drop (i + 1) orders)
-order_rest plan old new results orders i order within is result ne steps =
-    let told_is = steps_told (step plan old (ordered results order)) old new result ne steps in
+order_rest late plan old new results orders i order within is result ne steps =
+    let told_is = steps_told late (step plan old (ordered results order)) old new result ne steps in
     ap (events_from plan old results) (drop-cons orders i order within)
     ∙ ap₂ (λ (x : Order) (n : ℕ). events_from plan old results (x ∷ drop n orders)) (sym is) (sym (add-one i))
     ∙ ap₂ (λ (r : Result ℕ Fault) (w : World). ordered results order ∷ events_from plan w (results ++ r ∷ []) (drop (i + 1) orders)) told_is.0 told_is.1
 
 -- how many messages were made, when one event more has happened
-pub total_on : (plan : Plan) (old new : World) (event : Event) (result : Result ℕ Fault) → result ≢ Err NoMemory → Steps (step plan old event) old result new → (so_far : List (Result ℕ Fault)) → total_made so_far ≡ length old.messages → total_made (so_far ++ result ∷ []) ≡ length new.messages
-total_on plan old new event result ne steps so_far total =
-    let told_is = steps_told (step plan old event) old new result ne steps in
+pub total_on : (late : Fault → Bool) (plan : Plan) (old new : World) (event : Event) (result : Result ℕ Fault) → result ≢ Err NoMemory → Steps late (step plan old event) old result new → (so_far : List (Result ℕ Fault)) → total_made so_far ≡ length old.messages → total_made (so_far ++ result ∷ []) ≡ length new.messages
+total_on late plan old new event result ne steps so_far total =
+    let told_is = steps_told late (step plan old event) old new result ne steps in
     let more : length new.messages ≡ length old.messages + made_by result =
     ap (λ (w : World). length w.messages) (sym told_is.1) ∙ grows plan old event ∙ ap (λ (r : Result ℕ Fault). length old.messages + made_by r) told_is.0 in
     total_made-push so_far result ∙ omega (arith, more, total)

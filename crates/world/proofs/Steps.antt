@@ -1,5 +1,5 @@
 -- The step of one actor, in the world.
-use Rattle.std.proofs.Common.{◌≡◌, ℕ, ◌*◌, ◌/◌, ◌%◌, ◌<◌, ◌≤◌, Bool, true, false, not, ◌&&◌, nat_lt, nat_le, if◌then◌else◌, List, [], ◌∷◌, Option, Some, None, Result, Ok, Err, length, option_map, set, refl, sym, ap, ap₂, ◌∙◌, subst, inl, inr, arith}
+use Rattle.std.proofs.Common.{◌≡◌, ℕ, ◌*◌, ◌/◌, ◌%◌, ◌<◌, ◌≤◌, Bool, true, false, not, ◌&&◌, nat_lt, nat_le, if◌then◌else◌, List, [], ◌∷◌, Option, Some, None, Result, Ok, Err, length, option_map, set, refl, sym, ap, ◌∙◌, subst, inl, inr, arith}
 use Rattle.std.specs.Prelude.{slice_get}
 use Rattle.std.proofs.Common.{get_or, length-set}
 use Rattle.std.proofs.lemmas.List.{length-map}
@@ -7,23 +7,23 @@ use Rattle.std.proofs.lemmas.Option.{slice_get_read, slice_get_within}
 use Rattle.std.proofs.lemmas.Bool.{le-ltb, lt-ltb}
 use Rattle.std.proofs.lemmas.Bool.Decides.{nat_tests}
 use Rattle.volume_model.specs.declared.fault.Fault.{Fault}
-use Rattle.volume_model.specs.declared.fault.Fault.TheVariants.{NoMemory, NoActor}
-use Rattle.volume_model.specs.Lists.{added, some_below, put, put_at}
+use Rattle.volume_model.specs.declared.fault.Fault.TheVariants.{NoActor, NoMemory}
+use Rattle.volume_model.specs.Lists.{some_below, put, put_at}
 use Rattle.volume_model.specs.Plan.{Plan, is_named, has_member}
 use Rattle.volume_model.specs.Message.{Message}
-use Rattle.volume_model.specs.Answer.{Fails}
+use Rattle.volume_model.specs.Answer.{may_want_memory, never_late, AnswersLate}
 use Rattle.volume_model.specs.Refusal.{refuse_if}
-use Rattle.writer_core.specs.Writers.{Takes}
-use Rattle.volume_model.specs.Node.{Node, NodeAnswer, born_node}
-use Rattle.volume_model.specs.Client.{Client, ClientAnswer}
-use Rattle.volume_model.specs.World.{Authority, AuthorityStep, World, of_authority, of_node, of_client, if_named, after_step, told}
+use Rattle.volume_model.specs.Node.{Node, NodeAnswer, NodeStep, born_node}
+use Rattle.volume_model.specs.Client.{Client, ClientAnswer, ClientStep}
+use Rattle.volume_model.specs.World.{Authority, AuthorityStep, World, of_authority, of_node, of_client, if_named}
 use Rattle.segment_core.specs.declared.segment.Segment.{Segment}
 use Rattle.segment_core.specs.Segment.{node_of, segment_plan, segment_group, segment_member, IsSegmentOf, IsSameActor}
 use Rattle.world.specs.Slots.{members, slot_of, in_slot, node_or, node_at, FindsSlot}
 use Rattle.world.specs.Homes.{nodes_of, IsPlace, AreHomes}
 use Rattle.world.specs.Worlds.{world_with}
-use Rattle.world.specs.Moves.{AuthorityMoves, ClientMoves, NodeMoves}
-use Rattle.world.specs.Actors.{Steps}
+use Rattle.world.specs.Moves.{counted, told_of, AuthorityMoves, ClientMoves, Held, NodeMoves, Told}
+use Rattle.world.specs.Actors.{moved, moved_of, Moved, Steps}
+use Rattle.world.proofs.Moving.{answers_along, map_ok}
 use Rattle.world.proofs.OneNode.{node_at-set, put_at-same, slice_get-map, in_place, each-set, map-set, put-same}
 
 -- the plan names no member whose number isn't below 64
@@ -59,10 +59,10 @@ node_in_slot plan slots g m low s e =
     ∙ ap (λ (o : Option (Option Node)). node_or (born_node plan g m) (in_slot o)) (slice_get-map (option_map node_of) slots (slot_of g m) ∙ ap (option_map (option_map node_of)) e)
 
 -- a node that the plan doesn't name is refused
-pub unnamed_steps : (plan : Plan) (world : World) (g m : ℕ) (defined : NodeAnswer) → is_named plan g m ≡ false → Steps (of_node world g m (if_named plan g m defined)) world (Err NoActor) world
-unnamed_steps plan world g m defined e =
+pub unnamed_steps : (late : Fault → Bool) (plan : Plan) (world : World) (g m : ℕ) (defined : NodeAnswer) → is_named plan g m ≡ false → Steps late (of_node world g m (if_named plan g m defined)) world (Err NoActor) world
+unnamed_steps late plan world g m defined e =
     let refused : of_node world g m (if_named plan g m defined) ≡ Err NoActor = ap (λ (b : Bool). of_node world g m (refuse_if (not b) NoActor defined)) e in
-    (ap told refused, ap (after_step world) refused)
+    (ap moved_of refused, refl)
 
 -- what a node's step leaves in the world
 module _ (plan : Plan) (authority : Authority) (slots : List (Option Node)) (clients : ℕ → Client) (kept : List Message) (g m : ℕ) (low : m < 64) (within : slot_of g m < length slots) (old new : Node) (there : node_at plan slots g m ≡ old) (named : is_named plan g m ≡ true) (defined : NodeAnswer) where
@@ -75,23 +75,33 @@ module _ (plan : Plan) (authority : Authority) (slots : List (Option Node)) (cli
   asked : of_node before g m (if_named plan g m defined) ≡ of_node before g m defined
   asked = ap (λ (b : Bool). of_node before g m (refuse_if (not b) NoActor defined)) named
 
-  same : new ≡ old → (now : List Message) → now ≡ kept → before ≡ after now
-  same e now e' =
-      let nodes : node_at plan slots ≡ node_at plan (set slots (slot_of g m) (Some new)) =
-      sym (node_at-set plan slots g m new low within ∙ ap (put_at (node_at plan slots) g m) (e ∙ sym there) ∙ put_at-same (node_at plan slots) g m) in
-      ap₂ (λ (f : ℕ → ℕ → Node) (ms : List Message). world_with authority f clients ms) nodes (sym e')
+  -- the world in which the node is this, and these are all messages
+  abbrev placed : Held Node → World
+  placed held = world_with authority (put_at (node_at plan slots) g m held.actor) clients held.messages
 
-  pub node_steps : (result : Result ℕ Fault) (now : List Message) → NodeMoves defined old kept result new now → Steps (of_node before g m (if_named plan g m defined)) before result (after now)
-  node_steps (Ok count) now (made, is, many, now_is) =
-      let moved : of_node before g m (if_named plan g m defined) ≡ Ok (record { made = made; world = record before { nodes = put_at (node_at plan slots) g m new; messages = added made kept } }) =
-      asked ∙ ap (of_node before g m) is in (
-        ap told moved ∙ ap Ok many,
-        ap (after_step before) moved ∙ ap₂ (λ (f : ℕ → ℕ → Node) (ms : List Message). world_with authority f clients ms) (sym (node_at-set plan slots g m new low within)) now_is,
-      )
-  node_steps (Err NoMemory) now moves = tt
-  node_steps (Err fault) now moves =
-      let refused : of_node before g m (if_named plan g m defined) ≡ Err fault = asked ∙ ap (of_node before g m) moves.0 in
-      (ap told refused, ap (after_step before) refused ∙ same moves.1 now moves.2)
+  -- what is told of the node, told of the world
+  abbrev onward : Told Node → Moved
+  onward t = record { count = t.count; world = placed (record { actor = t.actor; messages = t.messages }) }
+
+  moved_on : (answer : NodeAnswer) → map_ok onward (told_of (λ (s : NodeStep). s.made) (λ (s : NodeStep). s.node) kept answer) ≡ moved_of (of_node before g m answer)
+  moved_on (Err fault) = refl
+  moved_on (Ok step) = refl
+
+  here : placed (record { actor = old; messages = kept }) ≡ before
+  here = ap (λ (f : ℕ → ℕ → Node). world_with authority f clients kept) (ap (put_at (node_at plan slots) g m) (sym there) ∙ put_at-same (node_at plan slots) g m)
+
+  there_now : (now : List Message) → placed (record { actor = new; messages = now }) ≡ after now
+  there_now now = ap (λ (f : ℕ → ℕ → Node). world_with authority f clients now) (sym (node_at-set plan slots g m new low within))
+
+  pub node_steps : (late : Fault → Bool) (result : Result ℕ Fault) (now : List Message) → NodeMoves late defined old kept result new now → Steps late (of_node before g m (if_named plan g m defined)) before result (after now)
+  node_steps late result now moves =
+      let told : Result (Told Node) Fault = told_of (λ (s : NodeStep). s.made) (λ (s : NodeStep). s.node) kept defined in
+      let along : AnswersLate late moved (map_ok onward told) (placed (record { actor = old; messages = kept })) result (placed (record { actor = new; messages = now })) =
+      answers_along late counted moved onward placed (λ r h. refl) told (record { actor = old; messages = kept }) result (record { actor = new; messages = now }) moves in
+      let whole : map_ok onward told ≡ moved_of (of_node before g m (if_named plan g m defined)) = moved_on defined ∙ ap moved_of (sym asked) in
+      subst (λ (d : Result Moved Fault). AnswersLate late moved d before result (after now)) whole
+      (subst (λ (w : World). AnswersLate late moved (map_ok onward told) w result (after now)) here
+      (subst (λ (w : World). AnswersLate late moved (map_ok onward told) (placed (record { actor = old; messages = kept })) result w) (there_now now) along))
 
 -- what stands where a slot was found
 pub found_there : (slots : List (Option Segment)) (slot at : ℕ) (x o : Option Segment) → x ≡ get_or slots slot x → slot ≡ at → slot < length slots → x ≡ o → slice_get slots at ≡ Some o
@@ -102,17 +112,17 @@ module _ (plan : Plan) (authority : Authority) (slots : List (Option Segment)) (
   home : (is_named plan g m ≡ true) × IsSegmentOf plan g m s
   home = place_of_member plan slots g m homes low (Some s) there
 
-  pub segment_steps : (f : Plan → ℕ → ℕ → Node → NodeAnswer) (result : Result ℕ Fault) (now : List Message) → NodeMoves (f (segment_plan s) (segment_group s) (segment_member s) (node_of s)) (node_of s) kept result (node_of new) now
-      → Steps (of_node (world_with authority (node_at plan (nodes_of slots)) clients kept) g m (if_named plan g m (f plan g m (node_at plan (nodes_of slots) g m)))) (world_with authority (node_at plan (nodes_of slots)) clients kept) result (world_with authority (node_at plan (nodes_of (set slots (slot_of g m) (Some new)))) clients now)
-  segment_steps f result now moves =
+  pub segment_steps : (late : Fault → Bool) (f : Plan → ℕ → ℕ → Node → NodeAnswer) (result : Result ℕ Fault) (now : List Message) → NodeMoves late (f (segment_plan s) (segment_group s) (segment_member s) (node_of s)) (node_of s) kept result (node_of new) now
+      → Steps late (of_node (world_with authority (node_at plan (nodes_of slots)) clients kept) g m (if_named plan g m (f plan g m (node_at plan (nodes_of slots) g m)))) (world_with authority (node_at plan (nodes_of slots)) clients kept) result (world_with authority (node_at plan (nodes_of (set slots (slot_of g m) (Some new)))) clients now)
+  segment_steps late f result now moves =
       let at : node_at plan (nodes_of slots) g m ≡ node_of s = node_in_slot plan slots g m low s there in
       let asked : f (segment_plan s) (segment_group s) (segment_member s) (node_of s) ≡ f plan g m (node_at plan (nodes_of slots) g m) = λ i. f (home.1.plan_is i) (home.1.group_is i) (home.1.member_is i) (sym at i) in
       let here : slot_of g m < length slots = slice_get_within slots (slot_of g m) (Some s) there in
       let within : slot_of g m < length (nodes_of slots) = omega (arith, length-map slots (option_map node_of)) in
-      subst (λ (ns : List (Option Node)). Steps (of_node (world_with authority (node_at plan (nodes_of slots)) clients kept) g m (if_named plan g m (f plan g m (node_at plan (nodes_of slots) g m)))) (world_with authority (node_at plan (nodes_of slots)) clients kept) result (world_with authority (node_at plan ns) clients now))
+      subst (λ (ns : List (Option Node)). Steps late (of_node (world_with authority (node_at plan (nodes_of slots)) clients kept) g m (if_named plan g m (f plan g m (node_at plan (nodes_of slots) g m)))) (world_with authority (node_at plan (nodes_of slots)) clients kept) result (world_with authority (node_at plan ns) clients now))
       (sym (map-set (option_map node_of) slots (slot_of g m) (Some new)))
-      (node_steps plan authority (nodes_of slots) clients kept g m low within (node_of s) (node_of new) at home.0 (f plan g m (node_at plan (nodes_of slots) g m)) result now
-      (subst (λ (d : NodeAnswer). NodeMoves d (node_of s) kept result (node_of new) now) asked moves))
+      (node_steps plan authority (nodes_of slots) clients kept g m low within (node_of s) (node_of new) at home.0 (f plan g m (node_at plan (nodes_of slots) g m)) late result now
+      (subst (λ (d : NodeAnswer). NodeMoves late d (node_of s) kept result (node_of new) now) asked moves))
 
   pub homes_on : AreHomes plan (set slots (slot_of g m) (Some new))
   homes_on = record {
@@ -128,40 +138,60 @@ module _ (authority : Authority) (nodes : ℕ → ℕ → Node) (clients : ℕ �
   abbrev pub begun : World
   begun = world_with authority nodes clients kept
 
-  pub client_steps : (defined : ClientAnswer) (old new : Client) → clients v ≡ old → (later : ℕ → Client) → put clients v new ≡ later → (result : Result ℕ Fault) (now : List Message) → ClientMoves defined old kept result new now → Steps (of_client begun v defined) begun result (world_with authority nodes later now)
-  client_steps defined old new there later is (Ok count) now (made, e, many, now_is) =
-      let moved : of_client begun v defined ≡ Ok (record { made = made; world = record begun { clients = put clients v new; messages = added made kept } }) = ap (of_client begun v) e in (
-        ap told moved ∙ ap Ok many,
-        ap (after_step begun) moved ∙ ap₂ (world_with authority nodes) is now_is,
-      )
-  client_steps defined old new there later is (Err NoMemory) now moves = tt
-  client_steps defined old new there later is (Err fault) now moves =
-      let refused : of_client begun v defined ≡ Err fault = ap (of_client begun v) moves.0 in
-      let same : clients ≡ later = sym (put-same clients v) ∙ ap (put clients v) (there ∙ sym moves.1) ∙ is in
-      (ap told refused, ap (after_step begun) refused ∙ ap₂ (world_with authority nodes) same (sym moves.2))
+  -- the world in which the client is this, and these are all messages
+  abbrev client_placed : Held Client → World
+  client_placed held = world_with authority nodes (put clients v held.actor) held.messages
 
-  -- a refusal, where memory didn't run out
-  pub client_refused : (defined : ClientAnswer) (fault : Fault) → Fails fault defined → Steps (of_client begun v defined) begun (Err fault) begun
-  client_refused defined NoMemory h = tt
-  client_refused defined fault h = let refused : of_client begun v defined ≡ Err fault = ap (of_client begun v) h in (ap told refused, ap (after_step begun) refused)
+  -- what is told of the client, told of the world
+  abbrev client_onward : Told Client → Moved
+  client_onward t = record { count = t.count; world = client_placed (record { actor = t.actor; messages = t.messages }) }
 
--- a refusal of a client that makes no message
-pub refused_takes : (defined : ClientAnswer) (old new : Client) (kept : List Message) (fault : Fault) → Takes defined old (Err fault) new → ClientMoves defined old kept (Err fault) new kept
-refused_takes defined old new kept NoMemory takes = tt
-refused_takes defined old new kept fault takes = (takes.0, takes.1, refl)
+  client_moved_on : (answer : ClientAnswer) → map_ok client_onward (told_of (λ (s : ClientStep). s.made) (λ (s : ClientStep). s.client) kept answer) ≡ moved_of (of_client begun v answer)
+  client_moved_on (Err fault) = refl
+  client_moved_on (Ok step) = refl
+
+  pub client_steps : (late : Fault → Bool) (defined : ClientAnswer) (old new : Client) → clients v ≡ old → (later : ℕ → Client) → put clients v new ≡ later → (result : Result ℕ Fault) (now : List Message) → ClientMoves late defined old kept result new now → Steps late (of_client begun v defined) begun result (world_with authority nodes later now)
+  client_steps late defined old new there later is result now moves =
+      let told : Result (Told Client) Fault = told_of (λ (s : ClientStep). s.made) (λ (s : ClientStep). s.client) kept defined in
+      let along : AnswersLate late moved (map_ok client_onward told) (client_placed (record { actor = old; messages = kept })) result (client_placed (record { actor = new; messages = now })) =
+      answers_along late counted moved client_onward client_placed (λ r h. refl) told (record { actor = old; messages = kept }) result (record { actor = new; messages = now }) moves in
+      let here : client_placed (record { actor = old; messages = kept }) ≡ begun = ap (λ (f : ℕ → Client). world_with authority nodes f kept) (ap (put clients v) (sym there) ∙ put-same clients v) in
+      let there_now : client_placed (record { actor = new; messages = now }) ≡ world_with authority nodes later now = ap (λ (f : ℕ → Client). world_with authority nodes f now) is in
+      subst (λ (d : Result Moved Fault). AnswersLate late moved d begun result (world_with authority nodes later now)) (client_moved_on defined)
+      (subst (λ (w : World). AnswersLate late moved (map_ok client_onward told) w result (world_with authority nodes later now)) here
+      (subst (λ (w : World). AnswersLate late moved (map_ok client_onward told) (client_placed (record { actor = old; messages = kept })) result w) there_now along))
+
+  -- a refusal of a client that isn't kept
+  pub client_refused : {R : Type 0} (late : Fault → Bool) (step : R → Client → ClientStep) (defined : ClientAnswer) (now : Client) (fault : Fault) → AnswersLate late step defined now (Err fault) now → Steps late (of_client begun v defined) begun (Err fault) begun
+  client_refused late step defined now NoMemory h = (wants-moved late defined ∙ h.0, refl)
+    where
+      wants-moved : (late : Fault → Bool) (answer : ClientAnswer) → may_want_memory late (moved_of (of_client begun v answer)) ≡ may_want_memory late answer
+      wants-moved late (Err fault) = refl
+      wants-moved late (Ok s) = refl
+  client_refused late step defined now fault h = (ap (λ (d : ClientAnswer). moved_of (of_client begun v d)) h.0, refl)
+
+  -- memory that is wanted where there is a step
+  pub client_wants : (late : Fault → Bool) (defined : ClientAnswer) (s : ClientStep) → defined ≡ Ok s → may_want_memory late (moved_of (of_client begun v defined)) ≡ true
+  client_wants late defined s e = ap (λ (d : ClientAnswer). may_want_memory late (moved_of (of_client begun v d))) e
 
 -- what a step of the authority leaves in the world
 module _ (old : Authority) (nodes : ℕ → ℕ → Node) (clients : ℕ → Client) (kept : List Message) where
   abbrev pub asked_of : World
   asked_of = world_with old nodes clients kept
 
-  pub authority_steps : (defined : Result AuthorityStep Fault) (new : Authority) (result : Result ℕ Fault) (now : List Message) → AuthorityMoves defined old kept result new now → Steps (of_authority asked_of defined) asked_of result (world_with new nodes clients now)
-  authority_steps defined new (Ok count) now (made, e, many, now_is) =
-      let moved : of_authority asked_of defined ≡ Ok (record { made = made ∷ []; world = record asked_of { authority = new; messages = made ∷ kept } }) = ap (of_authority asked_of) e in (
-        ap told moved ∙ ap Ok many,
-        ap (after_step asked_of) moved ∙ ap (world_with new nodes clients) now_is,
-      )
-  authority_steps defined new (Err NoMemory) now moves = tt
-  authority_steps defined new (Err fault) now moves =
-      let refused : of_authority asked_of defined ≡ Err fault = ap (of_authority asked_of) moves.0 in
-      (ap told refused, ap (after_step asked_of) refused ∙ ap₂ (λ (a : Authority) (ms : List Message). world_with a nodes clients ms) (sym moves.1) (sym moves.2))
+  -- the world in which the authority is this, and these are all messages
+  abbrev authority_placed : Held Authority → World
+  authority_placed held = world_with held.actor nodes clients held.messages
+
+  -- what is told of the authority, told of the world
+  abbrev authority_onward : Told Authority → Moved
+  authority_onward t = record { count = t.count; world = authority_placed (record { actor = t.actor; messages = t.messages }) }
+
+  authority_moved_on : (answer : Result AuthorityStep Fault) → map_ok authority_onward (told_of (λ (s : AuthorityStep). s.made ∷ []) (λ (s : AuthorityStep). s.authority) kept answer) ≡ moved_of (of_authority asked_of answer)
+  authority_moved_on (Err fault) = refl
+  authority_moved_on (Ok step) = refl
+
+  pub authority_steps : (defined : Result AuthorityStep Fault) (new : Authority) (result : Result ℕ Fault) (now : List Message) → AuthorityMoves defined old kept result new now → Steps never_late (of_authority asked_of defined) asked_of result (world_with new nodes clients now)
+  authority_steps defined new result now moves =
+      subst (λ (d : Result Moved Fault). AnswersLate never_late moved d asked_of result (world_with new nodes clients now)) (authority_moved_on defined)
+      (answers_along never_late counted moved authority_onward authority_placed (λ r h. refl) (told_of (λ (s : AuthorityStep). s.made ∷ []) (λ (s : AuthorityStep). s.authority) kept defined) (record { actor = old; messages = kept }) result (record { actor = new; messages = now }) moves)

@@ -1,15 +1,18 @@
 -- The world that a program's actors are.
-use Rattle.std.specs.Prelude.{◌≡◌, ℕ, ◌≤◌, false, List, [], Result, Ok, Err}
+use Rattle.std.specs.Prelude.{◌≡◌, ℕ, ◌≤◌, Bool, false, List, [], length, Result, Ok, Err}
 use Rattle.volume_model.specs.declared.fault.Fault.{Fault}
-use Rattle.volume_model.specs.declared.fault.Fault.TheVariants.{NoMemory}
+use Rattle.volume_model.specs.Answer.{never_late, AnswersLate}
 use Rattle.volume_model.specs.Lists.{added}
 use Rattle.volume_model.specs.Plan.{Plan, is_named}
 use Rattle.volume_model.specs.Message as model
-use Rattle.volume_model.specs.World.{World, Step, after_step, told}
+use Rattle.volume_model.specs.World.{Event, World, Step}
+use Rattle.volume_model.specs.World.Event.{Cut, Hydrate}
 use Rattle.wire.specs.Message.{messages_of}
 use Rattle.std.specs.Arc.{arc_value}
 use Rattle.plan.specs.CheckedModel.{checked_model}
 use Rattle.epochs.specs.Authority.{authority_of, authority_plan}
+use Rattle.segment_core.specs.Segment.{is_full}
+use Rattle.recovery.specs.Finds.{is_spent}
 use Rattle.world.specs.Slots.{members, node_at}
 use Rattle.world.specs.Homes.{nodes_of, AreHomes}
 use Rattle.world.specs.Clients.{clients_of, AreClients}
@@ -35,9 +38,27 @@ pub record AreActors (a : Actors) : Type 0 where
   pub low : (group member : ℕ) → members ≤ member → is_named (plan_of a) group member ≡ false
   pub clients : AreClients (plan_of a) a.clients
 
+-- what is told of a step of the world, and the world after it
+pub record Moved : Type 0 where
+  pub count : ℕ
+  pub world : World
+
+-- the number of messages that a step makes, and the world that it leaves
+abbrev pub moved_of : Result Step Fault → Result Moved Fault
+moved_of (Err fault) = Err fault
+moved_of (Ok step) = Ok (record { count = length step.made; world = step.world })
+
+-- so many messages were made, and the world is now this
+abbrev pub moved : ℕ → World → Moved
+moved count world = record { count = count; world = world }
+
 -- What is told of a step is the number of messages that the defined step makes, or its refusal, and the world is then what the
--- definition leaves. Where memory ran out nothing is said.
-abbrev pub Steps : Result Step Fault → World → Result ℕ Fault → World → Type 0
-Steps defined old (Ok made) new = (told defined ≡ Ok made) × (after_step old defined ≡ new)
-Steps defined old (Err NoMemory) new = Unit {0}
-Steps defined old (Err fault) new = (told defined ≡ Err fault) × (after_step old defined ≡ new)
+-- definition leaves. Want of memory leaves the world as it was, and comes after the refusals but the late ones.
+abbrev pub Steps : (Fault → Bool) → Result Step Fault → World → Result ℕ Fault → World → Type 0
+Steps late defined old result new = AnswersLate late moved (moved_of defined) old result new
+
+-- the refusals that may come after want of memory: what is found only once records were gathered
+abbrev pub event_late : Event → Fault → Bool
+event_late (Hydrate group member) = is_full
+event_late (Cut volume) = is_spent
+event_late event = never_late

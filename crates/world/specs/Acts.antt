@@ -1,12 +1,18 @@
 -- What the model's actors do.
-use Rattle.std.specs.Prelude.{ℕ, [], List, Ok, Result}
+use Rattle.std.specs.Prelude.{◌≡◌, ℕ, Bool, [], List, Err, Ok, Result}
 use Rattle.volume_model.specs.declared.fault.Fault.{Fault}
+use Rattle.volume_model.specs.Answer.{never_late}
 use Rattle.volume_model.specs.Lists.{numbered}
 use Rattle.volume_model.specs.Plan.{Plan}
 use Rattle.volume_model.specs.Message as model
 use Rattle.volume_model.specs.Node.{Node, NodeAnswer, hydrated, offered, restarted}
-use Rattle.volume_model.specs.Client.{Client, ClientAnswer, cut_client, issued, page_asked, resent}
+use Rattle.volume_model.specs.declared.fault.Fault.TheVariants.{NoMessage}
+use Rattle.volume_model.specs.Client.{Client, ClientAnswer, cut_client, issued, page_asked, resent, taken}
+use Rattle.wire.specs.Message.{message_of}
 use Rattle.volume_model.specs.World.{Authority, AuthorityStep, assigned, advanced, refreshed, deliver, take}
+use Rattle.segment_core.specs.Segment.{is_full}
+use Rattle.recovery.specs.Finds.{is_spent}
+use Rattle.volume_model.specs.Few.{Few}
 use Rattle.writer_core.specs.Changes.{changes_of}
 use Rattle.world.specs.declared.acts.AuthorityAct.{AuthorityAct}
 use Rattle.world.specs.declared.acts.AuthorityAct.TheVariants as authority
@@ -14,6 +20,8 @@ use Rattle.world.specs.declared.acts.NodeAct.{NodeAct}
 use Rattle.world.specs.declared.acts.NodeAct.TheVariants as node
 use Rattle.world.specs.declared.acts.ClientAct.{ClientAct}
 use Rattle.world.specs.declared.acts.ClientAct.TheVariants as client
+use Rattle.world.specs.declared.acts.ClientOrder.{ClientOrder}
+use Rattle.world.specs.declared.acts.ClientOrder.TheVariants as order
 
 -- what the authority of a plan does
 abbrev pub authority_acted : Plan → Authority → AuthorityAct → Result AuthorityStep Fault
@@ -28,10 +36,47 @@ node_acted made node.Hydrate plan group member now = hydrated plan group member 
 node_acted made node.Restart plan group member now = Ok (record { made = []; node = restarted now })
 node_acted made (node.Offer lsn) plan group member now = offered group now lsn
 
--- what the client of a volume epoch does, but for becoming a writer, where these messages were made
-abbrev pub client_acted : List model.Message → ClientAct → Plan → ℕ → Client → ClientAnswer
-client_acted made (client.Issue changes) plan volume now = issued plan volume now (changes_of changes.now)
-client_acted made (client.Take message) plan volume now = take plan volume now (numbered made message)
-client_acted made client.Cut plan volume now = cut_client plan volume now
-client_acted made (client.Resend lsn) plan volume now = resent volume now lsn
-client_acted made (client.Read group block) plan volume now = page_asked plan volume now group block
+-- what the client of a volume epoch does, but for becoming a writer
+abbrev pub client_acted : ClientAct → Plan → ℕ → Client → ClientAnswer
+client_acted (client.Issue changes) plan volume now = issued plan volume now (changes_of changes.now)
+client_acted (client.Take message) plan volume now = taken plan volume now (message_of message.now)
+client_acted client.Cut plan volume now = cut_client plan volume now
+client_acted (client.Resend lsn) plan volume now = resent volume now lsn
+client_acted (client.Read group block) plan volume now = page_asked plan volume now group block
+
+-- the same, where these messages were made and it may name one
+abbrev pub client_ordered : List model.Message → ClientOrder → Plan → ℕ → Client → ClientAnswer
+client_ordered made (order.Take message) plan volume now = take plan volume now (numbered made message)
+client_ordered made (order.Act act) plan volume now = client_acted act plan volume now
+
+-- the order names a message that wasn't made
+abbrev pub IsRefusedOrder : List model.Message → ClientOrder → Type 0
+IsRefusedOrder made order = (plan : Plan) (volume : ℕ) (now : Client) → client_ordered made order plan volume now ≡ Err NoMessage
+
+-- an act makes at most so many messages
+abbrev pub ActsFew : Plan → ClientAct → ℕ → Type 0
+ActsFew plan act most = (volume : ℕ) (now : Client) → Few most (client_acted act plan volume now)
+
+-- what an order asks for makes at most so many messages
+abbrev pub MakesAtMost : Plan → ClientOrder → ℕ → Type 0
+MakesAtMost plan order most = (made : List model.Message) (volume : ℕ) (now : Client) → Few most (client_ordered made order plan volume now)
+
+-- the refusals of a client that may come after want of memory: that no log sequence numbers are left, which is found with the log
+abbrev pub client_late : ClientAct → Fault → Bool
+client_late client.Cut = is_spent
+client_late act = never_late
+
+-- the same of what names a message by its number
+abbrev pub order_late : ClientOrder → Fault → Bool
+order_late (order.Take message) = never_late
+order_late (order.Act act) = client_late act
+
+-- the order asks for this act, where these messages were made
+pub record IsOrderOf (made : List model.Message) (order : ClientOrder) (act : ClientAct) : Type 0 where
+  pub does : (plan : Plan) (volume : ℕ) (now : Client) → client_ordered made order plan volume now ≡ client_acted act plan volume now
+  pub late : order_late order ≡ client_late act
+
+-- the refusals of a node that may come after want of memory: that more records were found than it may hold
+abbrev pub node_late : NodeAct → Fault → Bool
+node_late node.Hydrate = is_full
+node_late act = never_late

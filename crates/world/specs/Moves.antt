@@ -1,28 +1,47 @@
--- What the step of one actor leaves.
-use Rattle.std.specs.Prelude.{◌≡◌, ℕ, ◌∷◌, List, length, Result, Ok, Err}
+-- What the step of one actor leaves, and what is told of it.
+use Rattle.std.specs.Prelude.{ℕ, Bool, [], ◌∷◌, List, length, Result, Ok, Err}
 use Rattle.volume_model.specs.declared.fault.Fault.{Fault}
-use Rattle.volume_model.specs.declared.fault.Fault.TheVariants.{NoMemory}
+use Rattle.volume_model.specs.Answer.{never_late, AnswersLate}
 use Rattle.volume_model.specs.Lists.{added}
 use Rattle.volume_model.specs.Message.{Message}
-use Rattle.volume_model.specs.Node.{Node, NodeAnswer}
-use Rattle.volume_model.specs.Client.{Client, ClientAnswer}
+use Rattle.volume_model.specs.Node.{Node, NodeAnswer, NodeStep}
+use Rattle.volume_model.specs.Client.{Client, ClientAnswer, ClientStep}
 use Rattle.volume_model.specs.World.{Authority, AuthorityStep}
 
--- A node made the step that is defined, or refused as is defined and stayed as it was; the messages that it made were added.
--- Where memory ran out nothing is said.
-abbrev pub NodeMoves : NodeAnswer → Node → List Message → Result ℕ Fault → Node → List Message → Type 0
-NodeMoves defined old kept (Ok count) new now = (made : List Message) × (defined ≡ Ok (record { made = made; node = new })) × (length made ≡ count) × (added made kept ≡ now)
-NodeMoves defined old kept (Err NoMemory) new now = Unit {0}
-NodeMoves defined old kept (Err fault) new now = (defined ≡ Err fault) × (new ≡ old) × (now ≡ kept)
+-- an actor that has taken a step, all messages after it, and how many it made
+pub record Told (S : Type 0) : Type 0 where
+  pub count : ℕ
+  pub actor : S
+  pub messages : List Message
+
+-- what is told of a step that makes these messages and leaves this actor, where those were kept
+abbrev pub told_of : {T S : Type 0} → (T → List Message) → (T → S) → List Message → Result T Fault → Result (Told S) Fault
+told_of made actor kept (Err fault) = Err fault
+told_of made actor kept (Ok step) = Ok (record { count = length (made step); actor = actor step; messages = added (made step) kept })
+
+-- an actor, and all messages
+pub record Held (S : Type 0) : Type 0 where
+  pub actor : S
+  pub messages : List Message
+
+-- so many messages were made, and the actor and all messages are now these
+abbrev pub counted : {S : Type 0} → ℕ → Held S → Told S
+counted count now = record { count = count; actor = now.actor; messages = now.messages }
+
+-- The answer to a step of an actor: the step that is defined was made and its messages were added; or the actor and the messages are what they
+-- were, after a refusal or for want of memory, which comes after the refusals but the late ones.
+abbrev pub Moves : {T S : Type 0} → (T → List Message) → (T → S) → (Fault → Bool) → Result T Fault → S → List Message → Result ℕ Fault → S → List Message → Type 0
+Moves made actor late defined old kept result new now =
+    AnswersLate late counted (told_of made actor kept defined) (record { actor = old; messages = kept }) result (record { actor = new; messages = now })
+
+-- the same of a node
+abbrev pub NodeMoves : (Fault → Bool) → NodeAnswer → Node → List Message → Result ℕ Fault → Node → List Message → Type 0
+NodeMoves late defined old kept result new now = Moves (λ (s : NodeStep). s.made) (λ (s : NodeStep). s.node) late defined old kept result new now
 
 -- the same of a client
-abbrev pub ClientMoves : ClientAnswer → Client → List Message → Result ℕ Fault → Client → List Message → Type 0
-ClientMoves defined old kept (Ok count) new now = (made : List Message) × (defined ≡ Ok (record { made = made; client = new })) × (length made ≡ count) × (added made kept ≡ now)
-ClientMoves defined old kept (Err NoMemory) new now = Unit {0}
-ClientMoves defined old kept (Err fault) new now = (defined ≡ Err fault) × (new ≡ old) × (now ≡ kept)
+abbrev pub ClientMoves : (Fault → Bool) → ClientAnswer → Client → List Message → Result ℕ Fault → Client → List Message → Type 0
+ClientMoves late defined old kept result new now = Moves (λ (s : ClientStep). s.made) (λ (s : ClientStep). s.client) late defined old kept result new now
 
 -- the same of the authority, whose steps make one message each
 abbrev pub AuthorityMoves : Result AuthorityStep Fault → Authority → List Message → Result ℕ Fault → Authority → List Message → Type 0
-AuthorityMoves defined old kept (Ok count) new now = (made : Message) × (defined ≡ Ok (record { made = made; authority = new })) × (1 ≡ count) × (made ∷ kept ≡ now)
-AuthorityMoves defined old kept (Err NoMemory) new now = Unit {0}
-AuthorityMoves defined old kept (Err fault) new now = (defined ≡ Err fault) × (new ≡ old) × (now ≡ kept)
+AuthorityMoves defined old kept result new now = Moves (λ (s : AuthorityStep). s.made ∷ []) (λ (s : AuthorityStep). s.authority) never_late defined old kept result new now

@@ -1,11 +1,11 @@
 //! All actors, and all messages ever made.
 
-use crate::acts::{AuthorityAct, ClientAct, NodeAct};
-use crate::birth::begin;
+use crate::acts::{AuthorityAct, ClientAct, ClientOrder, NodeAct};
 use crate::client_kind::Client;
+use crate::client_step::act_of;
 use crate::event::Event;
 use crate::nodes::{all_born, slot};
-use crate::numbering::message_at;
+use crate::numbering::enter;
 use crate::{authority_step, client_step, node_step};
 use epochs::Authority;
 use plan::CheckedPlan;
@@ -37,8 +37,9 @@ impl Actors {
     ghost use Rattle.volume_model.specs.Client.{opened, unborn};
     ghost use Rattle.volume_model.specs.World.{if_named, of_authority, of_client, of_node, opening, step};
     ghost use Rattle.plan.specs.CheckedModel.{checked_model};
-    ghost use Rattle.world.specs.Actors.{plan_of, world_of, messages_in, AreActors, Steps};
-    ghost use Rattle.world.specs.Acts.{authority_acted, client_acted, node_acted};
+    ghost use Rattle.volume_model.specs.Answer.{never_late};
+    ghost use Rattle.world.specs.Actors.{event_late, plan_of, world_of, messages_in, AreActors, Steps};
+    ghost use Rattle.world.specs.Acts.{authority_acted, client_ordered, node_acted, node_late, order_late};
     ghost use Rattle.world.specs.Events.{event_of};
 
     /// All actors before any event.
@@ -63,7 +64,7 @@ impl Actors {
     /// The authority acts.
     fn authority_step(&mut self, alloc: Global, act: AuthorityAct) -> Result<u64, Fault>
         requires { AreActors self.old }
-        ensures steps { Steps (of_authority (world_of self.old) (authority_acted (plan_of self.old) (world_of self.old).authority act)) (world_of self.old) result (world_of self.new) }
+        ensures steps { Steps never_late (of_authority (world_of self.old) (authority_acted (plan_of self.old) (world_of self.old).authority act)) (world_of self.old) result (world_of self.new) }
         ensures good { AreActors self.new }
         ensures plan { plan_of self.new ≡ plan_of self.old }
     {
@@ -79,7 +80,7 @@ impl Actors {
         act: NodeAct,
     ) -> Result<u64, Fault>
         requires { AreActors self.old }
-        ensures steps { Steps (of_node (world_of self.old) group member (if_named (plan_of self.old) group member (node_acted (messages_in self.old) act (plan_of self.old) group member ((world_of self.old).nodes group member)))) (world_of self.old) result (world_of self.new) }
+        ensures steps { Steps (node_late act) (of_node (world_of self.old) group member (if_named (plan_of self.old) group member (node_acted (messages_in self.old) act (plan_of self.old) group member ((world_of self.old).nodes group member)))) (world_of self.old) result (world_of self.new) }
         ensures good { AreActors self.new }
         ensures plan { plan_of self.new ≡ plan_of self.old }
     {
@@ -93,67 +94,69 @@ impl Actors {
     }
 
     /// A client acts. `NoActor` where it isn't there, unless it takes a View.
-    fn client_step(&mut self, alloc: Global, volume: u32, act: ClientAct) -> Result<u64, Fault>
+    fn client_step(
+        &mut self,
+        alloc: Global,
+        volume: u32,
+        order: ClientOrder<'_>,
+    ) -> Result<u64, Fault>
         requires { AreActors self.old }
-        ensures steps { Steps (of_client (world_of self.old) volume (client_acted (messages_in self.old) act.entry (plan_of self.old) volume ((world_of self.old).clients volume))) (world_of self.old) result (world_of self.new) }
+        ensures steps { Steps (order_late order.entry) (of_client (world_of self.old) volume (client_ordered (messages_in self.old) order.entry (plan_of self.old) volume ((world_of self.old).clients volume))) (world_of self.old) result (world_of self.new) }
         ensures good { AreActors self.new }
         ensures plan { plan_of self.new ≡ plan_of self.old }
     {
         if !self.clients.contains_key(&volume) {
-            return self.absent_step(alloc, volume, act);
+            return self.absent_step(alloc, volume, order);
         }
         match self.clients.get_mut(&volume) {
             None => Err(Fault::NoActor),
-            Some(client) => client_step::act(alloc, client, &mut self.messages, act),
+            Some(client) => {
+                client_step::act(alloc, &self.plan, volume, client, &mut self.messages, order)
+            }
         }
     }
 
     /// A client that isn't there acts: it is born by a View, and anything else is refused.
-    fn absent_step(&mut self, alloc: Global, volume: u32, act: ClientAct) -> Result<u64, Fault>
+    fn absent_step(
+        &mut self,
+        alloc: Global,
+        volume: u32,
+        order: ClientOrder<'_>,
+    ) -> Result<u64, Fault>
         requires actors { AreActors self.old }
         requires absent { get nat_cmp self.old.clients volume ≡ None }
-        ensures steps { Steps (of_client (world_of self.old) volume (client_acted (messages_in self.old) act.entry (plan_of self.old) volume unborn)) (world_of self.old) result (world_of self.new) }
+        ensures steps { Steps (order_late order.entry) (of_client (world_of self.old) volume (client_ordered (messages_in self.old) order.entry (plan_of self.old) volume unborn)) (world_of self.old) result (world_of self.new) }
         ensures good { AreActors self.new }
         ensures plan { plan_of self.new ≡ plan_of self.old }
     {
-        let ClientAct::Take { message } = act else {
-            return Err(Fault::NoActor);
-        };
-        let Some(message) = message_at(self.messages.as_slice(), message) else {
-            return Err(Fault::NoMessage);
-        };
-        let (recovery, mut made) = match begin(alloc, &self.plan, volume, message) {
-            Ok(begun) => begun,
-            Err(fault) => return Err(fault),
-        };
-        let count = made.len() as u64;
-        self.clients.insert(volume, Client::Recovery(recovery))?;
-        self.messages.append(&mut made)?;
-        Ok(count)
+        let act = act_of(order, self.messages.as_slice())?;
+        let mut client = Client::Unborn;
+        let made = client.act(alloc, &self.plan, volume, act)?;
+        self.messages.reserve(made.len())?;
+        self.clients.insert(volume, client)?;
+        Ok(enter(&mut self.messages, made))
     }
 
     /// A client becomes a writer. `NoActor` where it isn't there.
     fn opening_step(&mut self, volume: u32) -> Result<u64, Fault>
         requires { AreActors self.old }
-        ensures steps { Steps (of_client (world_of self.old) volume (opened (plan_of self.old) ((world_of self.old).clients volume))) (world_of self.old) result (world_of self.new) }
+        ensures steps { Steps never_late (of_client (world_of self.old) volume (opened (plan_of self.old) ((world_of self.old).clients volume))) (world_of self.old) result (world_of self.new) }
         ensures good { AreActors self.new }
         ensures plan { plan_of self.new ≡ plan_of self.old }
     {
-        let Some(client) = self.clients.remove(&volume) else {
-            return Err(Fault::NoActor);
-        };
-        let (client, opened) = client.open();
-        self.clients.insert(volume, client)?;
-        match opened {
-            Ok(()) => Ok(0),
-            Err(fault) => Err(fault),
+        match self.clients.get_mut(&volume) {
+            None => Err(Fault::NoActor),
+            Some(client) => {
+                client.open(&self.plan, volume)?;
+                Ok(0)
+            }
         }
     }
 
     /// Makes an event happen, and answers how many messages it made; or refuses it, and nothing has changed.
     pub fn step(&mut self, alloc: Global, event: &Event) -> Result<u64, Fault>
         requires { AreActors self.old }
-        ensures steps { Steps (step (plan_of self.old) (world_of self.old) (event_of event.now)) (world_of self.old) result (world_of self.new) }
+        ensures steps { Steps (event_late (event_of event.now)) (step (plan_of self.old) (world_of self.old) (event_of event.now)) (world_of self.old) result (world_of self.new) }
         ensures good { AreActors self.new }
         ensures plan { plan_of self.new ≡ plan_of self.old }
     {
@@ -173,15 +176,18 @@ impl Actors {
                 self.authority_step(alloc, AuthorityAct::Refresh { volume: *volume })
             }
             Event::Issue { volume, changes } => {
-                self.client_step(alloc, *volume, ClientAct::Issue(changes))
+                self.client_step(alloc, *volume, ClientOrder::Act(ClientAct::Issue(changes)))
             }
             Event::Take { volume, message } => {
-                self.client_step(alloc, *volume, ClientAct::Take { message: *message })
+                self.client_step(alloc, *volume, ClientOrder::Take { message: *message })
             }
-            Event::Cut { volume } => self.client_step(alloc, *volume, ClientAct::Cut),
+            Event::Cut { volume } => {
+                self.client_step(alloc, *volume, ClientOrder::Act(ClientAct::Cut))
+            }
             Event::Open { volume } => self.opening_step(*volume),
             Event::Resend { volume, lsn } => {
-                self.client_step(alloc, *volume, ClientAct::Resend { lsn: *lsn })
+                let act = ClientAct::Resend { lsn: *lsn };
+                self.client_step(alloc, *volume, ClientOrder::Act(act))
             }
             Event::Read {
                 volume,
@@ -192,7 +198,7 @@ impl Actors {
                     group: *group,
                     block: *block,
                 };
-                self.client_step(alloc, *volume, act)
+                self.client_step(alloc, *volume, ClientOrder::Act(act))
             }
             Event::Hydrate { group, member } => {
                 self.node_step(alloc, *group, *member, NodeAct::Hydrate)

@@ -1,5 +1,6 @@
 //! What an actor may be asked to do.
 
+use wire::Message;
 use writer_core::Change;
 
 /// What the authority does.
@@ -31,12 +32,21 @@ pub enum NodeAct {
 pub enum ClientAct<'a> {
     /// It gives a transaction's changes their records.
     Issue(&'a [Change]),
-    /// It takes the message with this number.
-    Take { message: u64 },
+    /// It takes a message.
+    Take(&'a Message),
     /// It cuts the log where what it has read ends.
     Cut,
     /// It sends the record with this LSN once more.
     Resend { lsn: u64 },
     /// It asks for a block's bytes.
     Read { group: u8, block: u32 },
+}
+
+/// The same, of a message by its number.
+#[derive(Clone, Copy)]
+pub enum ClientOrder<'a> {
+    /// It takes the message with this number.
+    Take { message: u64 },
+    /// It acts otherwise.
+    Act(ClientAct<'a>),
 }

@@ -1,9 +1,10 @@
 //! What the authority does.
 
 ghost use Rattle.std.specs.Prelude.{◌≡◌, []};
+ghost use Rattle.volume_model.specs.Answer.{refusal_of, Answers};
 ghost use Rattle.volume_model.specs.Lists.{added};
 ghost use Rattle.wire.specs.Message.{messages_of};
-ghost use Rattle.epochs.specs.Authority.{authority_of, authority_plan, Answers};
+ghost use Rattle.epochs.specs.Authority.{authority_of, authority_plan, told};
 ghost use Rattle.world.specs.Acts.{authority_acted};
 ghost use Rattle.world.specs.Moves.{AuthorityMoves};
 
@@ -13,9 +14,23 @@ use std::alloc::Global;
 use volume_model::Fault;
 use wire::Message;
 
+/// Whether the authority would act.
+fn admits(authority: &Authority, act: AuthorityAct) -> Result<(), Fault>
+    ensures { result ≡ refusal_of (authority_acted (authority_plan authority.now) (authority_of authority.now) act) }
+{
+    match act {
+        AuthorityAct::Assign => authority.admits_assign(),
+        AuthorityAct::Advance {
+            group,
+            configuration,
+        } => authority.admits_advance(group, configuration),
+        AuthorityAct::Refresh { volume } => authority.admits_refresh(volume),
+    }
+}
+
 /// Lets the authority act, and answers the message that it makes.
 fn tell(alloc: Global, authority: &mut Authority, act: AuthorityAct) -> Result<Message, Fault>
-    ensures answers { Answers (authority_acted (authority_plan authority.old) (authority_of authority.old) act) (authority_of authority.old) result (authority_of authority.new) }
+    ensures answers { Answers told (authority_acted (authority_plan authority.old) (authority_of authority.old) act) (authority_of authority.old) result (authority_of authority.new) }
     ensures plan { authority_plan authority.new ≡ authority_plan authority.old }
 {
     match act {
@@ -28,7 +43,8 @@ fn tell(alloc: Global, authority: &mut Authority, act: AuthorityAct) -> Result<M
     }
 }
 
-/// Lets the authority act, and adds the message that it makes to the others.
+/// Lets the authority act, and adds the message that it makes to the others, for which it makes room before the authority changes. Where
+/// memory runs out nothing has changed.
 pub fn act(
     alloc: Global,
     authority: &mut Authority,
@@ -38,7 +54,11 @@ pub fn act(
     ensures moves { AuthorityMoves (authority_acted (authority_plan authority.old) (authority_of authority.old) act) (authority_of authority.old) (added (messages_of messages.old.items) []) result (authority_of authority.new) (added (messages_of messages.new.items) []) }
     ensures plan { authority_plan authority.new ≡ authority_plan authority.old }
 {
+    if let Err(fault) = admits(authority, act) {
+        return Err(fault);
+    }
+    messages.reserve(1)?;
     let message = tell(alloc, authority, act)?;
-    messages.push(message)?;
+    messages.push(message).unwrap();
     Ok(1)
 }

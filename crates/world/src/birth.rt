@@ -1,12 +1,13 @@
 //! How a client begins.
 
-ghost use Rattle.std.specs.Prelude.{◌≡◌, IfOk};
+ghost use Rattle.std.specs.Prelude.{◌≡◌, ◌≢◌, IfErr, IfOk};
 ghost use Rattle.std.specs.Arc.{arc_value};
-ghost use Rattle.volume_model.specs.Answer.{Gives};
+ghost use Rattle.volume_model.specs.Answer.{refusal_of, Answers};
 ghost use Rattle.volume_model.specs.Client.{taken, unborn};
+ghost use Rattle.volume_model.specs.declared.fault.Fault.TheVariants.{NoMemory};
 ghost use Rattle.plan.specs.CheckedModel.{checked_model};
 ghost use Rattle.wire.specs.Message.{message_of};
-ghost use Rattle.recovery.specs.Recoveries.{recovery_plan, recovery_volume, step_of};
+ghost use Rattle.recovery.specs.Recoveries.{begun, birth_of, recovery_plan, recovery_volume, view_volume};
 
 use plan::CheckedPlan;
 use recovery::Recovery;
@@ -15,25 +16,51 @@ use std::sync::Arc;
 use volume_model::Fault;
 use wire::Message;
 
-/// The recovery that a client which isn't there becomes by a View of its volume epoch, and the messages that it makes. Any other message is
-/// refused: `NotAddressed` where it isn't for the client, else `NoActor`, as there is none to take it.
+/// Whether a client that isn't there would become a recovery by a message: by a View of its volume epoch, at places of the plan (else
+/// `NotInPlan`). Any other message is refused: `NotAddressed` where it isn't for the client, else `NoActor`, as there is none to take it.
+pub fn admits_birth(plan: &CheckedPlan, volume: u32, message: &Message) -> Result<(), Fault>
+    ensures refusal { result ≡ refusal_of (taken (checked_model plan.now) volume unborn (message_of message.now)) }
+    ensures own { IfErr result (λ fault. fault ≢ NoMemory) }
+{
+    let groups = plan.groups();
+    match message {
+        Message::View(view) if view.volume == volume => Recovery::admits_birth(plan, message),
+        Message::Report(report) if report.is_to(volume, groups) => Err(Fault::NoActor),
+        Message::Ack(ack) if ack.is_to(volume, groups) => Err(Fault::NoActor),
+        Message::Page(page) if page.is_to(volume, groups) => Err(Fault::NoActor),
+        _ => Err(Fault::NotAddressed),
+    }
+}
+
+/// The recovery of a View of its volume epoch, and the messages that it makes.
+fn begin_by_view(
+    alloc: Global,
+    plan: &Arc<CheckedPlan>,
+    message: &Message,
+) -> Result<(Recovery, Vec<Message>), Fault>
+    ensures step { Answers begun (birth_of (checked_model (arc_value plan.now)) (message_of message.now)) tt result tt }
+    ensures plan { IfOk result (λ r. recovery_plan r.0 ≡ checked_model (arc_value plan.now)) }
+    ensures volume { IfOk result (λ r. recovery_volume r.0 ≡ view_volume (message_of message.now)) }
+{
+    Recovery::admits_birth(plan, message)?;
+    Recovery::new(alloc, plan.clone()?, message)
+}
+
+/// The recovery that a client which isn't there becomes by a View of its volume epoch, and the messages that it makes. Refused as
+/// [`admits_birth`] says.
 pub fn begin(
     alloc: Global,
     plan: &Arc<CheckedPlan>,
     volume: u32,
     message: &Message,
 ) -> Result<(Recovery, Vec<Message>), Fault>
-    ensures step { Gives step_of result (taken (checked_model (arc_value plan.now)) volume unborn (message_of message.now)) }
+    ensures step { Answers begun (taken (checked_model (arc_value plan.now)) volume unborn (message_of message.now)) tt result tt }
     ensures plan { IfOk result (λ r. recovery_plan r.0 ≡ checked_model (arc_value plan.now)) }
     ensures volume { IfOk result (λ r. recovery_volume r.0 ≡ volume) }
 {
     let groups = plan.groups();
     match message {
-        Message::View(view) if view.volume == volume => Recovery::new(
-            alloc,
-            plan.clone()?,
-            message,
-        ),
+        Message::View(view) if view.volume == volume => begin_by_view(alloc, plan, message),
         Message::Report(report) if report.is_to(volume, groups) => Err(Fault::NoActor),
         Message::Ack(ack) if ack.is_to(volume, groups) => Err(Fault::NoActor),
         Message::Page(page) if page.is_to(volume, groups) => Err(Fault::NoActor),

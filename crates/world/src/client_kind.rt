@@ -3,9 +3,11 @@
 use recovery::Recovery;
 use writer_core::Writer;
 
-/// A client of the volume: a recovery, or the writer that it became.
+/// A client of the volume: none yet, then a recovery, and then the writer that it becomes.
 #[derive(Drop)]
 pub enum Client {
+    /// No View has reached it.
+    Unborn,
     /// It reads or installs.
     Recovery(Recovery),
     /// It is open.

@@ -1,54 +1,85 @@
-//! What a client does.
+//! A client's step, among all messages.
 
-ghost use Rattle.std.specs.Prelude.{◌≡◌, []};
+ghost use Rattle.std.specs.Prelude.{◌≡◌, ◌≤◌, [], Err, MatchResult};
+ghost use Rattle.std.specs.Arc.{arc_value};
 ghost use Rattle.volume_model.specs.Lists.{added};
+ghost use Rattle.volume_model.specs.declared.fault.Fault.TheVariants.{NoMessage};
+ghost use Rattle.plan.specs.CheckedModel.{checked_model};
 ghost use Rattle.wire.specs.Message.{messages_of};
-ghost use Rattle.writer_core.specs.Writers.{Acts};
-ghost use Rattle.world.specs.Acts.{client_acted};
-ghost use Rattle.world.specs.Clients.{seen_client, client_plan, client_volume, IsSameClient};
+ghost use Rattle.world.specs.Acts.{client_ordered, order_late, ActsFew, IsOrderOf, IsRefusedOrder, MakesAtMost};
+ghost use Rattle.world.specs.Clients.{seen_client, IsClientOf};
 ghost use Rattle.world.specs.Moves.{ClientMoves};
 
-use crate::acts::ClientAct;
+use crate::acts::{ClientAct, ClientOrder};
 use crate::client_kind::Client;
-use crate::numbering::message_at;
+use crate::numbering::{enter, message_at};
+use plan::CheckedPlan;
 use std::alloc::Global;
-use volume_model::Fault;
+use std::sync::Arc;
+use volume_model::{Fault, steps_are_few};
 use wire::Message;
 
-/// Lets a client act, and answers the messages that it makes.
-fn speak(
-    alloc: Global,
-    client: &mut Client,
-    messages: &[Message],
-    act: ClientAct,
-) -> Result<Vec<Message>, Fault>
-    ensures acts { Acts (client_acted (added (messages_of messages.now) []) act.entry (client_plan client.old) (client_volume client.old) (seen_client client.old)) (seen_client client.old) result (seen_client client.new) }
-    ensures actor { IsSameClient client.old client.new }
+/// What an order asks for, among these messages. `NoMessage` where it names none of them.
+pub fn act_of<'a>(order: ClientOrder<'a>, messages: &'a [Message]) -> Result<ClientAct<'a>, Fault>
+    ensures { MatchResult result (λ act. IsOrderOf (added (messages_of messages.entry.now) []) order.entry act) (λ fault. (fault ≡ NoMessage) × IsRefusedOrder (added (messages_of messages.entry.now) []) order.entry) }
 {
-    match act {
-        ClientAct::Issue(changes) => client.issue(alloc, changes),
-        ClientAct::Take { message } => match message_at(messages, message) {
-            Some(message) => client.take(alloc, message),
+    match order {
+        ClientOrder::Act(act) => Ok(act),
+        ClientOrder::Take { message } => match message_at(messages, message) {
+            Some(message) => Ok(ClientAct::Take(message)),
             None => Err(Fault::NoMessage),
         },
-        ClientAct::Cut => client.cut(alloc),
-        ClientAct::Resend { lsn } => client.resend(alloc, lsn),
-        ClientAct::Read { group, block } => client.read(alloc, group, block),
     }
 }
 
-/// Lets a client act, and adds the messages that it makes to the others.
+/// No more messages than this many are made by an act.
+fn most_acted(plan: &CheckedPlan, act: ClientAct<'_>) -> usize
+    ensures { ActsFew (checked_model plan.now) act.entry result }
+{
+    steps_are_few();
+    match act {
+        ClientAct::Take(_) => usize::from(plan.groups()),
+        ClientAct::Cut => usize::from(plan.groups()),
+        ClientAct::Issue(changes) => changes.len(),
+        ClientAct::Resend { .. } => 1,
+        ClientAct::Read { .. } => 1,
+    }
+}
+
+/// No more messages than this many are made by what an order asks for.
+fn most_made(plan: &CheckedPlan, order: ClientOrder<'_>) -> usize
+    ensures { MakesAtMost (checked_model plan.now) order.entry result }
+{
+    steps_are_few();
+    match order {
+        ClientOrder::Take { .. } => usize::from(plan.groups()),
+        ClientOrder::Act(act) => most_acted(plan, act),
+    }
+}
+
+/// Lets a client act, and adds the messages that it makes to the others, for which it makes room before the client changes. Where memory
+/// runs out nothing has changed.
 pub fn act(
     alloc: Global,
+    plan: &Arc<CheckedPlan>,
+    volume: u32,
     client: &mut Client,
     messages: &mut Vec<Message>,
-    act: ClientAct,
+    order: ClientOrder<'_>,
 ) -> Result<u64, Fault>
-    ensures moves { ClientMoves (client_acted (added (messages_of messages.old.items) []) act.entry (client_plan client.old) (client_volume client.old) (seen_client client.old)) (seen_client client.old) (added (messages_of messages.old.items) []) result (seen_client client.new) (added (messages_of messages.new.items) []) }
-    ensures actor { IsSameClient client.old client.new }
+    requires client { IsClientOf (checked_model (arc_value plan.now)) volume client.old }
+    ensures moves { ClientMoves (order_late order.entry) (client_ordered (added (messages_of messages.old.items) []) order.entry (checked_model (arc_value plan.now)) volume (seen_client client.old)) (seen_client client.old) (added (messages_of messages.old.items) []) result (seen_client client.new) (added (messages_of messages.new.items) []) }
+    ensures client { IsClientOf (checked_model (arc_value plan.now)) volume client.new }
 {
-    let mut made = speak(alloc, client, messages.as_slice(), act)?;
-    let count = made.len() as u64;
-    messages.append(&mut made)?;
-    Ok(count)
+    let room = messages.reserve(most_made(plan, order));
+    let act = match act_of(order, messages.as_slice()) {
+        Ok(act) => act,
+        Err(fault) => return Err(fault),
+    };
+    if room.is_err() {
+        client.admits(alloc, plan, volume, act)?;
+        return Err(Fault::NoMemory);
+    }
+    let made = client.act(alloc, plan, volume, act)?;
+    Ok(enter(messages, made))
 }

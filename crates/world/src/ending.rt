@@ -52,6 +52,7 @@ fn found_by(alloc: Global, volume: u32, client: &Client) -> Result<Option<FindEn
     ensures { IfOk result (λ found. option_map find_of found ≡ (if has_cut (seen_client client.now).stage then Some (found_client volume (seen_client client.now)) else None)) }
 {
     match client {
+        Client::Unborn => Ok(None),
         Client::Writer(writer) => {
             let end = find_end(alloc, volume, writer.found(), writer.lineage())?;
             Ok(Some(end))

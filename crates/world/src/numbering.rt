@@ -1,6 +1,6 @@
 //! The messages that were made, in the order of making.
 
-ghost use Rattle.std.specs.Prelude.{◌≡◌, [], option_map};
+ghost use Rattle.std.specs.Prelude.{◌≡◌, ◌+◌, ◌≤◌, ◌++◌, [], length, option_map, vec_capacity, vec_len};
 ghost use Rattle.volume_model.specs.Lists.{added, numbered};
 ghost use Rattle.wire.specs.Message.{message_of, messages_of};
 
@@ -14,4 +14,16 @@ pub fn message_at(messages: &[Message], number: u64) -> Option<&Message>
         return None;
     }
     Some(&messages[(number - 1) as usize])
+}
+
+/// Adds the messages that a step made to the others, among which there is room for them, and answers how many they are.
+pub fn enter(messages: &mut Vec<Message>, made: Vec<Message>) -> u64
+    requires { vec_len messages.old + vec_len made ≤ vec_capacity messages.old }
+    ensures added { messages.new.items ≡ messages.old.items ++ made.items }
+    ensures count { result ≡ length made.items }
+{
+    let mut made = made;
+    let count = made.len() as u64;
+    messages.append(&mut made).unwrap();
+    count
 }

@@ -2,7 +2,7 @@
 
 ghost use Rattle.std.specs.Prelude.{◌≡◌, ◌^◌, ◌<◌};
 ghost use Rattle.volume_model.specs.World.{step};
-ghost use Rattle.world.specs.Actors.{plan_of, world_of, AreActors, Steps};
+ghost use Rattle.world.specs.Actors.{event_late, plan_of, world_of, AreActors, Steps};
 ghost use Rattle.world.specs.Events.{made_by, firsts_of, total_made, number_from, ordered};
 
 use crate::actors::Actors;
@@ -48,7 +48,7 @@ pub fn follow(
     requires actors { AreActors actors.old }
     requires firsts { firsts.now ≡ firsts_of 0 results.now }
     requires total { total_made results.now < 2 ^ 64 }
-    ensures steps { Steps (step (plan_of actors.old) (world_of actors.old) (ordered results.now order.now)) (world_of actors.old) result (world_of actors.new) }
+    ensures steps { Steps (event_late (ordered results.now order.now)) (step (plan_of actors.old) (world_of actors.old) (ordered results.now order.now)) (world_of actors.old) result (world_of actors.new) }
     ensures good { AreActors actors.new }
     ensures plan { plan_of actors.new ≡ plan_of actors.old }
 {

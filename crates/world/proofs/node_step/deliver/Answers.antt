@@ -1,25 +1,29 @@
-use Rattle.std.proofs.Common.{◌≡◌, ℕ, ◌∷◌, [], Option, Some, Ok, refl, sym, ap, ◌∙◌}
-use Rattle.volume_model.specs.Message as model
-use Rattle.volume_model.specs.Node.{Node, reaction}
-use Rattle.volume_model.specs.Plan.{Plan}
-use Rattle.volume_model.specs.World.{deliver}
-use Rattle.wire.specs.Message.{message_of, messages_of, made_of}
+use Rattle.std.proofs.Common.{◌≡◌, ◌++◌, List, [], Option, Some, length, refl, sym, ap, ap₂, ◌∙◌}
 use Rattle.volume_model.specs.Lists.{added, numbered}
+use Rattle.volume_model.specs.Message as model
+use Rattle.volume_model.specs.Node.{Node, NodeAnswer, NodeStep}
+use Rattle.volume_model.specs.World.{deliver}
+use Rattle.wire.specs.declared.message.Message.{Message}
+use Rattle.wire.specs.Message.{message_of, messages_of}
+use Rattle.segment_core.specs.declared.prepared.Prepared.{Prepared}
+use Rattle.segment_core.specs.declared.segment.Segment.{Segment}
+use Rattle.segment_core.specs.Prepared.{step_of}
 use Rattle.segment_core.specs.Segment.{node_of, segment_plan, segment_group, segment_member}
-use Rattle.world.proofs.Messages.{added-one}
+use Rattle.world.proofs.Moving.{told_made}
 use Rattle.world.proofs.node_step.deliver.Goals as goal
 
-pub returns-in_ok-push-in-Some-answer-clause-moves : goal.returns-in_ok-push-in-Some-answer-clause-moves
-returns-in_ok-push-in-Some-answer-clause-moves c =
-    let plan : Plan = segment_plan c.args.segment.now in
-    let group : ℕ = segment_group c.args.segment.now in
-    let member : ℕ = segment_member c.args.segment.now in
-    let node : Node = node_of c.args.segment.now in
-    let reacts : reaction plan group member node (message_of c.in-Some.message.now) ≡ Ok (record { made = made_of (Some c.in-Some-answer.answer); node = node_of c.deliver.new.self }) =
-    rw c.in-Some-answer.is at c.in_ok-answer-in-Some.ensures.reacts in
-    let found : Some (message_of c.in-Some.message.now) ≡ numbered (added (messages_of c.args.messages.now.items) []) c.args.number = rw c.as_slice.ensures.value at c.in-Some.ensures in (
-      message_of c.in-Some-answer.answer ∷ [],
-      ap (λ (found : Option model.Message). deliver plan group member node found) (sym found) ∙ reacts,
-      refl,
-      sym (rw c.in_ok-push-in-Some-answer.ensures.items (added-one c.args.messages.now.items c.in-Some-answer.answer)),
-    )
+pub returns-clause-moves : goal.returns-clause-moves
+returns-clause-moves c =
+    let s : Segment = c.args.segment.now in
+    let node : Node = node_of s in
+    let kept : List Message = c.args.messages.now.items in
+    let prepared : Prepared = c.in_ok-prepared-in-Some.prepared in
+    let answers : List Message = prepared.answers.items in
+    let found : Some (message_of c.in-Some.message.now) ≡ numbered (added (messages_of kept) []) c.args.number = rw c.as_slice.ensures.value at c.in-Some.ensures in
+    let asked : Option model.Message → NodeAnswer = λ m. deliver (segment_plan s) (segment_group s) (segment_member s) node m in
+    told_made (λ (step : NodeStep). step.made) (λ (step : NodeStep). step.node) kept c.enter.new.messages.items answers (asked (numbered (added (messages_of kept) []) c.args.number)) (step_of prepared node) (node_of c.apply-made.new.self) c.enter.result
+    (ap asked (sym found) ∙ c.in_ok-prepared-in-Some.ensures.step)
+    refl
+    (sym (c.apply-made.ensures.node ∙ ap (λ (n : Node). (step_of prepared n).node) c.in_ok-prepared-in-Some.ensures.node))
+    (c.enter.ensures.count ∙ ap length c.apply-made.ensures.answers)
+    (c.enter.ensures.added ∙ ap₂ (λ (xs ys : List Message). xs ++ ys) c.in_ok-reserve.ensures.items c.apply-made.ensures.answers)

@@ -16,5 +16,5 @@ returns-in_ok-push c =
     let there : get nat_cmp self.clients c.args.volume ≡ Some (Writer c.in-Some-Writer.writer) = sym c.in-Some-Writer.ensures.value ∙ ap Some c.in-Some-Writer.field-0-is in
     let one : IsClientOf (plan_of self) c.args.volume (Writer c.in-Some-Writer.writer) = c.requires.clients c.args.volume (Writer c.in-Some-Writer.writer) there in
     let at : clients_of self.clients c.args.volume ≡ client_of c.in-Some-Writer.writer = ap client_or_unborn there in
-    let end : opened_of c.in_ok-writer_end.field-0 ≡ opened_client c.args.volume (client_of c.in-Some-Writer.writer) = c.in_ok-writer_end.ensures ∙ ap (λ (v : ℕ). opened_client v (client_of c.in-Some-Writer.writer)) one.volume_is in
+    let end : opened_of c.in_ok-writer_end.field-0 ≡ opened_client c.args.volume (client_of c.in-Some-Writer.writer) = c.in_ok-writer_end.ensures ∙ ap (λ (v : ℕ). opened_client v (client_of c.in-Some-Writer.writer)) one.1 in
     rw (c.in_ok-push.ensures.items, at) (map-append opened_of c.args.ends.now.items (c.in_ok-writer_end.field-0 ∷ []) ∙ ap (λ (o : Opened). map opened_of c.args.ends.now.items ++ o ∷ []) end)

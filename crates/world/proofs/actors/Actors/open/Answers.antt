@@ -35,7 +35,7 @@ returns-clause-good c =
       plan = whole;
       homes = subst (λ (p : Plan). AreHomes p c.in_ok-all_born.field-0.items) (sym same) c.in_ok-all_born.ensures.homes;
       low = subst LowFor (sym same) (λ group member h. is_low (plan_data (arc_value c.args.plan.now).plan) group member h);
-      clients = subst (λ (p : Plan). AreClients p c.insert.new.self) (sym same) (clients_on c.new-clients.result c.insert.new.self 1 first is plan (none_kept c.new-clients.result c.new-clients.ensures.empty plan) (record { plan_is = mine; volume_is = c.in_ok-first.ensures.volume }));
+      clients = subst (λ (p : Plan). AreClients p c.insert.new.self) (sym same) (clients_on c.new-clients.result c.insert.new.self 1 first is plan (none_kept c.new-clients.result c.new-clients.ensures.empty plan) (mine, c.in_ok-first.ensures.volume));
     }
 
 pub returns-clause-world : goal.returns-clause-world

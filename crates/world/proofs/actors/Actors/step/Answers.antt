@@ -11,3 +11,12 @@ returns-in-Offer-clause-steps c = rw c.in-Offer.is c.node_step-in-Offer.ensures.
 
 pub returns-in-Hydrate-clause-steps : goal.returns-in-Hydrate-clause-steps
 returns-in-Hydrate-clause-steps c = rw c.in-Hydrate.is c.node_step.ensures.steps
+
+pub returns-in-Issue-clause-steps : goal.returns-in-Issue-clause-steps
+returns-in-Issue-clause-steps c = rw (c.in-Issue.is, ← c.deref.ensures.value) c.client_step.ensures.steps
+
+pub returns-in-Take-clause-steps : goal.returns-in-Take-clause-steps
+returns-in-Take-clause-steps c = rw c.in-Take.is c.client_step-in-Take.ensures.steps
+
+pub returns-in-Resend-clause-steps : goal.returns-in-Resend-clause-steps
+returns-in-Resend-clause-steps c = rw c.in-Resend.is c.client_step-in-Resend.ensures.steps
