@@ -1,14 +1,84 @@
 -- Each step keeps the rule of the deque.
-use Rattle.std.proofs.Common.{◌≡◌, ◌≢◌, ◌⊎◌, ℕ, zero, suc, ◌+◌, ◌<◌, zero-add, suc-add, List, [], ◌∷◌, ◌++◌, length, set, true, false, true≢false, refl, sym, ap, ◌∙◌, subst, ⊎_elim, append_assoc, arith}
+use Rattle.std.proofs.Common.{◌≡◌, ◌≢◌, ◌⊎◌, ℕ, zero, suc, ◌+◌, ◌-◌, ◌<◌, ◌≤◌, zero-add, suc-add, List, [], ◌∷◌, ◌++◌, length, set, Bool, true, false, ◌||◌, true≢false, refl, sym, ap, ◌∙◌, subst, inl, inr, ⊎_elim, append_assoc, append-nil, arith}
 use Rattle.std.proofs.Math.ListN.{length-set}
 use mathlib.Core.Option.{some, some-ne-none, some-injective}
+use mathlib.Core.Logic.{dite}
+use native.Mathlib.Decide.{ℕ_discrete}
 use lib.ListN.{get_elem?}
-use Rattle.atomic_table.proofs.Lists.{at_longer, at_last, at_snoc, at_set}
-use Rattle.crossbeam_deque.specs.Tasks.{Pushes, Takes, Forks}
+use Rattle.atomic_table.proofs.Lists.{at_longer, at_last, at_snoc, at_set, set_here, set_else}
+use Rattle.crossbeam_deque.specs.Tasks.{Pushes, Takes, Forks, Merges, Learns}
 use Rattle.cert_search.specs.declared.deque.Had.{Had}
+use Rattle.cert_search.specs.declared.deque.Holder.{Holder}
+use Rattle.cert_search.specs.declared.deque.Holder.TheVariants.{Owner, Guest, Nobody}
+use Rattle.cert_search.specs.declared.deque.Task.{Task}
+use Rattle.cert_search.specs.declared.deque.Task.TheVariants.{Claim, End}
 use Rattle.cert_search.specs.Views.{At}
-use Rattle.cert_search.specs.Deque.{had, got_of, Rises, Keeps, IsDeque, GetsClaim, Took, Adds}
+use Rattle.cert_search.specs.Deque.{first_view, guest_view, spent_view, lend, regain, is_owner, holders, dealt_more, closed, got_more, at_end, lent_view, both_views, got_of, counts, weight, Rises, marks_of, tasks_of, Keeps, NoMark, IsDeque, GetsClaim, Took, Adds, Settles}
 use Rattle.cert_search.proofs.Steps.{at_push, in_range, each_after, at_still, at_new, at_after, at_same, at_kept, at_more, at_fewer}
+
+-- the number of views that count, where one view changes
+sum_set : (l : List Had) (i : ℕ) (x y : Had) → get_elem? l i ≡ some x → holders (set l i y) + weight x ≡ holders l + weight y
+sum_set [] i x y e = absurd (some-ne-none x (sym e))
+sum_set (z ∷ zs) zero x y e = let is = ap weight (some-injective z x e) in omega (arith, is)
+sum_set (z ∷ zs) (suc i) x y e = let more = sum_set zs i x y e in omega (arith, more)
+
+sum_least : (l : List Had) (i : ℕ) (x : Had) → get_elem? l i ≡ some x → weight x ≤ holders l
+sum_least [] i x e = absurd (some-ne-none x (sym e))
+sum_least (z ∷ zs) zero x e = let is = ap weight (some-injective z x e) in omega (arith, is)
+sum_least (z ∷ zs) (suc i) x e = let more = sum_least zs i x e in omega (arith, more)
+
+-- two views are no more than all
+sum_two : (l : List Had) (i j : ℕ) (x y : Had) → i ≢ j → get_elem? l i ≡ some x → get_elem? l j ≡ some y → weight x + weight y ≤ holders l
+sum_two [] i j x y apart e g = absurd (some-ne-none x (sym e))
+sum_two (z ∷ zs) zero zero x y apart e g = absurd (apart refl)
+sum_two (z ∷ zs) zero (suc j) x y apart e g = let is = ap weight (some-injective z x e) in let more = sum_least zs j y g in omega (arith, is, more)
+sum_two (z ∷ zs) (suc i) zero x y apart e g = let is = ap weight (some-injective z y g) in let more = sum_least zs i x e in omega (arith, is, more)
+sum_two (z ∷ zs) (suc i) (suc j) x y apart e g = let more = sum_two zs i j x y (λ same. apart (ap suc same)) e g in omega (arith, more)
+
+sum_push : (l : List Had) (x : Had) → holders (l ++ x ∷ []) ≡ holders l + weight x
+sum_push [] x = omega arith
+sum_push (z ∷ zs) x = let more = sum_push zs x in omega (arith, more)
+
+-- the worker whose deque it is
+pub owner_out : (v : Had) → is_owner v.holder ≡ true → (out : ℕ) × (v.holder ≡ Owner out)
+owner_out v owner = by_holder v.holder owner
+  where
+    by_holder : (h : Holder) → is_owner h ≡ true → (out : ℕ) × (h ≡ Owner out)
+    by_holder (Owner out) e = (out, refl)
+    by_holder Guest e = absurd (true≢false (sym e))
+    by_holder Nobody e = absurd (true≢false (sym e))
+
+pub owner_held : (v : Had) → is_owner v.holder ≡ true → weight v ≡ 1
+owner_held v owner = ap counts (owner_out v owner).1
+
+pub guest_held : (v : Had) → v.holder ≡ Guest → weight v ≡ 1
+guest_held v guest = ap counts guest
+
+-- one more mark of the end
+marks_push : (n : ℕ) → marks_of n ++ End ∷ [] ≡ marks_of (suc n)
+marks_push zero = refl
+marks_push (suc n) = ap (λ l. End ∷ l) (marks_push n)
+
+tasks_mark : (left : List ℕ) (n : ℕ) → tasks_of left n ++ End ∷ [] ≡ tasks_of left (suc n)
+tasks_mark [] n = marks_push n
+tasks_mark (x ∷ xs) n = ap (λ l. Claim x ∷ l) (tasks_mark xs n)
+
+-- one more claim, where there is no mark
+tasks_push : (left : List ℕ) (c : ℕ) → tasks_of left 0 ++ Claim c ∷ [] ≡ tasks_of (left ++ c ∷ []) 0
+tasks_push [] c = refl
+tasks_push (x ∷ xs) c = ap (λ l. Claim x ∷ l) (tasks_push xs c)
+
+-- a claim at the front is the first that is left
+front_claim : (left : List ℕ) (marks c : ℕ) (rest : List Task) → Claim c ∷ rest ≡ tasks_of left marks → (later : List ℕ) × (left ≡ c ∷ later) × (rest ≡ tasks_of later marks)
+front_claim [] zero c rest e = absurd (cc)
+front_claim [] (suc marks) c rest e = absurd (cc)
+front_claim (x ∷ xs) marks c rest e = let same : c ≡ x = cc in (xs, ap (λ y. y ∷ xs) (sym same), cc)
+
+-- and a mark at the front says that none is left
+front_mark : (left : List ℕ) (marks : ℕ) (rest : List Task) → End ∷ rest ≡ tasks_of left marks → (m : ℕ) × (marks ≡ suc m) × (left ≡ []) × (rest ≡ tasks_of [] m)
+front_mark [] zero rest e = absurd (cc)
+front_mark [] (suc marks) rest e = (marks, refl, refl, cc)
+front_mark (x ∷ xs) marks rest e = absurd (cc)
 
 -- a growing list goes on growing
 pub rises_push : (xs : List ℕ) (x : ℕ) → Rises xs → ((i y : ℕ) → get_elem? xs i ≡ some y → y < x) → Rises (xs ++ x ∷ [])
@@ -35,21 +105,34 @@ module _ (gone items : List ℕ) (x : ℕ) (rising : Rises (gone ++ x ∷ items)
   above_gone k y e = rising k (length gone) y x (in_range gone k y e) (at_longer gone (x ∷ items) k y e) front_at
 
 -- what is gone stands before what is in the deque
-at_behind : (gone items : List ℕ) (k x : ℕ) → get_elem? items k ≡ some x → get_elem? (gone ++ items) (length gone + k) ≡ some x
+pub at_behind : (gone items : List ℕ) (k x : ℕ) → get_elem? items k ≡ some x → get_elem? (gone ++ items) (length gone + k) ≡ some x
 at_behind [] items k x e = rw zero-add e
 at_behind (y ∷ gone) items k x e = rw suc-add (at_behind gone items k x e)
 
--- so a claim that is gone isn't in the deque
-pub not_both : (gone items : List ℕ) → Rises (gone ++ items) → (i k x : ℕ) → get_elem? gone i ≡ some x → get_elem? items k ≡ some x → ⊥
-not_both gone items rising i k x e f =
-    let within = in_range gone i x e in
-    let less = rising i (length gone + k) x x (omega arith) (at_longer gone items i x e) (at_behind gone items k x f) in
-    omega (arith, less)
+off : false ≡ true → ⊥
+off e = true≢false (sym e)
+
+-- the number of views that are out, as the worker knows it
+abbrev Counted : List Had → Type 0
+Counted views = (u : Had) (out : ℕ) → get_elem? views 0 ≡ some u → u.holder ≡ Owner out → holders views ≡ suc out
+
+-- a view changes, whose holder stays
+module _ (views : List Had) (id : ℕ) (v w : Had) (here : get_elem? views id ≡ some v) (holder : w.holder ≡ v.holder) where
+  counted_still : Counted views → Counted (set views id w)
+  counted_still counted u out e is =
+      let even = sum_set views id v w here in
+      let same = ap counts holder in
+      let was : holders views ≡ suc out =
+      ⊎_elim
+      (λ (t : (0 ≡ id) × (w ≡ u)). counted v out (ap (get_elem? views) t.0 ∙ here) (sym holder ∙ ap (λ (y : Had). y.holder) t.1 ∙ is))
+      (λ (t : (0 ≢ id) × (get_elem? views 0 ≡ some u)). counted u out t.1 is)
+      (at_set views id 0 w u e) in
+      omega (arith, even, same, was)
 
 -- the first claim is taken
-module _ (gone items : List ℕ) (x : ℕ) (views : List Had) (id : ℕ) (v : Had) (kept : Keeps gone (x ∷ items) views) (here : get_elem? views id ≡ some v) where
+module _ (gone items : List ℕ) (x : ℕ) (views : List Had) (id : ℕ) (v : Had) (kept : Keeps gone (x ∷ items) views) (here : get_elem? views id ≡ some v) (held : weight v ≡ 1) where
   abbrev w : Had
-  w = had v.deals v.dealt (v.got ++ x ∷ [])
+  w = got_more v x
 
   abbrev now : List Had
   now = set views id w
@@ -95,33 +178,105 @@ module _ (gone items : List ℕ) (x : ℕ) (views : List Had) (id : ℕ) (v : Ha
       (λ (new : (k ≡ length gone) × (x ≡ c)). (id, length v.got, subst (λ n. At got_of now id (length v.got) n) new.1 (at_new views id v w here got_of x refl)))
       (at_push gone x c k e)
 
-  pub after_take : Keeps (gone ++ x ∷ []) items now
+  -- there is a claim left, so nobody has had a mark
+  no_end : (p : ℕ) (u : Had) → get_elem? views p ≡ some u → u.ended ≡ true → ⊥
+  no_end p u e ended = let none = ap length (kept.ends p u e ended) in omega (arith, none)
+
+  after_take : Keeps (gone ++ x ∷ []) items now
   after_take = record {
     rising = subst Rises (sym same) kept.rising;
-    knows = each_after views id v w here (λ p u. u.dealt ≡ (gone ++ x ∷ []) ++ items) (λ p u e. kept.knows p u e ∙ sym same) (kept.knows id v here ∙ sym same);
+    knows = each_after views id v w here (λ p u. weight u ≡ 1 → u.dealt ≡ (gone ++ x ∷ []) ++ items) (λ p u e holds. kept.knows p u e holds ∙ sym same) (λ _. kept.knows id v here held ∙ sym same);
     alone = λ p u e deals. length-set views id w ∙ each_after views id v w here (λ p u. u.deals ≡ true → length views ≡ 1) kept.alone (kept.alone id v here) p u e deals;
     is_gone = is_gone;
     once = once;
-    apart = λ p i k c a e. let g = is_gone p i c a in not_both (gone ++ x ∷ []) items (subst Rises (sym same) kept.rising) g.0 k c g.1 e;
-    in_order = each_after views id v w here (λ p u. Rises u.got) kept.in_order (rises_push v.got x (kept.in_order id v here) mine_below);
     each_had = each_had;
+    ends = each_after views id v w here (λ p u. u.ended ≡ true → items ≡ []) (λ p u e ended. absurd (no_end p u e ended)) (λ ended. absurd (no_end id v here ended));
+    spent = each_after views id v w here (λ p u. weight u ≡ 0 → u.got ≡ []) kept.spent (λ none. absurd (omega (arith, held, none)));
+    counted = counted_still views id v w here refl kept.counted;
   }
 
-  pub gets : GetsClaim v x w
-  gets = (refl, (length gone, ap (λ l. get_elem? l (length gone)) (kept.knows id v here) ∙ front_at gone items x kept.rising), mine_below)
+  gets : GetsClaim v x w
+  gets = (refl, (length gone, ap (λ l. get_elem? l (length gone)) (kept.knows id v here held) ∙ front_at gone items x kept.rising), mine_below)
 
-pub takes : (port : ℕ) (v : Had) → Takes IsDeque port v 1 (Took v)
-takes port v [] items views some_task few h here = absurd (omega arith)
-takes port v (x ∷ []) items views some_task few h here = (had v.deals v.dealt (v.got ++ x ∷ []), (h.0 ++ x ∷ [], after_take h.0 items x views port v h.1 here), gets h.0 items x views port v h.1 here)
-takes port v (x ∷ y ∷ ys) items views some_task few h here = absurd (omega arith)
+-- a view changes in no claim
+module _ (gone items : List ℕ) (views : List Had) (id : ℕ) (v w : Had) (kept : Keeps gone items views) (here : get_elem? views id ≡ some v)
+    (got : w.got ≡ v.got) (dealt : w.dealt ≡ v.dealt) (holder : w.holder ≡ v.holder) (deals : w.deals ≡ true → v.deals ≡ true) (ended : w.ended ≡ true → items ≡ []) where
+  abbrev calm : List Had
+  calm = set views id w
 
-off : false ≡ true → ⊥
-off e = true≢false (sym e)
+  calm_was : (p i c : ℕ) → At got_of calm p i c → At got_of views p i c
+  calm_was p i c a = at_same views id v w here got_of got p i c a
+
+  after_still : Keeps gone items calm
+  after_still = record {
+    rising = kept.rising;
+    knows = each_after views id v w here (λ p u. weight u ≡ 1 → u.dealt ≡ gone ++ items) kept.knows (λ held. dealt ∙ kept.knows id v here (ap counts (sym holder) ∙ held));
+    alone = λ p u e may. length-set views id w ∙ each_after views id v w here (λ p u. u.deals ≡ true → length views ≡ 1) kept.alone (λ yes. kept.alone id v here (deals yes)) p u e may;
+    is_gone = λ p i c a. kept.is_gone p i c (calm_was p i c a);
+    once = λ p i q j c a b. kept.once p i q j c (calm_was p i c a) (calm_was q j c b);
+    each_had = λ k c e. let a = kept.each_had k c e in (a.0, a.1, at_kept views id v w here got_of got a.0 a.1 c a.2);
+    ends = each_after views id v w here (λ p u. u.ended ≡ true → items ≡ []) kept.ends ended;
+    spent = each_after views id v w here (λ p u. weight u ≡ 0 → u.got ≡ []) kept.spent (λ none. got ∙ kept.spent id v here (ap counts (sym holder) ∙ none));
+    counted = counted_still views id v w here holder kept.counted;
+  }
+
+-- marks and deals, where one view changes
+still_marked : (views : List Had) (id : ℕ) (v w : Had) (marks marks' : ℕ) → get_elem? views id ≡ some v → NoMark marks views → (marks ≡ 0 → marks' ≡ 0) → (w.deals ≡ true → marks' ≡ 0) → NoMark marks' (set views id w)
+still_marked views id v w marks marks' here none less mine = each_after views id v w here (λ p u. u.deals ≡ true → marks' ≡ 0) (λ p u e may. less (none p u e may)) mine
+
+pub takes : (port : ℕ) (v : Had) → weight v ≡ 1 → Takes IsDeque port v 1 (Took v)
+takes port v held [] tasks views some_task few h here = absurd (omega arith)
+takes port v held (Claim x ∷ []) tasks views some_task few h here =
+    let front = front_claim h.1 h.2 x tasks h.3 in
+    let kept = subst (λ l. Keeps h.0 l views) front.1 h.5 in (
+      got_more v x,
+      (h.0 ++ x ∷ [], front.0, h.2, front.2, still_marked views port v (got_more v x) h.2 h.2 here h.4 (λ e. e) (h.4 port v here), after_take h.0 front.0 x views port v kept here held),
+      gets h.0 front.0 x views port v kept here held,
+    )
+takes port v held (End ∷ []) tasks views some_task few h here =
+    let front = front_mark h.1 h.2 tasks h.3 in (
+      at_end v,
+      (
+        h.0,
+        [],
+        front.0,
+        front.3,
+        still_marked views port v (at_end v) h.2 front.0 here h.4 (λ e. absurd (omega (arith, e, front.1))) (λ may. let e = h.4 port v here may in absurd (omega (arith, e, front.1))),
+        after_still h.0 [] views port v (at_end v) (subst (λ l. Keeps h.0 l views) front.2 h.5) here refl refl refl (λ may. may) (λ _. refl),
+      ),
+      refl,
+    )
+takes port v held (x ∷ y ∷ ys) tasks views some_task few h here = absurd (omega arith)
+
+-- a mark of the end is put in
+pub closes : (port : ℕ) (v : Had) → Pushes IsDeque port v (End ∷ []) (λ w. w ≡ closed v)
+closes port v tasks views h here = (
+  closed v,
+  (
+    h.0,
+    h.1,
+    suc h.2,
+    ap (λ l. l ++ End ∷ []) h.3 ∙ tasks_mark h.1 h.2,
+    (λ p u e may. absurd (closed_alone p u e may)),
+    after_still h.0 h.1 views port v (closed v) h.5 here refl refl refl (λ may. absurd (off may)) (h.5.ends port v here),
+  ),
+  refl,
+)
+  where
+    -- whoever might still deal would be the only holder, which deals no more
+    closed_alone : (p : ℕ) (u : Had) → get_elem? (set views port (closed v)) p ≡ some u → u.deals ≡ true → ⊥
+    closed_alone p u e may =
+        ⊎_elim
+        (λ (t : (p ≡ port) × (closed v ≡ u)). off (ap (λ (y : Had). y.deals) t.1 ∙ may))
+        (λ (t : (p ≢ port) × (get_elem? views p ≡ some u)).
+        let one = h.5.alone p u t.1 may in let a = in_range views p u t.1 in let b = in_range views port v here in t.0 (omega (arith, one, a, b)))
+        (at_set views port p (closed v) u e)
 
 -- a claim is dealt
-module _ (gone items : List ℕ) (x : ℕ) (views : List Had) (id : ℕ) (v : Had) (kept : Keeps gone items views) (here : get_elem? views id ≡ some v) (may : v.deals ≡ true) (below : (i y : ℕ) → get_elem? v.dealt i ≡ some y → y < x) where
+module _ (gone items : List ℕ) (x : ℕ) (views : List Had) (id : ℕ) (v : Had) (kept : Keeps gone items views) (here : get_elem? views id ≡ some v) (may : v.deals ≡ true) (held : weight v ≡ 1) (unended : v.ended ≡ false)
+    (below : (i y : ℕ) → get_elem? v.dealt i ≡ some y → y < x) where
   abbrev dealer : Had
-  dealer = had true (v.dealt ++ x ∷ []) v.got
+  dealer = dealt_more v x
 
   abbrev later : List Had
   later = set views id dealer
@@ -139,87 +294,304 @@ module _ (gone items : List ℕ) (x : ℕ) (views : List Had) (id : ℕ) (v : Ha
   was p i c a = at_same views id v dealer here got_of refl p i c a
 
   rising_now : Rises (gone ++ (items ++ x ∷ []))
-  rising_now = subst Rises grown (rises_push (gone ++ items) x kept.rising (λ i y e. below i y (ap (λ l. get_elem? l i) (kept.knows id v here) ∙ e)))
+  rising_now = subst Rises grown (rises_push (gone ++ items) x kept.rising (λ i y e. below i y (ap (λ l. get_elem? l i) (kept.knows id v here held) ∙ e)))
 
-  pub after_deal : Keeps gone (items ++ x ∷ []) later
+  each_later : (P : ℕ → Had → Type 0) → P id dealer → (p : ℕ) (u : Had) → get_elem? later p ≡ some u → P p u
+  each_later P mine p u e =
+      ⊎_elim
+      (λ (t : (p ≡ id) × (dealer ≡ u)). subst (λ (y : ℕ × Had). P y.0 y.1) (λ i. (sym t.0 i, t.1 i)) mine)
+      (λ (t : (p ≢ id) × (get_elem? views p ≡ some u)). absurd (nobody_else p u t.0 t.1))
+      (at_set views id p dealer u e)
+
+  after_deal : Keeps gone (items ++ x ∷ []) later
   after_deal = record {
     rising = rising_now;
-    apart = λ p i k c a e. let g = kept.is_gone p i c (was p i c a) in not_both gone (items ++ x ∷ []) rising_now g.0 k c g.1 e;
-    knows = λ p u e. ⊎_elim
-        (λ (t : (p ≡ id) × (dealer ≡ u)). ap (λ (y : Had). y.dealt) (sym t.1) ∙ ap (λ l. l ++ x ∷ []) (kept.knows id v here) ∙ grown)
-        (λ (t : (p ≢ id) × (get_elem? views p ≡ some u)). absurd (nobody_else p u t.0 t.1))
-        (at_set views id p dealer u e);
+    knows = each_later (λ p u. weight u ≡ 1 → u.dealt ≡ gone ++ (items ++ x ∷ [])) (λ _. ap (λ l. l ++ x ∷ []) (kept.knows id v here held) ∙ grown);
     alone = λ p u e deals. length-set views id dealer ∙ one;
     is_gone = λ p i c a. kept.is_gone p i c (was p i c a);
     once = λ p i q j c a b. kept.once p i q j c (was p i c a) (was q j c b);
-    in_order = each_after views id v dealer here (λ p u. Rises u.got) kept.in_order (kept.in_order id v here);
     each_had = λ k c e. let a = kept.each_had k c e in (a.0, a.1, at_kept views id v dealer here got_of refl a.0 a.1 c a.2);
+    ends = each_later (λ p u. u.ended ≡ true → items ++ x ∷ [] ≡ []) (λ ended. absurd (off (sym unended ∙ ended)));
+    spent = each_later (λ p u. weight u ≡ 0 → u.got ≡ []) (λ none. absurd (omega (arith, held, none)));
+    counted = counted_still views id v dealer here refl kept.counted;
   }
 
-pub deals : (port : ℕ) (v : Had) (x : ℕ) → v.deals ≡ true → ((i y : ℕ) → get_elem? v.dealt i ≡ some y → y < x) → Pushes IsDeque port v (x ∷ []) (Adds v (x ∷ []))
-deals port v x may below items views h here = (had true (v.dealt ++ x ∷ []) v.got, (h.0, after_deal h.0 items x views port v h.1 here may below), refl)
+pub deals : (port : ℕ) (v : Had) (x : ℕ) → v.deals ≡ true → weight v ≡ 1 → v.ended ≡ false → ((i y : ℕ) → get_elem? v.dealt i ≡ some y → y < x) → Pushes IsDeque port v (Claim x ∷ []) (Adds v (Claim x ∷ []))
+deals port v x may held unended below tasks views h here =
+    let none : h.2 ≡ 0 = h.4 port v here may in
+    let stands = h.3 ∙ ap (tasks_of h.1) none in (
+      dealt_more v x,
+      (
+        h.0,
+        h.1 ++ x ∷ [],
+        0,
+        ap (λ l. l ++ Claim x ∷ []) stands ∙ tasks_push h.1 x,
+        (λ p u e yes. refl),
+        after_deal h.0 h.1 x views port v h.5 here may held unended below,
+      ),
+      refl,
+    )
 
--- the holder deals no more, and another comes, who has had nothing
-module _ (gone items : List ℕ) (views : List Had) (id : ℕ) (v : Had) (kept : Keeps gone items views) (here : get_elem? views id ≡ some v) where
+-- the worker deals no more, and another comes, who has had nothing
+module _ (gone items : List ℕ) (views : List Had) (v : Had) (out : ℕ) (kept : Keeps gone items views) (here : get_elem? views 0 ≡ some v) (owner : v.holder ≡ Owner out) where
   abbrev left : Had
-  left = had false v.dealt v.got
+  left = lent_view v
 
   abbrev right : Had
-  right = had false v.dealt []
+  right = guest_view v.dealt
 
   abbrev two : List Had
-  two = set views id left ++ right ∷ []
+  two = set views 0 left ++ right ∷ []
 
-  each_two : (P : ℕ → Had → Type 0) → ((p : ℕ) (u : Had) → p ≢ id → get_elem? views p ≡ some u → P p u) → P id left → ((p : ℕ) → P p right) → (p : ℕ) (u : Had) → get_elem? two p ≡ some u → P p u
+  lender_held : weight v ≡ 1
+  lender_held = ap counts owner
+
+  each_two : (P : ℕ → Had → Type 0) → ((p : ℕ) (u : Had) → p ≢ 0 → get_elem? views p ≡ some u → P p u) → P 0 left → ((p : ℕ) → P p right) → (p : ℕ) (u : Had) → get_elem? two p ≡ some u → P p u
   each_two P all mine new p u e =
       ⊎_elim
       (λ old.
       ⊎_elim
-      (λ (t : (p ≡ id) × (left ≡ u)). subst (λ (y : ℕ × Had). P y.0 y.1) (λ i. (sym t.0 i, t.1 i)) mine)
-      (λ (t : (p ≢ id) × (get_elem? views p ≡ some u)). all p u t.0 t.1)
-      (at_set views id p left u old))
+      (λ (t : (p ≡ 0) × (left ≡ u)). subst (λ (y : ℕ × Had). P y.0 y.1) (λ i. (sym t.0 i, t.1 i)) mine)
+      (λ (t : (p ≢ 0) × (get_elem? views p ≡ some u)). all p u t.0 t.1)
+      (at_set views 0 p left u old))
       (λ (is : right ≡ u). subst (λ (y : Had). P p y) is (new p))
-      (at_snoc (set views id left) right u p e)
+      (at_snoc (set views 0 left) right u p e)
 
   was_got : (p i c : ℕ) → At got_of two p i c → At got_of views p i c
-  was_got p i c a = at_same views id v left here got_of refl p i c (at_more got_of (set views id left) right refl p i c a)
+  was_got p i c a = at_same views 0 v left here got_of refl p i c (at_more got_of (set views 0 left) right refl p i c a)
 
-  pub after_enter : Keeps gone items two
+  lent_out : lend v.holder ≡ Owner (suc out)
+  lent_out = ap lend owner
+
+  two_sum : holders two ≡ suc (suc out)
+  two_sum =
+      let even = sum_set views 0 v left here in
+      let more = sum_push (set views 0 left) right in
+      let was = kept.counted v out here owner in
+      let mine : counts (lend v.holder) ≡ 1 = ap counts lent_out in
+      let held = lender_held in
+      omega (arith, even, more, was, mine, held)
+
+  after_enter : Keeps gone items two
   after_enter = record {
     rising = kept.rising;
-    apart = λ p i k c a e. kept.apart p i k c (was_got p i c a) e;
-    knows = each_two (λ p u. u.dealt ≡ gone ++ items) (λ p u _ e. kept.knows p u e) (kept.knows id v here) (λ p. kept.knows id v here);
+    knows = each_two (λ p u. weight u ≡ 1 → u.dealt ≡ gone ++ items) (λ p u _ e. kept.knows p u e) (λ _. kept.knows 0 v here lender_held) (λ p _. kept.knows 0 v here lender_held);
     alone = λ p u e deals. absurd (each_two (λ q y. y.deals ≡ true → ⊥)
-        (λ q y apart f true_. let l = kept.alone q y f true_ in let a = in_range views q y f in let b = in_range views id v here in apart (omega arith))
+        (λ q y apart f true_. let l = kept.alone q y f true_ in let a = in_range views q y f in let b = in_range views 0 v here in apart (omega arith))
         off (λ q. off) p u e deals);
     is_gone = λ p i c a. kept.is_gone p i c (was_got p i c a);
     once = λ p i q j c a b. kept.once p i q j c (was_got p i c a) (was_got q j c b);
-    in_order = each_two (λ p u. Rises u.got) (λ p u _ e. kept.in_order p u e) (kept.in_order id v here) (λ p i j x y lt e f. absurd (some-ne-none x (sym e)));
-    each_had = λ k c e. let a = kept.each_had k c e in (a.0, a.1, at_fewer got_of (set views id left) right refl a.0 a.1 c (at_kept views id v left here got_of refl a.0 a.1 c a.2));
+    each_had = λ k c e. let a = kept.each_had k c e in (a.0, a.1, at_fewer got_of (set views 0 left) right refl a.0 a.1 c (at_kept views 0 v left here got_of refl a.0 a.1 c a.2));
+    ends = each_two (λ p u. u.ended ≡ true → items ≡ []) (λ p u _ e. kept.ends p u e) (kept.ends 0 v here) (λ p ended. absurd (off ended));
+    spent = each_two (λ p u. weight u ≡ 0 → u.got ≡ []) (λ p u _ e. kept.spent p u e) (λ none. let some_ : counts (lend v.holder) ≡ 1 = ap counts lent_out in absurd (omega (arith, some_, none))) (λ p _. refl);
+    counted = λ u n e is. each_two (λ p y. p ≡ 0 → y.holder ≡ Owner n → holders two ≡ suc n)
+        (λ p y apart f zero_ owns. absurd (apart zero_))
+        (λ zero_ owns. let same : suc out ≡ n = cc (lent_out, owns) in two_sum ∙ ap suc same)
+        (λ p zero_ owns. absurd (cc (owns))) 0 u e refl is;
   }
 
-pub enters : (port : ℕ) (v : Had) → Forks IsDeque port v (had false v.dealt v.got) (had false v.dealt [])
-enters port v items views h here = (h.0, after_enter h.0 items views port v h.1 here)
+pub enters : (port : ℕ) (v : Had) (out : ℕ) → port ≡ 0 → v.holder ≡ Owner out → Forks IsDeque port v (lent_view v) (guest_view v.dealt)
+enters port v out first owner tasks views h here =
+    let here0 = ap (get_elem? views) (sym first) ∙ here in
+    subst (λ n. IsDeque tasks (set views n (lent_view v) ++ guest_view v.dealt ∷ [])) (sym first) (
+      h.0,
+      h.1,
+      h.2,
+      h.3,
+      each_two h.0 h.1 views v out h.5 here0 owner (λ p u. u.deals ≡ true → h.2 ≡ 0) (λ p u _ e. h.4 p u e) (λ may. absurd (off may)) (λ p may. absurd (off may)),
+      after_enter h.0 h.1 views v out h.5 here0 owner,
+    )
+
+-- what stands in two lists on end
+pub at_either : {A : Type 0} (l m : List A) (i : ℕ) (b : A) → get_elem? (l ++ m) i ≡ some b → (get_elem? l i ≡ some b) ⊎ ((k : ℕ) × (i ≡ length l + k) × (get_elem? m k ≡ some b))
+at_either [] m i b e = inr (i, (let is : i ≡ 0 + i = omega arith in is), e)
+at_either (x ∷ xs) m zero b e = inl e
+at_either (x ∷ xs) m (suc i) b e = ⊎_elim (λ t. inl t) (λ t. let is = t.1 in inr (t.0, omega (arith, is), t.2)) (at_either xs m i b e)
+
+either_true : (a b : Bool) → (a || b) ≡ true → (a ≡ true) ⊎ (b ≡ true)
+either_true true b e = inl refl
+either_true false b e = inr e
+
+-- the worker takes another's view back
+module _ (gone items : List ℕ) (views : List Had) (v : Had) (other : ℕ) (w : Had) (out : ℕ) (kept : Keeps gone items views) (here : get_elem? views 0 ≡ some v) (apart : other ≢ 0) (there : get_elem? views other ≡ some w) (owner : v.holder ≡ Owner (suc out)) (guest : w.holder ≡ Guest) where
+  abbrev both : Had
+  both = both_views v w
+
+  abbrev first : List Had
+  first = set views 0 both
+
+  abbrev merged : List Had
+  merged = set first other spent_view
+
+  there_first : get_elem? first other ≡ some w
+  there_first = set_else views 0 other both apart ∙ there
+
+  here_merged : get_elem? merged 0 ≡ some both
+  here_merged = set_else first other 0 spent_view (λ e. apart (sym e)) ∙ set_here views 0 both (in_range views 0 v here)
+
+  regained : regain v.holder ≡ Owner out
+  regained = ap regain owner
+
+  each_merged : (P : ℕ → Had → Type 0) → ((p : ℕ) (u : Had) → p ≢ 0 → get_elem? views p ≡ some u → P p u) → P 0 both → ((p : ℕ) → p ≢ 0 → P p spent_view) → (p : ℕ) (u : Had) → get_elem? merged p ≡ some u → P p u
+  each_merged P all mine gone_ p u e =
+      ⊎_elim
+      (λ (t : (p ≡ other) × (spent_view ≡ u)). subst (λ (y : Had). P p y) t.1 (gone_ p (λ z. apart (sym t.0 ∙ z))))
+      (λ (t : (p ≢ other) × (get_elem? first p ≡ some u)).
+      ⊎_elim
+      (λ (s : (p ≡ 0) × (both ≡ u)). subst (λ (y : ℕ × Had). P y.0 y.1) (λ i. (sym s.0 i, s.1 i)) mine)
+      (λ (s : (p ≢ 0) × (get_elem? views p ≡ some u)). all p u s.0 s.1)
+      (at_set views 0 p both u t.1))
+      (at_set first other p spent_view u e)
+
+  -- where a claim stood that stands in a view now
+  abbrev Source : ℕ → ℕ → ℕ → Type 0
+  Source p i c = ((p ≢ other) × At got_of views p i c) ⊎ ((p ≡ 0) × ((m : ℕ) × (i ≡ length v.got + m) × At got_of views other m c))
+
+  source : (p i c : ℕ) → At got_of merged p i c → Source p i c
+  source p i c a =
+      ⊎_elim
+      (λ (t : (p ≡ other) × (spent_view ≡ a.0)). absurd (some-ne-none c (sym (ap (λ (y : Had). get_elem? y.got i) t.1 ∙ a.2))))
+      (λ (t : (p ≢ other) × (get_elem? first p ≡ some a.0)).
+      ⊎_elim
+      (λ (s : (p ≡ 0) × (both ≡ a.0)).
+      ⊎_elim
+      (λ (old : get_elem? v.got i ≡ some c). inl (t.0, (v, ap (get_elem? views) s.0 ∙ here, old)))
+      (λ (new : (k : ℕ) × (i ≡ length v.got + k) × (get_elem? w.got k ≡ some c)). inr (s.0, (new.0, new.1, (w, there, new.2))))
+      (at_either v.got w.got i c (ap (λ (y : Had). get_elem? y.got i) s.1 ∙ a.2)))
+      (λ (s : (p ≢ 0) × (get_elem? views p ≡ some a.0)). inl (t.0, (a.0, s.1, a.2)))
+      (at_set views 0 p both a.0 t.1))
+      (at_set first other p spent_view a.0 a.1)
+
+  merged_gone : (p i c : ℕ) → At got_of merged p i c → (k : ℕ) × (get_elem? gone k ≡ some c)
+  merged_gone p i c a =
+      ⊎_elim
+      (λ (t : (p ≢ other) × At got_of views p i c). kept.is_gone p i c t.1)
+      (λ (t : (p ≡ 0) × ((m : ℕ) × (i ≡ length v.got + m) × At got_of views other m c)). kept.is_gone other t.1.0 c t.1.2)
+      (source p i c a)
+
+  merged_once : (p i q j c : ℕ) → At got_of merged p i c → At got_of merged q j c → (p ≡ q) × (i ≡ j)
+  merged_once p i q j c a b =
+      ⊎_elim
+      (λ (s : (p ≢ other) × At got_of views p i c).
+      ⊎_elim
+      (λ (t : (q ≢ other) × At got_of views q j c). kept.once p i q j c s.1 t.1)
+      (λ (t : (q ≡ 0) × ((m : ℕ) × (j ≡ length v.got + m) × At got_of views other m c)). absurd (s.0 ((kept.once p i other t.1.0 c s.1 t.1.2).0)))
+      (source q j c b))
+      (λ (s : (p ≡ 0) × ((m : ℕ) × (i ≡ length v.got + m) × At got_of views other m c)).
+      ⊎_elim
+      (λ (t : (q ≢ other) × At got_of views q j c). absurd (t.0 (sym (kept.once other s.1.0 q j c s.1.2 t.1).0)))
+      (λ (t : (q ≡ 0) × ((m : ℕ) × (j ≡ length v.got + m) × At got_of views other m c)).
+      let same = (kept.once other s.1.0 other t.1.0 c s.1.2 t.1.2).1 in (s.0 ∙ sym t.0, omega (arith, same, s.1.1, t.1.1)))
+      (source q j c b))
+      (source p i c a)
+
+  merged_had : (p i c : ℕ) → At got_of views p i c → (q : ℕ) × (j : ℕ) × At got_of merged q j c
+  merged_had p i c a =
+      dite (ℕ_discrete p other)
+      (λ (is : p ≡ other).
+      let same : a.0 ≡ w = some-injective a.0 w (sym a.1 ∙ ap (get_elem? views) is ∙ there) in
+      (0, length v.got + i, (both, here_merged, at_behind v.got w.got i c (ap (λ (y : Had). get_elem? y.got i) (sym same) ∙ a.2))))
+      (λ (not_other : p ≢ other).
+      dite (ℕ_discrete p 0)
+      (λ (is : p ≡ 0).
+      let same : a.0 ≡ v = some-injective a.0 v (sym a.1 ∙ ap (get_elem? views) is ∙ here) in
+      (0, i, (both, here_merged, at_longer v.got w.got i c (ap (λ (y : Had). get_elem? y.got i) (sym same) ∙ a.2))))
+      (λ (not_first : p ≢ 0). (p, i, (a.0, set_else first other p spent_view not_other ∙ set_else views 0 p both not_first ∙ a.1, a.2))))
+
+  merged_sum : holders merged ≡ suc out
+  merged_sum =
+      let even = sum_set views 0 v both here in
+      let even' = sum_set first other w spent_view there_first in
+      let was = kept.counted v (suc out) here owner in
+      let mine : counts (regain v.holder) ≡ 1 = ap counts regained in
+      let mine' : counts v.holder ≡ 1 = ap counts owner in
+      let theirs : counts w.holder ≡ 1 = ap counts guest in
+      omega (arith, even, even', was, mine, mine', theirs)
+
+  after_merge : Keeps gone items merged
+  after_merge = record {
+    rising = kept.rising;
+    knows = each_merged (λ p u. weight u ≡ 1 → u.dealt ≡ gone ++ items) (λ p u _ e. kept.knows p u e) (λ _. kept.knows 0 v here (ap counts owner)) (λ p _ held. absurd (omega (arith, held)));
+    alone = λ p u e deals. length-set first other spent_view ∙ length-set views 0 both ∙ each_merged (λ q y. y.deals ≡ true → length views ≡ 1) (λ q y _ f. kept.alone q y f) (kept.alone 0 v here) (λ q _ may. absurd (off may)) p u e deals;
+    is_gone = merged_gone;
+    once = merged_once;
+    each_had = λ k c e. let a = kept.each_had k c e in merged_had a.0 a.1 c a.2;
+    ends = each_merged (λ p u. u.ended ≡ true → items ≡ []) (λ p u _ e. kept.ends p u e) (λ ended. ⊎_elim (kept.ends 0 v here) (kept.ends other w there) (either_true v.ended w.ended ended)) (λ p _ ended. absurd (off ended));
+    spent = each_merged (λ p u. weight u ≡ 0 → u.got ≡ []) (λ p u _ e. kept.spent p u e) (λ none. let some_ : counts (regain v.holder) ≡ 1 = ap counts regained in absurd (omega (arith, some_, none))) (λ p _ _. refl);
+    counted = λ u n e is. each_merged (λ p y. p ≡ 0 → y.holder ≡ Owner n → holders merged ≡ suc n)
+        (λ p y not_first f zero_ owns. absurd (not_first zero_))
+        (λ zero_ owns. let same : out ≡ n = cc (regained, owns) in merged_sum ∙ ap suc same)
+        (λ p not_first zero_ owns. absurd (not_first zero_)) 0 u e refl is;
+  }
+
+pub merges : (port : ℕ) (v : Had) (other : ℕ) (w : Had) (known : ℕ) → port ≡ 0 → v.holder ≡ Owner known → w.holder ≡ Guest → Merges IsDeque port v other w (both_views v w) spent_view
+merges port v other w known zero_ knows guest tasks views h here apart there =
+    let here0 = ap (get_elem? views) (sym zero_) ∙ here in
+    let apart0 : other ≢ 0 = λ e. apart (e ∙ sym zero_) in
+    let there0 = sym (set_else views port other (both_views v w) apart) ∙ there in
+    let one = h.5.counted v known here0 knows in
+    let two = sum_two views other 0 w v apart0 there0 here0 in
+    let mine : counts v.holder ≡ 1 = ap counts knows in
+    let theirs : counts w.holder ≡ 1 = ap counts guest in
+    let out : ℕ = known - 1 in
+    let more : known ≡ suc out = omega (arith, one, two, mine, theirs) in
+    let owner : v.holder ≡ Owner (suc out) = knows ∙ ap Owner more in
+    subst (λ n. IsDeque tasks (set (set views n (both_views v w)) other spent_view)) (sym zero_) (
+      h.0,
+      h.1,
+      h.2,
+      h.3,
+      each_merged h.0 h.1 views v other w out h.5 here0 apart0 there0 owner guest (λ p u. u.deals ≡ true → h.2 ≡ 0) (λ p u _ e. h.4 p u e) (h.4 0 v here0) (λ p _ may. absurd (off may)),
+      after_merge h.0 h.1 views v other w out h.5 here0 apart0 there0 owner guest,
+    )
+
+-- what the worker learns
+pub learns : (port : ℕ) (v : Had) → port ≡ 0 → weight v ≡ 1 → Learns IsDeque port v (λ tasks. Settles v)
+learns port v first held tasks views h here = record {
+  once = λ i j c e f. (kept.once port i port j c (v, here, e) (v, here, f)).1;
+  dealt = λ i c e. let g = kept.is_gone port i c (v, here, e) in (g.0, ap (λ l. get_elem? l g.0) (kept.knows port v here held) ∙ at_longer h.0 h.1 g.0 c g.1);
+  all_had = λ owner ended k c e.
+      let none = kept.ends port v here ended in
+      let in_gone : get_elem? h.0 k ≡ some c = ap (λ l. get_elem? l k) (sym (append-nil h.0) ∙ ap (λ l. h.0 ++ l) (sym none) ∙ sym (kept.knows port v here held)) ∙ e in
+      let a = kept.each_had k c in_gone in
+      let one = kept.counted v 0 (ap (get_elem? views) (sym first) ∙ here) owner in
+      dite (ℕ_discrete a.0 port)
+      (λ (is : a.0 ≡ port).
+      let same : a.2.0 ≡ v = some-injective a.2.0 v (sym a.2.1 ∙ ap (get_elem? views) is ∙ here) in
+      (a.1, ap (λ (y : Had). get_elem? y.got a.1) (sym same) ∙ a.2.2))
+      (λ (apart : a.0 ≢ port).
+      let two = sum_two views a.0 port a.2.0 v apart a.2.1 here in
+      let idle : a.2.0.got ≡ [] = kept.spent a.0 a.2.0 a.2.1 (omega (arith, two, one, held)) in
+      absurd (some-ne-none c (sym (ap (λ l. get_elem? l a.1) (sym idle) ∙ a.2.2))));
+}
+  where
+    kept : Keeps h.0 h.1 views
+    kept = h.5
 
 -- a new deque
-pub begins : IsDeque [] (had true [] [] ∷ [])
+pub begins : IsDeque [] (first_view ∷ [])
 begins = (
   [],
+  [],
+  0,
+  refl,
+  (λ p u e may. refl),
   record {
     rising = λ i j x y lt e f. absurd (some-ne-none x (sym e));
-    knows = λ p u e. ap (λ (y : Had). y.dealt) (sym (only p u e));
+    knows = λ p u e held. ap (λ (y : Had). y.dealt) (sym (only p u e));
     alone = λ p u e deals. refl;
     is_gone = λ p i c a. absurd (nothing p i c a);
-    apart = λ p i k c a e. nothing p i c a;
     once = λ p i q j c a b. absurd (nothing p i c a);
-    in_order = λ p u e i j x y lt f g. absurd (nothing p i x (u, e, f));
     each_had = λ k c e. absurd (some-ne-none c (sym e));
+    ends = λ p u e ended. refl;
+    spent = λ p u e none. ap (λ (y : Had). y.got) (sym (only p u e));
+    counted = λ u out e is. let first = ap (λ (y : Had). y.holder) (only 0 u e) in let same : 0 ≡ out = cc (first, is) in ap suc same;
   },
 )
   where
-    only : (p : ℕ) (u : Had) → get_elem? (had true [] [] ∷ []) p ≡ some u → had true [] [] ≡ u
-    only zero u e = some-injective (had true [] []) u e
+    only : (p : ℕ) (u : Had) → get_elem? (first_view ∷ []) p ≡ some u → first_view ≡ u
+    only zero u e = some-injective first_view u e
     only (suc p) u e = absurd (some-ne-none u (sym e))
 
-    nothing : (p i c : ℕ) → At got_of (had true [] [] ∷ []) p i c → ⊥
+    nothing : (p i c : ℕ) → At got_of (first_view ∷ []) p i c → ⊥
     nothing p i c a = some-ne-none c (sym (ap (λ (y : Had). get_elem? y.got i) (only p a.0 a.1) ∙ a.2))

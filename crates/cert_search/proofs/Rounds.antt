@@ -1,5 +1,5 @@
 -- What a hand knows of each deque, and one step of it.
-use Rattle.std.proofs.Common.{◌≡◌, ◌≢◌, ⊎_elim, ℕ, zero, suc, ◌+◌, ◌-◌, ◌<◌, ◌≤◌, ◌%◌, ◌==◌, List, [], ◌∷◌, ◌++◌, map, length, set, Bool, Option, Some, None, IfSome, IfNone, All, refl, sym, ap, ◌∙◌, subst, eq-eqb, ne_eqb, mod-eq_of_lt, arith}
+use Rattle.std.proofs.Common.{◌≡◌, ◌≢◌, ⊎_elim, ℕ, zero, suc, ◌+◌, ◌-◌, ◌<◌, ◌≤◌, ◌%◌, ◌==◌, List, [], ◌∷◌, ◌++◌, map, length, set, Bool, true, false, Option, Some, None, IfSome, IfNone, All, refl, sym, ap, ◌∙◌, subst, eq-eqb, ne_eqb, mod-eq_of_lt, arith}
 use Rattle.std.specs.Prelude.{slice_get, if◌then◌else◌}
 use Rattle.std.proofs.Math.Nat.{add-mod_right}
 use Rattle.std.proofs.lemmas.Bool.{cases_lt}
@@ -9,10 +9,10 @@ use Rattle.cert_search.specs.declared.deque.Had.{Had}
 use Rattle.cert_search.specs.declared.hand.Hand.{Hand}
 use Rattle.cert_search.specs.declared.own.Own.{Own}
 use Rattle.cert_search.specs.declared.reach.Reach.{Reach}
-use Rattle.cert_search.specs.Deque.{WasEmpty, claims_of}
-use Rattle.cert_search.specs.Sights.{Sight, Gets, GetsOne, own_sight, reach_sight, sights, look, share_of, share, round_of, IsRound}
-use Rattle.cert_search.specs.Hands.{dealt_workers, own_deque, sights_of, known_of, SameDeal, TakesClaim}
-use Rattle.cert_search.proofs.Rows.{map_set, map_at, map_from, map_twice, set_same, within, all_from, get_at, range_get, range_len}
+use Rattle.cert_search.specs.Deque.{had, claims_of}
+use Rattle.cert_search.specs.Sights.{Name, Sight, Ends, Gets, GetsOne, own_sight, reach_sight, own_calm, reach_calm, calm, calms, sights, look, share_of, share, face, round_of, IsRound}
+use Rattle.cert_search.specs.Hands.{dealt_workers, own_deque, sights_of, had_from, SameDeal, TakesClaim, IsThrough}
+use Rattle.cert_search.proofs.Rows.{map_set, map_at, map_from, map_twice, set_same, set_at, within, all_from, get_at, range_get, range_len}
 use Rattle.cert_search.proofs.Shares.{claims_in}
 
 -- a list of sights, looked up
@@ -33,11 +33,6 @@ look_else (x ∷ xs) zero s t d e same apart =
     ap (λ (b : Bool). if b then t.1 else look d xs) (ne_eqb t.0 d (λ f. apart (sym f ∙ same)))
     ∙ ap (λ (b : Bool). if b then x.1 else look d xs) (sym (ne_eqb x.0 d (λ f. apart (sym f ∙ ap (λ (y : Sight). y.0) is))))
 look_else (x ∷ xs) (suc k) s t d e same apart = ap (λ v. if x.0 == d then x.1 else v) (look_else xs k s t d e same apart)
-
-pub set_at : {A : Type 0} (xs : List A) (k : ℕ) (y z : A) → slice_get xs k ≡ Some z → slice_get (set xs k y) k ≡ Some y
-set_at [] k y z e = absurd (cc)
-set_at (x ∷ xs) zero y z e = refl
-set_at (x ∷ xs) (suc k) y z e = set_at xs k y z e
 
 -- the k-th deque that a worker tries
 pub round_get : (workers which k : ℕ) → which < workers → k < workers → slice_get (round_of workers which) k ≡ Some ((which + k) % workers)
@@ -125,32 +120,72 @@ module _ (claims workers which : ℕ) (ss : List Sight) (round : IsRound claims 
   pub same_round : (ts : List Sight) → map share_of ts ≡ map share_of ss → IsRound claims workers which ts
   same_round ts same = record { within = round.within; shares = same ∙ round.shares }
 
+-- the number and the share of a deque, of the three that are seen of it
+abbrev pub of_face : ℕ × List ℕ × Name → ℕ × List ℕ
+of_face f = (f.0, f.1)
+
+-- where the faces are the same, the shares are
+pub shares_by_faces : (ss ts : List Sight) → map face ts ≡ map face ss → map share_of ts ≡ map share_of ss
+shares_by_faces ss ts same = sym (map_twice face of_face ts) ∙ ap (map of_face) same ∙ map_twice face of_face ss
+
+-- a mark of the end changes no face
+pub calm_faces : (own : Own) (others : List Reach) → map face (calms own others) ≡ map face (sights own others)
+calm_faces own others = λ i. face (own_sight own) ∷ (map_twice reach_calm face others ∙ sym (map_twice reach_sight face others)) i
+
+-- nor what has been had
+look_calm : (ss : List Sight) (d : ℕ) → (look d (map calm ss)).got ≡ (look d ss).got
+look_calm [] d = refl
+look_calm (x ∷ xs) d = by_test (x.0 == d) (look_calm xs d)
+  where
+    by_test : (b : Bool) → (look d (map calm xs)).got ≡ (look d xs).got → (if b then (calm x).1 else look d (map calm xs)).got ≡ (if b then x.1 else look d xs).got
+    by_test true later = refl
+    by_test false later = later
+
+pub look_had : (h : Hand) (d : ℕ) → (look d (calms h.own h.others.items)).got ≡ had_from h d
+look_had h d = ap (λ (l : List Sight). (look d (own_calm h.own ∷ l)).got) (sym (map_twice reach_sight calm h.others.items)) ∙ look_calm (sights_of h) d
+
+-- where the deque is at its end, or gives a claim
+pub calm_ends : (s t : Sight) → Ends s t → calm t ≡ calm s
+calm_ends s t e = λ i. (e.0.0 i, ap (λ (v : Had). had v.holder v.deals v.dealt v.got false) e.1 i, e.0.1 i)
+
+pub calm_gets : (s t : Sight) (c : ℕ) → Gets s c t → Gets (calm s) c (calm t)
+calm_gets s t c g = (g.0, (ap (λ (v : Had). had v.holder v.deals v.dealt v.got false) g.1.0, g.1.1, g.1.2))
+
+pub look_first : (s : Sight) (ss : List Sight) (d : ℕ) → s.0 ≡ d → look d (s ∷ ss) ≡ s.1
+look_first s ss d is = ap (λ (b : Bool). if b then s.1 else look d ss) (eq-eqb s.0 d is)
+
 -- a claim has been had
 module _ (ss : List Sight) (claim : ℕ) (ts : List Sight) (gets : GetsOne ss claim ts) where
-  pub shares_stay : map share_of ts ≡ map share_of ss
-  shares_stay =
+  pub faces_stay : map face ts ≡ map face ss
+  faces_stay =
       let k = gets.0 in let s = gets.1 in let t = gets.2 in
-      let same : share_of t ≡ share_of s = λ i. (gets.5.0 i, ap (λ (v : Had). v.dealt) gets.5.1.0 i) in
-      ap (λ l. map share_of l) gets.4 ∙ map_set share_of ss k t ∙ ap (λ p. set (map share_of ss) k p) same ∙ set_same (map share_of ss) k (share_of s) (map_at share_of ss k s gets.3)
+      let same : face t ≡ face s = λ i. (gets.5.0.0 i, ap (λ (v : Had). v.dealt) gets.5.1.0 i, gets.5.0.1 i) in
+      ap (λ l. map face l) gets.4 ∙ map_set face ss k t ∙ ap (λ p. set (map face ss) k p) same ∙ set_same (map face ss) k (face s) (map_at face ss k s gets.3)
+
+-- the round, whether or not marks of the end have been had
+pub calm_round : (h : Hand) → IsRound h.claims h.workers h.own.which (calms h.own h.others.items)
+calm_round h = same_round h.claims h.workers h.own.which (sights_of h) h.round (calms h.own h.others.items) (shares_by_faces (sights_of h) (calms h.own h.others.items) (calm_faces h.own h.others.items))
 
 -- a hand has had a claim
-module _ (old new : Hand) (claim : ℕ) (gets : GetsOne (sights_of old) claim (sights_of new)) where
+module _ (old new : Hand) (claim : ℕ) (gets : GetsOne (calms old.own old.others.items) claim (calms new.own new.others.items)) where
   pub takes_claim : TakesClaim old claim new
   takes_claim =
-      let ss = sights_of old in let ts = sights_of new in
+      let ss = calms old.own old.others.items in let ts = calms new.own new.others.items in
       let k = gets.0 in let s = gets.1 in let t = gets.2 in let at = gets.3 in let is = gets.4 in
-      let same = gets.5.0 in let step = gets.5.1 in
-      let dealt = (sight_at old.claims old.workers old.own.which ss old.round k s at).1 in
+      let same = gets.5.0.0 in let step = gets.5.1 in
+      let first = calm_round old in
+      let dealt = (sight_at old.claims old.workers old.own.which ss first k s at).1 in
       let inside = claims_in old.workers s.0 old.claims step.1.0 claim (ap (λ l. get_elem? l step.1.0) (sym dealt) ∙ step.1.1) in
-      let knew : look (claim % old.workers) ss ≡ s.1 = ap (λ d. look d ss) inside.1 ∙ looked old.claims old.workers old.own.which ss old.round k s at in
-      let round = same_round old.claims old.workers old.own.which ss old.round ts (shares_stay ss claim ts gets) in
+      let knew : look (claim % old.workers) ss ≡ s.1 = ap (λ d. look d ss) inside.1 ∙ looked old.claims old.workers old.own.which ss first k s at in
+      let round = same_round old.claims old.workers old.own.which ss first ts (shares_by_faces ss ts (faces_stay ss claim ts gets)) in
       let knows : look (claim % old.workers) ts ≡ t.1 =
       ap (λ d. look d ts) (inside.1 ∙ sym same) ∙ looked old.claims old.workers old.own.which ts round k t (ap (λ l. slice_get l k) is ∙ set_at ss k t s at) in
+      let before : had_from old (claim % old.workers) ≡ s.1.got = sym (look_had old (claim % old.workers)) ∙ ap (λ (v : Had). v.got) knew in
       record {
         dealt = inside.0;
-        above = subst (λ (v : Had). All (λ c. c < claim) v.got) (sym knew) (all_from (λ c. c < claim) s.1.got step.2);
-        taken = ap (λ (v : Had). v.got) (knows ∙ step.0) ∙ ap (λ (v : Had). v.got ++ claim ∷ []) (sym knew);
-        others = λ d apart. ap (λ (v : Had). v.got) (ap (look d) is ∙ look_else ss k s t d at same (λ e. apart (e ∙ sym inside.1)));
+        above = subst (λ l. All (λ c. c < claim) l) (sym before) (all_from (λ c. c < claim) s.1.got step.2);
+        taken = sym (look_had new (claim % old.workers)) ∙ ap (λ (v : Had). v.got) (knows ∙ step.0) ∙ ap (λ l. l ++ claim ∷ []) (sym before);
+        others = λ d apart. sym (look_had new d) ∙ ap (λ (v : Had). v.got) (ap (look d) is ∙ look_else ss k s t d at same (λ e. apart (e ∙ sym inside.1))) ∙ look_had old d;
       }
 
 -- where the own deque gave it, it is one of its claims
@@ -160,53 +195,64 @@ own_claim old claim own gets =
     let at = gets.1.1 in
     (claims_in old.workers old.own.which old.claims at.0 claim (ap (λ l. get_elem? l at.0) (sym dealt) ∙ at.1)).1
 
--- where the own deque was empty, any claim will do
-pub own_empty : (old : Hand) (r : Option ℕ) → WasEmpty (own_sight old.own).1 → IfSome r (λ c. c % dealt_workers old ≢ own_deque old → WasEmpty (known_of old (own_deque old)))
-own_empty old (Some c) e = λ _. subst WasEmpty (sym (looked old.claims old.workers old.own.which (sights_of old) old.round 0 (own_sight old.own) refl)) e
-own_empty old None e = tt
+-- where the own deque is at its end, any claim will do
+pub own_ended : (old : Hand) (own : Own) (others : List Reach) (r : Option ℕ) → Ends (own_sight old.own) (own_sight own) → IfSome r (λ c. c % dealt_workers old ≢ own_deque old → (look (own_deque old) (sights own others)).ended ≡ true)
+own_ended old own others (Some c) e = λ _. ap (λ (v : Had). v.ended) (look_first (own_sight own) (map reach_sight others) old.own.which e.0.0 ∙ e.1)
+own_ended old own others None e = tt
 
 -- the own deque stays, and one of the others gives the claim or none does
-module _ (old : Hand) (own : Own) (others : List Reach) (r : Option ℕ) (same : own_sight own ≡ own_sight old.own) (some : IfSome r (λ c. GetsOne (map reach_sight old.others.items) c (map reach_sight others))) where
+module _ (old : Hand) (own : Own) (others : List Reach) (r : Option ℕ) (same : own_calm own ≡ own_calm old.own) (some : IfSome r (λ c. GetsOne (map reach_calm old.others.items) c (map reach_calm others))) where
   abbrev Gives : Option ℕ → Type 0
-  Gives r = IfSome r (λ c. GetsOne (sights_of old) c (sights own others))
+  Gives r = IfSome r (λ c. GetsOne (calms old.own old.others.items) c (calms own others))
 
-  behind : (r : Option ℕ) → IfSome r (λ c. GetsOne (map reach_sight old.others.items) c (map reach_sight others)) → Gives r
+  behind : (r : Option ℕ) → IfSome r (λ c. GetsOne (map reach_calm old.others.items) c (map reach_calm others)) → Gives r
   behind (Some c) g = (suc g.0, g.1, g.2, g.3, (λ i. same i ∷ g.4 i), g.5)
   behind None g = tt
 
   pub gives : Gives r
   gives = behind r some
 
-  pub shares_same : IfNone r (map reach_sight others ≡ map reach_sight old.others.items) → map share_of (sights own others) ≡ map share_of (sights_of old)
-  shares_same none = by_result r gives none
+  calm_same : IfNone r (map reach_calm others ≡ map reach_calm old.others.items) → map face (calms own others) ≡ map face (calms old.own old.others.items)
+  calm_same none = by_result r gives none
     where
-      by_result : (r : Option ℕ) → Gives r → IfNone r (map reach_sight others ≡ map reach_sight old.others.items) → map share_of (sights own others) ≡ map share_of (sights_of old)
-      by_result (Some c) g none = shares_stay (sights_of old) c (sights own others) g
-      by_result None g none = λ i. share_of (same i) ∷ map share_of (none i)
+      by_result : (r : Option ℕ) → Gives r → IfNone r (map reach_calm others ≡ map reach_calm old.others.items) → map face (calms own others) ≡ map face (calms old.own old.others.items)
+      by_result (Some c) g none = faces_stay (calms old.own old.others.items) c (calms own others) g
+      by_result None g none = λ i. face (same i) ∷ map face (none i)
 
-  pub round_same : IfNone r (map reach_sight others ≡ map reach_sight old.others.items) → IsRound old.claims old.workers own.which (sights own others)
+  pub faces_same : IfNone r (map reach_calm others ≡ map reach_calm old.others.items) → map face (sights own others) ≡ map face (sights_of old)
+  faces_same none = sym (calm_faces own others) ∙ calm_same none ∙ calm_faces old.own old.others.items
+
+  pub round_same : IfNone r (map reach_calm others ≡ map reach_calm old.others.items) → IsRound old.claims old.workers own.which (sights own others)
   round_same none =
       subst (λ d. IsRound old.claims old.workers d (sights own others)) (ap (λ (s : Sight). s.0) (sym same))
-      (same_round old.claims old.workers old.own.which (sights_of old) old.round (sights own others) (shares_same none))
+      (same_round old.claims old.workers old.own.which (sights_of old) old.round (sights own others) (shares_by_faces (sights_of old) (sights own others) (faces_same none)))
 
 -- where a claim was had, the hand took it
-pub takes_any : (old new : Hand) (r : Option ℕ) → IfSome r (λ c. GetsOne (sights_of old) c (sights_of new)) → IfSome r (λ c. TakesClaim old c new)
+pub takes_any : (old new : Hand) (r : Option ℕ) → IfSome r (λ c. GetsOne (calms old.own old.others.items) c (calms new.own new.others.items)) → IfSome r (λ c. TakesClaim old c new)
 takes_any old new (Some c) g = takes_claim old new c g
 takes_any old new None g = tt
 
--- where there was none, each deque was empty
-pub none_left : (old : Hand) (r : Option ℕ) → WasEmpty (own_sight old.own).1 → IfNone r (All (λ s. WasEmpty s.1) (map reach_sight old.others.items)) → IfNone r ((d : ℕ) → d < dealt_workers old → WasEmpty (known_of old d))
-none_left old (Some c) e all = tt
-none_left old None e all = look_all old.claims old.workers old.own.which (sights_of old) old.round WasEmpty each
+-- where there was none, each deque is at its end
+pub none_left : (old new : Hand) (r : Option ℕ) → new.workers ≡ old.workers → Ends (own_sight old.own) (own_sight new.own) → IfNone r (All (λ s. s.1.ended ≡ true) (map reach_sight new.others.items))
+    → IfNone r (map reach_calm new.others.items ≡ map reach_calm old.others.items) → IfNone r (IsThrough old new)
+none_left old new (Some c) workers e all none = tt
+none_left old new None workers e all none = record {
+  at_end = λ d lt. look_all new.claims new.workers new.own.which (sights_of new) new.round (λ v. v.ended ≡ true) each d (omega (arith, lt, workers));
+  same = λ d. sym (look_had new d) ∙ ap (λ l. (look d l).got) rows ∙ look_had old d;
+}
   where
-    each : All (λ s. WasEmpty s.1) (sights_of old)
-    each zero d lt = e
+    each : All (λ s. s.1.ended ≡ true) (sights_of new)
+    each zero d lt = ap (λ (v : Had). v.ended) e.1
     each (suc k) d lt = all k d (omega arith)
 
+    rows : calms new.own new.others.items ≡ calms old.own old.others.items
+    rows = λ i. calm_ends (own_sight old.own) (own_sight new.own) e i ∷ none i
+
 -- the deal stays
-pub same_deal : (old new : Hand) → new.claims ≡ old.claims → new.workers ≡ old.workers → map share_of (sights_of new) ≡ map share_of (sights_of old) → SameDeal old new
+pub same_deal : (old new : Hand) → new.claims ≡ old.claims → new.workers ≡ old.workers → map face (sights_of new) ≡ map face (sights_of old) → SameDeal old new
 same_deal old new claims workers same = record {
   claims = claims;
   workers = workers;
-  deques = sym (map_twice share_of (λ (p : ℕ × List ℕ). p.0) (sights_of new)) ∙ ap (map (λ (p : ℕ × List ℕ). p.0)) same ∙ map_twice share_of (λ (p : ℕ × List ℕ). p.0) (sights_of old);
+  deques = sym (map_twice face (λ (p : ℕ × List ℕ × Name). p.0) (sights_of new)) ∙ ap (map (λ (p : ℕ × List ℕ × Name). p.0)) same ∙ map_twice face (λ (p : ℕ × List ℕ × Name). p.0) (sights_of old);
+  names = sym (map_twice face (λ (p : ℕ × List ℕ × Name). let t : ℕ × Name = (p.0, p.2) in t) (sights_of new)) ∙ ap (map (λ (p : ℕ × List ℕ × Name). let t : ℕ × Name = (p.0, p.2) in t)) same ∙ map_twice face (λ (p : ℕ × List ℕ × Name). let t : ℕ × Name = (p.0, p.2) in t) (sights_of old);
 }

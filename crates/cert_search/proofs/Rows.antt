@@ -47,6 +47,18 @@ module _ {A : Type 0} where
   set_same (x ∷ xs) zero y e = let is : x ≡ y = cc in ap (λ z. z ∷ xs) (sym is)
   set_same (x ∷ xs) (suc i) y e = ap (λ l. x ∷ l) (set_same xs i y e)
 
+  pub set_at : (xs : List A) (k : ℕ) (y z : A) → slice_get xs k ≡ Some z → slice_get (set xs k y) k ≡ Some y
+  set_at [] k y z e = absurd (cc)
+  set_at (x ∷ xs) zero y z e = refl
+  set_at (x ∷ xs) (suc k) y z e = set_at xs k y z e
+
+  pub set_other : (xs : List A) (i k : ℕ) (y : A) → k ≢ i → slice_get (set xs i y) k ≡ slice_get xs k
+  set_other [] i k y apart = refl
+  set_other (x ∷ xs) zero zero y apart = absurd (apart refl)
+  set_other (x ∷ xs) zero (suc k) y apart = refl
+  set_other (x ∷ xs) (suc i) zero y apart = refl
+  set_other (x ∷ xs) (suc i) (suc k) y apart = set_other xs i k y (λ e. apart (ap suc e))
+
   pub get_at : (xs : List A) (i : ℕ) (d : A) → i < length xs → slice_get xs i ≡ Some (get_or xs i d)
   get_at [] i d lt = absurd (omega arith)
   get_at (x ∷ xs) zero d lt = refl

@@ -4,9 +4,7 @@ use Rattle.std.specs.List.{range_with_len}
 use Rattle.std.proofs.lemmas.List.Elements.{filter-append}
 use mathlib.Core.Option.{some}
 use lib.ListN.{get_elem?}
-use Rattle.cert_search.specs.declared.deque.Had.{Had}
-use Rattle.cert_search.specs.Views.{At}
-use Rattle.cert_search.specs.Deque.{got_of, claims_of, WasEmpty}
+use Rattle.cert_search.specs.Deque.{claims_of}
 use Rattle.cert_search.proofs.Rows.{filter_at, filter_has, range_has, range_bounds, range_more, all_from}
 
 -- a claim of the deque was dealt, and its remainder is the deque's number
@@ -19,13 +17,6 @@ claims_in workers which n i c e =
 -- and each such claim was dealt
 pub claims_has : (workers which n c : ℕ) → c < n → c % workers ≡ which → (i : ℕ) × (get_elem? (claims_of workers which n) i ≡ some c)
 claims_has workers which n c lt is = filter_has (λ x. x % workers == which) c (eq-eqb (c % workers) which is) (range_with_len 0 n) c (range_has 0 n c c lt (sym (zero-add c)))
-
--- where the deque was found empty, some holder had had each claim that was dealt
-pub empty_had : (v : Had) (empty : WasEmpty v) (i c : ℕ) → get_elem? v.dealt i ≡ some c → (p : ℕ) × (j : ℕ) × At got_of empty.1 p j c
-empty_had v empty i c e =
-    let keeps = empty.3.1 in
-    let gone = empty.3.0 in
-    keeps.each_had i c (ap (λ l. get_elem? l i) (sym (append-nil gone) ∙ sym (keeps.knows empty.0 v empty.2)) ∙ e)
 
 pub claims_below : (workers which n : ℕ) → All (λ c. c < n) (claims_of workers which n)
 claims_below workers which n = all_from (λ c. c < n) (claims_of workers which n) (λ i c e. (claims_in workers which n i c e).0)

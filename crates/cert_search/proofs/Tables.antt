@@ -1,15 +1,17 @@
 -- Claims are dealt, views are cut, and hands are made.
-use Rattle.std.proofs.Common.{◌≡◌, ℕ, zero, suc, ◌+◌, ◌-◌, ◌<◌, ◌≤◌, ◌%◌, ◌==◌, List, [], ◌∷◌, ◌++◌, map, length, set, Bool, true, false, Some, get_or, refl, sym, ap, ◌∙◌, subst, zero-add, Vec, Global, arith}
+use Rattle.std.proofs.Common.{◌≡◌, ℕ, zero, suc, ◌+◌, ◌-◌, ◌<◌, ◌≤◌, ◌%◌, ◌==◌, List, [], ◌∷◌, ◌++◌, map, length, set, Bool, true, false, Some, IsSome, eqb-true, eq-eqb, get_or, refl, sym, ap, ◌∙◌, subst, zero-add, Vec, Global, arith}
 use Rattle.std.specs.Prelude.{slice_get, if◌then◌else◌}
 use Rattle.std.specs.List.{range_with_len}
 use Rattle.std.proofs.lemmas.List.FromFn.{map-range_with_len_more}
 use Rattle.cert_search.specs.declared.hand.Hand.{Hand}
 use Rattle.cert_search.specs.declared.own.Own.{Own}
 use Rattle.cert_search.specs.declared.reach.Reach.{Reach}
-use Rattle.cert_search.specs.Deque.{had, claims_of}
-use Rattle.cert_search.specs.Sights.{Sight, own_sight, reach_sight, sights, look, share_of, share, round_of, IsRound}
-use Rattle.cert_search.specs.Dealing.{open_deque, IsFilledTo, plain_of, own_plain, row_plain, fresh, fresh_part, fresh_row, IsFilled}
-use Rattle.cert_search.specs.Hands.{sights_of, deques_of, hand_plain, fresh_hand, AreHands, IsDealt}
+use Rattle.cert_search.specs.declared.deque.Had.{Had}
+use Rattle.cert_search.specs.declared.deque.Holder.TheVariants.{Owner}
+use Rattle.cert_search.specs.Deque.{had, guest_view, dealt_more, claims_of}
+use Rattle.cert_search.specs.Sights.{Name, Sight, SameDeque, own_sight, name_at, reach_sight, sights, look, share_of, share, round_of, IsRound}
+use Rattle.cert_search.specs.Dealing.{Plain, own_view, open_deque, IsFilledTo, plain_of, own_plain, own_name, names_in, row_plain, fresh, fresh_part, fresh_row, IsFilled}
+use Rattle.cert_search.specs.Hands.{sights_of, deques_of, deque_at, names_of, hand_plain, fresh_hand, AreHands, IsDealt, ShareDeques}
 use Rattle.cert_search.proofs.Rows.{map_set, map_get, map_at, map_from, map_len, map_push, map_twice, range_set, range_get, range_len, within, set_same}
 use Rattle.cert_search.proofs.Shares.{claims_here, claims_elsewhere}
 use Rattle.cert_search.proofs.Rounds.{round_has, round_apart, look_dealt}
@@ -29,42 +31,90 @@ made_at f F n xs d x e lt is =
     ap (λ y. Some (f y)) is ∙ sym (map_get f xs d x (omega (arith, long))) ∙ ap (λ l. slice_get l d) e ∙ range_get F 0 n d lt ∙ ap (λ k. Some (F k)) (zero-add d) in
     cc
 
+-- a list whose elements are each as a range has them
+pub range_ext : {A B : Type 0} (g : A → B) (G : ℕ → B) (a : ℕ) (xs : List A) → ((k : ℕ) (x : A) → slice_get xs k ≡ Some x → g x ≡ G (a + k)) → map g xs ≡ map G (range_with_len a (length xs))
+range_ext g G a [] each = refl
+range_ext g G a (x ∷ xs) each =
+    let first : a + 0 ≡ a = omega arith in
+    λ i. (each 0 x refl ∙ ap G first) i ∷ range_ext g G (a + 1) xs (λ k y e. let next : a + suc k ≡ (a + 1) + k = omega arith in each (suc k) y e ∙ ap G next) i
+
 -- the next claim goes to the deque of its remainder
-pub filled_more : (workers n d : ℕ) (owns : List Own) (o p : Own) → d < workers → d ≡ n % workers → IsFilledTo workers n owns → o ≡ get_or owns d o → own_sight p ≡ ((own_sight o).0, had true ((own_sight o).1.dealt ++ n ∷ []) (own_sight o).1.got) → IsFilledTo workers (n + 1) (set owns d p)
-filled_more workers n d owns o p lt number filled is dealt =
-    let was : own_sight o ≡ open_deque workers n d = made_at own_sight (open_deque workers n) workers owns d o filled lt is in
-    let now : own_sight p ≡ open_deque workers (n + 1) d =
-    dealt ∙ ap (λ (s : Sight). let t : Sight = (s.0, had true (s.1.dealt ++ n ∷ []) s.1.got) in t) was ∙ ap (λ l. let t : Sight = (d, had true l []) in t) (sym (claims_here workers d n (sym number))) in
-    map_set own_sight owns d p ∙ (λ i. set (filled i) d (now i))
+pub filled_more : (workers n d : ℕ) (owns : List Own) (o p : Own) → d < workers → d ≡ n % workers → IsFilledTo workers n owns → o ≡ get_or owns d o → SameDeque (own_sight o) (own_sight p) → (own_sight p).1 ≡ dealt_more (own_sight o).1 n → IsFilledTo workers (n + 1) (set owns d p)
+filled_more workers n d owns o p lt number filled is same dealt =
+    let was : own_view o ≡ open_deque workers n d = made_at own_view (open_deque workers n) workers owns d o filled lt is in
+    let view : (own_sight p).1 ≡ (open_deque workers (n + 1) d).1 =
+    dealt ∙ ap (λ (v : ℕ × Had). dealt_more v.1 n) was ∙ ap (λ l. had (Owner 0) true l [] false) (sym (claims_here workers d n (sym number))) in
+    let now : own_view p ≡ open_deque workers (n + 1) d = λ i. ((same.0 ∙ ap (λ (v : ℕ × Had). v.0) was) i, view i) in
+    map_set own_view owns d p ∙ (λ i. set (filled i) d (now i))
     ∙ range_set (open_deque workers n) (open_deque workers (n + 1)) 0 workers d d (sym (zero-add d)) lt
-    (λ k apart. ap (λ l. let t : Sight = (k, had true l []) in t) (sym (claims_elsewhere workers k n (λ e. apart (sym e ∙ sym number)))))
+    (λ k apart. ap (λ l. let t : ℕ × Had = (k, had (Owner 0) true l [] false) in t) (sym (claims_elsewhere workers k n (λ e. apart (sym e ∙ sym number)))))
 
 pub filled_plain : (workers n : ℕ) (owns : List Own) → IsFilledTo workers n owns → IsFilled n workers owns
-filled_plain workers n owns filled = sym (map_twice own_sight plain_of owns) ∙ ap (map plain_of) filled ∙ map_twice (open_deque workers n) plain_of (range_with_len 0 workers)
+filled_plain workers n owns filled =
+    range_ext own_plain (fresh (names_in owns) n workers) 0 owns each ∙ ap (λ m. map (fresh (names_in owns) n workers) (range_with_len 0 m)) long
+  where
+    long : length owns ≡ workers
+    long = made_len own_view (open_deque workers n) workers owns filled
+
+    each : (k : ℕ) (x : Own) → slice_get owns k ≡ Some x → own_plain x ≡ fresh (names_in owns) n workers (0 + k)
+    each k x e =
+        let lt : k < workers = omega (arith, within owns k x e, long) in
+        let here : Some (own_view x) ≡ Some (open_deque workers n k) = sym (map_at own_view owns k x e) ∙ ap (λ l. slice_get l k) filled ∙ range_get (open_deque workers n) 0 workers k lt ∙ ap (λ m. Some (open_deque workers n m)) (zero-add k) in
+        let view : own_view x ≡ open_deque workers n k = cc (here) in
+        let plain : own_plain x ≡ fresh (names_in owns) n workers k = λ i. ((view i).0, (view i).1.dealt, (view i).1.got, sym (map_at own_name owns k x e) i) in
+        plain ∙ ap (fresh (names_in owns) n workers) (sym (zero-add k))
+
+-- a deque changes in nothing that is plain, and its name stays
+pub names_still : (d : ℕ) (owns : List Own) (o p : Own) → d < length owns → o ≡ get_or owns d o → own_plain p ≡ own_plain o → names_in (set owns d p) ≡ names_in owns
+names_still d owns o p lt is same =
+    let some : Some (own_name p) ≡ Some (own_name o) = ap (λ (q : Plain). q.3) same in
+    let name : own_name p ≡ own_name o = cc (some) in
+    let at : slice_get (map own_name owns) d ≡ Some (own_name o) = map_get own_name owns d o lt ∙ ap (λ y. Some (own_name y)) (sym is) in
+    map_set own_name owns d p ∙ ap (λ q. set (map own_name owns) d q) name ∙ set_same (map own_name owns) d (own_name o) at
 
 -- a view is cut, and the deque stays as it was
+pub plain_still : (d : ℕ) (owns : List Own) (o p : Own) → d < length owns → o ≡ get_or owns d o → own_plain p ≡ own_plain o → map own_plain (set owns d p) ≡ map own_plain owns
+plain_still d owns o p lt is same =
+    let at : slice_get (map own_plain owns) d ≡ Some (own_plain o) = map_get own_plain owns d o lt ∙ ap (λ y. Some (own_plain y)) (sym is) in
+    map_set own_plain owns d p ∙ ap (λ q. set (map own_plain owns) d q) same ∙ set_same (map own_plain owns) d (own_plain o) at
+
+-- deques that are plainly the same have the same names
+pub same_names : (owns owns' : List Own) → map own_plain owns' ≡ map own_plain owns → names_in owns' ≡ names_in owns
+same_names [] [] e = refl
+same_names [] (y ∷ ys) e = absurd (cc (e))
+same_names (x ∷ xs) [] e = absurd (cc (e))
+same_names (x ∷ xs) (y ∷ ys) e =
+    let first : own_plain y ≡ own_plain x = cc (e) in
+    let rest : map own_plain ys ≡ map own_plain xs = cc (e) in
+    let some : Some (own_name y) ≡ Some (own_name x) = ap (λ (q : Plain). q.3) first in
+    let name : own_name y ≡ own_name x = cc (some) in
+    λ i. name i ∷ same_names xs ys rest i
+
+pub filled_same : (claims workers : ℕ) (owns owns' : List Own) → map own_plain owns' ≡ map own_plain owns → IsFilled claims workers owns → IsFilled claims workers owns'
+filled_same claims workers owns owns' same filled = same ∙ filled ∙ ap (λ names. map (fresh names claims workers) (range_with_len 0 workers)) (sym (same_names owns owns' same))
+
 pub filled_still : (claims workers d : ℕ) (owns : List Own) (o p : Own) → d < workers → IsFilled claims workers owns → o ≡ get_or owns d o → own_plain p ≡ own_plain o → IsFilled claims workers (set owns d p)
 filled_still claims workers d owns o p lt filled is same =
-    let long = made_len own_plain (fresh claims workers) workers owns filled in
-    let at : slice_get (map own_plain owns) d ≡ Some (own_plain o) = map_get own_plain owns d o (omega (arith, long)) ∙ ap (λ y. Some (own_plain y)) (sym is) in
-    map_set own_plain owns d p ∙ ap (λ q. set (map own_plain owns) d q) same ∙ set_same (map own_plain owns) d (own_plain o) at ∙ filled
+    let long = made_len own_plain (fresh (names_in owns) claims workers) workers owns filled in
+    filled_same claims workers owns (set owns d p) (plain_still d owns o p (omega (arith, long, lt)) is same) filled
 
 -- the view of one more deque
-pub part_more : (claims workers which k d : ℕ) (o : Own) (r : Reach) (row : List Reach) → 1 ≤ k → d ≡ (which + k) % workers → own_plain o ≡ fresh claims workers d → reach_sight r ≡ ((own_sight o).0, had false (own_sight o).1.dealt []) → row_plain row ≡ fresh_part claims workers which (k - 1) → row_plain (row ++ r ∷ []) ≡ fresh_part claims workers which (k + 1 - 1)
-part_more claims workers which k d o r row ge is mine cut part =
-    let seen : plain_of (reach_sight r) ≡ fresh claims workers d = ap plain_of cut ∙ ap (λ (p : ℕ × List ℕ × List ℕ). let t : ℕ × List ℕ × List ℕ = (p.0, p.1, []) in t) mine in
+pub part_more : (names : List Name) (claims workers which k d : ℕ) (o : Own) (r : Reach) (row : List Reach) → 1 ≤ k → d ≡ (which + k) % workers → own_plain o ≡ fresh names claims workers d → SameDeque (own_sight o) (reach_sight r) → (reach_sight r).1 ≡ guest_view (own_sight o).1.dealt
+    → row_plain row ≡ fresh_part names claims workers which (k - 1) → row_plain (row ++ r ∷ []) ≡ fresh_part names claims workers which (k + 1 - 1)
+part_more names claims workers which k d o r row ge is mine same cut part =
+    let seen : plain_of (reach_sight r) ≡ fresh names claims workers d = (λ i. let t : Plain = (same.0 i, (cut i).dealt, (cut i).got, Some (same.1 i)) in t) ∙ ap (λ (p : Plain). let t : Plain = (p.0, p.1, [], p.3) in t) mine in
     let number : d ≡ (which + (1 + (k - 1))) % workers = let e : k ≡ 1 + (k - 1) = omega arith in is ∙ ap (λ n. (which + n) % workers) e in
     let more : (k - 1) + 1 ≡ k + 1 - 1 = omega arith in
-    range_push (λ (x : Reach). plain_of (reach_sight x)) (λ n. fresh claims workers ((which + n) % workers)) 1 (k - 1) row r part (seen ∙ ap (fresh claims workers) number) ∙ ap (fresh_part claims workers which) more
+    range_push (λ (x : Reach). plain_of (reach_sight x)) (λ n. fresh names claims workers ((which + n) % workers)) 1 (k - 1) row r part (seen ∙ ap (fresh names claims workers) number) ∙ ap (fresh_part names claims workers which) more
 
 -- the number of a deque, and what it was dealt
-abbrev first_two : ℕ × List ℕ × List ℕ → ℕ × List ℕ
+abbrev first_two : Plain → ℕ × List ℕ
 first_two p = (p.0, p.1)
 
 -- a worker that has its own deque and the views of all others
-pub hand_round : (claims workers n : ℕ) (own : Own) (others : List Reach) → n < workers → own_plain own ≡ fresh claims workers n → row_plain others ≡ fresh_row claims workers n → IsRound claims workers own.which (sights own others)
-hand_round claims workers n own others lt mine row =
-    subst (λ d. IsRound claims workers d (sights own others)) (sym (ap (λ (p : ℕ × List ℕ × List ℕ). p.0) mine)) (record {
+pub hand_round : (names : List Name) (claims workers n : ℕ) (own : Own) (others : List Reach) → n < workers → own_plain own ≡ fresh names claims workers n → row_plain others ≡ fresh_row names claims workers n → IsRound claims workers own.which (sights own others)
+hand_round names claims workers n own others lt mine row =
+    subst (λ d. IsRound claims workers d (sights own others)) (sym (ap (λ (p : Plain). p.0) mine)) (record {
       within = lt;
       shares = λ i. ap first_two mine i ∷ rest i;
     })
@@ -75,7 +125,7 @@ hand_round claims workers n own others lt mine row =
     rest : map share_of (map reach_sight others) ≡ map (share claims workers) (map (λ k. (n + k) % workers) (range_with_len 1 (workers - 1)))
     rest =
         map_twice reach_sight share_of others ∙ sym (map_twice (λ r. plain_of (reach_sight r)) first_two others) ∙ ap (map first_two) row
-        ∙ map_twice (λ k. fresh claims workers ((n + k) % workers)) first_two (range_with_len 1 (workers - 1)) ∙ sym (map_twice (λ k. (n + k) % workers) (share claims workers) (range_with_len 1 (workers - 1)))
+        ∙ map_twice (λ k. fresh names claims workers ((n + k) % workers)) first_two (range_with_len 1 (workers - 1)) ∙ sym (map_twice (λ k. (n + k) % workers) (share claims workers) (range_with_len 1 (workers - 1)))
 
 -- what stands at the front of a list that is made from a range
 pub front_is : {A B : Type 0} (f : A → B) (F : ℕ → B) (n m : ℕ) (x : A) (rest all : List A) → map f all ≡ map F (range_with_len n (suc m)) → all ≡ x ∷ rest → (f x ≡ F n) × (map f rest ≡ map F (range_with_len (n + 1) m))
@@ -84,23 +134,23 @@ front_is f F n m x rest all e is =
     (cc, cc)
 
 -- the next worker's deque and views, and those of the workers after it
-module _ (claims workers n : ℕ) (owners owners' : List Own) (rows rows' : List (Vec Reach Global)) (own : Own) (others : Vec Reach Global)
-    (owned : map own_plain owners ≡ map (fresh claims workers) (range_with_len n (length rows)))
-    (seen : map (λ row. row_plain row.items) rows ≡ map (fresh_row claims workers) (range_with_len n (length rows)))
+module _ (names : List Name) (claims workers n : ℕ) (owners owners' : List Own) (rows rows' : List (Vec Reach Global)) (own : Own) (others : Vec Reach Global)
+    (owned : map own_plain owners ≡ map (fresh names claims workers) (range_with_len n (length rows)))
+    (seen : map (λ row. row_plain row.items) rows ≡ map (fresh_row names claims workers) (range_with_len n (length rows)))
     (is : owners ≡ own ∷ owners') (are : rows ≡ others ∷ rows') where
   count : length rows ≡ suc (length rows')
   count = ap length are
 
-  pub next_own : (own_plain own ≡ fresh claims workers n) × (map own_plain owners' ≡ map (fresh claims workers) (range_with_len (n + 1) (length rows')))
-  next_own = front_is own_plain (fresh claims workers) n (length rows') own owners' owners (owned ∙ ap (λ m. map (fresh claims workers) (range_with_len n m)) count) is
+  pub next_own : (own_plain own ≡ fresh names claims workers n) × (map own_plain owners' ≡ map (fresh names claims workers) (range_with_len (n + 1) (length rows')))
+  next_own = front_is own_plain (fresh names claims workers) n (length rows') own owners' owners (owned ∙ ap (λ m. map (fresh names claims workers) (range_with_len n m)) count) is
 
-  pub next_row : (row_plain others.items ≡ fresh_row claims workers n) × (map (λ row. row_plain row.items) rows' ≡ map (fresh_row claims workers) (range_with_len (n + 1) (length rows')))
-  next_row = front_is (λ row. row_plain row.items) (fresh_row claims workers) n (length rows') others rows' rows (seen ∙ ap (λ m. map (fresh_row claims workers) (range_with_len n m)) count) are
+  pub next_row : (row_plain others.items ≡ fresh_row names claims workers n) × (map (λ row. row_plain row.items) rows' ≡ map (fresh_row names claims workers) (range_with_len (n + 1) (length rows')))
+  next_row = front_is (λ row. row_plain row.items) (fresh_row names claims workers) n (length rows') others rows' rows (seen ∙ ap (λ m. map (fresh_row names claims workers) (range_with_len n m)) count) are
 
 -- what such a hand says of the deques
-pub hand_is : (claims workers n : ℕ) (own : Own) (others : List Reach) (h : Hand) → own_plain own ≡ fresh claims workers n → row_plain others ≡ fresh_row claims workers n → h.claims ≡ claims → h.workers ≡ workers → sights_of h ≡ sights own others → hand_plain h ≡ fresh_hand claims workers n
-hand_is claims workers n own others h mine row a b c =
-    let plain : map plain_of (sights own others) ≡ fresh claims workers n ∷ fresh_row claims workers n = λ i. mine i ∷ (map_twice reach_sight plain_of others ∙ row) i in
+pub hand_is : (names : List Name) (claims workers n : ℕ) (own : Own) (others : List Reach) (h : Hand) → own_plain own ≡ fresh names claims workers n → row_plain others ≡ fresh_row names claims workers n → h.claims ≡ claims → h.workers ≡ workers → sights_of h ≡ sights own others → hand_plain h ≡ fresh_hand names claims workers n
+hand_is names claims workers n own others h mine row a b c =
+    let plain : map plain_of (sights own others) ≡ fresh names claims workers n ∷ fresh_row names claims workers n = λ i. mine i ∷ (map_twice reach_sight plain_of others ∙ row) i in
     λ i. (a i, b i, (ap (map plain_of) c ∙ plain) i)
 
 -- nothing has been had
@@ -113,30 +163,30 @@ look_none (x ∷ xs) d none = by_test (x.0 == d) (none 0 x refl) (look_none xs d
     by_test false here there = there
 
 -- the hand of the worker i
-module _ (claims workers i : ℕ) (h : Hand) (is : hand_plain h ≡ fresh_hand claims workers i) where
+module _ (names : List Name) (claims workers i : ℕ) (h : Hand) (is : hand_plain h ≡ fresh_hand names claims workers i) where
   claims_is : h.claims ≡ claims
-  claims_is = ap (λ (p : ℕ × ℕ × List (ℕ × List ℕ × List ℕ)). p.0) is
+  claims_is = ap (λ (p : ℕ × ℕ × List (Plain)). p.0) is
 
   workers_is : h.workers ≡ workers
-  workers_is = ap (λ (p : ℕ × ℕ × List (ℕ × List ℕ × List ℕ)). p.1) is
+  workers_is = ap (λ (p : ℕ × ℕ × List (Plain)). p.1) is
 
-  plain_is : map plain_of (sights_of h) ≡ fresh claims workers i ∷ fresh_row claims workers i
-  plain_is = ap (λ (p : ℕ × ℕ × List (ℕ × List ℕ × List ℕ)). p.2) is
+  plain_is : map plain_of (sights_of h) ≡ fresh names claims workers i ∷ fresh_row names claims workers i
+  plain_is = ap (λ (p : ℕ × ℕ × List (Plain)). p.2) is
 
   own_is : h.own.which ≡ i
-  own_is = ap (λ l. (get_or l 0 (fresh claims workers i)).0) plain_is
+  own_is = ap (λ l. (get_or l 0 (fresh names claims workers i)).0) plain_is
 
   round_is : deques_of h ≡ round_of workers i
   round_is =
-      sym (map_twice plain_of (λ (p : ℕ × List ℕ × List ℕ). p.0) (sights_of h)) ∙ ap (map (λ (p : ℕ × List ℕ × List ℕ). p.0)) plain_is
-      ∙ ap (λ l. i ∷ l) (map_twice (λ k. fresh claims workers ((i + k) % workers)) (λ (p : ℕ × List ℕ × List ℕ). p.0) (range_with_len 1 (workers - 1)))
+      sym (map_twice plain_of (λ (p : Plain). p.0) (sights_of h)) ∙ ap (map (λ (p : Plain). p.0)) plain_is
+      ∙ ap (λ l. i ∷ l) (map_twice (λ k. fresh names claims workers ((i + k) % workers)) (λ (p : Plain). p.0) (range_with_len 1 (workers - 1)))
 
   below : i < workers
   below = let lt = h.round.within in omega (arith, lt, own_is, workers_is)
 
-  none_at : (k : ℕ) (p : ℕ × List ℕ × List ℕ) → slice_get (fresh claims workers i ∷ fresh_row claims workers i) k ≡ Some p → p.2 ≡ []
-  none_at zero p e = let e' : fresh claims workers i ≡ p = cc in ap (λ (q : ℕ × List ℕ × List ℕ). q.2) (sym e')
-  none_at (suc k) p e = let t = map_from (λ n. fresh claims workers ((i + n) % workers)) (range_with_len 1 (workers - 1)) k p e in ap (λ (q : ℕ × List ℕ × List ℕ). q.2) (sym t.2)
+  none_at : (k : ℕ) (p : Plain) → slice_get (fresh names claims workers i ∷ fresh_row names claims workers i) k ≡ Some p → p.2 ≡ []
+  none_at zero p e = let e' : fresh names claims workers i ≡ p = cc in ap (λ (q : Plain). q.2) (sym e')
+  none_at (suc k) p e = let t = map_from (λ n. fresh names claims workers ((i + n) % workers)) (range_with_len 1 (workers - 1)) k p e in ap (λ (q : Plain). q.2) (sym t.2)
 
   pub dealt_hand : IsDealt claims workers i h
   dealt_hand = record {
@@ -151,10 +201,58 @@ module _ (claims workers i : ℕ) (h : Hand) (is : hand_plain h ≡ fresh_hand c
     none_had = λ d. look_none (sights_of h) d (λ k s e. none_at k (plain_of s) (ap (λ l. slice_get l k) (sym plain_is) ∙ map_at plain_of (sights_of h) k s e));
   }
 
+-- which deque has a number, where each entry has the name of its number
+module _ (names : List Name) (d : ℕ) where
+  abbrev Found : List (ℕ × Name) → Type 0
+  Found ps = (m : Name) × (name_at d ps ≡ Some m) × (slice_get names d ≡ Some m)
+
+  name_here : (x : ℕ × Name) (xs : List (ℕ × Name)) → Some x.1 ≡ slice_get names x.0 → x.0 ≡ d → Found (x ∷ xs)
+  name_here x xs named is = (x.1, ap (λ (b : Bool). if b then Some x.1 else name_at d xs) (eq-eqb x.0 d is), ap (slice_get names) (sym is) ∙ sym named)
+
+  name_later : (x : ℕ × Name) (xs : List (ℕ × Name)) → Some x.1 ≡ slice_get names x.0 → Found xs → Found (x ∷ xs)
+  name_later x xs named later = by_test (x.0 == d) refl
+    where
+      by_test : (b : Bool) → (x.0 == d) ≡ b → Found (x ∷ xs)
+      by_test true same = name_here x xs named (eqb-true x.0 d same)
+      by_test false differ = (later.0, ap (λ (b : Bool). if b then Some x.1 else name_at d xs) differ ∙ later.1, later.2)
+
+  name_found : (ps : List (ℕ × Name)) (k : ℕ) (p : ℕ × Name) → ((j : ℕ) (q : ℕ × Name) → slice_get ps j ≡ Some q → Some q.1 ≡ slice_get names q.0) → slice_get ps k ≡ Some p → p.0 ≡ d → Found ps
+  name_found [] k p each e is = absurd (cc (e))
+  name_found (x ∷ xs) zero p each e is = let first : x ≡ p = cc (e) in name_here x xs (each 0 x refl) (ap (λ (q : ℕ × Name). q.0) first ∙ is)
+  name_found (x ∷ xs) (suc k) p each e is = name_later x xs (each 0 x refl) (name_found xs k p (λ j q f. each (suc j) q f) e is)
+
+-- a hand reaches the deques with these names
+module _ (names : List Name) (claims workers i : ℕ) (h : Hand) (is : hand_plain h ≡ fresh_hand names claims workers i) where
+  named_at : (k : ℕ) (p : Plain) → slice_get (fresh names claims workers i ∷ fresh_row names claims workers i) k ≡ Some p → p.3 ≡ slice_get names p.0
+  named_at zero p e = let e' : fresh names claims workers i ≡ p = cc in subst (λ (q : Plain). q.3 ≡ slice_get names q.0) e' refl
+  named_at (suc k) p e = let t = map_from (λ n. fresh names claims workers ((i + n) % workers)) (range_with_len 1 (workers - 1)) k p e in subst (λ (q : Plain). q.3 ≡ slice_get names q.0) t.2 refl
+
+  name_of_hand : (d : ℕ) → d < workers → (m : Name) × (deque_at h d ≡ Some m) × (slice_get names d ≡ Some m)
+  name_of_hand d lt =
+      let once = (dealt_hand names claims workers i h is).each_once d lt in
+      let s = map_from (λ (t : Sight). t.0) (sights_of h) once.0 d once.1 in
+      name_found names d (names_of h) once.0 (let p : ℕ × Name = (s.0.0, s.0.2) in p) each (map_at (λ (t : Sight). let p : ℕ × Name = (t.0, t.2) in p) (sights_of h) once.0 s.0 s.1) s.2
+    where
+      each : (j : ℕ) (q : ℕ × Name) → slice_get (names_of h) j ≡ Some q → Some q.1 ≡ slice_get names q.0
+      each j q e =
+          let s = map_from (λ (t : Sight). let p : ℕ × Name = (t.0, t.2) in p) (sights_of h) j q e in
+          let named = named_at j (plain_of s.0) (sym (ap (λ l. slice_get l j) (ap (λ (p : ℕ × ℕ × List Plain). p.2) is)) ∙ map_at plain_of (sights_of h) j s.0 s.1) in
+          subst (λ (r : ℕ × Name). Some r.1 ≡ slice_get names r.0) s.2 named
+
 -- the hands of all workers
-pub hands_dealt : (claims workers n : ℕ) (hands : List Hand) → AreHands claims workers n hands → (i : ℕ) (h : Hand) → slice_get hands i ≡ Some h → IsDealt claims workers i h
-hands_dealt claims workers n hands are i h e =
-    let lt : i < n = omega (arith, within hands i h e, map_len hand_plain hands, ap length are, range_len (fresh_hand claims workers) 0 n) in
-    let here : Some (hand_plain h) ≡ Some (fresh_hand claims workers i) =
-    sym (map_at hand_plain hands i h e) ∙ ap (λ l. slice_get l i) are ∙ range_get (fresh_hand claims workers) 0 n i lt ∙ ap (λ k. Some (fresh_hand claims workers k)) (zero-add i) in
-    dealt_hand claims workers i h (cc)
+pub each_hand : (names : List Name) (claims workers n : ℕ) (hands : List Hand) → AreHands names claims workers n hands → (i : ℕ) (h : Hand) → slice_get hands i ≡ Some h → hand_plain h ≡ fresh_hand names claims workers i
+each_hand names claims workers n hands are i h e =
+    let lt : i < n = omega (arith, within hands i h e, map_len hand_plain hands, ap length are, range_len (fresh_hand names claims workers) 0 n) in
+    let here : Some (hand_plain h) ≡ Some (fresh_hand names claims workers i) =
+    sym (map_at hand_plain hands i h e) ∙ ap (λ l. slice_get l i) are ∙ range_get (fresh_hand names claims workers) 0 n i lt ∙ ap (λ k. Some (fresh_hand names claims workers k)) (zero-add i) in
+    cc (here)
+
+pub hands_dealt : (names : List Name) (claims workers n : ℕ) (hands : List Hand) → AreHands names claims workers n hands → (i : ℕ) (h : Hand) → slice_get hands i ≡ Some h → IsDealt claims workers i h
+hands_dealt names claims workers n hands are i h e = dealt_hand names claims workers i h (each_hand names claims workers n hands are i h e)
+
+-- and they share the deques
+pub hands_share : (names : List Name) (claims workers n : ℕ) (hands : List Hand) → AreHands names claims workers n hands → ShareDeques workers hands
+hands_share names claims workers n hands are i j d h g e f lt =
+    let a = name_of_hand names claims workers i h (each_hand names claims workers n hands are i h e) d lt in
+    let b = name_of_hand names claims workers j g (each_hand names claims workers n hands are j g f) d lt in
+    record { same = a.1 ∙ sym a.2 ∙ b.2 ∙ sym b.1; some = subst IsSome (sym a.1) refl }

@@ -1,11 +1,11 @@
 -- What contracts see of a hand.
-use Rattle.std.specs.Prelude.{◌≡◌, ◌≢◌, ◌<◌, ℕ, ◌%◌, List, [], ◌∷◌, ◌++◌, map, All, Some, slice_get}
+use Rattle.std.specs.Prelude.{◌≡◌, ◌≢◌, ◌<◌, ℕ, ◌%◌, List, [], ◌∷◌, ◌++◌, map, All, Bool, true, Option, Some, IsSome, slice_get}
 use Rattle.std.specs.List.{range_with_len}
 use Rattle.cert_search.specs.declared.deque.Had.{Had}
 use Rattle.cert_search.specs.declared.hand.Hand.{Hand}
-use Rattle.cert_search.specs.Deque.{claims_of, WasEmpty}
-use Rattle.cert_search.specs.Sights.{Sight, sights, look, round_of}
-use Rattle.cert_search.specs.Dealing.{plain_of, fresh, fresh_row}
+use Rattle.cert_search.specs.Deque.{claims_of}
+use Rattle.cert_search.specs.Sights.{Name, Sight, sights, look, name_at, round_of}
+use Rattle.cert_search.specs.Dealing.{Plain, plain_of, fresh, fresh_row}
 
 -- how many claims were dealt
 abbrev pub dealt_claims : Hand → ℕ
@@ -39,6 +39,18 @@ dealt_to h d = (known_of h d).dealt
 abbrev pub had_from : Hand → ℕ → List ℕ
 had_from h d = (known_of h d).got
 
+-- whether the hand has had a mark of the end of the deque d, which stands behind all its claims
+abbrev pub is_at_end : Hand → ℕ → Bool
+is_at_end h d = (known_of h d).ended
+
+-- the deques that the hand reaches, each with its name
+abbrev pub names_of : Hand → List (ℕ × Name)
+names_of h = map (λ s. (s.0, s.2)) (sights_of h)
+
+-- which deque the hand reaches as the deque d
+abbrev pub deque_at : Hand → ℕ → Option Name
+deque_at h d = name_at d (names_of h)
+
 -- the hand reaches the deque d once
 abbrev pub ReachesOnce : Hand → ℕ → Type 0
 ReachesOnce h d = (k : ℕ) × (slice_get (deques_of h) k ≡ Some d) × ((j : ℕ) → slice_get (deques_of h) j ≡ Some d → j ≡ k)
@@ -62,6 +74,15 @@ pub record IsDealt (claims workers i : ℕ) (h : Hand) : Type 0 where
 abbrev pub AreDealt : ℕ → ℕ → List Hand → Type 0
 AreDealt claims workers hands = (i : ℕ) (h : Hand) → slice_get hands i ≡ Some h → IsDealt claims workers i h
 
+-- the deque that two hands reach as the deque d is one and the same
+pub record SharesDeque (d : ℕ) (h g : Hand) : Type 0 where
+  pub same : deque_at h d ≡ deque_at g d
+  pub some : IsSome (deque_at h d)
+
+-- any two hands share each deque
+abbrev pub ShareDeques : ℕ → List Hand → Type 0
+ShareDeques workers hands = (i j d : ℕ) (h g : Hand) → slice_get hands i ≡ Some h → slice_get hands j ≡ Some g → d < workers → SharesDeque d h g
+
 -- the hand is of a deal of so many claims to so many workers
 abbrev pub IsOfDeal : ℕ → ℕ → Hand → Type 0
 IsOfDeal claims workers h = (dealt_claims h ≡ claims) × (dealt_workers h ≡ workers)
@@ -76,28 +97,30 @@ pub record TakesClaim (old : Hand) (claim : ℕ) (new : Hand) : Type 0 where
   -- from the other deques it has had what it had
   pub others : (d : ℕ) → d ≢ claim % dealt_workers old → had_from new d ≡ had_from old d
 
--- each deque was empty at a moment
-abbrev pub AllWereEmpty : Hand → Type 0
-AllWereEmpty h = (d : ℕ) → d < dealt_workers h → WasEmpty (known_of h d)
+-- the hand has had a mark of the end of each deque, and no claim more
+pub record IsThrough (old new : Hand) : Type 0 where
+  pub at_end : (d : ℕ) → d < dealt_workers old → is_at_end new d ≡ true
+  pub same : (d : ℕ) → had_from new d ≡ had_from old d
 
--- a claim of another's deque comes only where the hand's own deque was empty at a moment
-abbrev pub ComesAfterOwn : Hand → ℕ → Type 0
-ComesAfterOwn h claim = claim % dealt_workers h ≢ own_deque h → WasEmpty (known_of h (own_deque h))
+-- a claim of another's deque comes only where the hand has had a mark of the end of its own
+abbrev pub ComesAfterOwn : Hand → ℕ → Hand → Type 0
+ComesAfterOwn old claim new = claim % dealt_workers old ≢ own_deque old → is_at_end new (own_deque old) ≡ true
 
 -- the hand is of the same deal, and reaches the same deques
 pub record SameDeal (old new : Hand) : Type 0 where
   pub claims : dealt_claims new ≡ dealt_claims old
   pub workers : dealt_workers new ≡ dealt_workers old
   pub deques : deques_of new ≡ deques_of old
+  pub names : names_of new ≡ names_of old
 
 -- the size of the deal, and what the hand's views say of the deques
-abbrev pub hand_plain : Hand → ℕ × ℕ × List (ℕ × List ℕ × List ℕ)
+abbrev pub hand_plain : Hand → ℕ × ℕ × List Plain
 hand_plain h = (h.claims, h.workers, map plain_of (sights_of h))
 
 -- the hand of the worker i, with no claim had
-abbrev pub fresh_hand : ℕ → ℕ → ℕ → ℕ × ℕ × List (ℕ × List ℕ × List ℕ)
-fresh_hand claims workers i = (claims, workers, fresh claims workers i ∷ fresh_row claims workers i)
+abbrev pub fresh_hand : List Name → ℕ → ℕ → ℕ → ℕ × ℕ × List Plain
+fresh_hand names claims workers i = (claims, workers, fresh names claims workers i ∷ fresh_row names claims workers i)
 
 -- the hands of the first n workers, in order
-abbrev pub AreHands : ℕ → ℕ → ℕ → List Hand → Type 0
-AreHands claims workers n hands = map hand_plain hands ≡ map (fresh_hand claims workers) (range_with_len 0 n)
+abbrev pub AreHands : List Name → ℕ → ℕ → ℕ → List Hand → Type 0
+AreHands names claims workers n hands = map hand_plain hands ≡ map (fresh_hand names claims workers) (range_with_len 0 n)

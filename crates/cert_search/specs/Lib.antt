@@ -6,3 +6,4 @@ pub mod Deque
 pub mod Sights
 pub mod Dealing
 pub mod Hands
+pub mod Settled

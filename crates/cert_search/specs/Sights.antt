@@ -1,27 +1,51 @@
 -- What a holder of a deque knows, with the deque's number.
-use Rattle.std.specs.Prelude.{◌≡◌, ◌<◌, ℕ, ◌+◌, ◌-◌, ◌%◌, ◌==◌, if◌then◌else◌, List, [], ◌∷◌, map, false, Some, slice_get, slice_set}
+use Rattle.std.specs.Prelude.{◌≡◌, ◌<◌, ℕ, ◌+◌, ◌-◌, ◌%◌, ◌==◌, if◌then◌else◌, List, [], ◌∷◌, map, false, Option, Some, None, slice_get, slice_set}
 use Rattle.std.specs.List.{range_with_len}
-use Rattle.crossbeam_deque.specs.Handles.{view, worker_view}
+use Rattle.std.specs.declared.alloc.Global.{Global}
+use Rattle.crossbeam_deque.specs.Handles.{view, worker_view, worker_deque, stealer_deque}
 use Rattle.cert_search.specs.declared.deque.Had.{Had}
 use Rattle.cert_search.specs.declared.own.Own.{Own}
 use Rattle.cert_search.specs.declared.reach.Reach.{Reach}
-use Rattle.cert_search.specs.Deque.{had, GetsClaim, claims_of}
+use Rattle.cert_search.specs.Deque.{had, guest_view, at_end, GetsClaim, claims_of}
 
--- the number of a deque, and what a holder knows of it
+-- which deque it is: two handles of one deque have one name
+abbrev pub Name : Type 0
+Name = (ℕ × ℕ) × Global
+
+-- the number of a deque, what a holder knows of it, and which deque it is
 abbrev pub Sight : Type 0
-Sight = ℕ × Had
+Sight = ℕ × Had × Name
 
 -- what a worker knows of its own deque
 abbrev pub own_sight : Own → Sight
-own_sight o = (o.which, worker_view o.deque)
+own_sight o = (o.which, worker_view o.deque, worker_deque o.deque)
 
 -- what a worker knows of another's deque
 abbrev pub reach_sight : Reach → Sight
-reach_sight r = (r.which, view r.pass)
+reach_sight r = (r.which, view r.pass, stealer_deque r.stealer)
+
+-- it is the same deque, with the same number
+abbrev pub SameDeque : Sight → Sight → Type 0
+SameDeque s t = (t.0 ≡ s.0) × (t.2 ≡ s.2)
+
+-- a mark of the end has been had of this deque
+abbrev pub Ends : Sight → Sight → Type 0
+Ends s t = SameDeque s t × (t.1 ≡ at_end s.1)
 
 -- the claim has been had of this deque
 abbrev pub Gets : Sight → ℕ → Sight → Type 0
-Gets s claim t = (t.0 ≡ s.0) × GetsClaim s.1 claim t.1
+Gets s claim t = SameDeque s t × GetsClaim s.1 claim t.1
+
+-- the same, whether or not a mark of the end has been had
+abbrev pub calm : Sight → Sight
+calm s = (s.0, had s.1.holder s.1.deals s.1.dealt s.1.got false, s.2)
+
+-- what a worker knows of its own deque, and of another's, whether or not it has had a mark of the end
+abbrev pub own_calm : Own → Sight
+own_calm o = calm (own_sight o)
+
+abbrev pub reach_calm : Reach → Sight
+reach_calm r = calm (reach_sight r)
 
 -- the claim has been had of one of the deques, and what is known of the others is as it was
 abbrev pub GetsOne : List Sight → ℕ → List Sight → Type 0
@@ -29,12 +53,21 @@ GetsOne ss claim ts = (k : ℕ) × (s : Sight) × (t : Sight) × (slice_get ss k
 
 -- what is known of the deque d, and nothing where it isn't reached
 abbrev pub look : ℕ → List Sight → Had
-look d [] = had false [] []
+look d [] = guest_view []
 look d (s ∷ ss) = if s.0 == d then s.1 else look d ss
+
+-- which deque has the number d
+abbrev pub name_at : ℕ → List (ℕ × Name) → Option Name
+name_at d [] = None
+name_at d (p ∷ ps) = if p.0 == d then Some p.1 else name_at d ps
 
 -- what a worker knows of each deque, in the order in which it tries them
 abbrev pub sights : Own → List Reach → List Sight
 sights own others = own_sight own ∷ map reach_sight others
+
+-- the same, whether or not it has had marks of the end
+abbrev pub calms : Own → List Reach → List Sight
+calms own others = own_calm own ∷ map reach_calm others
 
 -- the number of a deque, and the claims that were dealt to it
 abbrev pub share_of : Sight → ℕ × List ℕ
@@ -43,6 +76,10 @@ share_of s = (s.0, s.1.dealt)
 -- the deque d has been dealt its claims
 abbrev pub share : ℕ → ℕ → ℕ → ℕ × List ℕ
 share claims workers d = (d, claims_of workers d claims)
+
+-- the number of a deque, the claims that were dealt to it, and which deque it is
+abbrev pub face : Sight → ℕ × List ℕ × Name
+face s = (s.0, s.1.dealt, s.2)
 
 -- the order in which a worker tries the deques: its own, and then the others from its right neighbour's round
 abbrev pub round_of : ℕ → ℕ → List ℕ

@@ -1,8 +1,8 @@
 //! Claims are dealt to workers, before any worker starts.
-ghost use Rattle.std.specs.Prelude.{◌≡◌, ◌<◌, ◌≤◌, map, vec_len, All, IfOk, IfErr};
+ghost use Rattle.std.specs.Prelude.{◌≡◌, ◌<◌, ◌≤◌, ◌-◌, map, vec_len, All, IfOk, IfErr};
 ghost use Rattle.volume_model.specs.declared.fault.Fault.TheVariants.{NoMemory};
-ghost use Rattle.cert_search.specs.Dealing.{row_plain, AreRows};
-ghost use Rattle.cert_search.specs.Hands.{AreDealt, AreHands, IsOfDeal};
+ghost use Rattle.cert_search.specs.Dealing.{names_in, row_plain, AreOut, AreRows};
+ghost use Rattle.cert_search.specs.Hands.{AreDealt, AreHands, IsOfDeal, ShareDeques};
 
 use crate::hand::Hand;
 use crate::reach::Reach;
@@ -11,11 +11,16 @@ use std::alloc::{AllocError, Global};
 use volume_model::Fault;
 
 /// Deals the claims below `claims` to so many workers: claim c goes to the deque of the worker `c mod workers`. One hand a worker, in order.
+/// The hands share the deques.
+///
+/// # Errors
+/// [`NoMemory`](Fault::NoMemory).
 pub fn deal(alloc: Global, claims: usize, workers: usize) -> Result<Vec<Hand>, Fault>
     requires some { 0 < workers }
     requires few { workers ≤ 16 }
     ensures count { IfOk result (λ hands. vec_len hands ≡ workers) }
     ensures dealt { IfOk result (λ hands. AreDealt claims workers hands.items) }
+    ensures shared { IfOk result (λ hands. ShareDeques workers hands.items) }
     ensures same { IfOk result (λ hands. All (IsOfDeal claims workers) hands.items) }
     ensures fault { IfErr result (λ f. f ≡ NoMemory) }
 {
@@ -26,8 +31,9 @@ pub fn deal(alloc: Global, claims: usize, workers: usize) -> Result<Vec<Hand>, F
 
 // Each worker's own deque, with its views of the others.
 fn hands_of(alloc: Global, table: Table, rows: Vec<Vec<Reach>>) -> Result<Vec<Hand>, AllocError>
-    requires { AreRows table.claims table.workers table.workers (map (λ row. row_plain row.items) rows.items) }
-    ensures { IfOk result (λ hands. AreHands table.claims table.workers table.workers hands.items) }
+    requires lent { AreOut table.workers (table.workers - 1) table.owns.items }
+    requires rows { AreRows (names_in table.owns.items) table.claims table.workers table.workers (map (λ row. row_plain row.items) rows.items) }
+    ensures { IfOk result (λ hands. AreHands (names_in table.owns.items) table.claims table.workers table.workers hands.items) }
 {
     let Table {
         claims,

@@ -1,7 +1,7 @@
 //! A worker's hand: its own claims, and the deques of the others.
-ghost use Rattle.std.specs.Prelude.{◌≡◌, ◌<◌, map, IfSome, IfNone, All};
-ghost use Rattle.cert_search.specs.Deque.{WasEmpty};
-ghost use Rattle.cert_search.specs.Sights.{reach_sight, sights, GetsOne, IsRound};
+ghost use Rattle.std.specs.Prelude.{◌≡◌, ◌-◌, map, true, IfSome, IfNone, All};
+ghost use Rattle.cert_search.specs.Sights.{reach_sight, reach_calm, sights, GetsOne, IsRound};
+ghost use Rattle.cert_search.specs.Dealing.{own_out};
 
 use crate::own::Own;
 use crate::reach::Reach;
@@ -15,16 +15,19 @@ pub struct Hand {
     own: Own,
     others: Vec<Reach>,
     ghost round: { IsRound claims workers own.which (sights own others.items) },
+    ghost lent: { own_out own ≡ workers - 1 },
 }
 
 impl Hand {
-    ghost use Rattle.std.specs.Prelude.{◌≡◌, IfSome, IfNone};
+    ghost use Rattle.std.specs.Prelude.{◌≡◌, ◌-◌, IfSome, IfNone};
     ghost use Rattle.cert_search.specs.Sights.{sights, IsRound};
-    ghost use Rattle.cert_search.specs.Hands.{sights_of, AllWereEmpty, ComesAfterOwn, IsOfDeal, SameDeal, TakesClaim};
+    ghost use Rattle.cert_search.specs.Dealing.{own_out};
+    ghost use Rattle.cert_search.specs.Hands.{sights_of, ComesAfterOwn, IsOfDeal, IsThrough, SameDeal, TakesClaim};
 
     // The hand of a worker that reaches each deque, each with its claims in it.
     pub(crate) fn new(claims: usize, workers: usize, own: Own, others: Vec<Reach>) -> Hand
-        requires { IsRound claims workers own.which (sights own others.items) }
+        requires round { IsRound claims workers own.which (sights own others.items) }
+        requires lent { own_out own ≡ workers - 1 }
         ensures deal { IsOfDeal claims workers result }
         ensures sights { sights_of result ≡ sights own others.items }
     {
@@ -36,15 +39,28 @@ impl Hand {
         }
     }
 
-    /// Takes a claim of its own, first to last, or else steals one. Where there is none, each deque was empty at a moment of the call. Takes no memory.
+    // The hand's own deque, and its views of the others.
+    pub(crate) fn into_parts(self) -> (Own, Vec<Reach>)
+        ensures { (result.0 ≡ self.own) × (result.1 ≡ self.others) }
+    {
+        let Hand {
+            claims: _,
+            workers: _,
+            own,
+            others,
+        } = self;
+        (own, others)
+    }
+
+    /// Takes a claim of its own, first to last, or else steals one. Where there is none, it has had a mark of the end of each deque,
+    /// which stands behind all claims of that deque, and it has none from then on. Takes no memory.
     pub fn take<R: Wait>(&mut self, rt: &R) -> Option<usize>
         ensures some { IfSome result (λ c. TakesClaim self.old c self.new) }
-        ensures own_first { IfSome result (ComesAfterOwn self.old) }
-        ensures none { IfNone result (AllWereEmpty self.old) }
-        ensures same { IfNone result (sights_of self.new ≡ sights_of self.old) }
+        ensures own_first { IfSome result (λ c. ComesAfterOwn self.old c self.new) }
+        ensures none { IfNone result (IsThrough self.old self.new) }
         ensures deal { SameDeal self.old self.new }
     {
-        if let Some(claim) = self.own.take() {
+        if let Some(claim) = self.own.take(rt) {
             return Some(claim);
         }
         steal_any(rt, &mut self.others)
@@ -53,9 +69,9 @@ impl Hand {
 
 // Steals from the deques of the others in turn.
 fn steal_any<R: Wait>(rt: &R, others: &mut Vec<Reach>) -> Option<usize>
-    ensures some { IfSome result (λ c. GetsOne (map reach_sight others.old.items) c (map reach_sight others.new.items)) }
-    ensures same { IfNone result (map reach_sight others.new.items ≡ map reach_sight others.old.items) }
-    ensures none { IfNone result (All (λ s. WasEmpty s.1) (map reach_sight others.old.items)) }
+    ensures some { IfSome result (λ c. GetsOne (map reach_calm others.old.items) c (map reach_calm others.new.items)) }
+    ensures same { IfNone result (map reach_calm others.new.items ≡ map reach_calm others.old.items) }
+    ensures none { IfNone result (All (λ s. s.1.ended ≡ true) (map reach_sight others.new.items)) }
 {
     for i in 0..others.len() {
         let other = &mut others[i];

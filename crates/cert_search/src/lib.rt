@@ -17,8 +17,11 @@ mod plain;
 mod reach;
 mod rules;
 mod searching;
+mod settling;
 mod state;
 mod table;
+#[cfg(test)]
+mod tests;
 mod working;
 
 pub use dealing::deal;
@@ -26,3 +29,4 @@ pub use gate::Gate;
 pub use hand::Hand;
 pub use one::search_one;
 pub use searching::search_all;
+pub use settling::settle;

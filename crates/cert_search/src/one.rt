@@ -1,7 +1,6 @@
 //! The search for one claim's certificate.
 
-ghost use Rattle.std.specs.Prelude.{◌≡◌, ◌≤◌, true, IfOk, IfErr, IfSome, IsSome, Ok};
-ghost use Rattle.volume_model.specs.Answer.{Gives};
+ghost use Rattle.std.specs.Prelude.{◌≡◌, ◌≤◌, true, IfOk, IfErr, IfSome, IsSome};
 ghost use Rattle.volume_model.specs.declared.fault.Fault.TheVariants.{NoMemory};
 ghost use Rattle.refutation.specs.Certificate.{certificate_rule};
 ghost use Rattle.refutation.specs.Limits.{is_certificate};
@@ -19,7 +18,7 @@ use crate::rules::{Search, refute};
 use crate::state::{Row, State};
 use bumpalo::Bump;
 use quorum_checker::{Claim, check};
-use quorum_expr::{MemberSet, copy_in};
+use quorum_expr::MemberSet;
 use refutation::{Certificate, MAX_DEPTH, Refutation};
 use std::alloc::{AllocError, Allocator, Global};
 use volume_model::Fault;
@@ -96,19 +95,6 @@ fn tree_of<A: Allocator, B: Allocator + Clone>(
     split(&mut search, &state, common(&state), 0, MAX_DEPTH)
 }
 
-/// The same claim in other memory.
-fn claim_in<B: Allocator + Clone>(arena: &B, claim: &Claim<Global>) -> Result<Claim<B>, Fault>
-    ensures same { Gives first_state result (Ok (first_state claim.now)) }
-{
-    let left = copy_in(&claim.left, arena.clone()?)?;
-    let right = copy_in(&claim.right, arena.clone()?)?;
-    Ok(Claim {
-        left,
-        right,
-        clear: claim.clear,
-    })
-}
-
 /// The certificate of a claim, by a search whose items and trees lie in an arena.
 pub fn search_in<A: Allocator, B: Allocator + Clone>(
     alloc: Global,
@@ -144,6 +130,5 @@ pub fn search_one(
     ensures memory { IfErr result (λ e. e ≡ NoMemory) }
 {
     let arena = Bump::new(alloc);
-    let own = claim_in(&&arena, claim)?;
-    search_in(alloc, &&arena, &own, budget)
+    search_in(alloc, &&arena, claim, budget)
 }

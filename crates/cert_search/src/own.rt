@@ -1,56 +1,92 @@
 //! A worker's own deque.
-ghost use Rattle.std.specs.Prelude.{◌≡◌};
-ghost use Rattle.crossbeam_deque.specs.Handles.{worker_flavor};
+ghost use Rattle.std.specs.Prelude.{◌≡◌, true};
+ghost use Rattle.crossbeam_deque.specs.Handles.{worker_flavor, worker_port, worker_view};
+ghost use Rattle.cert_search.specs.Deque.{is_owner};
 
-use crate::deque::{Deals, Owner, Takes, Thieves};
+use crate::deque::{Closes, Deals, Owner, Settled, Takes, Task, Thieves};
 use crate::reach::Reach;
 use std::alloc::{AllocError, Global};
+use std::sync::Wait;
 
 /// The deque of the worker `which`, as that worker has it.
 #[derive(Drop)]
 pub struct Own {
     which: usize,
     deque: Owner,
+    ended: bool,
     ghost fifo: { worker_flavor deque ≡ 0 },
+    ghost first: { worker_port deque ≡ 0 },
+    ghost owner: { is_owner (worker_view deque).holder ≡ true },
+    ghost at_end: { ended ≡ (worker_view deque).ended },
 }
 
 impl Own {
-    ghost use Rattle.std.specs.Prelude.{◌≡◌, ◌<◌, true, false, [], ◌∷◌, ◌++◌, IfOk, MatchOption, All};
-    ghost use Rattle.cert_search.specs.Deque.{had, WasEmpty};
-    ghost use Rattle.cert_search.specs.Sights.{own_sight, reach_sight, Gets};
-    ghost use Rattle.cert_search.specs.Dealing.{own_plain};
+    ghost use Rattle.std.specs.Prelude.{◌≡◌, ◌<◌, suc, true, false, IfOk, MatchOption, All};
+    ghost use Rattle.cert_search.specs.Deque.{first_view, guest_view, dealt_more, both_views, Settles};
+    ghost use Rattle.cert_search.specs.Sights.{own_sight, reach_sight, Ends, Gets, SameDeque};
+    ghost use Rattle.cert_search.specs.Dealing.{own_plain, own_out, SamePlain};
 
     // A deque with no claim in it.
     pub(crate) fn new(alloc: Global, which: usize, capacity: usize) -> Result<Own, AllocError>
-        ensures { IfOk result (λ o. own_sight o ≡ (which, had true [] [])) }
+        ensures { IfOk result (λ o. ((own_sight o).0 ≡ which) × ((own_sight o).1 ≡ first_view)) }
     {
         let deque = Owner::fifo_as(alloc, capacity)?;
-        Ok(Own { which, deque })
+        Ok(Own {
+            which,
+            deque,
+            ended: false,
+        })
     }
 
     // Deals a claim above all that were dealt before.
     pub(crate) fn deal(&mut self, claim: usize) -> Result<(), AllocError>
         requires deals { (own_sight self.old).1.deals ≡ true }
+        requires unended { (own_sight self.old).1.ended ≡ false }
         requires above { All (λ c. c < claim) (own_sight self.old).1.dealt }
-        ensures { IfOk result (λ _. own_sight self.new ≡ ((own_sight self.old).0, had true ((own_sight self.old).1.dealt ++ claim ∷ []) (own_sight self.old).1.got)) }
+        ensures same { SameDeque (own_sight self.old) (own_sight self.new) }
+        ensures dealt { IfOk result (λ _. (own_sight self.new).1 ≡ dealt_more (own_sight self.old).1 claim) }
     {
-        match self.deque.push_as::<Deals>(claim) {
+        match self.deque.push_as::<Deals>(Task::Claim(claim)) {
             Ok(()) => Ok(()),
             Err(_) => Err(AllocError),
         }
     }
 
-    // Takes the first claim. Where there is none, the deque was empty.
-    pub(crate) fn take(&mut self) -> Option<usize>
-        ensures { MatchOption result ((own_sight self.new ≡ own_sight self.old) × WasEmpty (own_sight self.old).1) (λ c. Gets (own_sight self.old) c (own_sight self.new)) }
+    // Deals a mark of the end. From now on no claim is dealt.
+    pub(crate) fn close(&mut self) -> Result<(), AllocError>
+        ensures { SamePlain self.old self.new }
     {
-        self.deque.pop_as::<Takes>()
+        match self.deque.push_as::<Closes>(Task::End) {
+            Ok(()) => Ok(()),
+            Err(_) => Err(AllocError),
+        }
+    }
+
+    // Takes the first claim, or else a mark of the end.
+    pub(crate) fn take<R: Wait>(&mut self, rt: &R) -> Option<usize>
+        ensures { MatchOption result (Ends (own_sight self.old) (own_sight self.new)) (λ c. Gets (own_sight self.old) c (own_sight self.new)) }
+    {
+        if self.ended {
+            return None;
+        }
+        for _ in rt.forever() {
+            match self.deque.pop_as::<Takes>() {
+                Some(Task::Claim(claim)) => return Some(claim),
+                Some(Task::End) => {
+                    self.ended = true;
+                    return None;
+                }
+                None => {}
+            }
+        }
+        unreachable!()
     }
 
     // A view of the deque for another worker, which has had nothing of it. From now on no claim is dealt.
     pub(crate) fn reach(&mut self) -> Result<Reach, AllocError>
-        ensures same { own_plain self.new ≡ own_plain self.old }
-        ensures reach { IfOk result (λ r. reach_sight r ≡ ((own_sight self.old).0, had false (own_sight self.old).1.dealt [])) }
+        ensures plain { own_plain self.new ≡ own_plain self.old }
+        ensures lent { IfOk result (λ _. own_out self.new ≡ suc (own_out self.old)) }
+        ensures reach { IfOk result (λ r. SameDeque (own_sight self.old) (reach_sight r) × ((reach_sight r).1 ≡ guest_view (own_sight self.old).1.dealt)) }
     {
         let stealer = self.deque.stealer()?;
         let pass = self.deque.another::<Thieves>();
@@ -58,6 +94,31 @@ impl Own {
             which: self.which,
             stealer,
             pass,
+            ended: false,
         })
+    }
+
+    // Takes another worker's view back.
+    pub(crate) fn take_back(&mut self, reach: Reach)
+        requires { (own_sight self.old).2 ≡ (reach_sight reach).2 }
+        ensures same { SameDeque (own_sight self.old) (own_sight self.new) }
+        ensures both { (own_sight self.new).1 ≡ both_views (own_sight self.old).1 (reach_sight reach).1 }
+    {
+        let Reach {
+            which: _,
+            stealer: _,
+            pass,
+            ended,
+        } = reach;
+        self.deque.absorb::<Thieves>(pass);
+        self.ended = self.ended || ended;
+    }
+
+    // Learns what stands in its view.
+    pub(crate) fn learn(&mut self)
+        ensures same { own_sight self.new ≡ own_sight self.old }
+        ensures settles { Settles (own_sight self.old).1 }
+    {
+        let _ = self.deque.len_as::<Settled>();
     }
 }

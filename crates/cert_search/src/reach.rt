@@ -1,8 +1,9 @@
 //! The deque of another worker.
 ghost use Rattle.std.specs.Prelude.{◌≡◌};
-ghost use Rattle.crossbeam_deque.specs.Handles.{IsPassOf, stealer_deque, stealer_flavor};
+ghost use Rattle.crossbeam_deque.specs.Handles.{IsPassOf, view, stealer_deque, stealer_flavor};
+ghost use Rattle.cert_search.specs.declared.deque.Holder.TheVariants.{Guest};
 
-use crate::deque::{Entry, Takes, Thief};
+use crate::deque::{Entry, Takes, Task, Thief};
 use crossbeam_deque::Steal;
 use std::sync::Wait;
 
@@ -12,23 +13,32 @@ pub struct Reach {
     pub(crate) which: usize,
     pub(crate) stealer: Thief,
     pub(crate) pass: Entry,
+    pub(crate) ended: bool,
     ghost of: { IsPassOf (stealer_deque stealer) pass },
     ghost fifo: { stealer_flavor stealer ≡ 0 },
+    ghost guest: { (view pass).holder ≡ Guest },
+    ghost at_end: { ended ≡ (view pass).ended },
 }
 
 impl Reach {
     ghost use Rattle.std.specs.Prelude.{◌≡◌, MatchOption};
-    ghost use Rattle.cert_search.specs.Deque.{WasEmpty};
-    ghost use Rattle.cert_search.specs.Sights.{reach_sight, Gets};
+    ghost use Rattle.cert_search.specs.Sights.{reach_sight, Ends, Gets};
 
-    // Steals a claim. Where there is none, the deque was empty.
+    // Steals a claim, or else takes a mark of the end.
     pub(crate) fn steal<R: Wait>(&mut self, rt: &R) -> Option<usize>
-        ensures { MatchOption result ((reach_sight self.new ≡ reach_sight self.old) × WasEmpty (reach_sight self.old).1) (λ c. Gets (reach_sight self.old) c (reach_sight self.new)) }
+        ensures { MatchOption result (Ends (reach_sight self.old) (reach_sight self.new)) (λ c. Gets (reach_sight self.old) c (reach_sight self.new)) }
     {
+        if self.ended {
+            return None;
+        }
         for _ in rt.forever() {
             match self.stealer.steal_as::<Takes>(&mut self.pass) {
-                Steal::Success(claim) => return Some(claim),
-                Steal::Empty => return None,
+                Steal::Success(Task::Claim(claim)) => return Some(claim),
+                Steal::Success(Task::End) => {
+                    self.ended = true;
+                    return None;
+                }
+                Steal::Empty => {}
                 Steal::Retry => {}
             }
         }

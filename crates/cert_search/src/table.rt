@@ -1,6 +1,6 @@
 //! The deques of all workers, before they start.
 ghost use Rattle.std.specs.Prelude.{◌≡◌, ◌<◌, ◌≤◌, length, map, IfOk};
-ghost use Rattle.cert_search.specs.Dealing.{row_plain, fresh_row, AreRows, IsFilled, IsFilledTo};
+ghost use Rattle.cert_search.specs.Dealing.{own_plain, outs, names_in, AreOut, LendsOthers, row_plain, fresh_row, AreRows, IsFilled, IsFilledTo, SamePlain};
 
 use crate::own::Own;
 use crate::reach::Reach;
@@ -18,17 +18,19 @@ pub struct Table {
 }
 
 impl Table {
-    ghost use Rattle.std.specs.Prelude.{◌≡◌, ◌<◌, ◌≤◌, map, IfOk};
-    ghost use Rattle.cert_search.specs.Dealing.{row_plain, fresh_row, AreRows};
+    ghost use Rattle.std.specs.Prelude.{◌≡◌, ◌<◌, ◌≤◌, ◌-◌, map, IfOk};
+    ghost use Rattle.cert_search.specs.Dealing.{names_in, row_plain, fresh_row, AreOut, AreRows, LendsOthers};
 
     /// Deals the claims.
     pub(crate) fn new(alloc: Global, claims: usize, workers: usize) -> Result<Table, AllocError>
         requires some { 0 < workers }
         requires few { workers ≤ 16 }
-        ensures { IfOk result (λ t. (t.claims ≡ claims) × (t.workers ≡ workers)) }
+        ensures deal { IfOk result (λ t. (t.claims ≡ claims) × (t.workers ≡ workers)) }
+        ensures none { IfOk result (λ t. AreOut workers 0 t.owns.items) }
     {
         let mut owns = empty_deques(alloc, claims.div_ceil(workers), workers)?;
         deal_out(&mut owns, claims)?;
+        close_all(&mut owns, workers)?;
         Ok(Table {
             claims,
             workers,
@@ -39,8 +41,10 @@ impl Table {
     // The views of all other deques, from the right neighbour's round.
     fn row(&mut self, alloc: Global, which: usize) -> Result<Vec<Reach>, AllocError>
         requires { which < self.old.workers }
-        ensures row { IfOk result (λ row. row_plain row.items ≡ fresh_row self.old.claims self.old.workers which) }
+        ensures row { IfOk result (λ row. row_plain row.items ≡ fresh_row (names_in self.old.owns.items) self.old.claims self.old.workers which) }
         ensures same { (self.new.claims ≡ self.old.claims) × (self.new.workers ≡ self.old.workers) }
+        ensures names { names_in self.new.owns.items ≡ names_in self.old.owns.items }
+        ensures lent { IfOk result (λ _. LendsOthers self.old.workers which self.old.owns.items self.new.owns.items) }
     {
         let mut row = Vec::new(alloc);
         for k in 1..self.workers {
@@ -52,8 +56,11 @@ impl Table {
 
     /// The views of each worker.
     pub(crate) fn rows(&mut self, alloc: Global) -> Result<Vec<Vec<Reach>>, AllocError>
-        ensures rows { IfOk result (λ rows. AreRows self.old.claims self.old.workers self.old.workers (map (λ row. row_plain row.items) rows.items)) }
+        requires none { AreOut self.old.workers 0 self.old.owns.items }
+        ensures rows { IfOk result (λ rows. AreRows (names_in self.old.owns.items) self.old.claims self.old.workers self.old.workers (map (λ row. row_plain row.items) rows.items)) }
         ensures same { (self.new.claims ≡ self.old.claims) × (self.new.workers ≡ self.old.workers) }
+        ensures names { names_in self.new.owns.items ≡ names_in self.old.owns.items }
+        ensures lent { IfOk result (λ _. AreOut self.old.workers (self.old.workers - 1) self.new.owns.items) }
     {
         let mut rows = Vec::new(alloc);
         for which in 0..self.workers {
@@ -83,6 +90,28 @@ fn deal_out(owns: &mut Vec<Own>, claims: usize) -> Result<(), AllocError>
     for claim in 0..claims {
         let which = claim % owns.len();
         owns[which].deal(claim)?;
+    }
+    Ok(())
+}
+
+// A mark of the end for each worker goes to each deque, behind its claims.
+fn close_all(owns: &mut Vec<Own>, workers: usize) -> Result<(), AllocError>
+    ensures plain { map own_plain owns.new.items ≡ map own_plain owns.old.items }
+    ensures outs { outs owns.new.items ≡ outs owns.old.items }
+{
+    for which in 0..owns.len() {
+        let own = &mut owns[which];
+        close_for(own, workers)?;
+    }
+    Ok(())
+}
+
+// A mark of the end for each of so many workers.
+fn close_for(own: &mut Own, workers: usize) -> Result<(), AllocError>
+    ensures { SamePlain own.old own.new }
+{
+    for _ in 0..workers {
+        own.close()?;
     }
     Ok(())
 }

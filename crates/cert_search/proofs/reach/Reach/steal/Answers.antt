@@ -1,5 +1,6 @@
-use Rattle.cert_search.proofs.Claims.{takes}
+use Rattle.cert_search.proofs.Claims.{takes, guest_held}
+use Rattle.cert_search.specs.Sights.{reach_sight}
 use Rattle.cert_search.proofs.reach.Reach.steal.Goals as goal
 
 pub steal_as-requires-clause-takes : goal.steal_as-requires-clause-takes
-steal_as-requires-clause-takes g c = takes _ _
+steal_as-requires-clause-takes g c = takes _ _ (guest_held (reach_sight c.loop.self).1 c.loop.self.guest)
