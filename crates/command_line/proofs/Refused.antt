@@ -1,9 +1,11 @@
 -- Why a job is refused, from what clap found to the words.
 use Rattle.std.proofs.Common.{◌≡◌, ◌∙◌, ap, List, Option, Result, Ok, Err, IfErr, subst, sym, true}
-use Rattle.clap.specs.Words.{App, Row, Text, is_simple, subcommand_of}
+use Rattle.clap.specs.Words.{App, Row, Text, is_simple, kind_of, subcommand_of, takes}
+use Rattle.clap.specs.declared.error.Error.{Error}
+use Rattle.clap.specs.declared.error.kind.ErrorKind.TheVariants.{OutOfMemory}
 use Rattle.command_line.specs.CommandLine.{tool}
 use Rattle.command_line.specs.Jobs.{IsJob}
-use Rattle.command_line.specs.Usage.{IsMissing, IsRightFor}
+use Rattle.command_line.specs.Usage.{IsMissing, IsRefusal, IsRightFor}
 use Rattle.command_line.specs.declared.usage.Usage.{Usage}
 use Rattle.command_line.specs.declared.usage.Usage.TheVariants.{Words, Missing, Memory}
 
@@ -14,6 +16,12 @@ is_right (Ok x) found words e h = tt
 is_right (Err (Words error)) found words e h = absurd h
 is_right (Err (Missing what)) found words e h = λ j named. h j (subst (λ (o : Option (Text × List Row)). IsJob o j) (sym e) named)
 is_right (Err (Memory error)) found words e h = absurd h
+
+-- a refusal of clap's that isn't want of memory is of words that it doesn't take
+pub is_refused : (error : Error) (said : Usage) (words : List Text) → IsRefusal error said → (takes tool words ≡ true → kind_of error ≡ OutOfMemory) → IsRightFor words said
+is_refused error (Words e) words h k = λ taken. h.1 (k taken)
+is_refused error (Missing what) words h k = absurd h
+is_refused error (Memory refused) words h k = tt
 
 -- what clap found by a command line that is ours is what it reads by ours
 pub read_by_ours : {P : Type 0} (a : App) (found : Option (Text × List Row)) (words : List Text)

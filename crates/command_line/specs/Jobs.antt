@@ -1,5 +1,5 @@
 -- What a job has of the words that named it.
-use Rattle.std.specs.Prelude.{◌≡◌, ℕ, List, [], Option, Some, None, codes, unwrap_or}
+use Rattle.std.specs.Prelude.{◌≡◌, ℕ, List, Option, Some, None, codes, option_map}
 use Rattle.std.specs.Str.Parse.{IsNumeral, digits_value, without_leading_plus}
 use Rattle.clap.specs.Words.{Row, Text, first_of, one_of}
 use Rattle.command_line.specs.declared.action.Action.{Action}
@@ -22,5 +22,5 @@ pub record IsJob (found : Option (Text × List Row)) (j : Job) : Type 0 where
   pub rows : List Row
   pub entered : found ≡ Some (name_of j.action, rows)
   pub plan : first_of (codes "plan") rows ≡ Some j.plan.now
-  pub script : j.script.now ≡ unwrap_or (first_of (codes "script") rows) []
+  pub script : option_map (λ w. w.now) j.script ≡ first_of (codes "script") rows
   pub workers : IsNumberOf (one_of (codes "workers") rows) j.workers

@@ -20,8 +20,8 @@ pub struct Job<'a> {
     pub action: Action,
     /// The plan's file.
     pub plan: &'a str,
-    /// The script's file, empty where the action takes none.
-    pub script: &'a str,
+    /// The script's file, where the action takes one.
+    pub script: Option<&'a str>,
     /// How many workers do it, 4 where the action takes no number of them.
     pub workers: u8,
     ghost some: { 1 ≤ workers },

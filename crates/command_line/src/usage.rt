@@ -6,13 +6,14 @@ use thiserror::Error;
 /// What is printed in place of a job.
 #[derive(Debug, Drop, Error)]
 pub enum Usage {
-    /// What clap says: a mistake in the words, or the help or the version that they ask for.
+    /// What clap says: a mistake in the words, or the help or the version that they ask for; never want of memory.
     #[error(transparent)]
     Words(#[from] clap::Error),
     /// A subcommand, a file or a number that clap let pass, though it asks for it.
     #[error("error: {0}\n")]
     Missing(&'static str),
-    #[error("error: out of memory\n")]
+    /// A growth was refused.
+    #[error("input: 9 NoMemory\n")]
     Memory(#[from(alloc)] AllocError),
 }
 

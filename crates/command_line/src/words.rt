@@ -1,17 +1,18 @@
 //! What a command line asks for.
 
-ghost use Rattle.std.specs.Prelude.{◌≡◌, ◌≢◌, ◌≤◌, ◌<◌, ◌^◌, ℕ, [], IfErr, IfNone, IfOk, IfSome, codes, map, option_map, unwrap_or};
+ghost use Rattle.std.specs.Prelude.{◌≡◌, ◌≢◌, ◌≤◌, ◌<◌, ◌^◌, ℕ, IfErr, IfNone, IfOk, IfSome, codes, map, option_map};
 ghost use Rattle.clap.specs.Words.{first_of, found_of, one_of, rows_of, subcommand_of, subcommand_rows_of};
 ghost use Rattle.command_line.specs.CommandLine.{tool};
 ghost use Rattle.command_line.specs.Jobs.{IsJob, IsNumberOf, name_of};
-ghost use Rattle.command_line.specs.Usage.{IsMissing, IsRightFor};
+ghost use Rattle.command_line.specs.Usage.{IsMissing, IsRefusal, IsRightFor};
 ghost use Rattle.command_line.specs.declared.action.Action.{Action as ActionName};
 
 use crate::action::{Action, Job};
 use crate::commands::command_line;
 use crate::usage::Usage;
 use clap::ArgMatches;
-use std::alloc::Global;
+use clap::error::ErrorKind;
+use std::alloc::{AllocError, Global};
 
 /// The job that the words of a command line name; the first is the program's own name.
 pub fn job<'a>(alloc: Global, words: &'a [&'a str]) -> Result<Job<'a>, Usage>
@@ -24,7 +25,17 @@ pub fn job<'a>(alloc: Global, words: &'a [&'a str]) -> Result<Job<'a>, Usage>
     };
     match command.try_get_matches_from(words) {
         Ok(matches) => job_of(&matches),
-        Err(error) => Err(Usage::Words(error)),
+        Err(error) => Err(refusal(error)),
+    }
+}
+
+/// Why clap refused the words.
+fn refusal(error: clap::Error) -> Usage
+    ensures { IsRefusal error result }
+{
+    match error.kind() {
+        ErrorKind::OutOfMemory => Usage::Memory(AllocError),
+        _ => Usage::Words(error),
     }
 }
 
@@ -44,15 +55,6 @@ fn action_of(name: &str) -> Option<Action>
         "run" => Some(Action::Run),
         "search" => Some(Action::Search),
         _ => None,
-    }
-}
-
-fn script_of<'a>(matches: &ArgMatches<'a>) -> &'a str
-    ensures { result.now ≡ unwrap_or (first_of (codes "script") (rows_of (found_of matches.now))) [] }
-{
-    match text_of(matches, "script") {
-        Some(text) => text,
-        None => "",
     }
 }
 
@@ -93,7 +95,7 @@ fn job_of<'a>(matches: &ArgMatches<'a>) -> Result<Job<'a>, Usage>
     let Some(plan) = text_of(inner, "plan") else {
         return Err(Usage::Missing("no plan"));
     };
-    let script = script_of(inner);
+    let script = text_of(inner, "script");
     let Some(workers) = workers_of(inner) else {
         return Err(Usage::Missing("no number of workers from 1 to 16"));
     };

@@ -1,5 +1,7 @@
 pub mod Certifies
+pub mod Due
 pub mod Findings
+pub mod Given
+pub mod Says
 pub mod Searching
-pub mod Stops
 pub mod Telling

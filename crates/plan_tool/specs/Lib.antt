@@ -1,6 +1,10 @@
+pub mod Answer
+pub mod Stops
+pub mod Streams
 pub mod Verdict
 pub mod Told
 pub mod ToldLines
 pub mod Answers
+pub mod Read
 pub mod Unfound
 pub mod Searched

@@ -1,6 +1,5 @@
 -- What a search prints of the bytes of its file.
-use Rattle.std.specs.Prelude.{◌≡◌, ◌⊎◌, ℕ, List, ◌++◌, length, Option, None, Result, Ok, Err, IfSome, IsSome, Some, codes, slice_get}
-use Rattle.std.specs.Io.KnownBytes.{Appends}
+use Rattle.std.specs.Prelude.{◌≡◌, ◌⊎◌, ℕ, List, ◌++◌, length, Option, None, Result, Ok, Err, IfSome, IsSome, Some, codes, slice_get, string_bytes}
 use Rattle.refutation.specs.Rule.{Rule}
 use Rattle.quorum_checker.specs.Refutes.{State, Refutes}
 use Rattle.plan.specs.declared.fault.PlanFault.{PlanFault}
@@ -11,15 +10,15 @@ use Rattle.plan.specs.PlanClaims.{PlacedClaim, claims_in}
 use Rattle.plan.specs.WithCertificates.{with_certificates}
 use Rattle.plan.specs.Written.{IsCompact, spelt}
 use Rattle.cert_search.specs.Plain.{IsPlain}
+use Rattle.plan_tool.specs.Answer.{Answer, fault_answer}
+use Rattle.plan_tool.specs.Stops.{stop_answer}
 use Rattle.plan_tool.specs.Unfound.{found_status, unfound_lines}
+use Rattle.plan_tool.specs.declared.reply.Stop.{Stop}
+use Rattle.plan_tool.specs.declared.reply.Found.{Found}
 
 -- the claims of the plan that a text spells, or the first fault of the text or of its claims
 abbrev pub claims_of : List ℕ → Result (List PlacedClaim) PlanFault
 claims_of text = plan_of text >=> claims_in
-
--- the text has a fault of its own, or one that keeps its plan from having claims
-abbrev pub HasNoClaims : List ℕ → Type 0
-HasNoClaims text = (fault : PlanFault) × (claims_of text ≡ Err fault)
 
 -- What was found for a claim: nothing, or a rule that refutes it. For a plain claim it is a rule.
 pub record IsFinding (claim : State) (rule : Option Rule) : Type 0 where
@@ -53,9 +52,11 @@ pub record TellsSearch (plan : List ℕ) (status : ℕ) (text notes : List ℕ) 
   pub status_is : status ≡ found_status rules
   pub faultless : status ≡ 0 → plan_fault (with_certificates data_of rules) ≡ None
 
--- What `search` prints, where its status is below 2: the plan's text has a fault or its claims have, the status is 1, and nothing is
--- written to standard error; or both outputs tell of the search.
-abbrev pub PrintsSearch : {E : Type 0} → (E → Option (List ℕ)) → List ℕ → ℕ → Option (List ℕ) → Option (List ℕ) → E → E → Type 0
-PrintsSearch contents plan status old new old_err new_err =
-    (HasNoClaims plan × (status ≡ 1) × (new_err ≡ old_err))
-    ⊎ ((text : List ℕ) × (notes : List ℕ) × TellsSearch plan status text notes × Appends old new text × Appends (contents old_err) (contents new_err) notes)
+-- what a search answers to a plan's text: the first fault of the text or of its claims, or what the search found
+abbrev pub SearchesTo : List ℕ → Answer → Type 0
+SearchesTo text answer = ((fault : PlanFault) × (claims_of text ≡ Err fault) × (answer ≡ fault_answer fault)) ⊎ TellsSearch text answer.status answer.out answer.err
+
+-- what was found, as an answer
+abbrev pub found_answer : Result Found Stop → Answer
+found_answer (Ok found) = record { status = found.status; out = found.plan.items; err = string_bytes found.unfound }
+found_answer (Err stop) = stop_answer stop

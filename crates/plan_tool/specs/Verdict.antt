@@ -1,12 +1,10 @@
 -- What the program finds in a plan's text.
-use Rattle.std.specs.Prelude.{◌≡◌, ◌≤◌, ℕ, List, Option, Some, None, Result, Ok, Err}
+use Rattle.std.specs.Prelude.{◌≡◌, List, ℕ, Option, Some, None, Result, Ok, Err}
 use Rattle.volume_model.specs.Plan.{IsCertified}
 use Rattle.plan.specs.declared.fault.PlanFault.{PlanFault}
 use Rattle.plan.specs.PlanData.{PlanData, model_of}
 use Rattle.plan.specs.PlanText.{plan_of}
 use Rattle.plan.specs.PlanFaults.{plan_fault}
-use Rattle.plan_tool.specs.declared.reply.Stop.{Stop}
-use Rattle.plan_tool.specs.declared.reply.Stop.TheVariants as stops
 
 -- the first fault of what was read as a plan
 abbrev pub first_fault : Result PlanData PlanFault → Option PlanFault
@@ -27,13 +25,3 @@ pub record IsCertifiedText (text : List ℕ) : Type 0 where
 -- the text has a fault as a plan's
 abbrev pub IsFaultyText : List ℕ → Type 0
 IsFaultyText text = (fault : PlanFault) × (text_fault text ≡ Some fault)
-
--- An answer before a job's own is no yes, and is a refusal only for what is so.
-abbrev pub StopsOnly : Type 0 → Stop → Type 0
-StopsOnly Refused (stops.Reply reply) = (1 ≤ reply.status) × (reply.status ≡ 1 → Refused)
-StopsOnly Refused stops.NoMemory = Unit {0}
-
--- what is found of a plan's text
-abbrev pub Judges : {X : Type 0} → Result X Stop → List ℕ → Type 0
-Judges (Ok x) text = IsCertifiedText text
-Judges (Err stop) text = StopsOnly (IsFaultyText text) stop

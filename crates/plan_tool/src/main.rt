@@ -3,73 +3,97 @@
 
 mod files;
 mod inputs;
+mod outputs;
 mod perform;
 mod reply;
 mod search;
-mod streams;
 #[cfg(test)]
 mod tests;
 mod told;
 
-use command_line::job;
+use command_line::{Usage, job};
 use files::Source;
+use outputs::{Output, deliver};
 use perform::perform;
 use std::alloc::{AllocError, Global};
+use std::io::{ErrorKind, Write};
 use std::process::ExitCode;
 use std::rt::Files;
 use std::sync::Wait;
 use std::thread::Threads;
-use std::{env, io};
+use std::{env, fs, io};
 
-/// The file with a name; none has the empty name.
-fn source<R: Files>(rt: &R, name: &str) -> Source<R::File> {
-    if name.is_empty() {
-        return Source::Empty;
-    }
-    match std::fs::open(rt, name) {
-        Ok(file) => Source::Open(file),
-        Err(_) => Source::Missing,
-    }
+/// What is said where memory ran out.
+const NO_MEMORY: &str = "input: 9 NoMemory\n";
+
+/// The words of the command line, or the line of why there are none.
+fn words(rt: &HostRuntime, alloc: Global) -> Result<Vec<String>, &'static str> {
+    let words = match env::args(rt) {
+        Ok(words) => words,
+        Err(error) if error.kind() == ErrorKind::InvalidData => {
+            return Err("error: a word of the command line isn't UTF-8\n");
+        }
+        Err(_) => return Err(NO_MEMORY),
+    };
+    words.collect(alloc).map_err(|_| NO_MEMORY)
 }
 
 fn texts<'a>(alloc: Global, words: &'a [String]) -> Result<Vec<&'a str>, AllocError> {
     words.iter().map(|word| word.as_str()).collect(alloc)
 }
 
+/// The file with a name, where the job has one.
+fn source<R: Files>(rt: &R, name: Option<&str>) -> Source<R::File> {
+    Source::new(match name {
+        Some(name) => fs::open(rt, name),
+        None => Err(io::Error::from(ErrorKind::NotFound)),
+    })
+}
+
+/// Says what is to be known of the words: the help or the version where they ask for it, else the mistake.
+fn explain<O: Write, E: Write>(
+    alloc: Global,
+    usage: &Usage,
+    out: &mut Output<O>,
+    err: &mut Output<E>,
+) -> u8 {
+    match format!(in alloc; "{usage}") {
+        Ok(text) if usage.is_asked_for() => deliver(0, text.as_bytes(), b"", out, err),
+        Ok(text) => deliver(2, b"", text.as_bytes(), out, err),
+        Err(_) => deliver(2, b"", NO_MEMORY.as_bytes(), out, err),
+    }
+}
+
 /// Reads the words of the command line, and does what they ask for; a search starts its threads by the second handle.
-fn run<H: Threads + Wait + Sync>(rt: &HostRuntime, threads: &H) -> io::Result<u8> {
+fn run<H: Threads + Wait + Sync>(rt: &HostRuntime, threads: &H) -> u8 {
     let alloc = rt.alloc();
-    let words: Vec<String> = env::args(rt)?.collect(alloc)?;
-    let words = texts(alloc, words.as_slice())?;
-    let job = match job(alloc, words.as_slice()) {
-        Ok(job) => job,
-        Err(usage) if usage.is_asked_for() => {
-            rt.print(usage)?;
-            return Ok(0);
-        }
-        Err(usage) => {
-            rt.eprint(usage)?;
-            return Ok(2);
-        }
+    let mut out = Output::new(io::writer(rt));
+    let mut err = Output::new(rt.stderr());
+    let words = match words(rt, alloc) {
+        Ok(words) => words,
+        Err(line) => return deliver(2, b"", line.as_bytes(), &mut out, &mut err),
     };
-    let mut plan = source(rt, job.plan);
-    let mut script = source(rt, job.script);
-    let mut out = io::writer(rt);
-    let mut err = rt.stderr();
-    Ok(perform(
-        threads,
-        alloc,
-        &job,
-        &mut plan,
-        &mut script,
-        &mut out,
-        &mut err,
-    ))
+    let Ok(words) = texts(alloc, words.as_slice()) else {
+        return deliver(2, b"", NO_MEMORY.as_bytes(), &mut out, &mut err);
+    };
+    match job(alloc, words.as_slice()) {
+        Ok(job) => {
+            let mut plan = source(rt, Some(job.plan));
+            let mut script = source(rt, job.script);
+            perform(
+                threads,
+                alloc,
+                &job,
+                &mut plan,
+                &mut script,
+                &mut out,
+                &mut err,
+            )
+        }
+        Err(usage) => explain(alloc, &usage, &mut out, &mut err),
+    }
 }
 
 fn main(rt: HostRuntime) -> ExitCode {
-    match run(&rt, &rt) {
-        Ok(status) => ExitCode::from(status),
-        Err(_) => ExitCode::from(2),
-    }
+    ExitCode::from(run(&rt, &rt))
 }

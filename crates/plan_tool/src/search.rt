@@ -1,6 +1,6 @@
 //! The search for the certificates of a plan's claims.
 
-ghost use Rattle.std.specs.Prelude.{◌≡◌, ◌<◌, ◌≤◌, ◌++◌, [], Err, IfErr, IfOk, IfSome, Ok, OnOk, is_none, length, map, option_map, string_bytes, take};
+ghost use Rattle.std.specs.Prelude.{◌≡◌, ◌<◌, ◌≤◌, ◌++◌, Err, IfErr, IfOk, Ok, OnOk, is_none, length, map, option_map, string_bytes};
 ghost use Rattle.std.specs.List.{list_any};
 ghost use Rattle.refutation.specs.Certificate.{certificate_rule};
 ghost use Rattle.plan.specs.FaultText.{claim_text};
@@ -9,14 +9,16 @@ ghost use Rattle.plan.specs.Plan.{plan_data};
 ghost use Rattle.plan.specs.PlanClaims.{claims_in};
 ghost use Rattle.plan.specs.PlanData.{PlanData};
 ghost use Rattle.plan.specs.Written.{HasPlaces, rewritten};
-ghost use Rattle.plan.specs.declared.fault.PlanFault.{PlanFault};
 ghost use Rattle.cert_search.specs.Answers.{AreAnswersOf};
-ghost use Rattle.plan_tool.specs.Searched.{HasNoClaims, IsPlanLine, TellsSearch};
+ghost use Rattle.plan_tool.specs.Answers.{AnswersOf, file_of};
+ghost use Rattle.plan_tool.specs.Searched.{IsPlanLine, SearchesTo, TellsSearch, claims_of, found_answer};
+ghost use Rattle.plan_tool.specs.Stops.{StopsBy};
 ghost use Rattle.plan_tool.specs.Unfound.{claim_line, unfound_line, unfound_lines};
-ghost use Rattle.plan_tool.specs.Verdict.{StopsOnly};
+ghost use Rattle.plan_tool.specs.declared.reply.Stop.TheVariants.{NoMemory};
 
-use crate::inputs::{PLAN_BYTES, contents, plan_in};
-use crate::reply::Stop;
+use crate::files::Source;
+use crate::inputs::{contents, plan_in};
+use crate::reply::{Found, Stop};
 use cert_search::{Gate, search_all};
 use command_line::Job;
 use plan::{NamedClaim, Plan, claims, no_fault_is_certified, write_plan};
@@ -38,23 +40,14 @@ impl Gate for NoGate {
     fn finished(&self, _claim: usize) {}
 }
 
-/// What a search says: its exit status, the line of the plan with what was found, and a line for each claim for which nothing was.
-#[derive(Drop)]
-pub struct Found {
-    pub status: u8,
-    pub plan: Vec<u8>,
-    pub unfound: String,
-    ghost known: { status ≤ 1 },
-}
-
 /// The claims of a plan.
-fn claims_of(alloc: Global, plan: &Plan) -> Result<Vec<NamedClaim>, Stop>
+fn claims_of(alloc: Global, plan: &Plan) -> Result<Vec<NamedClaim>, Stop<'static>>
     ensures claims { IfOk result (λ v. claims_in (plan_data plan.now) ≡ Ok (all_placed v.items)) }
-    ensures stop { IfErr result (StopsOnly ((fault : PlanFault) × (claims_in (plan_data plan.now) ≡ Err fault))) }
+    ensures stop { IfErr result (StopsBy (λ fault. claims_in (plan_data plan.now) ≡ Err fault)) }
 {
     match claims(alloc, plan) {
         Ok(claims) => Ok(claims),
-        Err(fault) => Err(Stop::of_plan(alloc, fault)),
+        Err(fault) => Err(Stop::of_plan(fault)),
     }
 }
 
@@ -64,10 +57,10 @@ fn answers<H: Threads + Wait + Sync>(
     alloc: Global,
     plan: &Plan,
     workers: u8,
-) -> Result<Vec<Option<Certificate<Global>>>, Stop>
+) -> Result<Vec<Option<Certificate<Global>>>, Stop<'static>>
     requires { (0 < workers) × (workers ≤ 16) }
     ensures answers { IfOk result (λ v. AreAnswersOf 100000 (claims_in (plan_data plan.now)) v.items) }
-    ensures stop { IfErr result (StopsOnly ⊥) }
+    ensures stop { IfErr result (λ stop. stop ≡ NoMemory) }
 {
     match search_all(rt, alloc, plan, usize::from(workers), BUDGET, &NoGate) {
         Ok(answers) => Ok(answers),
@@ -80,10 +73,10 @@ fn plan_line(
     alloc: Global,
     text: &[u8],
     certificates: &[Option<Certificate<Global>>],
-) -> Result<Vec<u8>, Stop>
+) -> Result<Vec<u8>, Stop<'static>>
     requires { HasPlaces text.now (length certificates.now) }
     ensures line { IfOk result (λ line. (plan : PlanData) × (rewritten text.now (map (option_map certificate_rule) certificates.now) ≡ Ok plan) × IsPlanLine plan line.items) }
-    ensures stop { IfErr result (StopsOnly ⊥) }
+    ensures stop { IfErr result (λ stop. stop ≡ NoMemory) }
 {
     match write_plan(alloc, text, certificates) {
         Ok(mut line) => {
@@ -161,10 +154,10 @@ fn searched<H: Threads + Wait + Sync>(
     alloc: Global,
     text: &[u8],
     workers: u8,
-) -> Result<Found, Stop>
+) -> Result<Found, Stop<'static>>
     requires { (0 < workers) × (workers ≤ 16) }
     ensures told { IfOk result (λ found. TellsSearch text.now found.status found.plan.items (string_bytes found.unfound)) }
-    ensures stop { IfErr result (StopsOnly (HasNoClaims text.now)) }
+    ensures stop { IfErr result (StopsBy (λ fault. claims_of text.now ≡ Err fault)) }
 {
     no_fault_is_certified();
     let plan = plan_in(alloc, text)?;
@@ -181,16 +174,14 @@ fn searched<H: Threads + Wait + Sync>(
 }
 
 /// What `search` says.
-pub fn search<H: Threads + Wait + Sync, P: Read>(
+pub fn search<'a, H: Threads + Wait + Sync, P: Read>(
     rt: &H,
     alloc: Global,
-    job: &Job<'_>,
-    plan: &mut P,
-) -> Result<Found, Stop>
-    ensures told { IfOk result (λ found. IfSome (P.remaining plan.old) (λ bytes. TellsSearch (take 16777217 bytes) found.status found.plan.items (string_bytes found.unfound))) }
-    ensures quiet { IfOk result (λ found. found.status ≡ 0 → string_bytes found.unfound ≡ []) }
-    ensures stop { IfErr result (λ stop. IfSome (P.remaining plan.old) (λ bytes. StopsOnly (HasNoClaims (take 16777217 bytes)) stop)) }
+    job: &Job<'a>,
+    plan: &mut Source<P>,
+) -> Result<Found, Stop<'a>>
+    ensures { AnswersOf (file_of P.remaining job.now.plan.now plan.old plan.new) SearchesTo (found_answer result) }
 {
-    let text = contents(alloc, job.plan, plan, PLAN_BYTES)?;
+    let text = contents(alloc, job.plan, plan)?;
     searched(rt, alloc, text.as_slice(), job.workers)
 }

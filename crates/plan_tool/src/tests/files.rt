@@ -1,10 +1,24 @@
-use super::said::{SIX_COPIES, said};
+use super::said::{SIX_COPIES, done, job, missing, said};
 use crate::files::Source;
+use crate::outputs::Output;
 use crate::perform::perform;
+use crate::source;
 use command_line::{Action, Job};
-use std::alloc::AllocError;
+use std::alloc::{AllocError, Global};
 use std::io;
 use std::io::{ErrorKind, Read, Write};
+use std::sync::Wait;
+use std::thread::Threads;
+
+/// A file that was opened.
+fn opened<R: Read>(reader: R) -> Source<R> {
+    Source::new(Ok(reader))
+}
+
+/// A file that isn't opened for want of memory.
+fn without_memory() -> Source<&'static [u8]> {
+    Source::new(Err(io::Error::from(ErrorKind::OutOfMemory)))
+}
 
 /// Gives its bytes one at a time, and then fails.
 #[derive(Drop)]
@@ -62,10 +76,22 @@ fn files_that_fail(rt: HostRuntime) -> Result<(), AllocError> {
         let end = said(&rt, alloc, Action::Run, plan, Breaks(&script[..k]));
         assert!(rt; end.is(2, no_script), "{k}");
     }
-    let end = said(&rt, alloc, Action::Check, Source::<&[u8]>::Missing, script);
-    assert!(rt; end.is(2, no_plan));
-    let end = said(&rt, alloc, Action::Run, plan, Source::<&[u8]>::Missing);
+    for action in [Action::Check, Action::Run, Action::Search] {
+        let end = done(&rt, alloc, &job(action), missing(), opened(script));
+        assert!(rt; end.is(2, no_plan));
+        let end = done(&rt, alloc, &job(action), without_memory(), opened(script));
+        assert!(rt; end.is(2, "input: 9 NoMemory\n"));
+    }
+    let end = done(&rt, alloc, &job(Action::Run), opened(plan), missing());
     assert!(rt; end.is(2, no_script));
+    let end = done(
+        &rt,
+        alloc,
+        &job(Action::Run),
+        opened(plan),
+        without_memory(),
+    );
+    assert!(rt; end.is(2, "input: 9 NoMemory\n"));
     let end = said(&rt, alloc, Action::Run, b"{}".as_slice(), Breaks(b""));
     assert!(rt; end.is(2, "input: 13 Malformed\n"));
     let end = said(&rt, alloc, Action::Check, io::repeat(b' '), script);
@@ -73,30 +99,58 @@ fn files_that_fail(rt: HostRuntime) -> Result<(), AllocError> {
     Ok(())
 }
 
+/// The status of a check of a plan, and what standard error got, where standard output takes so many bytes.
+fn checked_in_room<H: Threads + Wait + Sync>(rt: &H, alloc: Global, room: usize) -> (u8, Vec<u8>) {
+    let mut err = Output::new(Vec::new(alloc));
+    let status = perform(
+        rt,
+        alloc,
+        &job(Action::Check),
+        &mut opened(SIX_COPIES.as_bytes()),
+        &mut missing(),
+        &mut Output::new(Room(room)),
+        &mut err,
+    );
+    (status, err.into_inner())
+}
+
 #[test]
 fn outputs_that_fail(rt: HostRuntime) {
     let alloc = rt.alloc();
-    let job = Job {
-        action: Action::Check,
-        plan: "p.json",
-        script: "",
-        workers: 4,
-    };
     let line = "yes: 1 groups, 1 configurations, 1 certificates\n";
     for room in 0..line.len() + 2 {
-        let mut err = Vec::new(alloc);
-        let mut plan = SIX_COPIES.as_bytes();
-        let mut script = Source::<&[u8]>::Empty;
-        let status = perform(
-            &rt,
-            alloc,
-            &job,
-            &mut plan,
-            &mut script,
-            &mut Room(room),
-            &mut err,
-        );
-        assert_eq!(rt; status, if room < line.len() { 2 } else { 0 });
-        assert!(rt; err.is_empty());
+        let (status, told) = checked_in_room(&rt, alloc, room);
+        if room < line.len() {
+            assert_eq!(rt; status, 2);
+            assert_eq!(rt; told.as_slice(), b"output: cannot write\n".as_slice());
+        } else {
+            assert_eq!(rt; status, 0);
+            assert!(rt; told.is_empty());
+        }
     }
+}
+
+#[test]
+fn empty_names(rt: HostRuntime) {
+    let alloc = rt.alloc();
+    let no_file = "input: cannot read \n";
+    for action in [Action::Check, Action::Run, Action::Search] {
+        let job = Job {
+            action,
+            plan: "",
+            script: None,
+            workers: 4,
+        };
+        let end = done(&rt, alloc, &job, source(&rt, Some("")), missing());
+        assert!(rt; end.is(2, no_file));
+    }
+    let job = Job {
+        action: Action::Run,
+        plan: "p.json",
+        script: Some(""),
+        workers: 4,
+    };
+    let plan = opened(SIX_COPIES.as_bytes());
+    let end = done(&rt, alloc, &job, plan, source(&rt, Some("")));
+    assert!(rt; end.is(2, no_file));
 }

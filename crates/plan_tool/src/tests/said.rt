@@ -1,8 +1,10 @@
 use crate::files::Source;
+use crate::outputs::Output;
 use crate::perform::perform;
 use command_line::{Action, Job};
 use std::alloc::Global;
-use std::io::Read;
+use std::io;
+use std::io::{ErrorKind, Read};
 use std::sync::Wait;
 use std::thread::Threads;
 
@@ -37,18 +39,37 @@ impl Outputs {
     }
 }
 
+/// A file that can't be opened.
+pub fn missing() -> Source<&'static [u8]> {
+    Source::new(Err(io::Error::from(ErrorKind::NotFound)))
+}
+
 /// What is said of a job on these files.
 pub fn done<H: Threads + Wait + Sync, P: Read + Drop, S: Read + Drop>(
     rt: &H,
     alloc: Global,
     job: &Job<'_>,
-    mut plan: P,
-    mut script: S,
+    mut plan: Source<P>,
+    mut script: Source<S>,
 ) -> Outputs {
-    let mut out = Vec::new(alloc);
-    let mut err = Vec::new(alloc);
+    let mut out = Output::new(Vec::new(alloc));
+    let mut err = Output::new(Vec::new(alloc));
     let status = perform(rt, alloc, job, &mut plan, &mut script, &mut out, &mut err);
-    Outputs { status, out, err }
+    Outputs {
+        status,
+        out: out.into_inner(),
+        err: err.into_inner(),
+    }
+}
+
+/// A job of this kind.
+pub fn job(action: Action) -> Job<'static> {
+    Job {
+        action,
+        plan: "p.json",
+        script: Some("s.txt"),
+        workers: 4,
+    }
 }
 
 /// What is said of these files.
@@ -59,22 +80,13 @@ pub fn said<H: Threads + Wait + Sync, P: Read + Drop, S: Read + Drop>(
     plan: P,
     script: S,
 ) -> Outputs {
-    let job = Job {
-        action,
-        plan: "p.json",
-        script: "s.txt",
-        workers: 4,
-    };
-    done(rt, alloc, &job, plan, script)
+    let plan = Source::new(Ok(plan));
+    let script = Source::new(Ok(script));
+    done(rt, alloc, &job(action), plan, script)
 }
 
 /// What is said of a check of this plan.
 pub fn checked<H: Threads + Wait + Sync>(rt: &H, alloc: Global, plan: &str) -> Outputs {
-    said(
-        rt,
-        alloc,
-        Action::Check,
-        plan.as_bytes(),
-        Source::<&[u8]>::Missing,
-    )
+    let plan = Source::new(Ok(plan.as_bytes()));
+    done(rt, alloc, &job(Action::Check), plan, missing())
 }

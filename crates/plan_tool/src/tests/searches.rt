@@ -4,9 +4,10 @@ ghost use Rattle.std.specs.Prelude.{◌≤◌};
 
 use super::configurations::{ALL, READ, WRITE, first, plan, root};
 use super::files::Room;
-use super::said::{Outputs, SIX_COPIES, checked, done, said};
+use super::said::{Outputs, checked, done, missing};
 use super::samples::Sample;
 use crate::files::Source;
+use crate::outputs::Output;
 use crate::perform::perform;
 use command_line::{Action, Job};
 use std::alloc::{AllocError, Global};
@@ -22,14 +23,14 @@ fn job(workers: u8) -> Job<'static>
     Job {
         action: Action::Search,
         plan: "p.json",
-        script: "",
+        script: None,
         workers,
     }
 }
 
 /// What is said of a search of this plan.
 fn searched<H: Threads + Wait + Sync>(rt: &H, alloc: Global, job: &Job<'_>, plan: &str) -> Outputs {
-    done(rt, alloc, job, plan.as_bytes(), Source::<&[u8]>::Empty)
+    done(rt, alloc, job, Source::new(Ok(plan.as_bytes())), missing())
 }
 
 /// The bytes as text, empty where they aren't one.
@@ -110,18 +111,29 @@ fn false_claims_are_unfound(rt: HostRuntime) -> Result<(), Fail> {
         (written.len(), unfound.len() - 1, 2),
         (written.len(), unfound.len(), 1),
     ] {
-        let mut script = Source::<&[u8]>::Empty;
         let end = perform(
             &rt,
             alloc,
             &job(1),
-            &mut text.as_bytes(),
-            &mut script,
-            &mut Room(out),
-            &mut Room(err),
+            &mut Source::new(Ok(text.as_bytes())),
+            &mut missing(),
+            &mut Output::new(Room(out)),
+            &mut Output::new(Room(err)),
         );
         assert_eq!(rt; end, status, "{out} {err}");
     }
+    let mut out = Output::new(Vec::new(alloc));
+    let end = perform(
+        &rt,
+        alloc,
+        &job(1),
+        &mut Source::new(Ok(text.as_bytes())),
+        &mut missing(),
+        &mut out,
+        &mut Output::new(Room(unfound.len() - 1)),
+    );
+    assert_eq!(rt; end, 2);
+    assert!(rt; out.into_inner().is_empty());
     Ok(())
 }
 
@@ -155,8 +167,5 @@ fn plans_without_claims(rt: HostRuntime) -> Result<(), AllocError> {
         let end = searched(&rt, alloc, &job(2), &text);
         assert!(rt; end.is(status, line), "{line}");
     }
-    let missing = Source::<&[u8]>::Missing;
-    let end = said(&rt, alloc, Action::Search, missing, SIX_COPIES.as_bytes());
-    assert!(rt; end.is(2, "input: cannot read p.json\n"));
     Ok(())
 }

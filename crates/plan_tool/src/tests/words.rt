@@ -6,41 +6,46 @@ use std::test::*;
 fn words(rt: HostRuntime) {
     let alloc = rt.alloc();
     for (words, action, script, workers) in [
-        (["plan_tool", "check", "p"].as_slice(), Action::Check, "", 4),
+        (
+            ["plan_tool", "check", "p"].as_slice(),
+            Action::Check,
+            None,
+            4,
+        ),
         (
             ["plan_tool", "run", "p", "s"].as_slice(),
             Action::Run,
-            "s",
+            Some("s"),
             4,
         ),
         (
             ["plan_tool", "search", "p"].as_slice(),
             Action::Search,
-            "",
+            None,
             4,
         ),
         (
             ["plan_tool", "search", "p", "-w", "16"].as_slice(),
             Action::Search,
-            "",
+            None,
             16,
         ),
         (
             ["plan_tool", "search", "-w1", "p"].as_slice(),
             Action::Search,
-            "",
+            None,
             1,
         ),
         (
             ["plan_tool", "search", "--workers", "3", "p"].as_slice(),
             Action::Search,
-            "",
+            None,
             3,
         ),
         (
             ["plan_tool", "search", "p", "--workers=5"].as_slice(),
             Action::Search,
-            "",
+            None,
             5,
         ),
     ] {

@@ -1,6 +1,6 @@
 use Rattle.std.proofs.Common.{◌≡◌, map, subst, sym, true}
 use Rattle.clap.specs.Words.{App, app_of, takes}
-use Rattle.command_line.proofs.Refused.{is_right, read_by_ours}
+use Rattle.command_line.proofs.Refused.{is_refused, is_right, read_by_ours}
 use Rattle.command_line.proofs.words.job.Goals as goal
 
 pub returns-in-Ok-try_get_matches_from-clause-refused : goal.returns-in-Ok-try_get_matches_from-clause-refused
@@ -12,4 +12,5 @@ returns-in-Ok-try_get_matches_from-clause-refused c =
 pub returns-in-Err-try_get_matches_from-clause-refused : goal.returns-in-Err-try_get_matches_from-clause-refused
 returns-in-Err-try_get_matches_from-clause-refused c =
     let words = map (λ w. w.now) c.args.words.now in
-    λ taken. c.in-Err-try_get_matches_from.ensures.passes (subst (λ (a : App). takes a words ≡ true) (sym c.in-Ok.ensures) taken)
+    is_refused _ c.refusal.result words c.refusal.ensures
+    (λ taken. c.in-Err-try_get_matches_from.ensures.passes (subst (λ (a : App). takes a words ≡ true) (sym c.in-Ok.ensures) taken))

@@ -11,6 +11,6 @@ returns-clause-job c =
       rows = rows;
       entered = rw (← c.in-Some-action_of.ensures.named) (is_entered (out-ArgMatches c.args.matches.now).subcommand c.in-Some.name.now rows c.in-Some.ensures.name c.in-Some.ensures.rows);
       plan = sym c.in-Some-text_of.ensures;
-      script = c.script_of-script.ensures;
+      script = c.text_of-script.ensures;
       workers = c.in-Some-workers_of.ensures.number;
     }

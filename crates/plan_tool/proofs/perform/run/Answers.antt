@@ -1,6 +1,15 @@
-use Rattle.std.proofs.Common.{take}
-use Rattle.plan_tool.proofs.Stops.{goes_on}
+use Rattle.plan.specs.PlanData.{model_of}
+use Rattle.plan_tool.specs.Answers.{AnswersOf, ScriptAnswers, file_of}
+use Rattle.plan_tool.specs.Stops.{answer_of, stop_answer}
+use Rattle.plan_tool.proofs.Due.{never_certified, run_tells}
 use Rattle.plan_tool.proofs.perform.run.Goals as goal
 
-pub returns-in-Ok-clause-judges : goal.returns-in-Ok-clause-judges
-returns-in-Ok-clause-judges g c = goes_on c.script_told.result (g.P.Read.remaining c.args.plan.now) (take 16777217) c.in-Ok.ensures.judges c.script_told.ensures.stop
+pub returns-in-Ok : goal.returns-in-Ok
+returns-in-Ok g c =
+    run_tells (file_of g.P.Read.remaining c.args.plan_name.now c.args.plan.now c.checked.new.plan) (file_of g.S.Read.remaining c.args.script_name.now c.args.script.now c.script_told.new.script) c.in-Ok.plan (answer_of c.script_told.result)
+    c.in-Ok.ensures.plan c.script_told.ensures
+
+pub returns-in-Err : goal.returns-in-Err
+returns-in-Err g c =
+    never_certified (λ plan. AnswersOf (file_of g.S.Read.remaining c.args.script_name.now c.args.script.now c.args.script.now) (ScriptAnswers (model_of plan))) (file_of g.P.Read.remaining c.args.plan_name.now c.args.plan.now c.checked.new.plan)
+    (stop_answer c.in-Err.stop) c.in-Err.ensures.stop
