@@ -91,16 +91,16 @@ claims_certify plan claims = record {
   group_there = claims.group_there;
   root_there = claims.root_there;
   root_epoch = claims.root_epoch;
-  valid_reads = λ group c there below. (claims.claim group c there below).read_counts;
-  meets = λ group c there below. common_member (plan.configuration group c) (claims.claim group c there below);
+  quorums = λ group c there below. record {
+    valid_read = (claims.quorums group c there below).read_counts;
+    meets = common_member (plan.configuration group c) (claims.quorums group c there below);
+  };
   step = λ group c there below positive. (
       let claim : KeepsStepClaim plan group c = claims.step group c there below positive in
       let parent : ℕ = parent_of plan group c in
-      let before : parent < c = claim.parent_below in
+      let before : parent < c = claim.child.parent_below in
       record {
-        parent_below = claim.parent_below;
-        epoch_next = claim.epoch_next;
-        fresh_unused = claim.fresh_unused;
-        reads_on = λ readers reads none. reads_on (plan.configuration group c) (plan.configuration group parent) (claims.claim group c there below) (claims.claim group parent there (omega arith)) claim.fresh claim.meets readers reads (λ x h. claim.fresh_is x ∙ none x h);
+        child = claim.child;
+        reads_on = λ readers reads none. reads_on (plan.configuration group c) (plan.configuration group parent) (claims.quorums group c there below) (claims.quorums group parent there (omega arith)) claim.fresh claim.meets readers reads (λ x h. claim.fresh_is x ∙ none x h);
       });
 }

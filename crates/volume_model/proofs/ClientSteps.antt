@@ -462,7 +462,7 @@ module _ (plan : Plan) (certified : IsCertified plan) (world : World) (kept : Is
       let line_there : (group : ℕ) → group < plan.groups → (place_of client.groups group).configuration < plan.configurations group =
       λ group there. subst (λ c. c < plan.configurations group) (sym (at group there).configuration) (((is_sound plan certified world kept).line group there).there (place_of client.groups group).epoch (at group there).positive (at group there).there) in
       let zero_there : 0 < plan.groups = certified.group_there in
-      let some : (y : ℕ) × (senders (reports_of client.groups 0) y ≡ true) = sat-some (plan.configuration 0 (place_of client.groups 0).configuration).read (senders (reports_of client.groups 0)) (certified.valid_reads 0 (place_of client.groups 0).configuration zero_there (line_there 0 zero_there)) (reads 0 zero_there) in
+      let some : (y : ℕ) × (senders (reports_of client.groups 0) y ≡ true) = sat-some (plan.configuration 0 (place_of client.groups 0).configuration).read (senders (reports_of client.groups 0)) (certified.quorums 0 (place_of client.groups 0).configuration zero_there (line_there 0 zero_there)).valid_read (reads 0 zero_there) in
       let first : (f : From) × IsIn f (reports_of client.groups 0) × ((f.sender == some.0) ≡ true) = any_passes (λ f. f.sender == some.0) (reports_of client.groups 0) some.1 in
       let one : (d : Contents) × IsIn d reported × (parent ≡ d.lineage) = newest-of reported first.0.contents (all_reports-has (reports_of client.groups) plan.groups 0 first.0 zero_there first.1) in
       let d : Contents = one.0 in

@@ -273,7 +273,7 @@ module _ (plan : Plan) (certified : IsCertified plan) (world : World) (sound : I
   keeps_commits = record {
     found_later = λ v later n h a f. (
         let c : IsCommit v n = commit v n a in
-        in_found v c.cut n c.r c.stands c.number c.point c.covered later h f);
+        in_found v c.cut n c.r c.stands c.number c.point c.covered later h f.1);
     one_record = λ v u n m r s a b i j e. (
         let c : IsCommit v n = commit v n a in
         let d : IsCommit u m = commit u m b in

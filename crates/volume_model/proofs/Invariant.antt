@@ -4,7 +4,8 @@ use Rattle.volume_model.specs.Lists.{IsIn}
 use Rattle.volume_model.specs.Formula.{Members, sat}
 use Rattle.volume_model.specs.Redo.{Redo, last_lsn, up_to}
 use Rattle.volume_model.specs.Lineage.{Lineage, birth, last_epoch, last_start, Contents}
-use Rattle.volume_model.specs.Plan.{Configuration, Plan, has_member, epoch_of, ancestor}
+use Rattle.volume_model.specs.Plan.{Configuration, Plan, has_member, epoch_of}
+use Rattle.volume_model.proofs.Above.{ancestor}
 use Rattle.volume_model.specs.Message.{Label, Place, Message, place_in}
 use Rattle.volume_model.specs.Message.Message.{View, StepTo, Fence, Report, Install, Write, Gossip, Ack, CopyAsk, CopyReport, PageAsk, Page}
 use Rattle.volume_model.specs.Node.{From, senders}

@@ -1,9 +1,10 @@
 -- The configurations that a group goes through, one an epoch, and the descent along them
-use Rattle.std.proofs.Common.{◌≡◌, ℕ, zero, suc, ◌+◌, ◌-◌, ◌<◌, ◌≤◌, true, false, ◌&&◌, ◌==◌, ◌⊎◌, ap, subst, inl, inr, arith}
-use Rattle.std.proofs.lemmas.Bool.{cases_Bool, and_parts, and_from, both_ways, eqb-true}
+use Rattle.std.proofs.Common.{◌≡◌, ℕ, zero, suc, ◌+◌, ◌-◌, ◌<◌, ◌≤◌, true, false, ◌&&◌, ◌==◌, ◌⊎◌, ap, ◌∙◌, sym, subst, inl, inr, arith}
+use Rattle.std.proofs.lemmas.Bool.{cases_Bool, cases_lt, and_parts, and_from, both_ways, eqb-true}
 use Rattle.volume_model.specs.Lists.{IsIn, any}
 use Rattle.volume_model.specs.Formula.{Members, sat}
-use Rattle.volume_model.specs.Plan.{Plan, has_member, parent_of, ancestor, is_fresh, IsStep, IsCertified}
+use Rattle.volume_model.specs.Plan.{Plan, has_member, parent_of, is_fresh, IsAbove, IsStep, IsCertified}
+use Rattle.volume_model.specs.Plan.IsAbove.{by_parent, by_ancestor}
 use Rattle.volume_model.proofs.Basics.{any_passes, any_fails}
 
 -- a run of configurations, one an epoch from 1 to the last, each but the root a child of the one before
@@ -18,24 +19,23 @@ abbrev pub IsLate : Plan → ℕ → (ℕ → ℕ) → ℕ → ℕ → Type 0
 IsLate plan group line e x = (i : ℕ) → 1 ≤ i → i ≤ e → has_member (plan.configuration group (line i)) x ≡ false
 
 module _ (plan : Plan) (certified : IsCertified plan) (group : ℕ) (there : group < plan.groups) (line : ℕ → ℕ) (last : ℕ) (is_line : IsLine plan group line last) where
-  -- so many steps above epoch i + steps stands epoch i
-  pub ancestor-line : (steps i : ℕ) → 1 ≤ i → steps + i ≤ last → ancestor plan group steps (line (steps + i)) ≡ line i
-  ancestor-line zero i l h = ap line (omega arith)
-  ancestor-line (suc steps) i l h =
-      let e : suc steps + i ≡ suc (steps + i) = omega arith in
-      let p : parent_of plan group (line (suc (steps + i))) ≡ line (steps + i) = is_line.parent (steps + i) (omega arith) (omega arith) in
-      rw (e, p) (ancestor-line steps i l (omega arith))
+  -- above a later epoch stands each earlier one
+  above_line : (i f : ℕ) → 1 ≤ i → i ≤ f → suc f ≤ last → IsAbove plan group (line i) (line (suc f))
+  above_line i zero li le l = absurd (omega arith)
+  above_line i (suc f) li le l =
+      elim (cases_lt i (suc f)) [
+        | inl earlier ↦ by_ancestor (line i) (line (suc f)) (line (suc (suc f))) (is_line.child (suc f) (omega arith) l) (sym (is_line.parent (suc f) (omega arith) l)) (above_line i f li (omega arith) (omega arith))
+        | inr last_one ↦ (
+            let at : i ≡ suc f = omega arith in
+            by_parent (line i) (line (suc (suc f))) (is_line.child (suc f) (omega arith) l) (ap line at ∙ sym (is_line.parent (suc f) (omega arith) l)))
+      ]
 
   -- who is fresh at a later epoch is late
   pub late_from_fresh : (e f x : ℕ) → 1 ≤ e → e < f → f ≤ last → is_fresh plan group (line f) x ≡ true → IsLate plan group line e x
   late_from_fresh e zero x l h k fresh i li ie = absurd (omega arith)
   late_from_fresh e (suc f) x l h k fresh i li ie =
       let is_step : IsStep plan group (line (suc f)) = certified.step group (line (suc f)) there (is_line.there (suc f) (omega arith) k) (is_line.child f (omega arith) k) in
-      let steps : ℕ = f - i in
-      let s : suc steps + i ≡ suc f = omega arith in
-      let unused : has_member (plan.configuration group (ancestor plan group (suc steps) (line (suc f)))) x ≡ false = is_step.fresh_unused x steps fresh in
-      let up : ancestor plan group (suc steps) (line (suc f)) ≡ line i = subst (λ n. ancestor plan group (suc steps) (line n) ≡ line i) s (ancestor-line (suc steps) i li (omega arith)) in
-      rw up at unused
+      is_step.child.fresh_unused x (line i) fresh (above_line i f li (omega arith) k)
 
   -- a fresh member in the set, or none
   pub fresh_or_none : (c : ℕ) (set : Members) → ((x : ℕ) × (set x ≡ true) × (is_fresh plan group c x ≡ true)) ⊎ ((x : ℕ) → set x ≡ true → is_fresh plan group c x ≡ false)
@@ -61,7 +61,7 @@ module _ (plan : Plan) (certified : IsCertified plan) (group : ℕ) (there : gro
   descent zero e readers writers l h r w =
       let z : zero + e ≡ e = omega arith in
       let r' : sat (plan.configuration group (line e)).read readers ≡ true = rw z at r in
-      let (x, a, b) = (certified.meets group (line e) there (is_line.there e l (omega arith))) readers writers r' w in
+      let (x, a, b) = ((certified.quorums group (line e) there (is_line.there e l (omega arith))).meets) readers writers r' w in
       (x, a, inl b)
   descent (suc steps) e readers writers l h r w =
       let s : suc steps + e ≡ suc (steps + e) = omega arith in

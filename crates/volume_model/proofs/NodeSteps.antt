@@ -359,7 +359,7 @@ module _ (plan : Plan) (certified : IsCertified plan) (world : World) (kept : Is
             let at : ℕ = node.place.epoch in
             let line_there : path plan world group at < plan.configurations group = ((is_sound plan certified world kept).line group there).there at place.positive place.there in
             let configuration_there : node.place.configuration < plan.configurations group = subst (λ c. c < plan.configurations group) (sym place.configuration) line_there in
-            let some : (y : ℕ) × (senders node.copies y ≡ true) = sat-some (plan.configuration group node.place.configuration).read (senders node.copies) (certified.valid_reads group node.place.configuration there configuration_there) reads in
+            let some : (y : ℕ) × (senders node.copies y ≡ true) = sat-some (plan.configuration group node.place.configuration).read (senders node.copies) (certified.quorums group node.place.configuration there configuration_there).valid_read reads in
             let first : (f : From) × IsIn f node.copies × ((f.sender == some.0) ≡ true) = any_passes (λ f. f.sender == some.0) node.copies some.1 in
             let one : (d : Contents) × IsIn d all × (lineage ≡ d.lineage) = newest-of all first.0.contents (contents_of-has node.copies first.0 first.1) in
             let d : Contents = one.0 in

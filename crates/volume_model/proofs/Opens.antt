@@ -96,8 +96,8 @@ module _ (plan : Plan) (certified : IsCertified plan) (events : List Event) (v :
         let line : IsLine plan group (path plan world group) (epoch_now plan world group) = (is_sound plan certified world kept).line group there in
         let at : (place_of client.groups group).configuration < plan.configurations group = subst (λ c. c < plan.configurations group) (sym place.configuration) (line.there (place_of client.groups group).epoch place.positive place.there) in
         filled (place_configuration plan group (place_of client.groups group)).read (place_configuration plan group (place_of client.groups group)).write
-        (certified.valid_reads group (place_of client.groups group).configuration there at)
-        (certified.meets group (place_of client.groups group).configuration there at)
+        (certified.quorums group (place_of client.groups group).configuration there at).valid_read
+        (certified.quorums group (place_of client.groups group).configuration there at).meets
 
     -- so the group's point, once it is raised, covers the record
     covered : (group : ℕ) → group < plan.groups → (r : Redo) → IsIn r client.found → r.group ≡ group → r.lsn ≤ point_of (raised plan client.groups) group

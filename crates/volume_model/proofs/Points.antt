@@ -113,8 +113,8 @@ group_point_is_greatest = record {
   of_expressions = λ plan number group counts. raised plan number group (λ s h. sat-some (place_configuration plan number group.place).write s counts h);
   of_plans = λ plan certified number group there at. raised plan number group
       (filled (place_configuration plan number group.place).read (place_configuration plan number group.place).write
-      (certified.valid_reads number group.place.configuration there at)
-      (certified.meets number group.place.configuration there at));
+      (certified.quorums number group.place.configuration there at).valid_read
+      (certified.quorums number group.place.configuration there at).meets);
 }
 
 -- ---- a log's points

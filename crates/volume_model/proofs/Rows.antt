@@ -6,11 +6,12 @@ use Rattle.std.specs.FinSet.{FinSet, empty, insert, contains, contains-empty}
 use Rattle.std.proofs.lemmas.Bool.Decides.{nat_tests}
 use Rattle.volume_model.specs.Meets.{Meets}
 use Rattle.volume_model.specs.Sets.{contains-put}
+use Rattle.volume_model.proofs.Above.{above_first}
 use Rattle.volume_model.specs.Claims.{KeepsClaim, KeepsStepClaim, KeepsClaims}
 use Rattle.volume_model.specs.Formula.{member}
 use Rattle.volume_model.specs.WorkedPlans.{six_root, six_copies, both_sixes}
 use Rattle.volume_model.specs.Redo.{Redo, cut_of}
-use Rattle.volume_model.specs.Plan.{Configuration, Plan, has_member, ancestor, is_fresh}
+use Rattle.volume_model.specs.Plan.{Configuration, Plan, has_member, is_fresh}
 use Rattle.volume_model.specs.Client.{Change, durable_point}
 use Rattle.volume_model.specs.World.{Event, opening, run, results}
 use Rattle.volume_model.specs.World.Event.{Assign, Advance, Refresh, Issue, Take, Cut, Open, Resend, Deliver, Hydrate, Restart, Offer}
@@ -129,10 +130,6 @@ lone_claim : (c : ℕ) → KeepsClaim (lone_one c)
 lone_claim zero = record { members_below = λ x h. grind (arith, nat_tests); read_counts = tt; read_own = refl; write_own = refl; meets = zero_meets _ }
 lone_claim (suc c) = record { members_below = λ x h. grind (arith, nat_tests); read_counts = tt; read_own = refl; write_own = refl; meets = zero_meets _ }
 
-stays_root : (group steps : ℕ) → ancestor lone_plan group steps 0 ≡ 0
-stays_root group zero = refl
-stays_root group (suc steps) = stays_root group steps
-
 fresh_out : (x : ℕ) → is_fresh lone_plan 0 1 x ≡ true → has_member lone_root x ≡ false
 fresh_out x h = grind (arith, nat_tests)
 
@@ -142,9 +139,11 @@ fresh_one x none h = grind (arith, nat_tests)
 lone_step_claim : (group c : ℕ) → c < 2 → 0 < c → KeepsStepClaim lone_plan group c
 lone_step_claim group zero below positive = absurd (omega arith)
 lone_step_claim group (suc zero) below positive = record {
-  parent_below = omega arith;
-  epoch_next = refl;
-  fresh_unused = λ x steps fresh. ap (λ c. has_member (lone_one c) x) (stays_root group steps) ∙ fresh_out x fresh;
+  child = record {
+    parent_below = omega arith;
+    epoch_next = refl;
+    fresh_unused = λ x a fresh up. ap (λ c. has_member (lone_one c) x) (above_first lone_plan group a 1 up refl) ∙ fresh_out x fresh;
+  };
   fresh = insert empty 1;
   fresh_is = λ x. contains-put empty 1 x ∙ fresh_one x (contains (empty {R = nat_cmp}) x) (contains-empty nat_cmp x);
   meets = zero_meets _;
@@ -157,6 +156,6 @@ lone_claims = record {
   group_there = omega arith;
   root_there = λ group there. omega arith;
   root_epoch = λ group there. refl;
-  claim = λ group c there below. lone_claim c;
+  quorums = λ group c there below. lone_claim c;
   step = λ group c there below positive. lone_step_claim group c below positive;
 }

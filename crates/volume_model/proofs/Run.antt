@@ -2,7 +2,8 @@
 use Rattle.std.proofs.Common.{◌≡◌, ℕ, zero, suc, ◌-◌, ◌<◌, ◌≤◌, true, not, ◌&&◌, ◌==◌, nat_lt, List, [], ◌∷◌, ◌++◌, length, length-append, Result, Ok, Err, refl, sym, ap, ◌∙◌, subst, inl, inr, arith, ◌⊎◌}
 use Rattle.std.proofs.lemmas.Bool.{cases_Bool, cases_lt, and_parts, true≢false, eqb-true, ltb-true, not-false}
 use Rattle.volume_model.specs.Lists.{IsIn, put, each_below}
-use Rattle.volume_model.specs.Plan.{Plan, has_member, parent_of, epoch_of, ancestor, IsCertified}
+use Rattle.volume_model.specs.Plan.{Plan, has_member, parent_of, epoch_of, IsCertified}
+use Rattle.volume_model.proofs.Above.{ancestor}
 use Rattle.volume_model.specs.Message.{Place, place_in}
 use Rattle.volume_model.specs.Message.Message.{View, StepTo, Ack}
 use Rattle.volume_model.specs.Node.{born_node}

@@ -3,9 +3,10 @@ use Rattle.std.proofs.Common.{◌≡◌, ℕ, zero, suc, ◌+◌, ◌<◌, ◌�
 use Rattle.std.proofs.lemmas.Bool.{cases_Bool, and_parts, both_ways, true≢false, leb-true, le-leb, not-true}
 use Rattle.volume_model.specs.Lists.{IsIn, any}
 use Rattle.volume_model.specs.Formula.{Formula, Members, member, each_once, sat, weight_held, HasCounts}
-use Rattle.volume_model.specs.Plan.{Configuration, has_member, ancestor, IsStep, HaveCommonMember}
+use Rattle.volume_model.specs.Plan.{Configuration, has_member, IsStep, HaveCommonMember}
 use Rattle.volume_model.specs.WorkedPlans.{some_of, count_of, six, three, other_six, seven, six_root, both_sixes, with_other, with_first, replacing, member_replaced, SixCopiesCertified, FullAndTailCertified, MemberReplacedCertified}
 use Rattle.volume_model.proofs.Basics.{any_passes, any_from}
+use Rattle.volume_model.proofs.Above.{above_first}
 
 -- how many of the members are in the set
 abbrev held_of : List ℕ → Members → ℕ
@@ -92,8 +93,7 @@ six_copies_certified = record {
   group_there = omega arith;
   root_there = λ group there. omega arith;
   root_epoch = λ group there. refl;
-  valid_reads = λ group c there below. six_counts 3 (omega arith) (omega arith);
-  meets = λ group c there below. six_meet;
+  quorums = λ group c there below. record { valid_read = six_counts 3 (omega arith) (omega arith); meets = six_meet };
   step = λ group c there below positive. absurd (omega arith);
 }
 
@@ -103,8 +103,7 @@ full_and_tail_certified = record {
   group_there = omega arith;
   root_there = λ group there. omega arith;
   root_epoch = λ group there. refl;
-  valid_reads = λ group c there below. (omega arith, omega arith, omega arith, (six_counts 3 (omega arith) (omega arith), (three_counts 1 (omega arith) (omega arith), tt)));
-  meets = λ group c there below. both_meet_one (count_of 3 six) (count_of 1 three) (count_of 4 six) (count_of 3 three) six_meet three_meet;
+  quorums = λ group c there below. record { valid_read = (omega arith, omega arith, omega arith, (six_counts 3 (omega arith) (omega arith), (three_counts 1 (omega arith) (omega arith), tt))); meets = both_meet_one (count_of 3 six) (count_of 1 three) (count_of 4 six) (count_of 3 three) six_meet three_meet };
   step = λ group c there below positive. absurd (omega arith);
 }
 
@@ -121,11 +120,6 @@ replacing_meets zero = six_meet
 replacing_meets (suc zero) = one_meets_both (count_of 3 six) (count_of 3 other_six) (count_of 4 six) (count_of 4 other_six) six_meet other_meet
 replacing_meets (suc (suc zero)) = other_meet
 replacing_meets (suc (suc (suc c))) = six_meet
-
--- above the root stands the root
-stays_root : (group steps : ℕ) → ancestor member_replaced group steps 0 ≡ 0
-stays_root group zero = refl
-stays_root group (suc steps) = stays_root group steps
 
 -- a set that lacks member 6 and holds three of the other six holds three of the six
 three_without : (a b c d e f : ℕ) → nat_le 3 (a + (b + (c + (d + (e + (0 + 0)))))) ≡ true → nat_le 3 (a + (b + (c + (d + (e + (f + 0)))))) ≡ true
@@ -169,9 +163,7 @@ none_fresh child parent more x h =
 replacing_step : (group c : ℕ) → c < 4 → 0 < c → IsStep member_replaced group c
 replacing_step group zero below positive = absurd (omega arith)
 replacing_step group (suc zero) below positive = record {
-  parent_below = omega arith;
-  epoch_next = refl;
-  fresh_unused = λ x steps fresh. ap (λ c. has_member (replacing c) x) (stays_root group steps) ∙ not-true _ (and_parts (has_member both_sixes x) (not (has_member six_root x)) fresh).1;
+  child = record { parent_below = omega arith; epoch_next = refl; fresh_unused = λ x a fresh up. ap (λ c. has_member (replacing c) x) (above_first member_replaced group a 1 up refl) ∙ not-true _ (and_parts (has_member both_sixes x) (not (has_member six_root x)) fresh).1 };
   reads_on = λ readers reads none. elim (one_held (sat (count_of 3 six) readers) (sat (count_of 3 other_six) readers) reads) [
     | inl a ↦ a
     | inr b ↦ elim (cases_Bool (readers 6)) [
@@ -181,15 +173,11 @@ replacing_step group (suc zero) below positive = record {
   ];
 }
 replacing_step group (suc (suc zero)) below positive = record {
-  parent_below = omega arith;
-  epoch_next = refl;
-  fresh_unused = λ x steps fresh. absurd (none_fresh with_other both_sixes other_in_seven x fresh);
+  child = record { parent_below = omega arith; epoch_next = refl; fresh_unused = λ x a fresh up. absurd (none_fresh with_other both_sixes other_in_seven x fresh) };
   reads_on = λ readers reads none. right_held (sat (count_of 3 six) readers) (sat (count_of 3 other_six) readers) reads;
 }
 replacing_step group (suc (suc (suc zero))) below positive = record {
-  parent_below = omega arith;
-  epoch_next = refl;
-  fresh_unused = λ x steps fresh. absurd (none_fresh with_first both_sixes six_in_seven x fresh);
+  child = record { parent_below = omega arith; epoch_next = refl; fresh_unused = λ x a fresh up. absurd (none_fresh with_first both_sixes six_in_seven x fresh) };
   reads_on = λ readers reads none. left_held (sat (count_of 3 six) readers) (sat (count_of 3 other_six) readers) reads;
 }
 replacing_step group (suc (suc (suc (suc c)))) below positive = absurd (omega arith)
@@ -200,7 +188,6 @@ member_replaced_certified = record {
   group_there = omega arith;
   root_there = λ group there. omega arith;
   root_epoch = λ group there. refl;
-  valid_reads = λ group c there below. replacing_counts c;
-  meets = λ group c there below. replacing_meets c;
+  quorums = λ group c there below. record { valid_read = replacing_counts c; meets = replacing_meets c };
   step = λ group c there below positive. replacing_step group c below positive;
 }

@@ -7,7 +7,6 @@ use Rattle.volume_model.specs.Message.Message.{Report, Install, CopyReport}
 use Rattle.volume_model.specs.Plan.{Plan, IsCertified}
 use Rattle.volume_model.specs.Client.{Client, has_cut}
 use Rattle.volume_model.specs.World.{World, Event, opening, run}
-use Rattle.volume_model.specs.Headline.{HasFound}
 
 -- the later client has cut, with the lineage and the log found of the earlier one
 pub record StaysFound (client later : Client) : Type 0 where
@@ -17,7 +16,7 @@ pub record StaysFound (client later : Client) : Type 0 where
 
 -- a client that has cut stays so, with the same lineage and the same log found, whatever events follow in whatever world
 abbrev pub FindsLast : Type 0
-FindsLast = (plan : Plan) (world : World) (events : List Event) (volume : ℕ) → HasFound world volume → StaysFound (world.clients volume) ((run plan world events).clients volume)
+FindsLast = (plan : Plan) (world : World) (events : List Event) (volume : ℕ) → has_cut (world.clients volume).stage ≡ true → StaysFound (world.clients volume) ((run plan world events).clients volume)
 
 -- A node or a client has the lineage, or a report, an install or a copy says it.
 pub data Carries (world : World) (lineage : Lineage) : Type 0 where

@@ -2,7 +2,7 @@ use Rattle.std.specs.Prelude.{◌≡◌, ℕ, zero, suc, ◌<◌, ◌≤◌, Boo
 use Rattle.volume_model.specs.Lists.{any, some_below}
 use Rattle.volume_model.specs.Formula.{Formula, Members, sat, HasCounts}
 
--- a configuration of a group; the parent and the epoch of the root say nothing
+-- a configuration of a group; the parent of the root says nothing
 pub record Configuration : Type 0 where
   pub parent : ℕ
   pub epoch : ℕ
@@ -34,10 +34,10 @@ parent_of plan group c = (plan.configuration group c).parent
 abbrev pub epoch_of : Plan → ℕ → ℕ → ℕ
 epoch_of plan group c = (plan.configuration group c).epoch
 
--- the configuration so many steps above
-abbrev pub ancestor : Plan → ℕ → ℕ → ℕ → ℕ
-ancestor plan group zero c = c
-ancestor plan group (suc steps) c = ancestor plan group steps (parent_of plan group c)
+-- The configuration a stands above c: it is the parent of c, or stands above the parent. Nothing stands above number 0, the root.
+pub data IsAbove (plan : Plan) (group : ℕ) : ℕ → ℕ → Type 0 where
+  by_parent : (a c : ℕ) → 0 < c → a ≡ parent_of plan group c → IsAbove plan group a c
+  by_ancestor : (a p c : ℕ) → 0 < c → p ≡ parent_of plan group c → IsAbove plan group a p → IsAbove plan group a c
 
 -- the group has a configuration of this number, and it has this epoch
 abbrev pub is_configuration : Plan → ℕ → ℕ → ℕ → Bool
@@ -51,23 +51,35 @@ is_fresh plan group c x = has_member (plan.configuration group c) x && not (has_
 abbrev pub is_named : Plan → ℕ → ℕ → Bool
 is_named plan group x = nat_lt group plan.groups && some_below (plan.configurations group) (λ c. has_member (plan.configuration group c) x)
 
--- the parent and the certificate's word of a step
-pub record IsStep (plan : Plan) (group c : ℕ) : Type 0 where
+-- a child: its parent stands before it and is of the epoch before its own, and no configuration above has a fresh member
+pub record IsChild (plan : Plan) (group c : ℕ) : Type 0 where
   pub parent_below : parent_of plan group c < c
   pub epoch_next : epoch_of plan group c ≡ suc (epoch_of plan group (parent_of plan group c))
-  pub fresh_unused : (x steps : ℕ) → is_fresh plan group c x ≡ true → has_member (plan.configuration group (ancestor plan group (suc steps) c)) x ≡ false
+  pub fresh_unused : (x a : ℕ) → is_fresh plan group c x ≡ true → IsAbove plan group a c → has_member (plan.configuration group a) x ≡ false
+
+-- a child whose read sets, where they have no fresh member, are read sets of its parent
+pub record IsStep (plan : Plan) (group c : ℕ) : Type 0 where
+  pub child : IsChild plan group c
   pub reads_on : (readers : Members) → sat (plan.configuration group c).read readers ≡ true → ((x : ℕ) → readers x ≡ true → is_fresh plan group c x ≡ false) → sat (plan.configuration group (parent_of plan group c)).read readers ≡ true
 
 -- each set that satisfies the one expression has a member in common with each set that satisfies the other
 abbrev pub HaveCommonMember : Formula → Formula → Type 0
 HaveCommonMember read write = (readers writers : Members) → sat read readers ≡ true → sat write writers ≡ true → (x : ℕ) × (readers x ≡ true) × (writers x ≡ true)
 
--- each read set has a member in common with each write set, and each step is a step
-pub record IsCertified (plan : Plan) : Type 0 where
+-- each read set has a member in common with each write set
+pub record HasQuorums (configuration : Configuration) : Type 0 where
+  pub valid_read : HasCounts configuration.read
+  pub meets : HaveCommonMember configuration.read configuration.write
+
+-- Numbers may run ahead, there is a group, each group has a root, of epoch 1, and each configuration has the one property and each but the root the other.
+pub record IsPlanOf (Quorums : Configuration → Type 0) (Step : Plan → ℕ → ℕ → Type 0) (plan : Plan) : Type 0 where
   pub lal_positive : 1 ≤ plan.lal
   pub group_there : 0 < plan.groups
   pub root_there : (group : ℕ) → group < plan.groups → 0 < plan.configurations group
   pub root_epoch : (group : ℕ) → group < plan.groups → epoch_of plan group 0 ≡ 1
-  pub valid_reads : (group c : ℕ) → group < plan.groups → c < plan.configurations group → HasCounts (plan.configuration group c).read
-  pub meets : (group c : ℕ) → group < plan.groups → c < plan.configurations group → HaveCommonMember (plan.configuration group c).read (plan.configuration group c).write
-  pub step : (group c : ℕ) → group < plan.groups → c < plan.configurations group → 0 < c → IsStep plan group c
+  pub quorums : (group c : ℕ) → group < plan.groups → c < plan.configurations group → Quorums (plan.configuration group c)
+  pub step : (group c : ℕ) → group < plan.groups → c < plan.configurations group → 0 < c → Step plan group c
+
+-- each read set has a member in common with each write set, and each step is a step
+abbrev pub IsCertified : Plan → Type 0
+IsCertified plan = IsPlanOf HasQuorums IsStep plan
