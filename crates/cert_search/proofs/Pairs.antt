@@ -4,7 +4,7 @@ use Rattle.std.specs.Prelude.{None, Option, Some, Vec, true, nat_le, ◌&&◌, B
 use Rattle.std.proofs.lemmas.List.{length-map, map-append}
 use Rattle.std.proofs.lemmas.Bool.Decides.{nat_tests}
 use Rattle.volume_model.specs.Formula.{HasCounts}
-use Rattle.volume_model.specs.FormulaLaws.{formulas-each_once, total_weight-each_once}
+use Rattle.volume_model.proofs.FormulaLaws.{formulas-each_once, total_weight-each_once}
 use Rattle.quorum_expr.specs.declared.expression.Expr.{Expr}
 use Rattle.quorum_expr.specs.declared.expression.Expr.TheVariants.{KOf}
 use Rattle.quorum_expr.specs.Expr.{formula_of}

@@ -4,7 +4,7 @@ use Rattle.std.specs.Prelude.{◌||◌}
 use Rattle.std.proofs.lemmas.Bool.Decides.{nat_tests}
 use Rattle.std.specs.Ordering.{nat_cmp}
 use Rattle.std.specs.FinSet.{FinSet, contains, insert}
-use Rattle.volume_model.specs.Sets.{contains-put}
+use Rattle.volume_model.proofs.Sets.{contains-put}
 use Rattle.volume_model.specs.Lineage as model
 use Rattle.volume_model.specs.Lineage.{last_epoch, newest, found_in, with_live}
 use Rattle.volume_model.specs.Node.{contents_of, senders}

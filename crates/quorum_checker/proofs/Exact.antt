@@ -6,7 +6,7 @@ use Rattle.std.specs.List.{list_any, IsDistinct, AllByRecursion}
 use Rattle.std.specs.FinSet.{contains, difference}
 use Rattle.std.proofs.lemmas.Bool.Decides.{nat_tests}
 use Rattle.volume_model.specs.Formula.{Formula, Children, member, at_least, sat, total_weight, formulas, each_weighs, EachWeighs}
-use Rattle.volume_model.specs.FormulaLaws.{EachWeighs-from, EachWeighs-to}
+use Rattle.volume_model.proofs.FormulaLaws.{EachWeighs-from, EachWeighs-to}
 use Rattle.quorum_expr.specs.MemberSet.{all_members}
 use Rattle.refutation.specs.declared.Side.{Side}
 use Rattle.refutation.specs.declared.Side.TheVariants.{Left, Right}

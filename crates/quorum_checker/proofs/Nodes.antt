@@ -8,7 +8,7 @@ use Rattle.std.proofs.lemmas.List.{length-map, map-append}
 use Rattle.quorum_expr.specs.declared.expression.Expr.{Expr}
 use Rattle.quorum_expr.specs.declared.expression.Expr.TheVariants.{KOf}
 use Rattle.volume_model.specs.Formula.{Formula, member, at_least, each_once, total_weight, formulas, weight_at}
-use Rattle.volume_model.specs.FormulaLaws.{EachWeighs-to, each_once_weighs, formulas-each_once, total_weight-each_once}
+use Rattle.volume_model.proofs.FormulaLaws.{EachWeighs-to, each_once_weighs, formulas-each_once, total_weight-each_once}
 use Rattle.quorum_expr.specs.Expr.{formula_of}
 use Rattle.quorum_expr.specs.ExprLaws.{formula_of-KOf}
 use Rattle.volume_model.specs.declared.fault.Fault.{Fault}

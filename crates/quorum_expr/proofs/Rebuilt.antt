@@ -7,8 +7,8 @@ use Rattle.std.proofs.lemmas.List.{append-nil, map-append, length-map}
 use Rattle.std.proofs.lemmas.Simd.{map-map}
 use Rattle.quorum_expr.specs.declared.expression.Expr.{Expr}
 use Rattle.quorum_expr.specs.declared.expression.Expr.TheVariants.{KOf}
-use Rattle.volume_model.specs.Formula.{Formula, at_least, each_once, total_weight, dual_of, HasCounts, EachHasCounts}
-use Rattle.volume_model.specs.FormulaLaws.{total_weight-each_once, dual_of-once}
+use Rattle.volume_model.specs.Formula.{Formula, at_least, each_once, formulas, total_weight, dual_of, HasCounts, EachHasCounts}
+use Rattle.volume_model.proofs.FormulaLaws.{formulas-each_once, total_weight-each_once, dual_of-once}
 use Rattle.quorum_expr.specs.Expr.{formula_of}
 use Rattle.quorum_expr.specs.ExprLaws.{formula_of-KOf}
 
@@ -48,7 +48,8 @@ pub counts-KOf : {A : Type 0} (k : ℕ) (of : Vec (Expr A) A) → HasCounts (for
 counts-KOf k of h =
     let here : HasCounts (at_least k (each_once (map formula_of of.items))) = subst HasCounts (formula_of-KOf k of) h in
     let many : total_weight (each_once (map formula_of of.items)) ≡ vec_len of = total_weight-each_once (map formula_of of.items) ∙ length-map of.items formula_of ∙ sym (of.ok.0) in
-    (here.0, omega (arith, many, here.1), omega (arith, many, here.2))
+    let children : length (formulas (each_once (map formula_of of.items))) ≡ vec_len of = ap length (formulas-each_once (map formula_of of.items)) ∙ length-map of.items formula_of ∙ sym (of.ok.0) in
+    (here.0, omega (arith, many, here.1), omega (arith, children, here.2))
 
 -- the dual, child by child
 pub dual_of-KOf : {A : Type 0} (k : ℕ) (of : Vec (Expr A) A) → dual_of (formula_of (KOf k of)) ≡ at_least (vec_len of + 1 - k) (each_once (map (λ e. dual_of (formula_of e)) of.items))

@@ -5,17 +5,25 @@ use Rattle.std.proofs.lemmas.List.{drop_all, length-map}
 use Rattle.quorum_expr.specs.declared.expression.Expr.{Expr}
 use Rattle.quorum_expr.specs.declared.expression.Expr.TheVariants.{KOf}
 use Rattle.volume_model.specs.declared.fault.Fault.TheVariants.{BadCount, TooDeep}
-use Rattle.volume_model.specs.Formula.{each_once}
-use Rattle.volume_model.specs.FormulaLaws.{total_weight-each_once}
+use Rattle.volume_model.specs.Formula.{each_once, formulas, total_weight}
+use Rattle.volume_model.proofs.FormulaLaws.{formulas-each_once, total_weight-each_once}
 use Rattle.quorum_expr.specs.Expr.{formula_of}
-use Rattle.quorum_expr.specs.Valid.{or_then, good_count, shape_fault, row_fault, nodes, row_nodes}
+use Rattle.quorum_expr.specs.Valid.{or_then, good_count, good_threshold, shape_fault, row_fault, nodes, row_nodes}
 use Rattle.quorum_expr.specs.ExprLaws.{formula_of-KOf}
 
 pub shape-is : {A : Type 0} (e : Expr A) (k : ℕ) (of : Vec (Expr A) A) (levels : ℕ) → e ≡ KOf k of → shape_fault (formula_of e) levels ≡ (if levels == 0 then Some TooDeep else (if good_count k (vec_len of) then row_fault (each_once (map formula_of of.items)) (levels - 1) else Some BadCount))
 shape-is e k of levels is =
     ap (λ f. shape_fault f levels) (ap formula_of is ∙ formula_of-KOf k of)
-    ∙ ap (λ (n : ℕ). if levels == 0 then Some TooDeep else (if good_count k n then row_fault (each_once (map formula_of of.items)) (levels - 1) else Some BadCount))
-    (total_weight-each_once (map formula_of of.items) ∙ length-map of.items formula_of ∙ sym (of.ok.0))
+    ∙ (λ i. if levels == 0 then Some TooDeep else (if good_threshold k (weight i) (children i) then row_fault (each_once (map formula_of of.items)) (levels - 1) else Some BadCount))
+  where
+    many : length (map formula_of of.items) ≡ vec_len of
+    many = length-map of.items formula_of ∙ sym (of.ok.0)
+
+    weight : total_weight (each_once (map formula_of of.items)) ≡ vec_len of
+    weight = total_weight-each_once (map formula_of of.items) ∙ many
+
+    children : length (formulas (each_once (map formula_of of.items))) ≡ vec_len of
+    children = ap length (formulas-each_once (map formula_of of.items)) ∙ many
 
 pub row_step : {A : Type 0} (xs : List (Expr A)) (i levels : ℕ) (x : Expr A) → i < length xs → x ≡ get_or xs i x → row_fault (each_once (map formula_of (drop i xs))) levels ≡ or_then (shape_fault (formula_of x) levels) (row_fault (each_once (map formula_of (drop (i + 1) xs))) levels)
 row_step xs i levels x h is =

@@ -11,7 +11,7 @@ use Rattle.std.specs.Coded.{Coded, coded_ℕ}
 use Rattle.std.specs.Int.{bit_at, w64}
 use Rattle.std.proofs.lemmas.Nat.Bits.{bit_at-lt, bit_at-zero, bit_at_set_same, bit_at_set_other, bit_at_not, bit_at_and}
 use Rattle.std.proofs.lemmas.Bool.Decides.{nat_tests}
-use Rattle.volume_model.specs.Sets.{contains-put}
+use Rattle.volume_model.proofs.Sets.{contains-put}
 use Rattle.quorum_expr.specs.MemberSet.{members_below, members_of, bits_below, bits_of, numbers_below, all_members}
 
 -- the order of sets, by their elements

@@ -10,12 +10,12 @@ use Rattle.serde_json.specs.Events.{items_len}
 use Rattle.volume_model.specs.declared.fault.Fault.{Fault}
 use Rattle.volume_model.specs.declared.fault.Fault.TheVariants.{BadCount, TooDeep, NotAMember, OverLimit}
 use Rattle.volume_model.specs.Answer.{◌>>=◌}
-use Rattle.volume_model.specs.Formula.{Formula, member, at_least, each_once, total_weight}
-use Rattle.volume_model.specs.FormulaLaws.{total_weight-each_once}
+use Rattle.volume_model.specs.Formula.{Formula, member, at_least, each_once, formulas, total_weight}
+use Rattle.volume_model.proofs.FormulaLaws.{formulas-each_once, total_weight-each_once}
 use Rattle.volume_model.specs.Lists.{each_below}
 use Rattle.volume_model.specs.Sets.{listed}
 use Rattle.quorum_expr.specs.declared.form.Lists.{Lists}
-use Rattle.quorum_expr.specs.Valid.{good_count, shape_fault, row_fault, nodes, expression_fault}
+use Rattle.quorum_expr.specs.Valid.{good_count, good_threshold, shape_fault, row_fault, nodes, expression_fault}
 use Rattle.quorum_expr.specs.ValidLaws.{neither}
 use Rattle.quorum_expr.specs.Reading.{ChildList, each, named, Form, single, choice, set_of, form_of, child_count, each_of, members_at, children_at, formula_from, formula_at, expression_in}
 
@@ -45,8 +45,8 @@ choice_within : (k left : ℕ) (fs : List Formula) → good_count k (length fs) 
 choice_within k left fs count row =
     let some : (suc left == 0) ≡ false = grind (arith, nat_tests) in
     let below : suc left - 1 ≡ left = omega arith in
-    ap (λ (b : Bool). if b then Some TooDeep else (if good_count k (total_weight (each_once fs)) then row_fault (each_once fs) (suc left - 1) else Some BadCount)) some
-    ∙ ap (λ (b : Bool). if b then row_fault (each_once fs) (suc left - 1) else Some BadCount) (ap (good_count k) (total_weight-each_once fs) ∙ count)
+    ap (λ (b : Bool). if b then Some TooDeep else (if good_threshold k (total_weight (each_once fs)) (length (formulas (each_once fs))) then row_fault (each_once fs) (suc left - 1) else Some BadCount)) some
+    ∙ ap (λ (b : Bool). if b then row_fault (each_once fs) (suc left - 1) else Some BadCount) ((λ i. good_threshold k (total_weight-each_once fs i) (length (formulas-each_once fs i))) ∙ count)
     ∙ ap (row_fault (each_once fs)) below ∙ row
 
 -- ---- lists of members

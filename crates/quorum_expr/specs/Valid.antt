@@ -1,24 +1,28 @@
 -- Which expressions are valid, and the first fault of one that isn't.
-use Rattle.std.specs.Prelude.{ℕ, ◌+◌, ◌-◌, Bool, ◌&&◌, ◌==◌, nat_lt, nat_le, if◌then◌else◌, Option, Some, None}
+use Rattle.std.specs.Prelude.{ℕ, ◌+◌, ◌-◌, Bool, ◌&&◌, ◌==◌, nat_lt, nat_le, if◌then◌else◌, Option, Some, None, length}
 use Rattle.volume_model.specs.declared.fault.Fault.{Fault}
 use Rattle.volume_model.specs.declared.fault.Fault.TheVariants.{BadCount, TooDeep, NotAMember, OverLimit}
-use Rattle.volume_model.specs.Formula.{Formula, Children, member, at_least, no_child, child, total_weight}
+use Rattle.volume_model.specs.Formula.{Formula, Children, member, at_least, no_child, child, formulas, total_weight}
 
 -- the first fault, and else the next
 abbrev pub or_then : Option Fault → Option Fault → Option Fault
 or_then None next = next
 or_then (Some fault) next = Some fault
 
--- a threshold from 1 to n, which is at most 64
+-- a threshold from 1 to the weight of all children, which are at most 64
+abbrev pub good_threshold : ℕ → ℕ → ℕ → Bool
+good_threshold k weight children = nat_le 1 k && (nat_le k weight && nat_le children 64)
+
+-- the same where each child counts as one
 abbrev pub good_count : ℕ → ℕ → Bool
-good_count k n = nat_le 1 k && (nat_le k n && nat_le n 64)
+good_count k n = good_threshold k n n
 
 -- the first fault of a formula that may have so many levels, outer ones before inner ones
 abbrev mutual
   pub shape_fault : Formula → ℕ → Option Fault
   shape_fault (member x) levels = (if levels == 0 then Some TooDeep else (if nat_lt x 64 then None else Some NotAMember))
   shape_fault (at_least k of) levels =
-      (if levels == 0 then Some TooDeep else (if good_count k (total_weight of) then row_fault of (levels - 1) else Some BadCount))
+      (if levels == 0 then Some TooDeep else (if good_threshold k (total_weight of) (length (formulas of)) then row_fault of (levels - 1) else Some BadCount))
 
   -- the first fault of children, in order
   pub row_fault : Children → ℕ → Option Fault

@@ -8,7 +8,9 @@ use Rattle.volume_model.specs.Plan.{Plan, is_named}
 use Rattle.volume_model.specs.Message.{Message}
 use Rattle.volume_model.specs.Node.{Node, NodeAnswer, hydrated, restarted, offered}
 use Rattle.volume_model.specs.Client as model
-use Rattle.volume_model.specs.Client.{ClientAnswer, issued, cut_client, opened, resent, page_asked}
+use Rattle.volume_model.specs.Client.{ClientAnswer}
+use Rattle.volume_model.specs.ClientWriter.{issued, resent, page_asked}
+use Rattle.volume_model.specs.ClientRecovery.{cut_client, opened}
 use Rattle.volume_model.specs.World.{Authority, World, Event, AuthorityStep, Step, assigned, advanced, refreshed, deliver, take, if_named, of_authority, of_client, of_node, step}
 use Rattle.volume_model.specs.World.Event.{Assign, Advance, Refresh, Issue, Take, Cut, Open, Resend, Read, Deliver, Hydrate, Restart, Offer}
 use Rattle.volume_model.specs.Actor.{actor_of, Agree, Keeps}

@@ -4,7 +4,7 @@ use Rattle.std.proofs.lemmas.Bool.{cases_Bool, cases_lt, and_parts, and_from, bo
 use Rattle.std.specs.Ordering.{nat_cmp}
 use Rattle.std.specs.FinSet.{FinSet, empty, contains, contains-empty}
 use Rattle.volume_model.specs.Formula.{Formula, Members, sat, dual_of, SpeaksOf}
-use Rattle.volume_model.specs.FormulaLaws.{sat-own, sat-dual_of}
+use Rattle.volume_model.proofs.FormulaLaws.{sat-own, sat-dual_of}
 use Rattle.volume_model.specs.Meets.{AreMembers, AreDisjoint, Meets}
 use Rattle.volume_model.specs.Plan.{Configuration, has_member, parent_of, HaveCommonMember}
 use Rattle.volume_model.specs.Claims.{KeepsClaim, KeepsStepClaim, ClaimsCertify}

@@ -3,14 +3,18 @@ use Rattle.std.proofs.Common.{◌≡◌, ℕ, zero, suc, ◌+◌, ◌^◌, ◌<�
 use Rattle.std.proofs.lemmas.Bool.{cases_Bool, cases_lt, and_parts, true≢false, both_ways, eqb-true, eq-eqb, ltb-true, leb-true, not-true, not-false}
 use Rattle.volume_model.specs.Lists.{IsIn, every, every_below, each_below, numbered, put}
 use Rattle.volume_model.specs.Formula.{Formula, sat}
-use Rattle.volume_model.specs.FormulaLaws.{sat-some}
+use Rattle.volume_model.proofs.FormulaLaws.{sat-some}
 use Rattle.volume_model.specs.Redo.{Redo, record_at, last_lsn, of_group, cut_of, log_found}
 use Rattle.volume_model.specs.Lineage.{Lineage, last_epoch, last_start, extended, Contents, newest, found_in}
 use Rattle.volume_model.specs.Plan.{Plan, IsCertified}
 use Rattle.volume_model.specs.Message.{Label, Place, Message, place_in}
 use Rattle.volume_model.specs.Message.Message.{View, StepTo, Fence, Report, Install, Write, Gossip, Ack, CopyAsk, CopyReport, PageAsk, Page}
 use Rattle.volume_model.specs.Node.{From, senders, with_first, in_group}
-use Rattle.volume_model.specs.Client.{Client, Stage, Count, Change, ClientStep, ClientAnswer, is_born, has_cut, is_open, unborn, reaching, best, with_count, place_configuration, ClientGroup, newly_at, group_of, place_of, reports_of, counts_of, raised_group, raised, groups_now, durable_point, label_of, record_of, is_last, issued_log, issued_writes, is_change, is_transaction, issued, fences, installs, is_raised, raised_in, later_group, reread_group, moved, viewed, stays, report_taken, ack_taken, are_places, taken, all_reports, has_read, has_installed, cut_client, opened, write_of, resent, last_of_group_below, page_asked, place_of, reports_of, counts_of, no_group}
+use Rattle.volume_model.specs.Client.{Client, Stage, Count, ClientStep, ClientAnswer, is_born, has_cut, is_open, unborn, place_configuration, ClientGroup, newly_at, group_of, place_of, reports_of, counts_of, label_of, stays, place_of, reports_of, counts_of, no_group}
+use Rattle.volume_model.specs.ClientPoints.{reaching, best, with_count, raised_group, raised, groups_now, durable_point}
+use Rattle.volume_model.specs.ClientWriter.{Change, record_of, is_last, issued_log, issued_writes, is_change, is_transaction, issued, write_of, resent, last_of_group_below, page_asked}
+use Rattle.volume_model.specs.ClientRecovery.{fences, installs, report_taken, all_reports, has_read, has_installed, cut_client, opened}
+use Rattle.volume_model.specs.ClientMessages.{is_later, later_in, later_group, reread_group, with_places, viewed, ack_taken, are_places, taken}
 use Rattle.volume_model.specs.Client.Stage.{Unborn, Reading, Installing, Writing}
 use Rattle.volume_model.specs.World.{World, of_client, after_step, take}
 use Rattle.volume_model.proofs.Basics.{any_passes, numbered-in, IsIn-append, IsIn-append_right}
@@ -24,7 +28,7 @@ use Rattle.volume_model.proofs.Changed.{ClientGrows, client_changed}
 use Rattle.volume_model.proofs.Records.{of_group-from, of_group-has, newest-most, newest-of, all_reports-from, all_reports-has, with_first-from}
 use Rattle.volume_model.proofs.Sound.{born_from_cut, is_sound}
 use Rattle.volume_model.proofs.NodeSteps.{refuse_if-ok}
-use Rattle.volume_model.proofs.Groups.{set-all, group_of-moved, later_group-none, reread_group-none, group_of-new, group_of-raised}
+use Rattle.volume_model.proofs.Groups.{set-all, group_of-with_places, later_group-none, reread_group-none, group_of-new, group_of-raised}
 use Rattle.std.specs.Prelude.{map, slice_set}
 use Rattle.volume_model.specs.declared.fault.Fault.TheVariants.{AlreadyDone, BadTransaction, LimitReached, LsnSpent, NoActor, NoGroup, NotAddressed, NotInPlan, NotOpen, NotReady}
 
@@ -248,7 +252,7 @@ module _ (plan : Plan) (certified : IsCertified plan) (world : World) (kept : Is
     reports : g.reports ≡ reports_of client.groups group
     place : PlaceGood group g.place
     counts : CountsGood group g
-    point : PointGood group g.point
+    point : PointGood group g.group_point
 
   -- what a client that has cut may keep of all groups
   abbrev AreGood : List ClientGroup → Type 0
@@ -279,14 +283,14 @@ module _ (plan : Plan) (certified : IsCertified plan) (world : World) (kept : Is
       }
 
   -- what the counts satisfy now
-  raised_point_good : (group : ℕ) (g : ClientGroup) → IsGoodGroup group g → PointGood group (raised_group plan group g).point
+  raised_point_good : (group : ℕ) (g : ClientGroup) → IsGoodGroup group g → PointGood group (raised_group plan group g).group_point
   raised_point_good group g good =
       let write : Formula = (place_configuration plan group g.place).write in
       let n : ℕ = best write g.counts g.counts in
-      elim (cases_lt g.point n) [
-        | inr l ↦ (let m : g.point ≡ max g.point n = omega arith in subst (PointGood group) m good.point)
+      elim (cases_lt g.group_point n) [
+        | inr l ↦ (let m : g.group_point ≡ max g.group_point n = omega arith in subst (PointGood group) m good.point)
         | inl l ↦ (
-            let m : n ≡ max g.point n = omega arith in
+            let m : n ≡ max g.group_point n = omega arith in
             subst (PointGood group) m (elim (best-is write g.counts g.counts) [
               | inl z ↦ inl z
               | inr h ↦ inr (
@@ -515,16 +519,16 @@ module _ (plan : Plan) (certified : IsCertified plan) (world : World) (kept : Is
     new_placed : (group : ℕ) → group < plan.groups → PlaceGood group (place_in listed group)
     new_placed group there = (view.standing group there, inr (listed, made, refl))
 
-    -- the groups, moved on
+    -- the groups, with_places on
     abbrev later : List ClientGroup
-    later = moved later_group client.groups listed
+    later = with_places later_group client.groups listed
 
     later-at : (group : ℕ) → group_of later group ≡ later_group (group_of client.groups group) (place_in listed group)
-    later-at group = group_of-moved later_group later_group-none client.groups listed group
+    later-at group = group_of-with_places later_group later_group-none client.groups listed group
 
     later_reports : (group : ℕ) → reports_of later group ≡ reports_of client.groups group
     later_reports group =
-        ap (λ g. g.reports) (later-at group) ∙ (elim (cases_Bool (is_raised (place_of client.groups group) (place_in listed group))) [
+        ap (λ g. g.reports) (later-at group) ∙ (elim (cases_Bool (is_later (place_of client.groups group) (place_in listed group))) [
           | inl e ↦ rw e refl
           | inr e ↦ rw e refl
         ])
@@ -532,7 +536,7 @@ module _ (plan : Plan) (certified : IsCertified plan) (world : World) (kept : Is
     -- epochs only rise
     later_group_good : (group : ℕ) → group < plan.groups → (g : ClientGroup) → IsGoodGroup group g → IsGoodGroup group (later_group g (place_in listed group))
     later_group_good group there g good =
-        elim (cases_Bool (is_raised g.place (place_in listed group))) [
+        elim (cases_Bool (is_later g.place (place_in listed group))) [
           | inl e ↦ (
               let up : g.place.epoch < (place_in listed group).epoch = ltb-true _ _ e in
               let is : record g { place = place_in listed group } ≡ later_group g (place_in listed group) = rw e refl in
@@ -548,20 +552,20 @@ module _ (plan : Plan) (certified : IsCertified plan) (world : World) (kept : Is
     later_good : AreGood client.groups → AreGood later
     later_good good group there = subst (IsGoodGroup group) (sym (later-at group)) (later_group_good group there (group_of client.groups group) (good group there))
 
-    -- the groups of a client that has not cut, moved on
+    -- the groups of a client that has not cut, with_places on
     abbrev reread : List ClientGroup
-    reread = moved reread_group client.groups listed
+    reread = with_places reread_group client.groups listed
 
     -- what a client that has not cut may keep of a group
     record IsReadGroup (group : ℕ) (g : ClientGroup) : Type 0 where
       place : PlaceGood group g.place
       reports : (from : From) → IsIn from g.reports → IsMade world (Report group (label v g.place.epoch) from.sender from.contents) × (last_epoch from.contents.lineage < v)
       counts : CountsGood group g
-      point : PointGood group g.point
+      point : PointGood group g.group_point
 
     reread_group_good : (group : ℕ) → group < plan.groups → (g : ClientGroup) → IsReadGroup group g → IsReadGroup group (reread_group g (place_in listed group))
     reread_group_good group there g good =
-        elim (cases_Bool (is_raised g.place (place_in listed group))) [
+        elim (cases_Bool (is_later g.place (place_in listed group))) [
           | inl e ↦ (
               let up : g.place.epoch < (place_in listed group).epoch = ltb-true _ _ e in
               let is : record g { place = place_in listed group; reports = [] } ≡ reread_group g (place_in listed group) = rw e refl in
@@ -576,7 +580,7 @@ module _ (plan : Plan) (certified : IsCertified plan) (world : World) (kept : Is
 
     reread_good : has_cut client.stage ≡ false → is_born client.stage ≡ true → (group : ℕ) → group < plan.groups → IsReadGroup group (group_of reread group)
     reread_good n born group there =
-        subst (IsReadGroup group) (sym (group_of-moved reread_group reread_group-none client.groups listed group))
+        subst (IsReadGroup group) (sym (group_of-with_places reread_group reread_group-none client.groups listed group))
         (reread_group_good group there (group_of client.groups group)
         (record { place = (now.born born).places group there; reports = now.reading n group there; counts = now.counts group there; point = now.points group there }))
 
@@ -611,12 +615,12 @@ module _ (plan : Plan) (certified : IsCertified plan) (world : World) (kept : Is
             counts = λ group there. (reread_good n born group there).counts;
             points = λ group there. (reread_good n born group there).point;
           };
-          says = fences_says (record client { groups = reread }) (place_of reread) (raised_in (place_of client.groups) (place_in listed));
+          says = fences_says (record client { groups = reread }) (place_of reread) (later_in (place_of client.groups) (place_in listed));
         }
     viewed_good Installing e =
         let cut : has_cut client.stage ≡ true = ap has_cut e in
         moved_good cut client.stage cut later later_reports (later_good (groups_good cut)) _
-        (installs_says (record client { stage = client.stage; groups = later }) cut (place_of later) (raised_in (place_of client.groups) (place_in listed)))
+        (installs_says (record client { stage = client.stage; groups = later }) cut (place_of later) (later_in (place_of client.groups) (place_in listed)))
     viewed_good Writing e =
         let cut : has_cut client.stage ≡ true = ap has_cut e in
         moved_good cut client.stage cut (raised plan later) (λ group. raised_reports later group ∙ later_reports group) (raised_good later (later_good (groups_good cut))) [] (λ m i. absurd i)
@@ -652,7 +656,7 @@ module _ (plan : Plan) (certified : IsCertified plan) (world : World) (kept : Is
                     (now.reading n);
                 cut = λ h. absurd (both_ways _ n h);
                 counts = set-all no_group (λ g x. g < plan.groups → CountsGood g x) client.groups group with_report (now.counts group) now.counts;
-                points = set-all no_group (λ g x. g < plan.groups → PointGood g x.point) client.groups group with_report (now.points group) now.points;
+                points = set-all no_group (λ g x. g < plan.groups → PointGood g x.group_point) client.groups group with_report (now.points group) now.points;
               };
               says = λ m i. absurd i;
             })

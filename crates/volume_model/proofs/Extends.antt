@@ -8,7 +8,7 @@ use Rattle.volume_model.specs.Plan.{Plan, has_member}
 use Rattle.volume_model.specs.Message.{Label, Place, Message, place_in}
 use Rattle.volume_model.specs.Message.Message.{View, StepTo, Fence, Report, Install, Write, Gossip, Ack, CopyAsk, CopyReport, PageAsk, Page}
 use Rattle.volume_model.specs.Node.{Node, senders}
-use Rattle.volume_model.specs.Client.{Client, place_of, reports_of, point_of}
+use Rattle.volume_model.specs.Client.{Client, place_of, reports_of, group_point_of}
 use Rattle.volume_model.specs.World.{World}
 use Rattle.volume_model.proofs.Invariant.{epoch_now, path, config, log_of, found_of, lineage_of, HasCut, IsMade, WasAt, IsCopy, IsSource, IsSourced, MessageSourced, IsHistory}
 use Rattle.volume_model.proofs.Kept.{IsPlace, Retains, NodeGrows, NodeKept, HasRead, reported_to, IsChild, IsReached, ClientKept, IsWrite, MessageKept}
@@ -171,7 +171,7 @@ module _ (plan : Plan) (world later : World) (extends : Extends plan world later
       origin = elim (h.cut c).origin [ inl r ↦ inl r | inr k ↦ inr (IsChild-later v client k) ];
     };
     counts = λ group there count i. (let (a, p, m) = h.counts group there count i in (a, p, extends.messages _ m));
-    points = λ group there. elim (h.points group there) [ inl z ↦ inl z | inr r ↦ inr (IsReached-later v group (point_of client.groups group) r) ];
+    points = λ group there. elim (h.points group there) [ inl z ↦ inl z | inr r ↦ inr (IsReached-later v group (group_point_of client.groups group) r) ];
   }
 
   IsWrite-later : (group : ℕ) (l : Label) (r : Redo) → IsWrite world group l r → IsWrite later group l r

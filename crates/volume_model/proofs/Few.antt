@@ -8,7 +8,10 @@ use Rattle.volume_model.specs.Lineage.{extended, found_in, last_start, newest}
 use Rattle.volume_model.specs.Plan.{Plan}
 use Rattle.volume_model.specs.Message.{Place, Message}
 use Rattle.volume_model.specs.Message.Message.{View, StepTo, Fence, Report, Install, Write, Gossip, Ack, CopyAsk, CopyReport, PageAsk, Page}
-use Rattle.volume_model.specs.Client.{Client, ClientAnswer, Change, Stage, all_reports, cut_client, label_of, place_of, reports_of, issued, issued_writes, page_asked, record_of, resent, taken, viewed, write_of, is_last}
+use Rattle.volume_model.specs.Client.{Client, ClientAnswer, Stage, label_of, place_of, reports_of}
+use Rattle.volume_model.specs.ClientWriter.{Change, issued, issued_writes, page_asked, record_of, resent, write_of, is_last}
+use Rattle.volume_model.specs.ClientRecovery.{all_reports, cut_client}
+use Rattle.volume_model.specs.ClientMessages.{taken, viewed}
 use Rattle.volume_model.specs.Client.Stage.{Unborn, Reading, Installing, Writing}
 use Rattle.volume_model.specs.Few.{Few}
 

@@ -9,14 +9,15 @@ use Rattle.volume_model.specs.Plan.{Plan, has_member, IsCertified}
 use Rattle.volume_model.specs.Message.{Label, Message, place_in}
 use Rattle.volume_model.specs.Message.Message.{Report, Ack, CopyReport}
 use Rattle.volume_model.specs.Node.{From, senders}
-use Rattle.volume_model.specs.Client.{Client, Stage, has_cut, is_open, is_point_of, durable_point, complete_point, reports_of, point_of}
+use Rattle.volume_model.specs.Client.{Client, Stage, has_cut, is_open, reports_of, group_point_of}
+use Rattle.volume_model.specs.ClientPoints.{is_consistency_point, durable_point, complete_point}
 use Rattle.volume_model.specs.Client.Stage.{Unborn, Reading, Installing, Writing}
 use Rattle.volume_model.specs.World.{World}
 use Rattle.volume_model.specs.Headline.{Acknowledges, KeepsCommits}
 use Rattle.volume_model.proofs.Basics.{any_passes, IsIn-append}
 use Rattle.volume_model.proofs.Line.{IsLate, descent}
 use Rattle.volume_model.proofs.Logs.{IsChain, same_record, IsIn-up_to, from_up_to, at_most_of_up_to, up_to-up_to, up_to-newer, IsBeginningOf-up_to}
-use Rattle.volume_model.proofs.Chains.{complete_of-covers, point_below-at_most}
+use Rattle.volume_model.proofs.Chains.{complete_of-covers, consistency_point_below-at_most}
 use Rattle.volume_model.proofs.Invariant.{epoch_now, path, config, log_of, found_of, lineage_of, HasCut, IsMade, label, WasAt, IsCopy, Covers, IsSource, IsSourced, MessageSourced, IsHistory, IsReported, HasReadGroup, HasParent, IsLogged, IsSound}
 
 pub Covers-weaker : (world : World) (group v m n : ℕ) (q : Contents) → n ≤ m → Covers world group v m q → Covers world group v n q
@@ -130,7 +131,7 @@ module _ (plan : Plan) (certified : IsCertified plan) (world : World) (sound : I
       ∙ ap (up_to n) h.found
       ∙ up_to-up_to n h.cut (log_of world h.parent) l
 
-  module _ (v : ℕ) (cut : HasCut world v) (n : ℕ) (r : Redo) (stands : IsIn r (log_of world v)) (number : r.lsn ≡ n) (point : r.point ≡ true) (covered : (s : Redo) → IsIn s (log_of world v) → s.lsn ≤ n → s.lsn ≤ point_of (world.clients v).groups s.group) where
+  module _ (v : ℕ) (cut : HasCut world v) (n : ℕ) (r : Redo) (stands : IsIn r (log_of world v)) (number : r.lsn ≡ n) (point : r.point ≡ true) (covered : (s : Redo) → IsIn s (log_of world v) → s.lsn ≤ n → s.lsn ≤ group_point_of (world.clients v).groups s.group) where
     -- what a later client has of it
     record Keeps (later : ℕ) : Type 0 where
       origin : HasParent plan world later
@@ -144,7 +145,7 @@ module _ (plan : Plan) (certified : IsCertified plan) (world : World) (sound : I
         let logged : IsLogged plan world v = sound.logged v cut in
         let there : group < plan.groups = logged.group_there s i in
         let read : HasReadGroup plan world later h.parent group = h.reads group there in
-        let k : s.lsn ≤ point_of (world.clients v).groups group = covered s i l in
+        let k : s.lsn ≤ group_point_of (world.clients v).groups group = covered s i l in
         elim (sound.written v group there cut) [
           | inl z ↦ absurd (let pos : 0 < s.lsn = lsn_positive' (log_of world v) logged.chain s i in omega arith)
           | inr w ↦ (
@@ -157,9 +158,9 @@ module _ (plan : Plan) (certified : IsCertified plan) (world : World) (sound : I
               let e' : from.sender ≡ x = eqb-true from.sender x e in
               let kept : IsMade world (Report group (label later read.at) from.sender from.contents) × (last_epoch from.contents.lineage ≤ h.parent) = read.kept from j in
               let b' : (w.writers from.sender ≡ true) ⊎ IsLate plan group (path plan world group) w.at from.sender = subst (λ y. (w.writers y ≡ true) ⊎ IsLate plan group (path plan world group) w.at y) (sym e') b in
-              let c : Covers world group v (point_of (world.clients v).groups group) from.contents =
-              report_covers group there v w.at (point_of (world.clients v).groups group) one (omega arith) w.writers w.writes w.acked (label later read.at) from.sender from.contents kept.0 below b' in
-              (from, j, sound.reports group (label later read.at) from.sender from.contents kept.0, Covers-weaker world group v (point_of (world.clients v).groups group) s.lsn from.contents k c, kept.1))
+              let c : Covers world group v (group_point_of (world.clients v).groups group) from.contents =
+              report_covers group there v w.at (group_point_of (world.clients v).groups group) one (omega arith) w.writers w.writes w.acked (label later read.at) from.sender from.contents kept.0 below b' in
+              (from, j, sound.reports group (label later read.at) from.sender from.contents kept.0, Covers-weaker world group v (group_point_of (world.clients v).groups group) s.lsn from.contents k c, kept.1))
         ]
       where
         lsn_positive' : (log : List Redo) → IsChain log → (t : Redo) → IsIn t log → 0 < t.lsn
@@ -236,7 +237,7 @@ module _ (plan : Plan) (certified : IsCertified plan) (world : World) (sound : I
     stands : IsIn r (log_of world v)
     number : r.lsn ≡ n
     point : r.point ≡ true
-    covered : (s : Redo) → IsIn s (log_of world v) → s.lsn ≤ n → s.lsn ≤ point_of (world.clients v).groups s.group
+    covered : (s : Redo) → IsIn s (log_of world v) → s.lsn ≤ n → s.lsn ≤ group_point_of (world.clients v).groups s.group
 
   open_cut : (stage : Stage) → is_open stage ≡ true → has_cut stage ≡ true
   open_cut Unborn h = h
@@ -247,20 +248,20 @@ module _ (plan : Plan) (certified : IsCertified plan) (world : World) (sound : I
   commit : (v n : ℕ) → Acknowledges world v n → IsCommit v n
   commit v n h =
       let client : Client = world.clients v in
-      let parts : (is_open client.stage ≡ true) × ((is_point_of n client.log && nat_le n (durable_point client)) ≡ true) = and_parts _ _ h in
-      let parts' : (is_point_of n client.log ≡ true) × (nat_le n (durable_point client) ≡ true) = and_parts _ _ parts.1 in
+      let parts : (is_open client.stage ≡ true) × ((is_consistency_point n client.log && nat_le n (durable_point client)) ≡ true) = and_parts _ _ h in
+      let parts' : (is_consistency_point n client.log ≡ true) × (nat_le n (durable_point client) ≡ true) = and_parts _ _ parts.1 in
       let (r, i, p) = any_passes (λ r. eqb r.lsn n && r.point) client.log parts'.0 in
       let q : (eqb r.lsn n ≡ true) × (r.point ≡ true) = and_parts _ _ p in
       let cut : HasCut world v = open_cut client.stage parts.0 in
       let a : n ≤ durable_point client = leb-true n (durable_point client) parts'.1 in
-      let b : durable_point client ≤ complete_point client = point_below-at_most (complete_point client) client.log in
+      let b : durable_point client ≤ complete_point client = consistency_point_below-at_most (complete_point client) client.log in
       record {
         cut = cut;
         r = r;
         stands = i;
         number = eqb-true r.lsn n q.0;
         point = q.1;
-        covered = λ s j l. complete_of-covers (point_of client.groups) client.log (sound.logged v cut).chain s j (omega arith);
+        covered = λ s j l. complete_of-covers (group_point_of client.groups) client.log (sound.logged v cut).chain s j (omega arith);
       }
 
   one_of : (v u n m : ℕ) (r s : Redo) → v < u → IsCommit v n → IsCommit u m → IsIn r (up_to n (log_of world v)) → IsIn s (up_to m (log_of world u)) → r.lsn ≡ s.lsn → r ≡ s

@@ -5,7 +5,9 @@ use Rattle.volume_model.specs.Lists.{added, numbered, IsBeginningOf}
 use Rattle.volume_model.specs.Plan.{Plan}
 use Rattle.volume_model.specs.Message.{Message}
 use Rattle.volume_model.specs.Node.{NodeAnswer, hydrated, restarted, offered}
-use Rattle.volume_model.specs.Client.{ClientAnswer, issued, cut_client, opened, resent, page_asked}
+use Rattle.volume_model.specs.Client.{ClientAnswer}
+use Rattle.volume_model.specs.ClientWriter.{issued, resent, page_asked}
+use Rattle.volume_model.specs.ClientRecovery.{cut_client, opened}
 use Rattle.volume_model.specs.World.{World, Event, AuthorityStep, Step, assigned, advanced, refreshed, deliver, take, if_named, of_authority, of_client, of_node, step, after, after_step}
 use Rattle.volume_model.specs.World.Event.{Assign, Advance, Refresh, Issue, Take, Cut, Open, Resend, Read, Deliver, Hydrate, Restart, Offer}
 use Rattle.volume_model.specs.Actor.{Keeps}

@@ -9,7 +9,7 @@ use Rattle.volume_model.proofs.Above.{ancestor}
 use Rattle.volume_model.specs.Message.{Label, Place, Message, place_in}
 use Rattle.volume_model.specs.Message.Message.{View, StepTo, Fence, Report, Install, Write, Gossip, Ack, CopyAsk, CopyReport, PageAsk, Page}
 use Rattle.volume_model.specs.Node.{From, senders}
-use Rattle.volume_model.specs.Client.{has_cut, reports_of, point_of}
+use Rattle.volume_model.specs.Client.{has_cut, reports_of, group_point_of}
 use Rattle.volume_model.specs.World.{World, configuration_of}
 use Rattle.volume_model.proofs.Line.{IsLine}
 use Rattle.volume_model.proofs.Logs.{IsChain}
@@ -157,7 +157,7 @@ pub record IsWritten (plan : Plan) (world : World) (v group n : ℕ) : Type 0 wh
 pub record IsSound (plan : Plan) (world : World) : Type 0 where
   pub line : (group : ℕ) → group < plan.groups → IsLine plan group (path plan world group) (epoch_now plan world group)
   pub logged : (v : ℕ) → HasCut world v → IsLogged plan world v
-  pub written : (v group : ℕ) → group < plan.groups → HasCut world v → (point_of (world.clients v).groups group ≡ 0) ⊎ IsWritten plan world v group (point_of (world.clients v).groups group)
+  pub written : (v group : ℕ) → group < plan.groups → HasCut world v → (group_point_of (world.clients v).groups group ≡ 0) ⊎ IsWritten plan world v group (group_point_of (world.clients v).groups group)
   pub view_epoch : (v : ℕ) (places : List Place) → IsMade world (View v places) → (group : ℕ) → group < plan.groups → (1 ≤ (place_in places group).epoch) × ((place_in places group).epoch ≤ epoch_now plan world group)
   pub views_ordered : (u v : ℕ) (p q : List Place) → u < v → IsMade world (View u p) → IsMade world (View v q) → (group : ℕ) → group < plan.groups → (place_in p group).epoch ≤ (place_in q group).epoch
   pub copies : (group f x : ℕ) (q : Contents) → IsMade world (CopyReport group f x q) → IsCopy world group q

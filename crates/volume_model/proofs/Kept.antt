@@ -8,7 +8,8 @@ use Rattle.volume_model.specs.Plan.{Plan}
 use Rattle.volume_model.specs.Message.{Label, Place, Message, place_in}
 use Rattle.volume_model.specs.Message.Message.{View, StepTo, Fence, Report, Install, Write, Gossip, Ack, CopyAsk, CopyReport, PageAsk, Page}
 use Rattle.volume_model.specs.Node.{From, Node, senders, page_of}
-use Rattle.volume_model.specs.Client.{Client, Count, is_born, has_cut, all_reports, place_of, reports_of, counts_of, point_of}
+use Rattle.volume_model.specs.Client.{Client, Count, is_born, has_cut, place_of, reports_of, counts_of, group_point_of}
+use Rattle.volume_model.specs.ClientRecovery.{all_reports}
 use Rattle.volume_model.specs.World.{Authority, World, configuration_of}
 use Rattle.volume_model.proofs.Logs.{IsLink}
 use Rattle.volume_model.proofs.Ordered.{IsOrdered}
@@ -122,7 +123,7 @@ pub record ClientKept (plan : Plan) (world : World) (v : ℕ) (client : Client) 
   pub reading : has_cut client.stage ≡ false → (group : ℕ) → group < plan.groups → (from : From) → IsIn from (reports_of client.groups group) → IsMade world (Report group (label v (place_of client.groups group).epoch) from.sender from.contents) × (last_epoch from.contents.lineage < v)
   pub cut : has_cut client.stage ≡ true → IsCutClient plan world v client
   pub counts : (group : ℕ) → group < plan.groups → (count : Count) → IsIn count (counts_of client.groups group) → (a : ℕ) × (a ≤ (place_of client.groups group).epoch) × IsMade world (Ack group (label v a) count.sender count.reached)
-  pub points : (group : ℕ) → group < plan.groups → (point_of client.groups group ≡ 0) ⊎ IsReached plan world v group (point_of client.groups group)
+  pub points : (group : ℕ) → group < plan.groups → (group_point_of client.groups group ≡ 0) ⊎ IsReached plan world v group (group_point_of client.groups group)
 
 -- what is known of an acknowledgement
 pub record IsAck (world : World) (group : ℕ) (l : Label) (x s : ℕ) : Type 0 where

@@ -8,7 +8,11 @@ use Rattle.volume_model.specs.Plan.{Plan, IsCertified}
 use Rattle.volume_model.specs.Message.{Label, Place, Message, place_in}
 use Rattle.volume_model.specs.Message.Message.{View, StepTo, Fence, Report, Install, Write, Gossip, Ack, CopyAsk, CopyReport, PageAsk, Page}
 use Rattle.volume_model.specs.Node.{From, NodeAnswer, in_group}
-use Rattle.volume_model.specs.Client.{Client, Stage, Change, ClientStep, ClientAnswer, is_born, has_cut, is_open, complete_of, point_below, is_point_of, complete_point, durable_point, groups_now, issued_log, record_of, is_last, is_transaction, issued, viewed, report_taken, ack_taken, with_count, are_places, taken, cut_client, opened, write_of, resent, page_asked, place_of, counts_of, point_of, ClientGroup, no_group, group_of, raised, raised_group, moved, later_group, is_raised}
+use Rattle.volume_model.specs.Client.{Client, Stage, ClientStep, ClientAnswer, is_born, has_cut, is_open, place_of, counts_of, group_point_of, ClientGroup, no_group, group_of}
+use Rattle.volume_model.specs.ClientPoints.{complete_of, consistency_point_below, is_consistency_point, complete_point, durable_point, groups_now, with_count, raised, raised_group}
+use Rattle.volume_model.specs.ClientWriter.{Change, issued_log, record_of, is_last, is_transaction, issued, write_of, resent, page_asked}
+use Rattle.volume_model.specs.ClientRecovery.{report_taken, cut_client, opened}
+use Rattle.volume_model.specs.ClientMessages.{viewed, ack_taken, are_places, taken, with_places, later_group, is_later}
 use Rattle.volume_model.specs.Client.Stage.{Unborn, Reading, Installing, Writing}
 use Rattle.volume_model.specs.World.{World, Event, AuthorityStep, of_authority, of_client, of_node, after_step, after, run, opening, assigned, advanced, refreshed, take}
 use Rattle.volume_model.specs.World.Event.{Assign, Advance, Refresh, Issue, Take, Cut, Open, Resend, Read, Deliver, Hydrate, Restart, Offer}
@@ -19,7 +23,7 @@ use Rattle.volume_model.proofs.Kept.{IsKept}
 use Rattle.volume_model.proofs.Sound.{facts}
 use Rattle.volume_model.proofs.NodeSteps.{refuse_if-ok}
 use Rattle.volume_model.proofs.Run.{opening_kept, run_kept}
-use Rattle.volume_model.proofs.Groups.{set-all, group_of-moved, later_group-none, group_of-raised}
+use Rattle.volume_model.proofs.Groups.{set-all, group_of-with_places, later_group-none, group_of-raised}
 use Rattle.std.specs.Prelude.{slice_set}
 use Rattle.volume_model.specs.declared.fault.Fault.{Fault}
 use Rattle.volume_model.specs.declared.fault.Fault.TheVariants.{AlreadyDone, BadTransaction, LimitReached, LsnSpent, NoActor, NoGroup, NotAddressed, NotInPlan, NotOpen}
@@ -27,7 +31,7 @@ use Rattle.volume_model.specs.declared.fault.Fault.TheVariants.{AlreadyDone, Bad
 -- what an open client has it keeps
 pub record Lasts (old new : Client) : Type 0 where
   pub open_on : is_open old.stage ≡ true → is_open new.stage ≡ true
-  pub points : is_open old.stage ≡ true → (group : ℕ) → point_of old.groups group ≤ point_of new.groups group
+  pub points : is_open old.stage ≡ true → (group : ℕ) → group_point_of old.groups group ≤ group_point_of new.groups group
   pub log : is_open old.stage ≡ true → (later : List Redo) × (later ++ old.log ≡ new.log)
 
 same_lasts : (client : Client) → Lasts client client
@@ -36,7 +40,7 @@ same_lasts client = record { open_on = λ h. h; points = λ h group. omega arith
 lasts_after : (a b c : Client) → Lasts a b → Lasts b c → Lasts a c
 lasts_after a b c f g = record {
   open_on = λ h. g.open_on (f.open_on h);
-  points = λ h group. (let x : point_of a.groups group ≤ point_of b.groups group = f.points h group in let y : point_of b.groups group ≤ point_of c.groups group = g.points (f.open_on h) group in omega arith);
+  points = λ h group. (let x : group_point_of a.groups group ≤ group_point_of b.groups group = f.points h group in let y : group_point_of b.groups group ≤ group_point_of c.groups group = g.points (f.open_on h) group in omega arith);
   log = λ h. (let (m, p) = f.log h in let (n, q) = g.log (f.open_on h) in (n ++ m, append_assoc n m a.log ∙ ap (λ z. n ++ z) p ∙ q));
 }
 
@@ -104,16 +108,16 @@ module _ (plan : Plan) (v : ℕ) (client : Client) where
       let (b, h2) = refuse_if-ok (not (nat_lt group plan.groups)) NoGroup _ step h1 in
       subst IsLater (Ok-is _ step h2) (same_lasts client)
 
-  raised_rises : (groups : List ClientGroup) (group : ℕ) → point_of groups group ≤ point_of (raised plan groups) group
+  raised_rises : (groups : List ClientGroup) (group : ℕ) → group_point_of groups group ≤ group_point_of (raised plan groups) group
   raised_rises groups group =
-      let e : point_of (raised plan groups) group ≡ (raised_group plan group (group_of groups group)).point = ap (λ g. g.point) (group_of-raised plan groups group) in
+      let e : group_point_of (raised plan groups) group ≡ (raised_group plan group (group_of groups group)).group_point = ap (λ g. g.group_point) (group_of-raised plan groups group) in
       omega arith
 
-  later_point : (g : ClientGroup) (place : Place) → (later_group g place).point ≡ g.point
-  later_point g place = elim (cases_Bool (is_raised g.place place)) [ inl e ↦ rw e refl | inr e ↦ rw e refl ]
+  later_point : (g : ClientGroup) (place : Place) → (later_group g place).group_point ≡ g.group_point
+  later_point g place = elim (cases_Bool (is_later g.place place)) [ inl e ↦ rw e refl | inr e ↦ rw e refl ]
 
-  later_same : (places : List Place) (group : ℕ) → point_of (moved later_group client.groups places) group ≡ point_of client.groups group
-  later_same places group = ap (λ g. g.point) (group_of-moved later_group later_group-none client.groups places group) ∙ later_point (group_of client.groups group) (place_in places group)
+  later_same : (places : List Place) (group : ℕ) → group_point_of (with_places later_group client.groups places) group ≡ group_point_of client.groups group
+  later_same places group = ap (λ g. g.group_point) (group_of-with_places later_group later_group-none client.groups places group) ∙ later_point (group_of client.groups group) (place_in places group)
 
   viewed_lasts : (places : List Place) (stage : Stage) → client.stage ≡ stage → IsLater (viewed plan v client places stage)
   viewed_lasts places Unborn e = closed_lasts client _ (ap is_open e)
@@ -122,8 +126,8 @@ module _ (plan : Plan) (v : ℕ) (client : Client) where
   viewed_lasts places Writing e = record {
     open_on = λ h. h;
     points = λ h group. (
-        let same : point_of (moved later_group client.groups places) group ≡ point_of client.groups group = later_same places group in
-        let rises : point_of (moved later_group client.groups places) group ≤ point_of (raised plan (moved later_group client.groups places)) group = raised_rises (moved later_group client.groups places) group in
+        let same : group_point_of (with_places later_group client.groups places) group ≡ group_point_of client.groups group = later_same places group in
+        let rises : group_point_of (with_places later_group client.groups places) group ≤ group_point_of (raised plan (with_places later_group client.groups places)) group = raised_rises (with_places later_group client.groups places) group in
         omega arith);
     log = λ h. ([], refl);
   }
@@ -135,7 +139,7 @@ module _ (plan : Plan) (v : ℕ) (client : Client) where
         | inl y ↦ closed_lasts client (report_taken v client group l from) (closed_before_cut client.stage (not-true _ (and_parts (not (has_cut client.stage)) _ y).0))
       ]
 
-  now_rises : (stage : Stage) (groups : List ClientGroup) (group : ℕ) → point_of groups group ≤ point_of (groups_now plan stage groups) group
+  now_rises : (stage : Stage) (groups : List ClientGroup) (group : ℕ) → group_point_of groups group ≤ group_point_of (groups_now plan stage groups) group
   now_rises Unborn groups group = omega arith
   now_rises Reading groups group = omega arith
   now_rises Installing groups group = omega arith
@@ -145,14 +149,14 @@ module _ (plan : Plan) (v : ℕ) (client : Client) where
   ack_lasts group l sender reached =
       let with_ack : ClientGroup = record (group_of client.groups group) { counts = with_count sender reached (counts_of client.groups group) } in
       let groups : List ClientGroup = slice_set client.groups group with_ack in
-      let same : (g : ℕ) → point_of groups g ≡ point_of client.groups g = set-all no_group (λ g x. x.point ≡ point_of client.groups g) client.groups group with_ack refl (λ g. refl) in
+      let same : (g : ℕ) → group_point_of groups g ≡ group_point_of client.groups g = set-all no_group (λ g x. x.group_point ≡ group_point_of client.groups g) client.groups group with_ack refl (λ g. refl) in
       elim (cases_Bool (has_cut client.stage && nat_le l.member (place_of client.groups group).epoch)) [
         | inr n ↦ rw n (same_lasts client)
         | inl y ↦ rw y (record {
           open_on = λ h. h;
           points = λ h g. (
-              let e : point_of groups g ≡ point_of client.groups g = same g in
-              let rises : point_of groups g ≤ point_of (groups_now plan client.stage groups) g = now_rises client.stage groups g in
+              let e : group_point_of groups g ≡ group_point_of client.groups g = same g in
+              let rises : group_point_of groups g ≤ group_point_of (groups_now plan client.stage groups) g = now_rises client.stage groups g in
               omega arith);
           log = λ h. ([], refl);
         })
@@ -253,19 +257,19 @@ complete_rises points points' up (s ∷ older) c =
       ])
     ]
 
-point_at_most_last : (n : ℕ) (log : List Redo) → IsChain log → point_below n log ≤ last_lsn log
+point_at_most_last : (n : ℕ) (log : List Redo) → IsChain log → consistency_point_below n log ≤ last_lsn log
 point_at_most_last n [] c = omega arith
 point_at_most_last n (s ∷ older) c =
     elim (cases_Bool (s.point && nat_le s.lsn n)) [
       | inl e ↦ rw e (omega arith)
-      | inr e ↦ rw e (let l : point_below n older ≤ last_lsn older = point_at_most_last n older c.1 in let k : last_lsn older < s.lsn = c.0.above in omega arith)
+      | inr e ↦ rw e (let l : consistency_point_below n older ≤ last_lsn older = point_at_most_last n older c.1 in let k : last_lsn older < s.lsn = c.0.above in omega arith)
     ]
 
-point_rises : (n m : ℕ) → n ≤ m → (log : List Redo) → IsChain log → point_below n log ≤ point_below m log
+point_rises : (n m : ℕ) → n ≤ m → (log : List Redo) → IsChain log → consistency_point_below n log ≤ consistency_point_below m log
 point_rises n m h [] c = omega arith
 point_rises n m h (s ∷ older) c =
-    let ih : point_below n older ≤ point_below m older = point_rises n m h older c.1 in
-    let below : point_below n older ≤ last_lsn older = point_at_most_last n older c.1 in
+    let ih : consistency_point_below n older ≤ consistency_point_below m older = point_rises n m h older c.1 in
+    let below : consistency_point_below n older ≤ last_lsn older = point_at_most_last n older c.1 in
     let link : last_lsn older < s.lsn = c.0.above in
     elim (cases_Bool (s.point && nat_le s.lsn n)) [
       | inl e ↦ (
@@ -279,18 +283,18 @@ point_rises n m h (s ∷ older) c =
       ])
     ]
 
-durable_rises : (points points' : ℕ → ℕ) → ((group : ℕ) → points group ≤ points' group) → (later log : List Redo) → IsChain (later ++ log) → point_below (complete_of points log) log ≤ point_below (complete_of points' (later ++ log)) (later ++ log)
+durable_rises : (points points' : ℕ → ℕ) → ((group : ℕ) → points group ≤ points' group) → (later log : List Redo) → IsChain (later ++ log) → consistency_point_below (complete_of points log) log ≤ consistency_point_below (complete_of points' (later ++ log)) (later ++ log)
 durable_rises points points' up [] log c = point_rises _ _ (complete_rises points points' up log c) log c
 durable_rises points points' up (s ∷ later) log c =
     let older : List Redo = later ++ log in
-    let ih : point_below (complete_of points log) log ≤ point_below (complete_of points' older) older = durable_rises points points' up later log c.1 in
+    let ih : consistency_point_below (complete_of points log) log ≤ consistency_point_below (complete_of points' older) older = durable_rises points points' up later log c.1 in
     let grows : complete_of points' older ≤ complete_of points' (s ∷ older) =
     elim (cases_Bool (eqb (complete_of points' older) (last_lsn older) && nat_le s.lsn (points' s.group))) [
       | inl e ↦ rw e (let b : complete_of points' older ≤ last_lsn older = complete_below points' older c.1 in let k : last_lsn older < s.lsn = c.0.above in omega arith)
       | inr e ↦ rw e (omega arith)
     ] in
-    let rises : point_below (complete_of points' older) older ≤ point_below (complete_of points' (s ∷ older)) older = point_rises _ _ grows older c.1 in
-    let below : point_below (complete_of points' (s ∷ older)) older ≤ last_lsn older = point_at_most_last _ older c.1 in
+    let rises : consistency_point_below (complete_of points' older) older ≤ consistency_point_below (complete_of points' (s ∷ older)) older = point_rises _ _ grows older c.1 in
+    let below : consistency_point_below (complete_of points' (s ∷ older)) older ≤ last_lsn older = point_at_most_last _ older c.1 in
     let link : last_lsn older < s.lsn = c.0.above in
     elim (cases_Bool (s.point && nat_le s.lsn (complete_of points' (s ∷ older)))) [
       | inl e ↦ rw e (omega arith)
@@ -361,15 +365,15 @@ module _ (plan : Plan) (certified : IsCertified plan) (events more : List Event)
 
     -- an opened writer's durable point never falls
     rises : durable_point old ≤ durable_point new
-    rises = subst (λ log. durable_point old ≤ point_below (complete_of (point_of new.groups) log) log) same_log (durable_rises (point_of old.groups) (point_of new.groups) (lasts.points opened) later old.log chain)
+    rises = subst (λ log. durable_point old ≤ consistency_point_below (complete_of (group_point_of new.groups) log) log) same_log (durable_rises (group_point_of old.groups) (group_point_of new.groups) (lasts.points opened) later old.log chain)
 
   stays : (v n : ℕ) → Acknowledges before v n → Acknowledges end v n × (part_of end v n ≡ part_of before v n)
   stays v n h =
-      let parts : (is_open (before.clients v).stage ≡ true) × ((is_point_of n (before.clients v).log && nat_le n (durable_point (before.clients v))) ≡ true) = and_parts _ _ h in
-      let both : (is_point_of n (before.clients v).log ≡ true) × (nat_le n (durable_point (before.clients v)) ≡ true) = and_parts _ _ parts.1 in
+      let parts : (is_open (before.clients v).stage ≡ true) × ((is_consistency_point n (before.clients v).log && nat_le n (durable_point (before.clients v))) ≡ true) = and_parts _ _ h in
+      let both : (is_consistency_point n (before.clients v).log ≡ true) × (nat_le n (durable_point (before.clients v)) ≡ true) = and_parts _ _ parts.1 in
       let risen : durable_point (before.clients v) ≤ durable_point (end.clients v) = rises v parts.0 in
       let low : n ≤ durable_point (before.clients v) = leb-true n (durable_point (before.clients v)) both.1 in
-      let at : is_point_of n (end.clients v).log ≡ true = subst (λ log. is_point_of n log ≡ true) (same_log v parts.0) (any-later (λ r. eqb r.lsn n && r.point) (later v parts.0) (before.clients v).log both.0) in
+      let at : is_consistency_point n (end.clients v).log ≡ true = subst (λ log. is_consistency_point n log ≡ true) (same_log v parts.0) (any-later (λ r. eqb r.lsn n && r.point) (later v parts.0) (before.clients v).log both.0) in
       let below : durable_point (before.clients v) ≤ last_lsn (before.clients v).log = point_at_most_last (complete_point (before.clients v)) (before.clients v).log (IsChain-rest (later v parts.0) (before.clients v).log (chain v parts.0)) in (
         and_from _ _ (open_now v parts.0) (and_from _ _ at (le-leb n (durable_point (end.clients v)) (omega arith))),
         ap (up_to n) (sym (same_log v parts.0)) ∙ up_to-newer n (later v parts.0) (before.clients v).log (λ r i. (let a : last_lsn (before.clients v).log < r.lsn = later_above (later v parts.0) (before.clients v).log (chain v parts.0) r i in omega arith)),

@@ -3,7 +3,7 @@ use Rattle.std.proofs.Common.{◌≡◌, ℕ, ◌<◌, ◌≤◌, max, Bool, tru
 use Rattle.std.proofs.lemmas.Bool.{cases_Bool, and_parts, both_ways, eqb-true, eqb-false, eq-eqb, ltb-true, ltb-false, leb-false, not-false}
 use Rattle.volume_model.specs.Lists.{IsIn, numbered, put_at}
 use Rattle.volume_model.specs.Formula.{sat}
-use Rattle.volume_model.specs.FormulaLaws.{sat-some}
+use Rattle.volume_model.proofs.FormulaLaws.{sat-some}
 use Rattle.volume_model.specs.Redo.{Redo, with_record, holds_record, record_at, scl}
 use Rattle.volume_model.specs.Lineage.{Lineage, last_epoch, is_live, Contents, newest, found_in}
 use Rattle.volume_model.specs.Plan.{Plan, has_member, is_full, is_configuration, is_named, IsCertified}

@@ -3,10 +3,12 @@ use Rattle.std.proofs.Common.{◌≡◌, ℕ, ◌<◌, ◌≤◌, max, true, fal
 use Rattle.std.proofs.lemmas.Bool.{and_parts, and_from, le-leb, not-false}
 use Rattle.volume_model.specs.Lists.{IsIn}
 use Rattle.volume_model.specs.Formula.{Formula, sat}
-use Rattle.volume_model.specs.FormulaLaws.{sat_more}
+use Rattle.volume_model.proofs.FormulaLaws.{sat_more}
 use Rattle.volume_model.specs.Redo.{Redo, last_lsn, cut_of, log_found}
 use Rattle.volume_model.specs.Plan.{Plan, IsCertified}
-use Rattle.volume_model.specs.Client.{Client, ClientStep, ClientAnswer, Count, is_born, has_cut, is_open, opened, has_installed, reaching, counted_by, best, raised, place_of, counts_of, point_of, place_configuration, complete_of, point_below}
+use Rattle.volume_model.specs.Client.{Client, ClientStep, ClientAnswer, Count, is_born, has_cut, is_open, place_of, counts_of, group_point_of, place_configuration}
+use Rattle.volume_model.specs.ClientPoints.{reaching, counted_by, best, raised, complete_of, consistency_point_below}
+use Rattle.volume_model.specs.ClientRecovery.{opened, has_installed}
 use Rattle.volume_model.specs.Client.Stage.{Writing}
 use Rattle.volume_model.specs.World.{World, Event, Step, opening, run, step, of_client}
 use Rattle.volume_model.specs.World.Event.{Open}
@@ -51,7 +53,7 @@ way_ends records fall n (inr found) (r ∷ older) way =
     (way.1, ap (λ z. z.point) same ∙ point)
 
 -- the durable point of such a log that is covered as a whole
-durable_at : (n : ℕ) (log : List Redo) → EndsAt n log → point_below (last_lsn log) log ≡ n
+durable_at : (n : ℕ) (log : List Redo) → EndsAt n log → consistency_point_below (last_lsn log) log ≡ n
 durable_at n [] h = sym h
 durable_at n (r ∷ older) h =
     let e : (r.point && nat_le r.lsn r.lsn) ≡ true = and_from _ _ h.1 (le-leb r.lsn r.lsn (le_refl r.lsn)) in
@@ -100,7 +102,7 @@ module _ (plan : Plan) (certified : IsCertified plan) (events : List Event) (v :
         (certified.quorums group (place_of client.groups group).configuration there at).meets
 
     -- so the group's point, once it is raised, covers the record
-    covered : (group : ℕ) → group < plan.groups → (r : Redo) → IsIn r client.found → r.group ≡ group → r.lsn ≤ point_of (raised plan client.groups) group
+    covered : (group : ℕ) → group < plan.groups → (r : Redo) → IsIn r client.found → r.group ≡ group → r.lsn ≤ group_point_of (raised plan client.groups) group
     covered group there r i g =
         let write : Formula = (place_configuration plan group (place_of client.groups group)).write in
         let counts : List Count = counts_of client.groups group in
@@ -108,18 +110,18 @@ module _ (plan : Plan) (certified : IsCertified plan) (events : List Event) (v :
         let written : IsWrittenTo write counts r.lsn = sat_more write (counted_by counts) (reaching counts r.lsn)
         (λ x h. (let (count, j, e, z) = reaching-some counts 0 x h in reaching-from counts r.lsn x count j e (counted_reaches group there r i g count j))) all in
         let low : r.lsn ≤ best write counts counts = (best-greatest write (write_filled group there) counts).at_least_each r.lsn written in
-        let is : point_of (raised plan client.groups) group ≡ max (point_of client.groups group) (best write counts counts) = ap (λ z. z.point) (group_of-raised plan client.groups group) in
+        let is : group_point_of (raised plan client.groups) group ≡ max (group_point_of client.groups group) (best write counts counts) = ap (λ z. z.group_point) (group_of-raised plan client.groups group) in
         omega arith
 
     at_cut : is_open client.stage ≡ false → IsAtItsCut (record client { stage = Writing; groups = raised plan client.groups })
     at_cut closed =
-        let points : ℕ → ℕ = point_of (raised plan client.groups) in
+        let points : ℕ → ℕ = group_point_of (raised plan client.groups) in
         let same : client.log ≡ client.found = (run_tidy plan events v).log_found closed in
         let chain : IsChain client.found = found_chain plan certified world kept v cut in
         let f : Facts plan world v = facts plan certified world kept v cut in
         let complete : complete_of points client.found ≡ last_lsn client.found = all_complete points client.found (grow_chain client.found chain) (complete_greatest points client.found (grow_chain client.found chain))
         (λ r i. covered r.group (f.group_there r (subst (λ z. IsIn r z) (sym same) i)) r i refl) in
-        ap (λ z. point_below (complete_of points z) z) same ∙ ap (λ n. point_below n client.found) complete ∙ durable_at (last_cut client.lineage) client.found (found_ends cut)
+        ap (λ z. consistency_point_below (complete_of points z) z) same ∙ ap (λ n. consistency_point_below n client.found) complete ∙ durable_at (last_cut client.lineage) client.found (found_ends cut)
 
   client_is : (a b : ClientStep) → ◌≡◌ {A = ClientAnswer} (Ok a) (Ok b) → a ≡ b
   client_is a b h = cc

@@ -8,7 +8,10 @@ use Rattle.volume_model.specs.Plan.{Plan}
 use Rattle.volume_model.specs.Message.{Label, Place, Message}
 use Rattle.volume_model.specs.Message.Message.{View, StepTo, Fence, Report, Install, Write, Gossip, Ack, CopyAsk, CopyReport, PageAsk, Page}
 use Rattle.volume_model.specs.Node.{Node, NodeStep, NodeAnswer, label_checks, take_record, reaction, hydrated, offered, gossip_of}
-use Rattle.volume_model.specs.Client.{Client, ClientStep, Change, is_born, issued, taken, cut_client, opened, resent, write_of, page_asked}
+use Rattle.volume_model.specs.Client.{Client, ClientStep, is_born}
+use Rattle.volume_model.specs.ClientWriter.{Change, issued, resent, write_of, page_asked}
+use Rattle.volume_model.specs.ClientRecovery.{cut_client, opened}
+use Rattle.volume_model.specs.ClientMessages.{taken}
 use Rattle.volume_model.specs.World.{Authority, AuthorityStep, assigned, advanced, refreshed}
 use Rattle.volume_model.specs.Told.{Refuses, IsOwn, IsOwnOfClient}
 

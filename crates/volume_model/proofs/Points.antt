@@ -3,10 +3,11 @@ use Rattle.std.proofs.Common.{◌≡◌, ℕ, ◌<◌, ◌≤◌, max, true, ◌
 use Rattle.std.proofs.lemmas.Bool.{cases_Bool, cases_lt, and_parts, and_from, both_ways, true≢false, eqb-true, eq-eqb, leb-true, le-leb}
 use Rattle.volume_model.specs.Lists.{IsIn}
 use Rattle.volume_model.specs.Formula.{Formula, sat}
-use Rattle.volume_model.specs.FormulaLaws.{sat_more, sat-some}
+use Rattle.volume_model.proofs.FormulaLaws.{sat_more, sat-some}
 use Rattle.volume_model.specs.Redo.{Redo, last_lsn}
 use Rattle.volume_model.specs.Plan.{Plan, IsCertified}
-use Rattle.volume_model.specs.Client.{has_cut, is_open, ClientGroup, Count, reaching, best, place_configuration, complete_of, point_below, is_point_of, point_of, complete_point}
+use Rattle.volume_model.specs.Client.{has_cut, is_open, ClientGroup, Count, place_configuration, group_point_of}
+use Rattle.volume_model.specs.ClientPoints.{reaching, best, complete_of, consistency_point_below, is_consistency_point, complete_point}
 use Rattle.volume_model.specs.Greatest.{IsGreatest}
 use Rattle.volume_model.specs.Points.{IsWrittenTo, IsRaised, GroupPointIsGreatest, NumbersGrow, IsCovered, IsPointWithin, PointsOfLogsAreGreatest, CompleteAndDurablePointsAreGreatest}
 use Rattle.volume_model.proofs.Basics.{any_passes, any_from}
@@ -187,19 +188,19 @@ complete_greatest points (s ∷ older) grow =
     ]
 
 -- a consistency point of the log, by its record
-point_record : (n : ℕ) (log : List Redo) → is_point_of n log ≡ true → (r : Redo) × IsIn r log × (r.lsn ≡ n) × (r.point ≡ true)
+point_record : (n : ℕ) (log : List Redo) → is_consistency_point n log ≡ true → (r : Redo) × IsIn r log × (r.lsn ≡ n) × (r.point ≡ true)
 point_record n log h =
     let (r, i, p) = any_passes (λ r. eqb r.lsn n && r.point) log h in
     let parts : (eqb r.lsn n ≡ true) × (r.point ≡ true) = and_parts _ _ p in
     (r, i, eqb-true r.lsn n parts.0, parts.1)
 
-pub is_point-from : (n : ℕ) (log : List Redo) (r : Redo) → IsIn r log → r.lsn ≡ n → r.point ≡ true → is_point_of n log ≡ true
+pub is_point-from : (n : ℕ) (log : List Redo) (r : Redo) → IsIn r log → r.lsn ≡ n → r.point ≡ true → is_consistency_point n log ≡ true
 is_point-from n log r i e p = any_from (λ r. eqb r.lsn n && r.point) log r i (and_from _ _ (eq-eqb r.lsn n e) p)
 
-durable_greatest : (limit : ℕ) (log : List Redo) → NumbersGrow log → IsGreatest (IsPointWithin limit log) (point_below limit log)
+durable_greatest : (limit : ℕ) (log : List Redo) → NumbersGrow log → IsGreatest (IsPointWithin limit log) (consistency_point_below limit log)
 durable_greatest limit [] grow = record { is_one = inl refl; at_least_each = λ m c. absurd (true≢false (sym c.point_there)) }
 durable_greatest limit (s ∷ older) grow =
-    let ih : IsGreatest (IsPointWithin limit older) (point_below limit older) = durable_greatest limit older grow.2 in
+    let ih : IsGreatest (IsPointWithin limit older) (consistency_point_below limit older) = durable_greatest limit older grow.2 in
     elim (cases_Bool (s.point && nat_le s.lsn limit)) [
       | inl e ↦ (
           let parts : (s.point ≡ true) × (nat_le s.lsn limit ≡ true) = and_parts _ _ e in
@@ -210,7 +211,7 @@ durable_greatest limit (s ∷ older) grow =
       | inr e ↦ rw e (record {
         is_one = elim ih.is_one [
           | inl z ↦ inl z
-          | inr c ↦ (let (r, i, q, p) = point_record (point_below limit older) older c.point_there in inr (record { point_there = is_point-from (point_below limit older) (s ∷ older) r (inr i) q p; within = c.within }))
+          | inr c ↦ (let (r, i, q, p) = point_record (consistency_point_below limit older) older c.point_there in inr (record { point_there = is_point-from (consistency_point_below limit older) (s ∷ older) r (inr i) q p; within = c.within }))
         ];
         at_least_each = λ m c. (
             let (r, i, q, p) = point_record m (s ∷ older) c.point_there in
@@ -250,6 +251,6 @@ log_grows plan certified events volume =
 pub complete_and_durable_points_are_greatest : CompleteAndDurablePointsAreGreatest
 complete_and_durable_points_are_greatest = record {
   of_logs = points_of_logs;
-  of_clients = λ client grow. record { complete = complete_greatest (point_of client.groups) client.log grow; durable = durable_greatest (complete_point client) client.log grow };
+  of_clients = λ client grow. record { complete = complete_greatest (group_point_of client.groups) client.log grow; durable = durable_greatest (complete_point client) client.log grow };
   in_runs = λ plan certified events volume. log_grows plan certified events volume;
 }

@@ -5,14 +5,15 @@ use Rattle.std.specs.Ordering.{nat_cmp}
 use Rattle.std.specs.FinSet.{FinSet, empty, insert, contains, contains-empty}
 use Rattle.std.proofs.lemmas.Bool.Decides.{nat_tests}
 use Rattle.volume_model.specs.Meets.{Meets}
-use Rattle.volume_model.specs.Sets.{contains-put}
+use Rattle.volume_model.proofs.Sets.{contains-put}
 use Rattle.volume_model.proofs.Above.{above_first}
 use Rattle.volume_model.specs.Claims.{KeepsClaim, KeepsStepClaim, KeepsClaims}
 use Rattle.volume_model.specs.Formula.{member}
 use Rattle.volume_model.specs.WorkedPlans.{six_root, six_copies, both_sixes}
 use Rattle.volume_model.specs.Redo.{Redo, cut_of}
 use Rattle.volume_model.specs.Plan.{Configuration, Plan, has_member, is_fresh}
-use Rattle.volume_model.specs.Client.{Change, durable_point}
+use Rattle.volume_model.specs.ClientPoints.{durable_point}
+use Rattle.volume_model.specs.ClientWriter.{Change}
 use Rattle.volume_model.specs.World.{Event, opening, run, results}
 use Rattle.volume_model.specs.World.Event.{Assign, Advance, Refresh, Issue, Take, Cut, Open, Resend, Deliver, Hydrate, Restart, Offer}
 use Rattle.volume_model.specs.declared.fault.Fault.TheVariants.{NotEnough, NotWhole, Superseded}

@@ -160,7 +160,7 @@ module _ (plan : Plan) (certified : IsCertified plan) where
         reading = λ h. absurd (true≢false h);
         cut = λ h. record { own = []; log = refl; grown = tt; owned = λ r i. absurd i; origin = inl (record { one = refl; lineage = refl; found = refl }) };
         counts = λ group there. replicate-all no_group (λ g. (count : Count) → IsIn count g.counts → (a : ℕ) × (a ≤ g.place.epoch) × IsMade start (Ack group (label 1 a) count.sender count.reached)) plan.groups (newly_at at_root) (λ count i. absurd i) group there;
-        points = λ group there. replicate-all no_group (λ g. (g.point ≡ 0) ⊎ IsReached plan start 1 group g.point) plan.groups (newly_at at_root) (inl refl) group there;
+        points = λ group there. replicate-all no_group (λ g. (g.group_point ≡ 0) ⊎ IsReached plan start 1 group g.group_point) plan.groups (newly_at at_root) (inl refl) group there;
       })
       (λ v. record {
         born = λ h. absurd (true≢false (sym h));

@@ -7,7 +7,9 @@ use Rattle.volume_model.specs.Message.{Message}
 use Rattle.volume_model.specs.Node as node
 use Rattle.volume_model.specs.Node.{NodeAnswer, hydrated, offered, restarted}
 use Rattle.volume_model.specs.Client as client
-use Rattle.volume_model.specs.Client.{ClientAnswer, cut_client, issued, opened, page_asked, resent}
+use Rattle.volume_model.specs.Client.{ClientAnswer}
+use Rattle.volume_model.specs.ClientWriter.{issued, page_asked, resent}
+use Rattle.volume_model.specs.ClientRecovery.{cut_client, opened}
 use Rattle.volume_model.specs.World.{World, Event, Authority, AuthorityStep, Step, advanced, assigned, deliver, if_named, refreshed, take}
 use Rattle.volume_model.specs.World.Event.{Assign, Advance, Refresh, Issue, Take, Cut, Open, Resend, Read, Deliver, Hydrate, Restart, Offer}
 

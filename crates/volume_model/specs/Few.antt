@@ -2,7 +2,10 @@
 use Rattle.std.specs.Prelude.{ℕ, ◌≤◌, List, length, Ok, Err}
 use Rattle.volume_model.specs.Plan.{Plan}
 use Rattle.volume_model.specs.Message.{Message}
-use Rattle.volume_model.specs.Client.{Client, ClientAnswer, Change, cut_client, issued, page_asked, resent, taken}
+use Rattle.volume_model.specs.Client.{Client, ClientAnswer}
+use Rattle.volume_model.specs.ClientWriter.{Change, issued, page_asked, resent}
+use Rattle.volume_model.specs.ClientRecovery.{cut_client}
+use Rattle.volume_model.specs.ClientMessages.{taken}
 
 -- a step makes at most so many messages, where it is made
 abbrev pub Few : ℕ → ClientAnswer → Type 0

@@ -7,7 +7,10 @@ use Rattle.volume_model.specs.Lists.{added, numbered}
 use Rattle.volume_model.specs.Plan.{Plan}
 use Rattle.volume_model.specs.Message.{Message}
 use Rattle.volume_model.specs.Node.{Node, reaction, hydrated, offered}
-use Rattle.volume_model.specs.Client.{Client, Change, is_born, issued, taken, cut_client, opened, resent, page_asked}
+use Rattle.volume_model.specs.Client.{Client, is_born}
+use Rattle.volume_model.specs.ClientWriter.{Change, issued, resent, page_asked}
+use Rattle.volume_model.specs.ClientRecovery.{cut_client, opened}
+use Rattle.volume_model.specs.ClientMessages.{taken}
 use Rattle.volume_model.specs.World.{World, Event, Authority, step, after, assigned, advanced, refreshed}
 use Rattle.volume_model.specs.Actor.{Actor, acted, actor_of, in_world, named_by, same_actor, state_in, Agree, Keeps}
 use Rattle.volume_model.specs.Told.{makes, Refuses, IsOwn, IsOwnOfClient}

@@ -1,5 +1,4 @@
 pub mod Formula
-pub mod FormulaLaws
 pub mod Meets
 pub mod Numbers
 pub mod Names
@@ -14,6 +13,10 @@ pub mod Message
 pub mod Refusal
 pub mod Node
 pub mod Client
+pub mod ClientPoints
+pub mod ClientWriter
+pub mod ClientRecovery
+pub mod ClientMessages
 pub mod World
 pub mod Outcome
 pub mod Headline

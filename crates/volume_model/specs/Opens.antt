@@ -2,7 +2,8 @@
 use Rattle.std.specs.Prelude.{◌≡◌, ℕ, List, [], ◌∷◌, Ok}
 use Rattle.volume_model.specs.Lineage.{Lineage}
 use Rattle.volume_model.specs.Plan.{Plan, IsCertified}
-use Rattle.volume_model.specs.Client.{Client, durable_point}
+use Rattle.volume_model.specs.Client.{Client}
+use Rattle.volume_model.specs.ClientPoints.{durable_point}
 use Rattle.volume_model.specs.World.{Event, Step, opening, run, step}
 use Rattle.volume_model.specs.World.Event.{Open}
 

@@ -3,7 +3,8 @@ use Rattle.std.specs.Prelude.{ℕ, suc, ◌&&◌, nat_lt, List}
 use Rattle.volume_model.specs.Lists.{each_below}
 use Rattle.volume_model.specs.Redo.{Redo}
 use Rattle.volume_model.specs.Lineage.{Lineage, last_start}
-use Rattle.volume_model.specs.Client.{is_open, has_cut, durable_point}
+use Rattle.volume_model.specs.Client.{is_open, has_cut}
+use Rattle.volume_model.specs.ClientPoints.{durable_point}
 use Rattle.volume_model.specs.World.{World}
 
 -- an opened writer: its volume epoch, the number after which its own records begin, its log newest first, its durable point

@@ -4,7 +4,8 @@ use Rattle.volume_model.specs.Lists.{IsIn}
 use Rattle.volume_model.specs.Formula.{Formula, sat, HasCounts}
 use Rattle.volume_model.specs.Redo.{Redo}
 use Rattle.volume_model.specs.Plan.{Plan, IsCertified}
-use Rattle.volume_model.specs.Client.{Client, ClientGroup, Count, reaching, place_configuration, raised_group, complete_of, point_below, is_point_of, point_of, complete_point, durable_point}
+use Rattle.volume_model.specs.Client.{Client, ClientGroup, Count, place_configuration, group_point_of}
+use Rattle.volume_model.specs.ClientPoints.{reaching, raised_group, complete_of, consistency_point_below, is_consistency_point, complete_point, durable_point}
 use Rattle.volume_model.specs.World.{Event, run, opening}
 use Rattle.volume_model.specs.Greatest.{IsGreatest}
 
@@ -16,7 +17,7 @@ IsWrittenTo write counts n = sat write (reaching counts n) ≡ true
 pub record IsRaised (plan : Plan) (number : ℕ) (group : ClientGroup) : Type 0 where
   pub number_written : ℕ
   pub greatest : IsGreatest (IsWrittenTo (place_configuration plan number group.place).write group.counts) number_written
-  pub point : (raised_group plan number group).point ≡ max group.point number_written
+  pub point : (raised_group plan number group).group_point ≡ max group.group_point number_written
 
 -- so it is where the write expression is a good one, and at every configuration of a certified plan
 pub record GroupPointIsGreatest : Type 0 where
@@ -35,17 +36,17 @@ pub record IsCovered (points : ℕ → ℕ) (log : List Redo) (n : ℕ) : Type 0
 
 -- the number is that of a consistency point of the log, and not above the limit
 pub record IsPointWithin (limit : ℕ) (log : List Redo) (n : ℕ) : Type 0 where
-  pub point_there : is_point_of n log ≡ true
+  pub point_there : is_consistency_point n log ≡ true
   pub within : n ≤ limit
 
 -- up to what number a log is covered, and the last consistency point up to a limit
 pub record PointsOfLogsAreGreatest : Type 0 where
   pub complete : (points : ℕ → ℕ) (log : List Redo) → NumbersGrow log → IsGreatest (IsCovered points log) (complete_of points log)
-  pub durable : (limit : ℕ) (log : List Redo) → NumbersGrow log → IsGreatest (IsPointWithin limit log) (point_below limit log)
+  pub durable : (limit : ℕ) (log : List Redo) → NumbersGrow log → IsGreatest (IsPointWithin limit log) (consistency_point_below limit log)
 
 -- a client's complete point and its durable point, where the numbers of its log grow
 pub record HasGreatestPoints (client : Client) : Type 0 where
-  pub complete : IsGreatest (IsCovered (point_of client.groups) client.log) (complete_point client)
+  pub complete : IsGreatest (IsCovered (group_point_of client.groups) client.log) (complete_point client)
   pub durable : IsGreatest (IsPointWithin (complete_point client) client.log) (durable_point client)
 
 -- so it is of each log and each client whose numbers grow, and the numbers of each client's log grow in every run of a certified plan

@@ -4,7 +4,10 @@ use Rattle.volume_model.specs.Plan.{Plan, parent_of, epoch_of, is_named}
 use Rattle.volume_model.specs.Message.{Place, Message}
 use Rattle.volume_model.specs.Message.Message.{View, StepTo}
 use Rattle.volume_model.specs.Node.{Node, NodeAnswer, born_node, reaction, hydrated, restarted, offered}
-use Rattle.volume_model.specs.Client.{Client, ClientAnswer, Change, first_writer, unborn, issued, taken, cut_client, opened, resent, page_asked}
+use Rattle.volume_model.specs.Client.{Client, ClientAnswer, first_writer, unborn}
+use Rattle.volume_model.specs.ClientWriter.{Change, issued, resent, page_asked}
+use Rattle.volume_model.specs.ClientRecovery.{cut_client, opened}
+use Rattle.volume_model.specs.ClientMessages.{taken}
 use Rattle.volume_model.specs.Refusal.{refuse_if}
 use Rattle.volume_model.specs.declared.fault.Fault.{Fault}
 use Rattle.volume_model.specs.declared.fault.Fault.TheVariants.{EpochsSpent, NoActor, NoGroup, NoMessage, NotInPlan, Superseded}
@@ -146,7 +149,7 @@ step plan world (Offer group member lsn) = of_node world group member (if_named 
 -- a refused event changes nothing
 abbrev pub after_step : World → Result Step Fault → World
 after_step world (Err number) = world
-after_step world (Ok moved) = moved.world
+after_step world (Ok s) = s.world
 
 -- the world after one event
 abbrev pub after : Plan → World → Event → World
@@ -160,7 +163,7 @@ run plan world (event ∷ events) = run plan (after plan world event) events
 -- what is told of an event: the number of messages that it made, or of its refusal
 abbrev pub told : Result Step Fault → Result ℕ Fault
 told (Err number) = Err number
-told (Ok moved) = Ok (length moved.made)
+told (Ok s) = Ok (length s.made)
 
 -- what is told of each event
 abbrev pub results : Plan → World → List Event → List (Result ℕ Fault)

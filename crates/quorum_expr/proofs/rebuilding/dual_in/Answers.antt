@@ -3,7 +3,7 @@ use Rattle.std.specs.Prelude.{Result, IfOk, None, not}
 use Rattle.volume_model.specs.declared.fault.Fault.{Fault}
 use Rattle.volume_model.specs.Answer.{Gives}
 use Rattle.volume_model.specs.Formula.{Formula, Members, sat, dual_of}
-use Rattle.volume_model.specs.FormulaLaws.{sat-dual_of}
+use Rattle.volume_model.proofs.FormulaLaws.{sat-dual_of}
 use Rattle.quorum_expr.specs.declared.expression.Expr.{Expr}
 use Rattle.quorum_expr.specs.Expr.{formula_of}
 use Rattle.quorum_expr.specs.Valid.{expression_fault}

@@ -1,0 +1,91 @@
+-- What a client does with a message.
+use Rattle.std.specs.Prelude.{ℕ, Bool, not, ◌&&◌, ◌==◌, nat_lt, nat_le, if◌then◌else◌, List, [], ◌∷◌, Ok, Err, length, slice_set}
+use Rattle.volume_model.specs.Lists.{every_below}
+use Rattle.volume_model.specs.Plan.{Plan, is_configuration}
+use Rattle.volume_model.specs.Message.{Label, Place, Message, place_in}
+use Rattle.volume_model.specs.Message.Message.{View, StepTo, Fence, Report, Install, Write, Gossip, Ack, CopyAsk, CopyReport, PageAsk, Page}
+use Rattle.volume_model.specs.Node.{in_group}
+use Rattle.volume_model.specs.Refusal.{refuse_if}
+use Rattle.volume_model.specs.declared.fault.Fault.TheVariants.{NotAddressed, NotInPlan}
+use Rattle.volume_model.specs.Client.{Stage, has_cut, ClientGroup, no_group, group_of, place_of, Client, ClientStep, ClientAnswer, stays, if_born}
+use Rattle.volume_model.specs.Client.Stage.{Unborn, Reading, Installing, Writing}
+use Rattle.volume_model.specs.ClientPoints.{with_count, raised, groups_now}
+use Rattle.volume_model.specs.ClientRecovery.{fences, installs, born_client, report_taken}
+
+-- the one place is of a later epoch than the other
+abbrev pub is_later : Place → Place → Bool
+is_later old new = nat_lt old.epoch new.epoch
+
+-- the groups whose places are of later epochs
+abbrev pub later_in : (ℕ → Place) → (ℕ → Place) → ℕ → Bool
+later_in old new group = is_later (old group) (new group)
+
+-- a group, at a place of a later epoch
+abbrev pub later_group : ClientGroup → Place → ClientGroup
+later_group group place = if is_later group.place place then record group { place = place } else group
+
+-- the same before the cut: the reports of an earlier epoch no longer count
+abbrev pub reread_group : ClientGroup → Place → ClientGroup
+reread_group group place = if is_later group.place place then record group { place = place; reports = [] } else group
+
+-- each group at its place in a View, by what becomes of one
+abbrev pub with_places : (ClientGroup → Place → ClientGroup) → List ClientGroup → List Place → List ClientGroup
+with_places move groups [] = groups
+with_places move [] (place ∷ places) = move no_group place ∷ with_places move [] places
+with_places move (group ∷ groups) (place ∷ places) = move group place ∷ with_places move groups places
+
+-- a later View
+abbrev pub viewed : Plan → ℕ → Client → List Place → Stage → ClientStep
+viewed plan volume client places Unborn = born_client plan volume places
+viewed plan volume client places Reading =
+    let now = with_places reread_group client.groups places in
+    record {
+      made = fences plan volume (place_of now) (later_in (place_of client.groups) (place_in places));
+      client = record client { groups = now };
+    }
+viewed plan volume client places Installing =
+    let now = with_places later_group client.groups places in
+    record {
+      made = installs plan volume (place_of now) client.lineage client.found (later_in (place_of client.groups) (place_in places));
+      client = record client { groups = now };
+    }
+viewed plan volume client places Writing = record { made = []; client = record client { groups = raised plan (with_places later_group client.groups places) } }
+
+-- an acknowledgement counts from the cut on, of a membership epoch that is at most the client's
+abbrev pub ack_taken : Plan → Client → ℕ → Label → ℕ → ℕ → Client
+ack_taken plan client group label sender reached =
+    let now = group_of client.groups group in
+    if has_cut client.stage && nat_le label.member now.place.epoch
+    then record client { groups = groups_now plan client.stage (slice_set client.groups group (record now { counts = with_count sender reached now.counts })) }
+    else client
+
+-- each group has a place, and it is one of a configuration of the plan
+abbrev pub are_places : Plan → List Place → Bool
+are_places plan places =
+    length places == plan.groups && every_below plan.groups (λ group. is_configuration plan group (place_in places group).configuration (place_in places group).epoch)
+
+-- what a client does with a message
+abbrev pub taken : Plan → ℕ → Client → Message → ClientAnswer
+taken plan volume client (View of places) =
+    refuse_if (not (of == volume)) NotAddressed (
+    refuse_if (not (are_places plan places)) NotInPlan (
+    Ok (viewed plan volume client places client.stage)))
+taken plan volume client (Report group label sender contents) =
+    refuse_if (not (label.volume == volume && (nat_lt group plan.groups && (in_group group contents && nat_lt sender 64)))) NotAddressed (
+    if_born client (
+    Ok (stays (report_taken volume client group label (record { sender = sender; contents = contents })))))
+taken plan volume client (Ack group label sender reached) =
+    refuse_if (not (label.volume == volume && (nat_lt group plan.groups && nat_lt sender 64))) NotAddressed (
+    if_born client (
+    Ok (stays (ack_taken plan client group label sender reached))))
+taken plan volume client (Page group label sender block point bytes) =
+    refuse_if (not (label.volume == volume && (nat_lt group plan.groups && nat_lt sender 64))) NotAddressed (
+    if_born client (Ok (stays client)))
+taken plan volume client (StepTo group place) = Err NotAddressed
+taken plan volume client (Fence group label) = Err NotAddressed
+taken plan volume client (Install group label contents) = Err NotAddressed
+taken plan volume client (Write group label r) = Err NotAddressed
+taken plan volume client (Gossip group label r) = Err NotAddressed
+taken plan volume client (CopyAsk group epoch) = Err NotAddressed
+taken plan volume client (CopyReport group epoch sender contents) = Err NotAddressed
+taken plan volume client (PageAsk group label block point) = Err NotAddressed

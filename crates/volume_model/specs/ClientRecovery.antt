@@ -1,0 +1,81 @@
+-- What a client does before it is open: it fences, takes reports, cuts, installs and opens.
+use Rattle.std.specs.Prelude.{ℕ, zero, suc, ◌+◌, ◌^◌, Bool, true, not, ◌&&◌, ◌==◌, nat_lt, if◌then◌else◌, List, [], ◌++◌, Ok, map, slice_set}
+use Rattle.volume_model.specs.Lists.{every_below, each_below}
+use Rattle.volume_model.specs.Formula.{sat}
+use Rattle.volume_model.specs.Redo.{Redo, of_group, cut_of, log_found}
+use Rattle.volume_model.specs.Lineage.{Lineage, last_epoch, last_start, extended, Contents, newest, found_in}
+use Rattle.volume_model.specs.Plan.{Plan}
+use Rattle.volume_model.specs.Message.{Label, Place, Message, place_in}
+use Rattle.volume_model.specs.Message.Message.{Fence, Install}
+use Rattle.volume_model.specs.Node.{From, senders, with_first, contents_of}
+use Rattle.volume_model.specs.Refusal.{refuse_if}
+use Rattle.volume_model.specs.declared.fault.Fault.TheVariants.{AlreadyDone, LsnSpent, NoActor, NotReady}
+use Rattle.volume_model.specs.Client.{is_born, has_cut, is_open, newly_at, group_of, place_of, reports_of, counts_of, Client, unborn, place_configuration, ClientStep, ClientAnswer, label_of}
+use Rattle.volume_model.specs.Client.Stage.{Reading, Installing, Writing}
+use Rattle.volume_model.specs.ClientPoints.{counted_by, raised}
+
+-- one Fence for each chosen group
+abbrev pub fences : Plan → ℕ → (ℕ → Place) → (ℕ → Bool) → List Message
+fences plan volume places chosen = each_below plan.groups chosen (λ group. Fence group (label_of volume places group))
+
+-- one Install for each chosen group
+abbrev pub installs : Plan → ℕ → (ℕ → Place) → Lineage → List Redo → (ℕ → Bool) → List Message
+installs plan volume places lineage found chosen =
+    each_below plan.groups chosen (λ group. Install group (label_of volume places group) (record { lineage = lineage; records = of_group group found }))
+
+-- birth, by the first View of its epoch that it takes
+abbrev pub born_client : Plan → ℕ → List Place → ClientStep
+born_client plan volume places =
+    record {
+      made = fences plan volume (place_in places) (λ group. true);
+      client = record unborn { stage = Reading; groups = map newly_at places };
+    }
+
+-- a Report counts before the cut, of the present epoch, with an older lineage
+abbrev pub report_taken : ℕ → Client → ℕ → Label → From → Client
+report_taken volume client group label report =
+    let now = group_of client.groups group in
+    if (not (has_cut client.stage)) && (label.member == now.place.epoch && nat_lt (last_epoch report.contents.lineage) volume)
+    then record client { groups = slice_set client.groups group (record now { reports = with_first report now.reports }) }
+    else client
+
+-- the reports of all groups
+abbrev pub all_reports : (ℕ → List From) → ℕ → List Contents
+all_reports reports zero = []
+all_reports reports (suc group) = all_reports reports group ++ contents_of (reports group)
+
+-- in each group the senders of the kept reports are a read set
+abbrev pub has_read : Plan → Client → Bool
+has_read plan client = every_below plan.groups (λ group. sat (place_configuration plan group (place_of client.groups group)).read (senders (reports_of client.groups group)))
+
+-- in each group the members with a counted acknowledgement are a write set
+abbrev pub has_installed : Plan → Client → Bool
+has_installed plan client = every_below plan.groups (λ group. sat (place_configuration plan group (place_of client.groups group)).write (counted_by (counts_of client.groups group)))
+
+-- what a cut leaves
+abbrev pub cut_client : Plan → ℕ → Client → ClientAnswer
+cut_client plan volume client =
+    let reported = all_reports (reports_of client.groups) plan.groups in
+    let parent = newest reported in
+    let records = found_in parent reported in
+    let lineage = extended parent volume (cut_of records) plan.lal in
+    let found = log_found records in
+    refuse_if (not (is_born client.stage)) NoActor (
+    refuse_if (has_cut client.stage) AlreadyDone (
+    refuse_if (not (has_read plan client)) NotReady (
+    refuse_if (nat_lt (2 ^ 62) (last_start lineage)) LsnSpent (
+    Ok (record {
+      made = installs plan volume (place_of client.groups) lineage found (λ group. true);
+      client = record client { stage = Installing; lineage = lineage; found = found; log = found };
+    })))))
+
+-- what an opening leaves
+abbrev pub opened : Plan → Client → ClientAnswer
+opened plan client =
+    refuse_if (not (is_born client.stage)) NoActor (
+    refuse_if (is_open client.stage) AlreadyDone (
+    refuse_if (not (has_cut client.stage && has_installed plan client)) NotReady (
+    Ok (record {
+      made = [];
+      client = record client { stage = Writing; groups = raised plan client.groups };
+    }))))

@@ -1,0 +1,104 @@
+-- What an open client does: it issues records, sends one again, and asks for pages.
+use Rattle.std.specs.Prelude.{ℕ, suc, ◌+◌, ◌^◌, Bool, true, false, not, ◌&&◌, ◌==◌, nat_lt, nat_le, if◌then◌else◌, List, [], ◌∷◌, Option, Some, None, Ok, Err, length, max}
+use Rattle.volume_model.specs.Lists.{every}
+use Rattle.volume_model.specs.Redo.{Redo, last_lsn, last_of_group, last_of_block, record_at}
+use Rattle.volume_model.specs.Lineage.{last_start}
+use Rattle.volume_model.specs.Plan.{Plan}
+use Rattle.volume_model.specs.Message.{Place, Message}
+use Rattle.volume_model.specs.Message.Message.{Write, PageAsk}
+use Rattle.volume_model.specs.Refusal.{refuse_if}
+use Rattle.volume_model.specs.declared.fault.Fault.TheVariants.{BadTransaction, LimitReached, LsnSpent, NoActor, NoGroup, NoLogRecord, NotOpen}
+use Rattle.volume_model.specs.Client.{is_born, is_open, place_of, Client, ClientAnswer, label_of}
+use Rattle.volume_model.specs.ClientPoints.{durable_point}
+
+-- a change that a transaction asks for
+pub record Change : Type 0 where
+  pub group : ℕ
+  pub block : ℕ
+  pub offset : ℕ
+  pub bytes : List ℕ
+
+-- the record of a change, behind this log; the last of a transaction is a consistency point
+abbrev pub record_of : ℕ → ℕ → List Redo → Change → Bool → Redo
+record_of volume start log change point =
+    record {
+      lsn = suc (max (last_lsn log) start);
+      volume = volume;
+      prev_volume = last_lsn log;
+      prev_group = last_of_group change.group log;
+      prev_block = last_of_block change.group change.block log;
+      group = change.group;
+      block = change.block;
+      offset = change.offset;
+      bytes = change.bytes;
+      point = point;
+    }
+
+-- no further change follows
+abbrev pub is_last : List Change → Bool
+is_last [] = true
+is_last (change ∷ more) = false
+
+-- the log with the records of these changes
+abbrev pub issued_log : ℕ → ℕ → List Change → List Redo → List Redo
+issued_log volume start [] log = log
+issued_log volume start (change ∷ more) log = issued_log volume start more (record_of volume start log change (is_last more) ∷ log)
+
+-- the Writes of the new records, in their order
+abbrev pub issued_writes : ℕ → (ℕ → Place) → ℕ → List Change → List Redo → List Message
+issued_writes volume places start [] log = []
+issued_writes volume places start (change ∷ more) log =
+    let r = record_of volume start log change (is_last more) in
+    Write change.group (label_of volume places change.group) r ∷ issued_writes volume places start more (r ∷ log)
+
+-- the change is one of a group below the number of groups, of 1 to 64 bytes within a page
+abbrev pub is_change : ℕ → Change → Bool
+is_change groups change = nat_lt change.group groups && (nat_le 1 (length change.bytes) && (nat_le (length change.bytes) 64 && nat_le (change.offset + length change.bytes) 512))
+
+-- one to 32 changes, each of them a good one
+abbrev pub is_transaction : ℕ → List Change → Bool
+is_transaction groups changes = nat_le 1 (length changes) && (nat_le (length changes) 32 && every (is_change groups) changes)
+
+-- what a writer does with a transaction
+abbrev pub issued : Plan → ℕ → Client → List Change → ClientAnswer
+issued plan volume client changes =
+    let start = last_start client.lineage in
+    let last = max (last_lsn client.log) start + length changes in
+    refuse_if (not (is_born client.stage)) NoActor (
+    refuse_if (not (is_open client.stage)) NotOpen (
+    refuse_if (not (is_transaction plan.groups changes)) BadTransaction (
+    refuse_if (nat_lt (2 ^ 62) last) LsnSpent (
+    refuse_if (nat_lt (max (durable_point client) start + plan.lal) last) LimitReached (
+    Ok (record {
+      made = issued_writes volume (place_of client.groups) start changes client.log;
+      client = record client { log = issued_log volume start changes client.log };
+    }))))))
+
+-- the Write of a record that was found
+abbrev pub write_of : ℕ → Client → Option Redo → ClientAnswer
+write_of volume client None = Err NoLogRecord
+write_of volume client (Some r) = Ok (record { made = Write r.group (label_of volume (place_of client.groups) r.group) r ∷ []; client = client })
+
+-- what a writer does when it sends a record of its log again
+abbrev pub resent : ℕ → Client → ℕ → ClientAnswer
+resent volume client lsn =
+    refuse_if (not (is_born client.stage)) NoActor (
+    refuse_if (not (is_open client.stage)) NotOpen (
+    write_of volume client (record_at client.log lsn)))
+
+-- the greatest number of a group in the log that is not above n, else 0
+abbrev pub last_of_group_below : ℕ → ℕ → List Redo → ℕ
+last_of_group_below group n [] = 0
+last_of_group_below group n (r ∷ older) =
+    if r.group == group && nat_le r.lsn n then r.lsn else last_of_group_below group n older
+
+-- what a writer does when it asks for a page at the durable point
+abbrev pub page_asked : Plan → ℕ → Client → ℕ → ℕ → ClientAnswer
+page_asked plan volume client group block =
+    refuse_if (not (is_born client.stage)) NoActor (
+    refuse_if (not (is_open client.stage)) NotOpen (
+    refuse_if (not (nat_lt group plan.groups)) NoGroup (
+    Ok (record {
+      made = PageAsk group (label_of volume (place_of client.groups) group) block (last_of_group_below group (durable_point client) client.log) ∷ [];
+      client = client;
+    }))))
