@@ -14,11 +14,6 @@ lineage_of lineage = entries_of lineage.entries.items
 abbrev pub lineages_of : List Lineage → List model.Lineage
 lineages_of = map lineage_of
 
--- the cut of the last entry, and 0 where there is none
-abbrev pub last_cut : model.Lineage → ℕ
-last_cut [] = 0
-last_cut (entry ∷ older) = entry.cut
-
 -- a lineage with the entry that a recovery adds, refused where its own numbers would begin above the greatest number
 abbrev pub extension : model.Lineage → ℕ → ℕ → ℕ → Result model.Lineage Fault
 extension lineage volume cut lal =

@@ -13,7 +13,7 @@ use Rattle.plan.specs.PlanFaults.{is_good_parent, unused_within}
 
 -- ---- members of differences
 
-in-difference : (s t : FinSet nat_cmp) (x : ℕ) → contains (difference s t) x ≡ true → (contains s x ≡ true) × (contains t x ≡ false)
+pub in-difference : (s t : FinSet nat_cmp) (x : ℕ) → contains (difference s t) x ≡ true → (contains s x ≡ true) × (contains t x ≡ false)
 in-difference s t x h =
     let parts = and_parts (contains s x) (not (contains t x)) (sym (contains-difference nat_cmp_total s t x) ∙ h) in
     (parts.0, not-true (contains t x) parts.1)
@@ -52,7 +52,7 @@ pub parent_at-is : (group : List ConfigurationData) (c p : ℕ) → (configurati
 parent_at-is group c p is below = ap (earlier c) is ∙ ap (λ b. if b then Some p else None) (lt_true p c below)
 
 -- what is left of a set is in the set
-unused-within : (n : ℕ) (group : List ConfigurationData) (c : ℕ) (s : FinSet nat_cmp) (x : ℕ) → contains (unused_within n group c s) x ≡ true → contains s x ≡ true
+pub unused-within : (n : ℕ) (group : List ConfigurationData) (c : ℕ) (s : FinSet nat_cmp) (x : ℕ) → contains (unused_within n group c s) x ≡ true → contains s x ≡ true
 unused-within zero group c s x h = h
 unused-within (suc n) group c s x h =
     elim (parent_at group c) as (λ q. contains (by_parent q s (λ p. unused_within n group p (difference s (configuration_at group p).members))) x ≡ true → contains s x ≡ true) [
@@ -86,7 +86,7 @@ none_in : (b : Bool) (n : ℕ) → slice_get (if b then n ∷ [] else []) 0 ≡ 
 none_in true n h = absurd (cc)
 none_in false n h = refl
 
-nobody_below : (n : ℕ) (test : ℕ → Bool) (x : ℕ) → slice_get (each_below n test (λ y. y)) 0 ≡ None → x < n → test x ≡ false
+pub nobody_below : (n : ℕ) (test : ℕ → Bool) (x : ℕ) → slice_get (each_below n test (λ y. y)) 0 ≡ None → x < n → test x ≡ false
 nobody_below zero test x h lt = absurd (omega arith)
 nobody_below (suc n) test x h lt =
     let parts = append_none (each_below n test (λ y. y)) (if test n then n ∷ [] else []) h in

@@ -10,7 +10,8 @@ use Rattle.volume_model.specs.Formula.{Formula, Children, member, at_least, no_c
 use Rattle.volume_model.specs.Lists.{any}
 use Rattle.volume_model.specs.Sets.{listed}
 use Rattle.volume_model.specs.Meets.{Meets}
-use Rattle.volume_model.specs.Plan.{has_member, ancestor, is_fresh, IsCertified}
+use Rattle.volume_model.specs.Plan.{has_member, is_fresh, IsAbove, IsCertified}
+use Rattle.volume_model.proofs.Above.{ancestor, steps_above}
 use Rattle.volume_model.specs.Claims.{KeepsClaim, KeepsStepClaim, ClaimsCertify}
 use Rattle.quorum_expr.specs.MemberSet.{all_members}
 use Rattle.quorum_expr.specs.MemberSetBits.{contains-all_members}
@@ -182,14 +183,20 @@ module _ (certify : ClaimsCertify) (refutes : (rule : Rule) (state : State) → 
     never true = refl
     never false = refl
 
-    fresh-unused : (y steps : ℕ) → is_fresh (model_of (plan_data plan)) g c y ≡ true → has_member ((model_of (plan_data plan)).configuration g (ancestor (model_of (plan_data plan)) g (suc steps) c)) y ≡ false
-    fresh-unused y steps h =
+    -- so many steps above the parent
+    unused-at : (y steps : ℕ) → is_fresh (model_of (plan_data plan)) g c y ≡ true → has_member ((model_of (plan_data plan)).configuration g (ancestor (model_of (plan_data plan)) g (suc steps) c)) y ≡ false
+    unused-at y steps h =
         let inside = in-fresh y h in
         let none = no-reuse g c (slice_get (listed (reused_at group c)) 0) (neither (parent_fault g group c) (reuse_fault g group c) (shapes c (omega arith))).1 in
         let left : contains (unused_within c group c (fresh_at group c)) y ≡ true = none-reused (fresh_at group c) (unused_within c group c (fresh_at group c)) y none inside.0 inside.1 in
         let out : contains (configuration_at group (above group steps (or_zero x.parent))).members y ≡ false = unused-start group c parent.0 (fresh_at group c) y parent.1 parent.2 good left steps in
         ap (λ k. any (λ z. z == y) (listed (configuration_at group k).members)) (ancestor-is steps (or_zero x.parent))
         ∙ any-listed (configuration_at group (above group steps (or_zero x.parent))).members y ∙ ap (λ b. nat_lt y 64 && b) out ∙ never (nat_lt y 64)
+
+    fresh-unused : (y a : ℕ) → is_fresh (model_of (plan_data plan)) g c y ≡ true → IsAbove (model_of (plan_data plan)) g a c → has_member ((model_of (plan_data plan)).configuration g a) y ≡ false
+    fresh-unused y a fresh up =
+        let (steps, at) = steps_above (model_of (plan_data plan)) g a c up in
+        subst (λ k. has_member ((model_of (plan_data plan)).configuration g k) y ≡ false) at (unused-at y steps fresh)
 
     step-meets : Meets x.read (dual_of (configuration_at group parent.0).read) fresh
     step-meets =
@@ -206,9 +213,11 @@ module _ (certify : ClaimsCertify) (refutes : (rule : Rule) (state : State) → 
 
     pub keeps-step : KeepsStepClaim (model_of (plan_data plan)) g c
     keeps-step = record {
-      parent_below = omega (arith, parent-is, parent.2);
-      epoch_next = epoch-next group c parent.0 (parent_at-is group c parent.0 parent.1 parent.2) parent.2 ∙ ap (λ q. suc (epoch_at group q)) (sym parent-is);
-      fresh_unused = fresh-unused;
+      child = record {
+        parent_below = omega (arith, parent-is, parent.2);
+        epoch_next = epoch-next group c parent.0 (parent_at-is group c parent.0 parent.1 parent.2) parent.2 ∙ ap (λ q. suc (epoch_at group q)) (sym parent-is);
+        fresh_unused = fresh-unused;
+      };
       fresh = intersection fresh all_members;
       fresh_is = fresh-shown;
       meets = subst (λ q. Meets x.read (dual_of (configuration_at group q).read) (intersection fresh all_members)) (sym parent-is) (clear-of-all fresh x.read (dual_of (configuration_at group parent.0).read) step-meets);
@@ -220,6 +229,6 @@ module _ (certify : ClaimsCertify) (refutes : (rule : Rule) (state : State) → 
     group_there = omega (arith, plan.some, length-map plan.groups.items group_data);
     root_there = λ g there. root-of plan g there;
     root_epoch = λ g there. refl;
-    claim = keeps-claim;
+    quorums = keeps-claim;
     step = λ g c there below low. keeps-step g c there below low;
   })

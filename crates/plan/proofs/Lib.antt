@@ -1,6 +1,7 @@
 pub mod Epochs
 pub mod Found
 pub mod FreshMembers
+pub mod Reused
 pub mod Lookups
 pub mod Named
 pub mod KeepsClaims

@@ -1,6 +1,7 @@
 pub mod PlanData
 pub mod PlanFaults
 pub mod Certified
+pub mod Reused
 pub mod Plan
 pub mod CheckedModel
 pub mod PlanText

@@ -4,6 +4,7 @@ ghost use Rattle.std.specs.Prelude.{◌≡◌, None};
 ghost use Rattle.plan.specs.PlanData.{PlanData};
 ghost use Rattle.plan.specs.PlanFaults.{plan_fault};
 ghost use Rattle.plan.specs.Certified.{IsCertifiedPlan};
+ghost use Rattle.plan.specs.Reused.{ReuseIsFound};
 
 use quorum_checker::no_fault_refutes;
 
@@ -15,3 +16,9 @@ pub fn no_fault_is_certified()
 {
     no_fault_refutes();
 }
+
+/// A member is said to be used again exactly where one that the parent lacks stands in a configuration above, and the least such
+/// member is named.
+pub fn reuse_is_found()
+    ensures { ReuseIsFound }
+{}

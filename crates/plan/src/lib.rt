@@ -19,7 +19,7 @@ pub use checked::CheckedPlan;
 pub use checking::check_plan;
 pub use configurations::{Configuration, Group, Plan};
 pub use fault::{PlanFault, Quorum};
-pub use laws::no_fault_is_certified;
+pub use laws::{no_fault_is_certified, reuse_is_found};
 pub use lent::LentClaim;
 pub use listing::{claims, lent_claims};
 pub use placed::NamedClaim;

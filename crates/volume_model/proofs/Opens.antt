@@ -14,7 +14,8 @@ use Rattle.volume_model.specs.World.{World, Event, Step, opening, run, step, of_
 use Rattle.volume_model.specs.World.Event.{Open}
 use Rattle.volume_model.specs.Leading.{VolumeLinksFall, IsFoundPoint, AreOnTheWay}
 use Rattle.volume_model.specs.Points.{IsWrittenTo}
-use Rattle.volume_model.specs.Opens.{last_cut, IsAtItsCut, OpensAtItsCut}
+use Rattle.volume_model.specs.Lineage.{last_cut}
+use Rattle.volume_model.specs.Opens.{IsAtItsCut, OpensAtItsCut}
 use Rattle.volume_model.proofs.Groups.{group_of-raised}
 use Rattle.volume_model.proofs.Logs.{IsChain, prev_below}
 use Rattle.volume_model.proofs.Line.{IsLine}

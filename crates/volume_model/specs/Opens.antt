@@ -1,16 +1,11 @@
 -- Where a writer begins.
-use Rattle.std.specs.Prelude.{◌≡◌, ℕ, List, [], ◌∷◌, Ok}
-use Rattle.volume_model.specs.Lineage.{Lineage}
+use Rattle.std.specs.Prelude.{◌≡◌, ℕ, List, Ok}
+use Rattle.volume_model.specs.Lineage.{last_cut}
 use Rattle.volume_model.specs.Plan.{Plan, IsCertified}
 use Rattle.volume_model.specs.Client.{Client}
 use Rattle.volume_model.specs.ClientPoints.{durable_point}
 use Rattle.volume_model.specs.World.{Event, Step, opening, run, step}
 use Rattle.volume_model.specs.World.Event.{Open}
-
--- the cut of the last entry, and 0 where there is none
-abbrev pub last_cut : Lineage → ℕ
-last_cut [] = 0
-last_cut (e ∷ older) = e.cut
 
 -- the durable point of the writer is the cut of its own entry
 abbrev pub IsAtItsCut : Client → Type 0

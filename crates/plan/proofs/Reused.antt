@@ -1,0 +1,150 @@
+-- A fresh member is used again exactly where one stands in a configuration above.
+use Rattle.std.proofs.Common.{◌≡◌, ℕ, zero, suc, ◌<◌, ◌≤◌, List, [], ◌∷◌, arith, refl, ap, ◌∙◌, sym, subst, ◌++◌}
+use Rattle.std.specs.Prelude.{Bool, true, false, not, nat_lt, if◌then◌else◌, Option, Some, None, slice_get}
+use Rattle.std.proofs.lemmas.Bool.{and_parts, and_from, not-true, both_ways}
+use Rattle.std.proofs.lemmas.Bool.Decides.{nat_tests}
+use Rattle.std.specs.Ordering.{nat_cmp}
+use Rattle.std.specs.Cmp.{nat_cmp_total}
+use Rattle.std.specs.FinSet.{FinSet, contains, difference, contains-difference}
+use Rattle.volume_model.specs.Lists.{each_below}
+use Rattle.volume_model.specs.Sets.{listed}
+use Rattle.plan.specs.declared.fault.PlanFault.{PlanFault}
+use Rattle.plan.specs.declared.fault.PlanFault.TheVariants.{MemberReused}
+use Rattle.plan.specs.PlanData.{ConfigurationData, configuration_at, earlier, parent_at, by_parent}
+use Rattle.plan.specs.PlanFaults.{fresh_at, unused_within, reused_at, reused_member, reuse_fault}
+use Rattle.plan.specs.Reused.{StandsAbove, IsReused, IsLeastReused, ReuseIsFound}
+use Rattle.plan.specs.Reused.StandsAbove as above
+use Rattle.plan.proofs.FreshMembers.{in-difference, unused-within, nobody, nobody_below}
+
+-- ---- what is left of a set
+
+-- a parent stands before
+parent_before : (c p : ℕ) (q : Option ℕ) → earlier c q ≡ Some p → p < c
+parent_before c p None h = absurd cc
+parent_before c p (Some r) h =
+    elim (nat_lt r c) as (λ b. nat_lt r c ≡ b → (if b then Some r else None) ≡ Some p → p < c) [
+      | true ↦ λ e i. (let same : r ≡ p = cc in let lt : r < c = grind (arith, nat_tests, e) in omega arith)
+      | false ↦ λ e i. absurd cc
+    ] refl h
+
+-- who is left out of a set stands in a configuration above
+left_out : (n : ℕ) (group : List ConfigurationData) (c : ℕ) (s : FinSet nat_cmp) (x : ℕ) → contains s x ≡ true → contains (unused_within n group c s) x ≡ false
+    → (a : ℕ) × StandsAbove group a c × (contains (configuration_at group a).members x ≡ true)
+left_out zero group c s x there out = absurd (both_ways (contains s x) out there)
+left_out (suc n) group c s x there out =
+    elim (parent_at group c) as (λ q. parent_at group c ≡ q → contains (by_parent q s (λ p. unused_within n group p (difference s (configuration_at group p).members))) x ≡ false
+    → (a : ℕ) × StandsAbove group a c × (contains (configuration_at group a).members x ≡ true)) [
+      | None ↦ λ is none. absurd (both_ways (contains s x) none there)
+      | Some p ↦ λ is some.
+          elim (contains (configuration_at group p).members x) as (λ b. contains (configuration_at group p).members x ≡ b → (a : ℕ) × StandsAbove group a c × (contains (configuration_at group a).members x ≡ true)) [
+            | true ↦ λ has. (p, above.by_parent p c is, has)
+            | false ↦ λ lacks. (
+                let kept : contains (difference s (configuration_at group p).members) x ≡ true =
+                contains-difference nat_cmp_total s (configuration_at group p).members x ∙ and_from (contains s x) (not (contains (configuration_at group p).members x)) there (ap not lacks) in
+                let (a, up, has) = left_out n group p (difference s (configuration_at group p).members) x kept some in
+                (a, above.by_ancestor a p c is up, has))
+          ] refl
+    ] refl out
+
+is_false : (b : Bool) → (b ≡ true → ⊥) → b ≡ false
+is_false true h = absurd (h refl)
+is_false false h = refl
+
+-- and who stands in a configuration above is left out
+taken_out : (n : ℕ) (group : List ConfigurationData) (s : FinSet nat_cmp) (x a c : ℕ) → c ≤ n → StandsAbove group a c → contains (configuration_at group a).members x ≡ true → contains (unused_within n group c s) x ≡ false
+taken_out zero group s x a c within (above.by_parent b d is) has = absurd (let lt : b < d = parent_before d b (configuration_at group d).parent is in omega arith)
+taken_out zero group s x a c within (above.by_ancestor b p d is up) has = absurd (let lt : p < d = parent_before d p (configuration_at group d).parent is in omega arith)
+taken_out (suc n) group s x a c within (above.by_parent b d is) has =
+    ap (λ q. contains (by_parent q s (λ p. unused_within n group p (difference s (configuration_at group p).members))) x) is
+    ∙ is_false _ (λ left. both_ways (contains (configuration_at group b).members x)
+    (in-difference s (configuration_at group b).members x (unused-within n group b (difference s (configuration_at group b).members) x left)).1 has)
+taken_out (suc n) group s x a c within (above.by_ancestor b p d is up) has =
+    let lt : p < d = parent_before d p (configuration_at group d).parent is in
+    ap (λ q. contains (by_parent q s (λ r. unused_within n group r (difference s (configuration_at group r).members))) x) is
+    ∙ taken_out n group (difference s (configuration_at group p).members) x b p (omega arith) up has
+
+-- ---- the members that are used again
+
+reused-from : (group : List ConfigurationData) (c x : ℕ) → IsReused group c x → contains (reused_at group c) x ≡ true
+reused-from group c x h =
+    contains-difference nat_cmp_total (fresh_at group c) (unused_within c group c (fresh_at group c)) x
+    ∙ and_from (contains (fresh_at group c) x) (not (contains (unused_within c group c (fresh_at group c)) x)) h.fresh
+    (ap not (taken_out c group (fresh_at group c) x h.above.0 c (omega arith) h.above.1 h.above.2))
+
+reused-to : (group : List ConfigurationData) (c x : ℕ) → x < 64 → contains (reused_at group c) x ≡ true → IsReused group c x
+reused-to group c x low h =
+    let parts : (contains (fresh_at group c) x ≡ true) × (contains (unused_within c group c (fresh_at group c)) x ≡ false) = in-difference (fresh_at group c) (unused_within c group c (fresh_at group c)) x h in
+    record { member = low; fresh = parts.0; above = left_out c group c (fresh_at group c) x parts.0 parts.1 }
+
+-- ---- the least member of a set
+
+-- the number is below n and passes the test, and none before it does
+abbrev IsFirst : (ℕ → Bool) → ℕ → ℕ → Type 0
+IsFirst test n x = (x < n) × (test x ≡ true) × ((y : ℕ) → y < x → test y ≡ false)
+
+last_of : (test : ℕ → Bool) (n x : ℕ) (xs : List ℕ) → ((z : ℕ) → slice_get xs 0 ≡ Some z → IsFirst test n z) → (slice_get xs 0 ≡ None → (y : ℕ) → y < n → test y ≡ false)
+    → slice_get (xs ++ (if test n then n ∷ [] else [])) 0 ≡ Some x → IsFirst test (suc n) x
+last_of test n x (z ∷ xs) here none h =
+    let same : z ≡ x = cc in
+    let (low, passes, before) = here z refl in
+    (let low' : z < n = low in omega arith, ap test (sym same) ∙ passes, λ y l. before y (omega arith))
+last_of test n x [] here none h =
+    elim (test n) as (λ b. test n ≡ b → slice_get (if b then n ∷ [] else []) 0 ≡ Some x → IsFirst test (suc n) x) [
+      | true ↦ λ e i. (let same : n ≡ x = cc in (omega arith, ap test (sym same) ∙ e, λ y l. none refl y (omega arith)))
+      | false ↦ λ e i. absurd cc
+    ] refl h
+
+first_of : (n : ℕ) (test : ℕ → Bool) (x : ℕ) → slice_get (each_below n test (λ y. y)) 0 ≡ Some x → IsFirst test n x
+first_of zero test x h = absurd cc
+first_of (suc n) test x h = last_of test n x (each_below n test (λ y. y)) (λ z. first_of n test z) (λ none y l. nobody_below n test y none l) h
+
+-- ---- the fault
+
+named : (g c x : ℕ) (found : Option ℕ) → reused_member g c found ≡ Some (MemberReused g c x) → found ≡ Some x
+named g c x None h = absurd cc
+named g c x (Some y) h = let same : y ≡ x = cc in ap Some same
+
+unnamed : (g c : ℕ) (found : Option ℕ) → reused_member g c found ≡ None → found ≡ None
+unnamed g c None h = refl
+unnamed g c (Some y) h = absurd cc
+
+-- the least of a list of members
+abbrev found_at : List ConfigurationData → ℕ → Option ℕ
+found_at group c = slice_get (listed (reused_at group c)) 0
+
+nobody_reused : (g c : ℕ) (group : List ConfigurationData) → ((x : ℕ) → IsReused group c x → ⊥) → (found : Option ℕ) → found_at group c ≡ found → reused_member g c found ≡ None
+nobody_reused g c group nobody None is = refl
+nobody_reused g c group nobody (Some x) is =
+    absurd (let (low, there, before) = first_of 64 (contains (reused_at group c)) x is in nobody x (reused-to group c x low there))
+
+least_named : (g c x : ℕ) (group : List ConfigurationData) → IsLeastReused group c x → (found : Option ℕ) → found_at group c ≡ found → reused_member g c found ≡ Some (MemberReused g c x)
+least_named g c x group h None is = absurd (both_ways (contains (reused_at group c) x) (nobody (reused_at group c) x is h.reused.member) (reused-from group c x h.reused))
+least_named g c x group h (Some y) is =
+    let (low, there, before) = first_of 64 (contains (reused_at group c)) y is in
+    let up : x ≤ y = h.least y (reused-to group c y low there) in
+    let same : y ≡ x = elim (nat_lt x y) as (λ b. nat_lt x y ≡ b → y ≡ x) [
+      | true ↦ λ e. absurd (let l : x < y = grind (arith, nat_tests, e) in both_ways (contains (reused_at group c) x) (before x l) (reused-from group c x h.reused))
+      | false ↦ λ e. (let l : y ≤ x = grind (arith, nat_tests, e) in omega arith)
+    ] refl in
+    ap (λ z. Some (MemberReused g c z)) same
+
+at_least_first : (group : List ConfigurationData) (c x y : ℕ) → ((z : ℕ) → z < x → contains (reused_at group c) z ≡ false) → IsReused group c y → x ≤ y
+at_least_first group c x y before h =
+    elim (nat_lt y x) as (λ b. nat_lt y x ≡ b → x ≤ y) [
+      | true ↦ λ e. absurd (let l : y < x = grind (arith, nat_tests, e) in both_ways (contains (reused_at group c) y) (before y l) (reused-from group c y h))
+      | false ↦ λ e. grind (arith, nat_tests, e)
+    ] refl
+
+named_least : (g c x : ℕ) (group : List ConfigurationData) → reuse_fault g group c ≡ Some (MemberReused g c x) → IsLeastReused group c x
+named_least g c x group h =
+    let (low, there, before) = first_of 64 (contains (reused_at group c)) x (named g c x (found_at group c) h) in
+    record { reused = reused-to group c x low there; least = λ y r. at_least_first group c x y before r }
+
+pub reuse_is_found : ReuseIsFound
+reuse_is_found = record {
+  none = λ g c group. (
+    λ h x r. both_ways (contains (reused_at group c) x) (nobody (reused_at group c) x (unnamed g c (found_at group c) h) r.member) (reused-from group c x r),
+    λ nobody. nobody_reused g c group nobody (found_at group c) refl,
+  );
+  some = λ g c x group. (named_least g c x group, λ h. least_named g c x group h (found_at group c) refl);
+}
