@@ -8,12 +8,11 @@ use Rattle.std.specs.Cmp.{nat_cmp_total}
 use Rattle.std.specs.FinSet.{FinSet, contains, difference, contains-difference}
 use Rattle.volume_model.specs.Lists.{each_below}
 use Rattle.volume_model.specs.Sets.{listed}
-use Rattle.plan.specs.declared.fault.PlanFault.{PlanFault}
 use Rattle.plan.specs.declared.fault.PlanFault.TheVariants.{MemberReused}
 use Rattle.plan.specs.PlanData.{ConfigurationData, configuration_at, earlier, parent_at, by_parent}
 use Rattle.plan.specs.PlanFaults.{fresh_at, unused_within, reused_at, reused_member, reuse_fault}
 use Rattle.plan.specs.Reused.{StandsAbove, IsReused, IsLeastReused, ReuseIsFound}
-use Rattle.plan.specs.Reused.StandsAbove as above
+use Rattle.plan.specs.Reused.StandsAbove.{is_parent, is_ancestor}
 use Rattle.plan.proofs.FreshMembers.{in-difference, unused-within, nobody, nobody_below}
 
 -- ---- what is left of a set
@@ -37,12 +36,12 @@ left_out (suc n) group c s x there out =
       | None ↦ λ is none. absurd (both_ways (contains s x) none there)
       | Some p ↦ λ is some.
           elim (contains (configuration_at group p).members x) as (λ b. contains (configuration_at group p).members x ≡ b → (a : ℕ) × StandsAbove group a c × (contains (configuration_at group a).members x ≡ true)) [
-            | true ↦ λ has. (p, above.by_parent p c is, has)
+            | true ↦ λ has. (p, is_parent p c is, has)
             | false ↦ λ lacks. (
                 let kept : contains (difference s (configuration_at group p).members) x ≡ true =
                 contains-difference nat_cmp_total s (configuration_at group p).members x ∙ and_from (contains s x) (not (contains (configuration_at group p).members x)) there (ap not lacks) in
                 let (a, up, has) = left_out n group p (difference s (configuration_at group p).members) x kept some in
-                (a, above.by_ancestor a p c is up, has))
+                (a, is_ancestor a p c is up, has))
           ] refl
     ] refl out
 
@@ -52,13 +51,13 @@ is_false false h = refl
 
 -- and who stands in a configuration above is left out
 taken_out : (n : ℕ) (group : List ConfigurationData) (s : FinSet nat_cmp) (x a c : ℕ) → c ≤ n → StandsAbove group a c → contains (configuration_at group a).members x ≡ true → contains (unused_within n group c s) x ≡ false
-taken_out zero group s x a c within (above.by_parent b d is) has = absurd (let lt : b < d = parent_before d b (configuration_at group d).parent is in omega arith)
-taken_out zero group s x a c within (above.by_ancestor b p d is up) has = absurd (let lt : p < d = parent_before d p (configuration_at group d).parent is in omega arith)
-taken_out (suc n) group s x a c within (above.by_parent b d is) has =
+taken_out zero group s x a c within (is_parent b d is) has = absurd (let lt : b < d = parent_before d b (configuration_at group d).parent is in omega arith)
+taken_out zero group s x a c within (is_ancestor b p d is up) has = absurd (let lt : p < d = parent_before d p (configuration_at group d).parent is in omega arith)
+taken_out (suc n) group s x a c within (is_parent b d is) has =
     ap (λ q. contains (by_parent q s (λ p. unused_within n group p (difference s (configuration_at group p).members))) x) is
     ∙ is_false _ (λ left. both_ways (contains (configuration_at group b).members x)
     (in-difference s (configuration_at group b).members x (unused-within n group b (difference s (configuration_at group b).members) x left)).1 has)
-taken_out (suc n) group s x a c within (above.by_ancestor b p d is up) has =
+taken_out (suc n) group s x a c within (is_ancestor b p d is up) has =
     let lt : p < d = parent_before d p (configuration_at group d).parent is in
     ap (λ q. contains (by_parent q s (λ r. unused_within n group r (difference s (configuration_at group r).members))) x) is
     ∙ taken_out n group (difference s (configuration_at group p).members) x b p (omega arith) up has

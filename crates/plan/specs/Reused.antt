@@ -7,8 +7,8 @@ use Rattle.plan.specs.PlanFaults.{fresh_at, reuse_fault}
 
 -- The configuration a stands above c: it is the parent of c, or stands above the parent. A parent stands before its children.
 pub data StandsAbove (group : List ConfigurationData) : ℕ → ℕ → Type 0 where
-  by_parent : (a c : ℕ) → parent_at group c ≡ Some a → StandsAbove group a c
-  by_ancestor : (a p c : ℕ) → parent_at group c ≡ Some p → StandsAbove group a p → StandsAbove group a c
+  is_parent : (a c : ℕ) → parent_at group c ≡ Some a → StandsAbove group a c
+  is_ancestor : (a p c : ℕ) → parent_at group c ≡ Some p → StandsAbove group a p → StandsAbove group a c
 
 -- the parent of the configuration lacks the member, and a configuration above has it
 pub record IsReused (group : List ConfigurationData) (c x : ℕ) : Type 0 where
