@@ -1,41 +1,15 @@
 -- Lists that are gone through from the front, and the trees that plain claims have.
-use Rattle.std.proofs.Common.{◌≡◌, ℕ, suc, ◌+◌, ◌<◌, ◌≤◌, List, [], ◌∷◌, ◌++◌, length, get_or, drop, map, append_assoc, refl, ap, ◌∙◌, sym, subst, arith, add-one, drop-cons, rules}
-use Rattle.std.specs.Prelude.{None, Option, Some, Vec, true, nat_le, ◌&&◌, Bool}
-use Rattle.std.proofs.lemmas.List.{length-map, map-append}
+use Rattle.std.proofs.Common.{◌≡◌, ℕ, ◌+◌, ◌<◌, ◌≤◌, List, [], ◌∷◌, ◌++◌, length, drop, map, append_assoc, refl, ap, ◌∙◌, sym, arith, add-one, drop-cons, rules}
+use Rattle.std.specs.Prelude.{None, Option, Some, true, nat_le, ◌&&◌, Bool}
+use Rattle.std.proofs.lemmas.List.{map-append}
 use Rattle.std.proofs.lemmas.Bool.Decides.{nat_tests}
-use Rattle.volume_model.specs.Formula.{HasCounts}
-use Rattle.volume_model.proofs.FormulaLaws.{formulas-each_once, total_weight-each_once}
-use Rattle.quorum_expr.specs.declared.expression.Expr.{Expr}
-use Rattle.quorum_expr.specs.declared.expression.Expr.TheVariants.{KOf}
-use Rattle.quorum_expr.specs.Expr.{formula_of}
-use Rattle.quorum_expr.specs.ExprLaws.{formula_of-KOf}
-use Rattle.quorum_expr.specs.Valid.{expression_fault}
-use Rattle.quorum_expr.specs.ValidLaws.{HasCounts-from}
-use Rattle.quorum_checker.specs.FirstFault.{children_of}
 use Rattle.refutation.specs.declared.Refutation.{Refutation}
-use Rattle.refutation.specs.declared.Refutation.TheVariants.{Clash, Match}
+use Rattle.refutation.specs.declared.Refutation.TheVariants.{Clash}
 use Rattle.refutation.specs.declared.Refutation.TheFolds.{the_lemmas}
 use Rattle.refutation.specs.Rule.{clash, pair_up, branches_of, branch_count, branch_depth}
 use Rattle.refutation.specs.Refutation.{rule_of}
 use Rattle.refutation.specs.Limits.{is_certificate, each_keeps_lists, branch_nodes}
 use Rattle.cert_search.specs.Plain.{clashes, onto}
-
--- the element at hand and those after it
-pub next : {A B : Type 0} (f : A → B) (xs : List A) (i : ℕ) (x : A) → i < length xs → x ≡ get_or xs i x → map f (drop i xs) ≡ f x ∷ map f (drop (i + 1) xs)
-next f xs i x h is = ap (map f) (drop-cons xs i x h ∙ ap (λ y. y ∷ drop (suc i) xs) (sym is)) ∙ ap (λ n. f x ∷ map f (drop n xs)) (sym (add-one i))
-
-pub rule_of-match : {A : Type 0} (pairs : Vec (ℕ × ℕ) A) (then : Vec (Refutation A) A) → rule_of (Match 0 0 pairs then) ≡ pair_up 0 0 pairs.items (branches_of (map rule_of then.items))
-rule_of-match pairs then = search (rules, the_lemmas)
-
--- the children of a threshold
-pub children-is : {A : Type 0} (e : Expr A) (k : ℕ) (of : Vec (Expr A) A) → e ≡ KOf k of → children_of (formula_of e) ≡ map formula_of of.items
-children-is e k of is = ap children_of (ap formula_of is ∙ formula_of-KOf k of) ∙ formulas-each_once (map formula_of of.items)
-
--- a valid threshold has at most 64 children
-pub few_children : {A : Type 0} (e : Expr A) (k : ℕ) (of : Vec (Expr A) A) → e ≡ KOf k of → expression_fault (formula_of e) ≡ None → length of.items ≤ 64
-few_children e k of is valid =
-    let counts = subst HasCounts (ap formula_of is ∙ formula_of-KOf k of) (HasCounts-from (formula_of e) valid) in
-    omega (arith, counts.2, total_weight-each_once (map formula_of of.items), length-map of.items formula_of)
 
 -- ---- pairs so far, and those of what is left
 

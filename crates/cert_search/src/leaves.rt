@@ -1,6 +1,6 @@
 //! Where a search ends: a state that is refuted at once, and one with two disjoint sets that satisfy its sides.
 
-use crate::members::{common, without};
+use crate::members::common;
 use crate::state::State;
 use quorum_expr::{Expr, MEMBERS};
 use refutation::{Refutation, Side};
@@ -51,11 +51,11 @@ fn leaves_enough<A: Allocator>(state: &State<'_, A>) -> bool {
     let common = common(state);
     for member in 0..MEMBERS {
         if common.contains(member) {
-            let fewer = without(left, member);
+            let fewer = left.without(member);
             if state.left.hold(fewer) {
                 left = fewer;
             } else {
-                right = without(right, member);
+                right = right.without(member);
             }
         }
     }

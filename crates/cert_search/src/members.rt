@@ -1,27 +1,8 @@
 //! The members that expressions speak of.
 
-ghost use Rattle.std.specs.Prelude.{◌<◌};
-
 use crate::state::{Row, State};
 use quorum_expr::{Expr, MEMBERS, MemberSet};
 use std::alloc::Allocator;
-
-/// The members of either set.
-fn union(one: MemberSet, other: MemberSet) -> MemberSet {
-    one.complement().difference(other).complement()
-}
-
-/// The members of both sets.
-fn intersection(one: MemberSet, other: MemberSet) -> MemberSet {
-    one.difference(other.complement())
-}
-
-/// The set without a member.
-pub fn without(members: MemberSet, member: u8) -> MemberSet
-    requires { member < 64 }
-{
-    members.difference(MemberSet::empty().with(member))
-}
 
 /// The members that an expression speaks of.
 fn members_of<A: Allocator>(expr: &Expr<A>) -> MemberSet {
@@ -36,7 +17,7 @@ fn members_of<A: Allocator>(expr: &Expr<A>) -> MemberSet {
         Expr::KOf { of, .. } => {
             let mut members = MemberSet::empty();
             for child in of {
-                members = union(members, members_of(child));
+                members = members.union(members_of(child));
             }
             members
         }
@@ -47,12 +28,12 @@ fn members_of<A: Allocator>(expr: &Expr<A>) -> MemberSet {
 fn members_in<A: Allocator>(row: &Row<'_, A>) -> MemberSet {
     let mut members = MemberSet::empty();
     for item in row.items {
-        members = union(members, members_of(*item));
+        members = members.union(members_of(*item));
     }
     members.difference(row.absent)
 }
 
 /// The members that matter on both sides.
 pub fn common<A: Allocator>(state: &State<'_, A>) -> MemberSet {
-    intersection(members_in(&state.left), members_in(&state.right))
+    members_in(&state.left).intersection(members_in(&state.right))
 }

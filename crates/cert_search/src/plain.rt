@@ -4,13 +4,13 @@ ghost use Rattle.std.specs.Prelude.{◌≡◌, ◌<◌, ◌≤◌, IfOk, IfSome,
 ghost use Rattle.volume_model.specs.Answer.{Gives};
 ghost use Rattle.quorum_expr.specs.Expr.{formula_of};
 ghost use Rattle.quorum_expr.specs.Valid.{expression_fault};
-ghost use Rattle.quorum_checker.specs.FirstFault.{children_of};
 ghost use Rattle.refutation.specs.Refutation.{rule_of};
 ghost use Rattle.refutation.specs.Forms.{rules_of};
 ghost use Rattle.refutation.specs.Limits.{is_certificate};
 ghost use Rattle.refutation.specs.Rule.{branches_of, pair_up};
 ghost use Rattle.cert_search.specs.Plain.{clashes, equal_pairs, is_member, pair_at, place_of, plain_rule};
 
+use quorum_checker::children;
 use quorum_expr::Expr;
 use refutation::Refutation;
 use std::alloc::Allocator;
@@ -23,18 +23,6 @@ pub fn is_member<A: Allocator>(member: u8, expr: &Expr<A>) -> bool
     match expr {
         Expr::Member(own) => *own == member,
         Expr::KOf { .. } => false,
-    }
-}
-
-/// The children of a threshold, and of a member none.
-fn children<A: Allocator>(expr: &Expr<A>) -> &[Expr<A>]
-    requires { expression_fault (formula_of expr.now) ≡ None }
-    ensures children { map formula_of result.now ≡ children_of (formula_of expr.now) }
-    ensures few { length result.now ≤ 64 }
-{
-    match expr {
-        Expr::Member(_) => &[],
-        Expr::KOf { of, .. } => of.as_slice(),
     }
 }
 

@@ -1,5 +1,5 @@
 -- The items of a node, by their formulas.
-use Rattle.std.proofs.Common.{◌≡◌, ℕ, zero, suc, ◌+◌, ◌<◌, List, [], ◌∷◌, ◌++◌, take, drop, add-one, arith, length, map, vec_len, refl, ap, ◌∙◌, sym}
+use Rattle.std.proofs.Common.{◌≡◌, ℕ, zero, suc, ◌+◌, ◌<◌, ◌≤◌, List, [], ◌∷◌, ◌++◌, take, drop, add-one, arith, length, map, vec_len, refl, ap, ◌∙◌, sym, subst}
 use Rattle.std.specs.Prelude.{Bool, true, false, not, ◌&&◌, nat_lt, Vec, Option, if◌then◌else◌, ◌==◌, None, Some, remove, slice_get}
 use Rattle.std.specs.List.{list_any}
 use mathlib.Core.Bool.{true≢false}
@@ -7,10 +7,12 @@ use Rattle.std.proofs.lemmas.Bool.Decides.{nat_tests}
 use Rattle.std.proofs.lemmas.List.{length-map, map-append}
 use Rattle.quorum_expr.specs.declared.expression.Expr.{Expr}
 use Rattle.quorum_expr.specs.declared.expression.Expr.TheVariants.{KOf}
-use Rattle.volume_model.specs.Formula.{Formula, member, at_least, each_once, total_weight, formulas, weight_at}
+use Rattle.volume_model.specs.Formula.{Formula, member, at_least, each_once, total_weight, formulas, weight_at, HasCounts}
 use Rattle.volume_model.proofs.FormulaLaws.{EachWeighs-to, each_once_weighs, formulas-each_once, total_weight-each_once}
 use Rattle.quorum_expr.specs.Expr.{formula_of}
 use Rattle.quorum_expr.specs.ExprLaws.{formula_of-KOf}
+use Rattle.quorum_expr.specs.Valid.{expression_fault}
+use Rattle.quorum_expr.specs.ValidLaws.{HasCounts-from}
 use Rattle.volume_model.specs.declared.fault.Fault.{Fault}
 use Rattle.volume_model.specs.declared.fault.Fault.TheVariants.{NotAll, BadPair, TooFewPicked, CountTooSmall, BranchCount}
 use Rattle.quorum_checker.specs.Refutes.{picked_weight, paired_weight}
@@ -21,6 +23,13 @@ formula_of-is e k of is = ap formula_of is ∙ formula_of-KOf k of
 
 pub children_of-is : {A : Type 0} (e : Expr A) (k : ℕ) (of : Vec (Expr A) A) → e ≡ KOf k of → children_of (formula_of e) ≡ map formula_of of.items
 children_of-is e k of is = ap children_of (formula_of-is e k of is) ∙ formulas-each_once (map formula_of of.items)
+
+-- a valid threshold has at most 64 children
+pub few_children : {A : Type 0} (e : Expr A) (k : ℕ) (of : Vec (Expr A) A) → e ≡ KOf k of → expression_fault (formula_of e) ≡ None → length of.items ≤ 64
+few_children e k of is valid =
+    let counts = subst HasCounts (formula_of-is e k of is) (HasCounts-from (formula_of e) valid) in
+    let children : length (formulas (each_once (map formula_of of.items))) ≡ length of.items = ap length (formulas-each_once (map formula_of of.items)) ∙ length-map of.items formula_of in
+    omega (arith, counts.2, children)
 
 -- the weight of children that each count as one
 pub total-is : {A : Type 0} (of : Vec (Expr A) A) → total_weight (each_once (map formula_of of.items)) ≡ vec_len of

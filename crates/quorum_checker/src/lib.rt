@@ -23,6 +23,7 @@ mod rules;
 pub use claim::Claim;
 pub use fault::FaultAt;
 use items::Items;
+pub use node::children;
 pub use path::Path;
 use quorum_expr::MemberSet;
 use refutation::Certificate;

@@ -3,13 +3,13 @@ use Rattle.std.proofs.Common.{◌≡◌, ◌≢◌, ℕ, zero, suc, ◌+◌, ◌
 use Rattle.std.proofs.Math.Pow.{pow_pos}
 use Rattle.std.proofs.Math.Nat.{mul_comm, pow-suc}
 use Rattle.std.proofs.Math.Arith.{mod-mul}
-use Rattle.std.specs.Prelude.{Bool, true, false, not, ◌&&◌, ◌||◌, nat_eq, nat_lt, if◌then◌else◌, ◌-◌, bit_or, bit_and, min}
+use Rattle.std.specs.Prelude.{Bool, true, false, not, ◌&&◌, ◌||◌, nat_eq, nat_lt, if◌then◌else◌, ◌-◌, bit_or, bit_and, min, max}
 use Rattle.std.specs.Ordering.{nat_cmp}
-use Rattle.std.specs.FinSet.{FinSet, empty, insert, contains, difference, code, contains-empty, contains-difference, same_set, nat_cmp-IsAntisymmetric}
-use Rattle.std.specs.Cmp.{nat_cmp_total}
+use Rattle.std.specs.FinSet.{FinSet, empty, insert, contains, difference, code, union, intersection, remove, contains-empty, contains-difference, contains-union, contains-intersection, contains-remove, same_set, nat_cmp-IsAntisymmetric}
+use Rattle.std.specs.Cmp.{nat_cmp_total, unsigned_tied}
 use Rattle.std.specs.Coded.{Coded, coded_ℕ}
 use Rattle.std.specs.Int.{bit_at, w64}
-use Rattle.std.proofs.lemmas.Nat.Bits.{bit_at-lt, bit_at-zero, bit_at_set_same, bit_at_set_other, bit_at_not, bit_at_and}
+use Rattle.std.proofs.lemmas.Nat.Bits.{bit_at-lt, bit_at-zero, bit_at_set_same, bit_at_set_other, bit_at_not, bit_at_and, bit_at_or}
 use Rattle.std.proofs.lemmas.Bool.Decides.{nat_tests}
 use Rattle.volume_model.proofs.Sets.{contains-put}
 use Rattle.quorum_expr.specs.MemberSet.{members_below, members_of, bits_below, bits_of, numbers_below, all_members}
@@ -136,6 +136,52 @@ cleared_bit a b x h =
 pub members_of-difference : (a b : ℕ) → b < 2 ^ 64 → members_of (bit_and a (2 ^ 64 - 1 - b)) ≡ difference (members_of a) (members_of b)
 members_of-difference a b h = same_members _ _ (λ x.
     contains-members_of _ x ∙ cleared_bit a b x h ∙ (λ i. sym (contains-members_of a x) i && not (sym (contains-members_of b x) i)) ∙ sym (contains-difference nat_cmp_total (members_of a) (members_of b) x))
+
+either_bit : (m n : ℕ) → m < 2 → n < 2 → nat_eq (max m n) 1 ≡ (nat_eq m 1 || nat_eq n 1)
+either_bit zero zero h i = refl
+either_bit zero (suc zero) h i = refl
+either_bit (suc zero) zero h i = refl
+either_bit (suc zero) (suc zero) h i = refl
+either_bit (suc (suc m)) n h i = absurd (omega arith)
+either_bit m (suc (suc n)) h i = absurd (omega arith)
+
+and-or : (c a b : Bool) → (c && (a || b)) ≡ ((c && a) || (c && b))
+and-or true a b = refl
+and-or false a b = refl
+
+pub members_of-union : (a b : ℕ) → members_of (bit_or a b) ≡ union (members_of a) (members_of b)
+members_of-union a b = same_members _ _ (λ x.
+    contains-members_of _ x ∙ ap (λ n. nat_lt x 64 && nat_eq n 1) (bit_at_or a b x) ∙ ap (λ t. nat_lt x 64 && t) (either_bit (bit_at a x) (bit_at b x) (bit_at-lt a x) (bit_at-lt b x))
+    ∙ and-or (nat_lt x 64) (nat_eq (bit_at a x) 1) (nat_eq (bit_at b x) 1) ∙ (λ i. sym (contains-members_of a x) i || sym (contains-members_of b x) i) ∙ sym (contains-union nat_cmp_total (members_of a) (members_of b) x))
+
+same_bit : (m n : ℕ) → m < 2 → n < 2 → nat_eq (min m n) 1 ≡ (nat_eq m 1 && nat_eq n 1)
+same_bit zero zero h i = refl
+same_bit zero (suc zero) h i = refl
+same_bit (suc zero) zero h i = refl
+same_bit (suc zero) (suc zero) h i = refl
+same_bit (suc (suc m)) n h i = absurd (omega arith)
+same_bit m (suc (suc n)) h i = absurd (omega arith)
+
+and-and : (c a b : Bool) → (c && (a && b)) ≡ ((c && a) && (c && b))
+and-and true a b = refl
+and-and false a b = refl
+
+pub members_of-intersection : (a b : ℕ) → members_of (bit_and a b) ≡ intersection (members_of a) (members_of b)
+members_of-intersection a b = same_members _ _ (λ x.
+    contains-members_of _ x ∙ ap (λ n. nat_lt x 64 && nat_eq n 1) (bit_at_and a b x) ∙ ap (λ t. nat_lt x 64 && t) (same_bit (bit_at a x) (bit_at b x) (bit_at-lt a x) (bit_at-lt b x))
+    ∙ and-and (nat_lt x 64) (nat_eq (bit_at a x) 1) (nat_eq (bit_at b x) 1) ∙ (λ i. sym (contains-members_of a x) i && sym (contains-members_of b x) i) ∙ sym (contains-intersection nat_cmp_total (members_of a) (members_of b) x))
+
+but_not : (e c : Bool) → (c && not (e || false)) ≡ (not e && c)
+but_not true true = refl
+but_not true false = refl
+but_not false true = refl
+but_not false false = refl
+
+-- without the set of one member it is without this member
+pub difference-one : (s : FinSet nat_cmp) (k : ℕ) → difference s (insert empty k) ≡ remove s k
+difference-one s k = same_members _ _ (λ x.
+    contains-difference nat_cmp_total s (insert empty k) x ∙ ap (λ b. contains s x && not b) (contains-put empty k x ∙ ap (λ b. nat_eq x k || b) (contains-empty nat_cmp x))
+    ∙ but_not (nat_eq x k) (contains s x) ∙ ap (λ b. not b && contains s x) (sym (unsigned_tied x k)) ∙ sym (contains-remove nat_cmp_total s k x))
 
 pub zero-members_of : (n : ℕ) → n < 2 ^ 64 → members_of n ≡ empty → n ≡ 0
 zero-members_of n h none = sym (bits_of-members_of n h) ∙ ap bits_of (none ∙ sym members_of-zero) ∙ bits_of-members_of 0 (omega arith)

@@ -47,9 +47,13 @@ number_to most d = whole_of d >>= λ n. if nat_le n most then Ok n else Err Malf
 unfoldable pub number_at : List ℕ → ℕ → Data → Result ℕ Fault
 number_at key most d = at_key key d >>= number_to most
 
+-- the names of the sides
+abbrev pub side_in : List ℕ → Result Side Fault
+side_in s = if bytes_eq s (codes "left") then Ok Left else (if bytes_eq s (codes "right") then Ok Right else Err Malformed)
+
 -- the name of a side
 abbrev pub side_of : Data → Result Side Fault
-side_of (string s) = if bytes_eq s (codes "left") then Ok Left else (if bytes_eq s (codes "right") then Ok Right else Err Malformed)
+side_of (string s) = side_in s
 side_of null = Err Malformed
 side_of (boolean b) = Err Malformed
 side_of (number m) = Err Malformed

@@ -6,7 +6,7 @@ ghost use Rattle.volume_model.specs.Answer.{Gives};
 ghost use Rattle.refutation.specs.Refutation.{rule_of};
 ghost use Rattle.refutation.specs.Certificate.{certificate_rule};
 ghost use Rattle.refutation.specs.Forms.{form_data, rules_of};
-ghost use Rattle.refutation.specs.Reading.{side_of, numbers_of, pair_of, pairs_of, rule_name_of, dead_in, clash_in, open_in, pick_in, match_in, split_in, fields_of, form_of, each_rule, rule_from, rule_level, rule_at, certificate_in};
+ghost use Rattle.refutation.specs.Reading.{side_in, side_of, numbers_of, pair_of, pairs_of, rule_name_in, name_or_malformed, rule_name_of, dead_in, clash_in, open_in, pick_in, match_in, split_in, fields_of, form_of, each_rule, rule_from, rule_level, rule_at, certificate_in};
 
 use crate::certificate::{Certificate, MAX_DEPTH};
 use crate::form::{Form, RuleName};
@@ -16,28 +16,48 @@ use serde_json::Value;
 use std::alloc::Global;
 use volume_model::Fault;
 
+/// The side that a text names.
+fn side_named(text: &str) -> Result<Side, Fault>
+    ensures { result ≡ side_in text.now }
+{
+    match text {
+        "left" => Ok(Side::Left),
+        "right" => Ok(Side::Right),
+        _ => Err(Fault::Malformed),
+    }
+}
+
 /// The name of a side.
 fn side(value: &Value) -> Result<Side, Fault>
-    ensures { Gives (λ s. s) result (side_of (view value.now)) }
+    ensures { result ≡ side_of (view value.now) }
 {
     match value {
-        Value::String(text) if text.as_str() == "left" => Ok(Side::Left),
-        Value::String(text) if text.as_str() == "right" => Ok(Side::Right),
+        Value::String(text) => side_named(text.as_str()),
+        _ => Err(Fault::Malformed),
+    }
+}
+
+/// The rule that a text names.
+fn named(text: &str) -> Result<RuleName, Fault>
+    ensures { result ≡ name_or_malformed (rule_name_in text.now) }
+{
+    match text {
+        "dead" => Ok(RuleName::Dead),
+        "clash" => Ok(RuleName::Clash),
+        "open" => Ok(RuleName::Open),
+        "pick" => Ok(RuleName::Pick),
+        "match" => Ok(RuleName::Match),
+        "split" => Ok(RuleName::Split),
         _ => Err(Fault::Malformed),
     }
 }
 
 /// The name of a rule.
 fn rule_name(value: &Value) -> Result<RuleName, Fault>
-    ensures { Gives (λ name. name) result (rule_name_of (view value.now)) }
+    ensures { result ≡ rule_name_of (view value.now) }
 {
     match value {
-        Value::String(text) if text.as_str() == "dead" => Ok(RuleName::Dead),
-        Value::String(text) if text.as_str() == "clash" => Ok(RuleName::Clash),
-        Value::String(text) if text.as_str() == "open" => Ok(RuleName::Open),
-        Value::String(text) if text.as_str() == "pick" => Ok(RuleName::Pick),
-        Value::String(text) if text.as_str() == "match" => Ok(RuleName::Match),
-        Value::String(text) if text.as_str() == "split" => Ok(RuleName::Split),
+        Value::String(text) => named(text.as_str()),
         _ => Err(Fault::Malformed),
     }
 }

@@ -1,6 +1,7 @@
-use Rattle.std.proofs.Common.{List, ◌∙◌, subst, arith}
+use Rattle.std.proofs.Common.{List, ◌∙◌, map, sym, subst, arith}
+use Rattle.std.specs.List.{range_with_len}
 use Rattle.cert_search.specs.Sights.{Name}
-use Rattle.cert_search.specs.Dealing.{names_in}
+use Rattle.cert_search.specs.Dealing.{names_in, fresh_row}
 use Rattle.cert_search.specs.Hands.{IsOfDeal, hand_plain, fresh_hand, AreHands}
 use Rattle.cert_search.proofs.Rows.{all_of}
 use Rattle.cert_search.proofs.Tables.{made_len, hands_dealt, hands_share}
@@ -17,6 +18,13 @@ hands_are c =
     let claims = c.in_ok-rows.ensures.same.0 ∙ c.in_ok-table.ensures.deal.0 in
     let workers = c.in_ok-rows.ensures.same.1 ∙ c.in_ok-table.ensures.deal.1 in
     subst (λ n. AreHands (names c) c.args.claims n n hands) workers (subst (λ m. AreHands (names c) m c.rows.new.self.workers c.rows.new.self.workers hands) claims c.in_ok-hands_of.ensures)
+
+pub hands_of-requires-clause-rows : goal.hands_of-requires-clause-rows
+hands_of-requires-clause-rows c =
+    let names = sym c.in_ok-rows.ensures.names in
+    let claims = sym c.in_ok-rows.ensures.same.0 in
+    let workers = sym c.in_ok-rows.ensures.same.1 in
+    c.in_ok-rows.ensures.rows ∙ (λ i. map (fresh_row (names i) (claims i) (workers i)) (range_with_len 0 (workers i)))
 
 pub returns-clause-count : goal.returns-clause-count
 returns-clause-count c =

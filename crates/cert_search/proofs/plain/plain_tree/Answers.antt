@@ -6,6 +6,9 @@ use Rattle.cert_search.specs.Plain.{clashes}
 use Rattle.cert_search.proofs.Pairs.{within}
 use Rattle.cert_search.proofs.plain.plain_tree.Goals as goal
 
+pub equal_pairs-requires : goal.equal_pairs-requires
+equal_pairs-requires g c = (c.children.ensures.few c.requires.left, c.children-2.ensures.few c.requires.right)
+
 pub returns-clause-within : goal.returns-clause-within
 returns-clause-within g c =
     let same : clashes c.as_slice.result.now ≡ rules_of c.in_ok-then.then.items = cc (c.in_ok-then.ensures) in
