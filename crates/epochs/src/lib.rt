@@ -4,6 +4,3 @@
 mod authority;
 
 pub use authority::Authority;
-
-#[cfg(test)]
-mod tests;

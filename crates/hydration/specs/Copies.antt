@@ -3,7 +3,7 @@ use Rattle.volume_model.specs.Redo.{Redo}
 use Rattle.volume_model.specs.Lineage as model
 use Rattle.volume_model.specs.Lineage.{with_live}
 use Rattle.volume_model.specs.Node.{From}
-use Rattle.lineage.specs.Lineage.{lineage_of}
+use Rattle.lineage.specs.Lineage.{newer}
 use Rattle.wire.specs.Contents.{contents_of}
 use Rattle.hydration.specs.declared.copied.Copied.{Copied}
 
@@ -15,9 +15,10 @@ copy_of copied = record { sender = copied.from; contents = contents_of copied.co
 abbrev pub copies_in : List Copied → List From
 copies_in copies = map copy_of copies
 
--- the lineages of copies, in their order
-abbrev pub copied_lineages : List Copied → List model.Lineage
-copied_lineages copies = map (λ copied. lineage_of copied.contents.lineage) copies
+-- the newest of the lineages of contents and of one that comes behind them
+abbrev pub newest_with : model.Lineage → List model.Contents → model.Lineage
+newest_with last [] = last
+newest_with last (c ∷ rest) = newer c.lineage (newest_with last rest)
 
 -- a set of records with all those of the copies that are live in the lineage
 abbrev pub with_found : model.Lineage → List model.Contents → List Redo → List Redo

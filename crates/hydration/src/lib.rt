@@ -6,8 +6,5 @@ mod found;
 mod hydration;
 
 pub use copied::{Copied, State};
-pub use found::{add_lineages, senders, with_found};
+pub use found::{newest_with, senders, with_found};
 pub use hydration::Hydration;
-
-#[cfg(test)]
-mod tests;

@@ -1,4 +1,4 @@
-use Rattle.std.specs.Prelude.{ℕ, ◌+◌, ◌^◌, max, nat_lt, List, [], ◌∷◌, map, Result, Ok}
+use Rattle.std.specs.Prelude.{ℕ, ◌+◌, ◌^◌, max, nat_lt, nat_le, if◌then◌else◌, List, [], ◌∷◌, map, Result, Ok}
 use Rattle.volume_model.specs.Lineage as model
 use Rattle.volume_model.specs.Refusal.{refuse_if}
 use Rattle.volume_model.specs.declared.fault.Fault.{Fault}
@@ -10,9 +10,9 @@ use Rattle.lineage.specs.Entries.{entries_of}
 abbrev pub lineage_of : Lineage → model.Lineage
 lineage_of lineage = entries_of lineage.entries.items
 
--- the lineages of the model that these are, in their order
-abbrev pub lineages_of : List Lineage → List model.Lineage
-lineages_of = map lineage_of
+-- the newer of two lineages: the one whose last epoch is greater, and the first where both have the same
+abbrev pub newer : model.Lineage → model.Lineage → model.Lineage
+newer first other = if nat_le (model.last_epoch other) (model.last_epoch first) then first else other
 
 -- a lineage with the entry that a recovery adds, refused where its own numbers would begin above the greatest number
 abbrev pub extension : model.Lineage → ℕ → ℕ → ℕ → Result model.Lineage Fault

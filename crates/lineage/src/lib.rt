@@ -4,8 +4,6 @@
 mod entry;
 mod lineage;
 mod live;
-mod selection;
 
 pub use entry::Entry;
 pub use lineage::Lineage;
-pub use selection::newest;

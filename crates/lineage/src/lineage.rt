@@ -22,7 +22,7 @@ impl Lineage {
     ghost use Rattle.std.specs.Prelude.{◌<◌, ◌≤◌, [], IfOk};
     ghost use Rattle.volume_model.specs.Answer.{Gives};
     ghost use Rattle.volume_model.specs.Lineage.{birth, is_live, last_epoch, last_start};
-    ghost use Rattle.lineage.specs.Lineage.{lineage_of, extension, last_cut};
+    ghost use Rattle.lineage.specs.Lineage.{lineage_of, extension, last_cut, newer};
 
     /// No entry: what a segment has that was told nothing yet.
     pub fn empty(alloc: Global) -> Lineage
@@ -91,6 +91,17 @@ impl Lineage {
             }
         }
         false
+    }
+
+    /// The newer of two lineages: the one whose last epoch is greater, and this one where both have the same.
+    pub fn newer<'a>(&'a self, other: &'a Lineage) -> &'a Lineage
+        ensures { lineage_of result.now ≡ newer (lineage_of self.now) (lineage_of other.now) }
+    {
+        if self.last_epoch() < other.last_epoch() {
+            other
+        } else {
+            self
+        }
     }
 
     /// The lineage with the entry that a recovery of a later volume epoch adds, whose own numbers begin `lal` above all that its log

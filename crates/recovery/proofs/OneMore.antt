@@ -7,9 +7,9 @@ use Rattle.volume_model.specs.Message.{place_in}
 use Rattle.volume_model.specs.Lineage.{Contents, Lineage, found_in, with_live}
 use Rattle.volume_model.specs.Node.{contents_of}
 use Rattle.volume_model.specs.Client.{ClientGroup, place_of, raised_in}
-use Rattle.lineage.specs.Lineage.{lineage_of}
+use Rattle.lineage.specs.Lineage.{newer}
 use Rattle.hydration.specs.declared.copied.Copied.{Copied}
-use Rattle.hydration.specs.Copies.{copies_in, copied_lineages, with_found}
+use Rattle.hydration.specs.Copies.{copies_in, newest_with, with_found}
 use Rattle.wire.specs.declared.label.Place.{Place}
 use Rattle.wire.specs.declared.message.Message.{Message}
 use Rattle.wire.specs.Message as wire
@@ -48,20 +48,10 @@ pub reports-append : (xs ys : List ClientGroup) → reports_in (xs ++ ys) ≡ re
 reports-append [] ys = refl
 reports-append (g ∷ xs) ys = ap (λ l. contents_of g.reports ++ l) (reports-append xs ys) ∙ sym (append_assoc (contents_of g.reports) (reports_in xs) (reports_in ys))
 
-copied-are : (copies : List Copied) → copied_lineages copies ≡ map (λ (c : Contents). c.lineage) (contents_of (copies_in copies))
-copied-are [] = refl
-copied-are (c ∷ rest) = ap (λ l. lineage_of c.contents.lineage ∷ l) (copied-are rest)
-
--- the reports of one group more
-pub lineages-more : (standings : List Standing) (i : ℕ) (s : Standing) (old new : List Lineage) → i < length standings → s ≡ get_or standings i s
-    → old ≡ map (λ (c : Contents). c.lineage) (reports_in (groups_of (take i standings))) → new ≡ old ++ copied_lineages s.copies.items
-    → new ≡ map (λ (c : Contents). c.lineage) (reports_in (groups_of (take (i + 1) standings)))
-lineages-more standings i s old new within is before added =
-    let more : groups_of (take (i + 1) standings) ≡ groups_of (take i standings) ++ group_at s ∷ [] = ap groups_of (take_more standings i s within) ∙ ap (λ x. groups_of (take i standings ++ x ∷ [])) (sym is) ∙ map-append group_at (take i standings) (s ∷ []) in
-    let reports : reports_in (groups_of (take (i + 1) standings)) ≡ reports_in (groups_of (take i standings)) ++ contents_of (copies_in s.copies.items) =
-    ap reports_in more ∙ reports-append (groups_of (take i standings)) (group_at s ∷ []) ∙ ap (λ l. reports_in (groups_of (take i standings)) ++ l) (append-nil (contents_of (copies_in s.copies.items))) in
-    added ∙ ap₂ (λ a b. a ++ b) before (copied-are s.copies.items)
-    ∙ sym (ap (map (λ (c : Contents). c.lineage)) reports ∙ map-append (λ (c : Contents). c.lineage) (reports_in (groups_of (take i standings))) (contents_of (copies_in s.copies.items)))
+-- the newest of reports of one group before others
+pub newest-more : (last : Lineage) (reports : List Contents) (more : List Contents) → newest_with last (reports ++ more) ≡ newest_with (newest_with last more) reports
+newest-more last [] more = refl
+newest-more last (c ∷ reports) more = ap (newer c.lineage) (newest-more last reports more)
 
 -- what is found in reports of one group before others
 pub found-more : (lineage : Lineage) (reports : List Contents) (more : List Contents) → found_in lineage (reports ++ more) ≡ with_found lineage reports (found_in lineage more)

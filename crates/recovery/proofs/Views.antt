@@ -13,7 +13,6 @@ use Rattle.volume_model.specs.Lineage.{Lineage}
 use Rattle.volume_model.specs.Client.{ClientGroup, unborn, newly_at, place_of, label_of, is_raised, raised_in, later_group, reread_group, moved, fences, installs, are_places, taken}
 use Rattle.lineage.specs.Lineage.{lineage_of}
 use Rattle.writer_core.specs.Logs.{log_of}
-use Rattle.writer_core.specs.Groups.{found_at}
 use Rattle.writer_core.proofs.Placing.{new-place, places-many}
 use Rattle.recovery.specs.declared.found.Found.{Found}
 use Rattle.recovery.specs.Recoveries.{client_with}
@@ -87,31 +86,11 @@ fences-new plan volume places good =
     each-same plan.groups (λ group. true) (λ k. model.Message.Fence k (label_of volume (place_of (map newly_at places)) k)) (λ k. model.Message.Fence k (label_of volume (place_in places) k))
     (λ k l t. ap (λ (p : model.Place). model.Message.Fence k (record { volume = volume; member = p.epoch })) (new-place places k (omega (arith, wide, l))))
 
-pub birth-refused : (plan : Plan) (volume : ℕ) (places : List model.Place) (fault : Fault) → found_at plan places ≡ Err fault → taken plan volume unborn (model.Message.View volume places) ≡ Err fault
-birth-refused plan volume places fault h =
-    elim (cases_Bool (are_places plan places)) [
-      | inl e ↦ (let q : Ok (map newly_at places) ≡ Err fault = rw e at h in cc)
-      | inr e ↦ (let q : Err NotInPlan ≡ Err fault = rw e at h in let f : NotInPlan ≡ fault = cc in rw (eq-eqb volume volume refl, e) (ap Err f))
-    ]
-
-pub birth-is : (plan : Plan) (volume : ℕ) (places : List model.Place) (groups : List ClientGroup) (made : List model.Message) → found_at plan places ≡ Ok groups → made ≡ fences plan volume (place_of groups) (λ group. true)
+pub birth-is : (plan : Plan) (volume : ℕ) (places : List model.Place) (groups : List ClientGroup) (made : List model.Message) → are_places plan places ≡ true → groups ≡ map newly_at places → made ≡ fences plan volume (place_of groups) (λ group. true)
     → taken plan volume unborn (model.Message.View volume places) ≡ Ok (record { made = made; client = client_with groups None })
-birth-is plan volume places groups made h is =
-    elim (cases_Bool (are_places plan places)) [
-      | inl e ↦ (
-          let q : Ok (map newly_at places) ≡ Ok groups = rw e at h in
-          let same : map newly_at places ≡ groups = cc in
-          let said : made ≡ fences plan volume (place_in places) (λ group. true) = is ∙ ap (λ gs. fences plan volume (place_of gs) (λ group. true)) (sym same) ∙ fences-new plan volume places e in
-          rw (eq-eqb volume volume refl, e) (ap₂ (λ ms gs. Ok (record { made = ms; client = client_with gs None })) (sym said) same))
-      | inr e ↦ (let q : Err NotInPlan ≡ Ok groups = rw e at h in cc)
-    ]
+birth-is plan volume places groups made good same is =
+    let said : made ≡ fences plan volume (place_in places) (λ group. true) = is ∙ ap (λ gs. fences plan volume (place_of gs) (λ group. true)) same ∙ fences-new plan volume places good in
+    rw (eq-eqb volume volume refl, good) (ap₂ (λ ms gs. Ok (record { made = ms; client = client_with gs None })) (sym said) (sym same))
 
-pub found-older : (plan : Plan) (volume : ℕ) (places : List model.Place) (groups : List ClientGroup) → found_at plan places ≡ Ok groups → are_older volume groups ≡ true
-found-older plan volume places groups h =
-    elim (cases_Bool (are_places plan places)) [
-      | inl e ↦ (
-          let q : Ok (map newly_at places) ≡ Ok groups = rw e at h in
-          let same : map newly_at places ≡ groups = cc in
-          subst (λ gs. are_older volume gs ≡ true) same (older-new volume places))
-      | inr e ↦ (let q : Err NotInPlan ≡ Ok groups = rw e at h in cc)
-    ]
+pub found-older : (volume : ℕ) (places : List model.Place) (groups : List ClientGroup) → groups ≡ map newly_at places → are_older volume groups ≡ true
+found-older volume places groups same = subst (λ gs. are_older volume gs ≡ true) (sym same) (older-new volume places)

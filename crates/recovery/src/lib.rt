@@ -12,6 +12,3 @@ mod speaking;
 pub use cutting::{cut_of, is_growing};
 pub use found::Found;
 pub use recovery::Recovery;
-
-#[cfg(test)]
-mod tests;

@@ -7,7 +7,6 @@ ghost use Rattle.recovery.specs.Cuts.{are_older};
 use crate::finding::find;
 use crate::found::Found;
 use crate::speaking::{fences, installs, later_fences, later_installs};
-use hydration::Copied;
 use plan::CheckedPlan;
 use std::alloc::Global;
 use std::sync::Arc;
@@ -27,15 +26,14 @@ pub struct Recovery {
 }
 
 impl Recovery {
-    ghost use Rattle.std.specs.Prelude.{◌≢◌, ◌==◌, ◌&&◌, nat_lt, false, map, IfErr, IfOk, MatchOption, OnOk};
+    ghost use Rattle.std.specs.Prelude.{◌≢◌, false, map, IfErr, IfOk, MatchOption, OnOk};
     ghost use Rattle.std.specs.Arc.{arc_value};
     ghost use Rattle.volume_model.specs.Answer.{Answers, AnswersLate, refusal_of};
     ghost use Rattle.volume_model.specs.declared.fault.Fault.TheVariants.{NoMemory};
-    ghost use Rattle.volume_model.specs.Node.{in_group};
     ghost use Rattle.volume_model.specs.Client.{are_places, has_cut, taken, cut_client, opened};
     ghost use Rattle.plan.specs.CheckedModel.{checked_model};
     ghost use Rattle.wire.specs.Message.{message_of, place_of};
-    ghost use Rattle.wire.specs.Contents.{contents_of};
+    ghost use Rattle.wire.specs.Addressed.{is_ack_to, is_report_to};
     ghost use Rattle.lineage.specs.Lineage.{lineage_of};
     ghost use Rattle.writer_core.specs.Logs.{log_of};
     ghost use Rattle.writer_core.specs.Writers.{writer_plan, writer_volume, acted, silent};
@@ -43,10 +41,11 @@ impl Recovery {
     ghost use Rattle.recovery.specs.Recoveries.{client_of, recovery_groups, recovery_plan, recovery_volume, admitted, begun, birth_of, cut_step, view_volume, Opens};
     ghost use Rattle.recovery.specs.Finds.{is_spent};
 
-    /// Whether a message makes a recovery: `NotAddressed` where it is no View, `NotInPlan` where its places aren't those of the plan's
-    /// groups, each at one of its configurations. Takes no memory.
-    pub fn admits_birth(plan: &CheckedPlan, message: &Message) -> Result<(), Fault>
-        ensures refusal { result ≡ refusal_of (birth_of (checked_model plan.now) (message_of message.now)) }
+    /// The View that makes a recovery, refused as [`Recovery::admits_birth`] says.
+    fn first_view<'a>(plan: &CheckedPlan, message: &'a Message) -> Result<&'a View, Fault>
+        ensures refusal { refusal_of result ≡ refusal_of (birth_of (checked_model plan.now) (message_of message.now)) }
+        ensures view { IfOk result (λ view. message.now ≡ Message.View view.now) }
+        ensures places { IfOk result (λ view. are_places (checked_model plan.now) (map place_of view.now.places.items) ≡ true) }
         ensures own { IfErr result (λ fault. fault ≢ NoMemory) }
     {
         let Message::View(view) = message else {
@@ -55,7 +54,19 @@ impl Recovery {
         if !are_places(plan, view.places.as_slice()) {
             return Err(Fault::NotInPlan);
         }
-        Ok(())
+        Ok(view)
+    }
+
+    /// Whether a message makes a recovery: `NotAddressed` where it is no View, `NotInPlan` where its places aren't those of the plan's
+    /// groups, each at one of its configurations. Takes no memory.
+    pub fn admits_birth(plan: &CheckedPlan, message: &Message) -> Result<(), Fault>
+        ensures refusal { result ≡ refusal_of (birth_of (checked_model plan.now) (message_of message.now)) }
+        ensures own { IfErr result (λ fault. fault ≢ NoMemory) }
+    {
+        match Recovery::first_view(plan, message) {
+            Ok(_) => Ok(()),
+            Err(fault) => Err(fault),
+        }
     }
 
     /// A recovery from its first View, with one Fence a group. Refused as [`Recovery::admits_birth`] says.
@@ -68,15 +79,11 @@ impl Recovery {
         ensures plan { IfOk result (λ made. recovery_plan made.0 ≡ checked_model (arc_value plan)) }
         ensures volume { IfOk result (λ made. recovery_volume made.0 ≡ view_volume (message_of message.now)) }
     {
-        Recovery::admits_birth(&plan, message)?;
-        let view = match message {
-            Message::View(view) => view,
-            _ => return Err(Fault::NotAddressed),
-        };
-        let standings = match Standings::at_places(alloc, plan, view.places.as_slice()) {
-            Ok(standings) => standings,
+        let view = match Recovery::first_view(&plan, message) {
+            Ok(view) => view,
             Err(fault) => return Err(fault),
         };
+        let standings = Standings::at_places(alloc, plan, view.places.as_slice())?;
         let messages = fences(alloc, view.volume, &standings)?;
         let recovery = Recovery {
             standings,
@@ -144,7 +151,7 @@ impl Recovery {
     /// with records of that group, by a member. Takes no memory.
     pub fn admits_report(&self, report: &Report) -> Result<(), Fault>
         ensures refusal { result ≡ refusal_of (taken (recovery_plan self.now) (recovery_volume self.now) (client_of self.now) (message_of (Message.Report report.now))) }
-        ensures can { OnOk result ((report.now.label.volume == recovery_volume self.now && (nat_lt report.now.group (recovery_plan self.now).groups && (in_group report.now.group (contents_of report.now.contents) && nat_lt report.now.from 64))) ≡ true) }
+        ensures can { OnOk result (is_report_to report.now (recovery_volume self.now) (recovery_plan self.now).groups ≡ true) }
         ensures own { IfErr result (λ fault. fault ≢ NoMemory) }
     {
         if !report.is_to(self.volume, self.groups()) {
@@ -167,11 +174,7 @@ impl Recovery {
         {
             return Ok(());
         }
-        let copied = Copied {
-            from: report.from,
-            contents: report.contents.clone()?,
-        };
-        self.standings.keep(report.group, copied)?;
+        self.standings.keep(report)?;
         Ok(())
     }
 
@@ -179,7 +182,7 @@ impl Recovery {
     /// member. Takes no memory.
     pub fn admits_ack(&self, ack: &Ack) -> Result<(), Fault>
         ensures refusal { result ≡ refusal_of (taken (recovery_plan self.now) (recovery_volume self.now) (client_of self.now) (message_of (Message.Ack ack.now))) }
-        ensures can { OnOk result ((ack.now.label.volume == recovery_volume self.now && (nat_lt ack.now.group (recovery_plan self.now).groups && nat_lt ack.now.from 64)) ≡ true) }
+        ensures can { OnOk result (is_ack_to ack.now (recovery_volume self.now) (recovery_plan self.now).groups ≡ true) }
         ensures own { IfErr result (λ fault. fault ≢ NoMemory) }
     {
         if !ack.is_to(self.volume, self.groups()) {
@@ -255,6 +258,7 @@ impl Recovery {
     /// what it installed. Takes no memory.
     pub fn admits_open(&self) -> Result<(), Fault>
         ensures refusal { result ≡ refusal_of (opened (recovery_plan self.now) (client_of self.now)) }
+        ensures cut { OnOk result (has_cut (client_of self.now).stage ≡ true) }
         ensures own { IfErr result (λ fault. fault ≢ NoMemory) }
     {
         if self.found.is_none() || !self.standings.has_installed() {
@@ -270,8 +274,8 @@ impl Recovery {
         ensures plan { IfOk result (λ w. writer_plan w ≡ recovery_plan self) }
         ensures volume { IfOk result (λ w. writer_volume w ≡ recovery_volume self) }
     {
-        if !self.standings.has_installed() {
-            return Err((Fault::NotReady, self));
+        if let Err(fault) = self.admits_open() {
+            return Err((fault, self));
         }
         let Recovery {
             standings,
@@ -283,14 +287,7 @@ impl Recovery {
                 let Found { log, lineage, .. } = found;
                 Ok(Writer::opened(standings, volume, lineage, log))
             }
-            None => Err((
-                Fault::NotReady,
-                Recovery {
-                    standings,
-                    volume,
-                    found: None,
-                },
-            )),
+            None => unreachable!(),
         }
     }
 }

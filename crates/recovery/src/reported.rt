@@ -4,27 +4,32 @@ ghost use Rattle.std.specs.Prelude.{◌≡◌, IfOk};
 ghost use Rattle.volume_model.specs.Lineage.{found_in, newest};
 ghost use Rattle.lineage.specs.Lineage.{lineage_of};
 ghost use Rattle.redo_record.specs.RecordSet.{records_of};
+ghost use Rattle.hydration.specs.Copies.{newest_with};
 ghost use Rattle.writer_core.specs.Standings.{groups_of};
 ghost use Rattle.recovery.specs.Reported.{reports_in};
 
-use hydration::{add_lineages, with_found};
-use lineage::{Lineage, newest};
+use hydration::{newest_with, with_found};
+use lineage::Lineage;
 use redo_record::RecordSet;
 use std::alloc::{AllocError, Global};
 use writer_core::Standing;
+
+/// The newest of the lineages of all reports and of one that comes behind them.
+fn newest_reported<'a>(standings: &'a [Standing], last: &'a Lineage) -> &'a Lineage
+    ensures { lineage_of result.now ≡ newest_with (lineage_of last.now) (reports_in (groups_of standings.now)) }
+{
+    match standings {
+        [] => last,
+        [first, rest @ ..] => newest_with(first.copies.as_slice(), newest_reported(rest, last)),
+    }
+}
 
 /// The newest lineage of all reports, and none where there is no report.
 pub fn newest_lineage(alloc: Global, standings: &[Standing]) -> Result<Lineage, AllocError>
     ensures { IfOk result (λ lineage. lineage_of lineage ≡ newest (reports_in (groups_of standings.now))) }
 {
-    let mut lineages = Vec::new(alloc);
-    for standing in standings {
-        add_lineages(standing.copies.as_slice(), &mut lineages)?;
-    }
-    if lineages.is_empty() {
-        return Ok(Lineage::empty(alloc));
-    }
-    lineages[newest(lineages.as_slice())].clone()
+    let none = Lineage::empty(alloc);
+    newest_reported(standings, &none).clone()
 }
 
 /// All reported records that are live in the lineage.

@@ -56,7 +56,6 @@ impl Packet {
     }
 
     /// The number of its record.
-    #[tactic(auto, unfolding(crate::specs::Packet::packet_redo))]
     pub fn lsn(&self) -> u64
         ensures { result ≡ (packet_redo self.now).lsn }
     {
@@ -64,7 +63,6 @@ impl Packet {
     }
 
     /// The volume epoch of its record's writer.
-    #[tactic(auto, unfolding(crate::specs::Packet::packet_redo))]
     pub fn volume_epoch(&self) -> u32
         ensures { result ≡ (packet_redo self.now).volume }
     {
@@ -72,7 +70,6 @@ impl Packet {
     }
 
     /// The number before its record's in the group, 0 where there is none.
-    #[tactic(auto, unfolding(crate::specs::Packet::packet_redo))]
     pub fn prev_group(&self) -> u64
         ensures { result ≡ (packet_redo self.now).prev_group }
     {

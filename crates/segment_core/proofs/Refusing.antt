@@ -1,20 +1,12 @@
--- Refusals, as answers of a node.
-use Rattle.std.proofs.Common.{◌≡◌, ◌≢◌, ℕ, not, ◌==◌, Err, refl}
-use Rattle.volume_model.specs.Answer.{Answers}
+-- The refusals of a question for a page.
+use Rattle.std.proofs.Common.{◌≡◌, ℕ, not, ◌==◌, refl}
 use Rattle.volume_model.specs.Plan as model
 use Rattle.volume_model.specs.Message.{Label}
 use Rattle.volume_model.specs.Message.Message.{PageAsk}
-use Rattle.volume_model.specs.Node.{Node, NodeAnswer, label_checks, reaction}
+use Rattle.volume_model.specs.Node.{Node, label_checks, reaction}
 use Rattle.volume_model.specs.Refusal.{refuse_if}
-use Rattle.volume_model.specs.declared.fault.Fault.{Fault}
-use Rattle.volume_model.specs.declared.fault.Fault.TheVariants.{NoMemory, NotAddressed}
-use Rattle.segment_core.specs.Prepared.{step_of}
+use Rattle.volume_model.specs.declared.fault.Fault.TheVariants.{NotAddressed}
 use Rattle.segment_core.specs.Segment.{page_answer, page_checks}
-
--- a refusal that is no want of memory
-pub refused : (fault : Fault) (node : Node) (defined : NodeAnswer) → fault ≢ NoMemory → defined ≡ Err fault → Answers step_of defined node (Err fault) node
-refused NoMemory node defined own e = absurd (own refl)
-refused fault node defined own e = (e, refl)
 
 -- the answer to a question for a page is what the definition says
 pub page_answer-is : (plan : model.Plan) (group member : ℕ) (node : Node) (to : ℕ) (label : Label) (block point : ℕ)

@@ -67,6 +67,10 @@ pub record IsSameActor (old new : Segment) : Type 0 where
 abbrev pub born : model.Plan → ℕ → ℕ → Result Node Fault
 born plan group member = refuse_if (not (model.is_named plan group member)) NoActor (Ok (born_node plan group member))
 
+-- the node that a segment is born as
+abbrev pub born_as : Segment → Unit {0} → Node
+born_as segment u = node_of segment
+
 -- what the copies have made of a node, which is still as it was
 abbrev pub gathered_state : State → Node → Hydrated
 gathered_state state node = state_of state

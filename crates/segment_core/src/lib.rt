@@ -8,6 +8,3 @@ mod segment;
 
 pub use prepared::Prepared;
 pub use segment::Segment;
-
-#[cfg(test)]
-mod tests;

@@ -41,7 +41,7 @@ pub struct Segment {
 impl Segment {
     ghost use Rattle.std.specs.Prelude.{◌≡◌, ◌==◌, ℕ, not, List, [], ◌∷◌, Result, Ok, Err, IfErr, IfOk, MatchResult, ◌≢◌};
     ghost use Rattle.std.specs.Arc.{arc_value};
-    ghost use Rattle.volume_model.specs.Answer.{Answers, AnswersAlways, AnswersLate, Gives};
+    ghost use Rattle.volume_model.specs.Answer.{Answers, AnswersAlways, AnswersLate};
     ghost use Rattle.volume_model.specs.Refusal.{refuse_if};
     ghost use Rattle.volume_model.specs.declared.fault.Fault.{Fault as FaultName};
     ghost use Rattle.volume_model.specs.declared.fault.Fault.TheVariants.{NoMemory, NotAddressed, NotInstalled};
@@ -54,7 +54,7 @@ impl Segment {
     ghost use Rattle.wire.specs.Message.{label_of, message_of, messages_of};
     ghost use Rattle.hydration.specs.Hydration.{state_of};
     ghost use Rattle.segment_core.specs.Prepared.{answers_of, effected, step_of};
-    ghost use Rattle.segment_core.specs.Segment.{node_of, segment_plan, segment_group, segment_member, answered, became, born, gathered, gathered_state, hydration_of, is_full, offered_step, page_checks, paged, page_answer, reaction_of, CanTake, IsReadExpression, IsSegmentOf, IsSameActor, IsReady};
+    ghost use Rattle.segment_core.specs.Segment.{node_of, segment_plan, segment_group, segment_member, answered, became, born, born_as, gathered, gathered_state, hydration_of, is_full, offered_step, page_checks, paged, page_answer, reaction_of, CanTake, IsReadExpression, IsSegmentOf, IsSameActor, IsReady};
 
     /// The segment of a member of a group, as it is born. Refused 82 where the plan names no such member.
     pub fn new(
@@ -63,7 +63,7 @@ impl Segment {
         group: u8,
         member: u8,
     ) -> Result<Segment, Fault>
-        ensures born { Gives node_of result (born (checked_model (arc_value plan)) group member) }
+        ensures born { Answers born_as (born (checked_model (arc_value plan)) group member) tt result tt }
         ensures actor { IfOk result (λ segment. IsSegmentOf (checked_model (arc_value plan)) group member segment) }
     {
         if !plan.names(group, member) {

@@ -210,14 +210,12 @@ impl CopyReport {
 }
 
 impl Report {
-    ghost use Rattle.std.specs.Prelude.{nat_lt};
-    ghost use Rattle.volume_model.specs.Node.{in_group};
-    ghost use Rattle.wire.specs.Contents.{contents_of};
+    ghost use Rattle.wire.specs.Addressed.{is_report_to};
 
     /// Whether it is for the client of this volume epoch, over so many groups: it speaks of one of them, its records are those of the
     /// group, and its sender is a member.
     pub fn is_to(&self, volume: u32, groups: u8) -> bool
-        ensures { result ≡ (self.now.label.volume == volume && (nat_lt self.now.group groups && (in_group self.now.group (contents_of self.now.contents) && nat_lt self.now.from 64))) }
+        ensures { result ≡ is_report_to self.now volume groups }
     {
         self.label.volume == volume
             && self.group < groups
@@ -227,11 +225,11 @@ impl Report {
 }
 
 impl Ack {
-    ghost use Rattle.std.specs.Prelude.{nat_lt};
+    ghost use Rattle.wire.specs.Addressed.{is_ack_to};
 
     /// Whether it is for the client of this volume epoch, over so many groups: it speaks of one of them, and its sender is a member.
     pub fn is_to(&self, volume: u32, groups: u8) -> bool
-        ensures { result ≡ (self.now.label.volume == volume && (nat_lt self.now.group groups && nat_lt self.now.from 64)) }
+        ensures { result ≡ is_ack_to self.now volume groups }
     {
         self.label.volume == volume && self.group < groups && self.from < 64
     }

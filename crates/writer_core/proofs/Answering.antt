@@ -1,7 +1,6 @@
 -- Refusals, as answers of a client.
-use Rattle.std.proofs.Common.{◌≡◌, ◌≢◌, Bool, Ok, Err, Result, refl}
-use Rattle.std.specs.Prelude.{IfErr}
-use Rattle.volume_model.specs.Answer.{Answers, AnswersAlways, AnswersLate, refusal_of}
+use Rattle.std.proofs.Common.{◌≡◌, ◌≢◌, Bool, true, Ok, Err, Result, refl}
+use Rattle.volume_model.specs.Answer.{AnswersLate, may_want_memory, refusal_of}
 use Rattle.volume_model.specs.declared.fault.Fault.{Fault}
 use Rattle.volume_model.specs.declared.fault.Fault.TheVariants.{NoMemory}
 
@@ -10,19 +9,18 @@ pub judged : {T : Type 0} (fault : Fault) (defined : Result T Fault) → Err fau
 judged fault (Ok step) h = cc
 judged fault (Err other) h = cc
 
--- the refusal of a judge, that is no want of memory, is the answer of the call
-pub refused : {R S T : Type 0} (step : R → S → T) (fault : Fault) (defined : Result T Fault) (state : S) → fault ≢ NoMemory → defined ≡ Err fault → Answers step defined state (Err fault) state
-refused step NoMemory defined state own h = absurd (own refl)
-refused step fault defined state own h = (h, refl)
-
--- what makes no growth answers as what finds every refusal before it makes any
-pub always : {R S T : Type 0} (step : R → S → T) (defined : Result T Fault) (old : S) (result : Result R Fault) (new : S) → IfErr result (λ fault. fault ≢ NoMemory) → AnswersAlways step defined old result new → Answers step defined old result new
-always step defined old (Ok made) new own h = h
-always step defined old (Err NoMemory) new own h = absurd (own refl)
-always step defined old (Err fault) new own h = h
+-- a refusal that is no want of memory is the answer of the call
+pub refused : {R S T : Type 0} (late : Fault → Bool) (step : R → S → T) (fault : Fault) (defined : Result T Fault) (state : S) → fault ≢ NoMemory → defined ≡ Err fault → AnswersLate late step defined state (Err fault) state
+refused late step NoMemory defined state own h = absurd (own refl)
+refused late step fault defined state own h = (h, refl)
 
 -- a refusal is one of another call with the same definition
 pub same-refusal : {R R' S S' T : Type 0} (late : Fault → Bool) (step : R → S → T) (step' : R' → S' → T) (fault : Fault) (defined : Result T Fault) (old new : S) (old' new' : S') → (new ≡ old → new' ≡ old')
     → AnswersLate late step defined old (Err fault) new → AnswersLate late step' defined old' (Err fault) new'
 same-refusal late step step' NoMemory defined old new old' new' stays h = (h.0, stays h.1)
 same-refusal late step step' fault defined old new old' new' stays h = (h.0, stays h.1)
+
+-- what isn't refused may want memory
+pub may-want : {T : Type 0} (late : Fault → Bool) (defined : Result T Fault) → Ok tt ≡ refusal_of defined → may_want_memory late defined ≡ true
+may-want late (Ok step) h = refl
+may-want late (Err fault) h = cc

@@ -4,6 +4,8 @@ use Rattle.volume_model.specs.Plan.{Plan}
 use Rattle.volume_model.specs.Node.{From, with_first}
 use Rattle.volume_model.specs.Client as model
 use Rattle.volume_model.specs.Client.{ClientGroup, group_of, with_count}
+use Rattle.wire.specs.declared.message.Report.{Report}
+use Rattle.wire.specs.Contents.{contents_of}
 use Rattle.wire.specs.Message.{place_of}
 use Rattle.hydration.specs.Copies.{copies_in}
 use Rattle.writer_core.specs.declared.standing.Standing.{Standing}
@@ -24,6 +26,10 @@ ArePlaced plan groups = (group : ℕ) → group < plan.groups → (model.place_o
 -- a group with an acknowledgement counted
 abbrev pub counted_group : ClientGroup → ℕ → ℕ → ClientGroup
 counted_group group sender reached = record group { counts = with_count sender reached group.counts }
+
+-- what is kept of a report: what its sender holds
+abbrev pub report_of : Report → From
+report_of report = record { sender = report.from; contents = contents_of report.contents }
 
 -- a group with a report kept, the first of each sender
 abbrev pub reported_group : ClientGroup → From → ClientGroup

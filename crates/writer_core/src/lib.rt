@@ -20,6 +20,3 @@ pub use moving::are_places;
 pub use standing::Standing;
 pub use standings::Standings;
 pub use writer::Writer;
-
-#[cfg(test)]
-mod tests;

@@ -5,8 +5,8 @@ use crate::counts::{add, best, reaching};
 use hydration::{Copied, senders};
 use plan::CheckedPlan;
 use quorum_expr::holds;
-use std::alloc::{AllocFailed, Global};
-use wire::Place;
+use std::alloc::{AllocError, AllocFailed, Global};
+use wire::{Place, Report};
 
 /// What a client keeps of a group.
 #[derive(Drop)]
@@ -27,9 +27,8 @@ impl Standing {
     ghost use Rattle.volume_model.specs.Node.{senders};
     ghost use Rattle.volume_model.specs.Client.{newly_at, raised_group, later_group, reread_group, place_configuration, counted_by};
     ghost use Rattle.plan.specs.CheckedModel.{checked_model};
-    ghost use Rattle.hydration.specs.Copies.{copy_of};
     ghost use Rattle.wire.specs.Message.{place_of};
-    ghost use Rattle.writer_core.specs.Standings.{group_at, counted_group, reported_group};
+    ghost use Rattle.writer_core.specs.Standings.{group_at, counted_group, report_of, reported_group};
 
     /// As a client comes to it that finds it at this place.
     pub(crate) fn at(alloc: Global, place: Place) -> Standing
@@ -53,16 +52,23 @@ impl Standing {
         add(&mut self.counts, sender, reached)
     }
 
-    /// Keeps what a member says that it holds, where it is the member's first report. Where memory runs out nothing has changed.
-    pub(crate) fn keep(&mut self, copied: Copied) -> Result<(), AllocFailed<Copied>>
-        ensures kept { OnOk result (group_at self.new ≡ reported_group (group_at self.old) (copy_of copied)) }
+    /// Keeps a copy of what a member says that it holds, where it is the member's first report. Where memory runs out nothing has
+    /// changed.
+    pub(crate) fn keep(&mut self, report: &Report) -> Result<(), AllocError>
+        requires { report.now.from < 64 }
+        ensures kept { OnOk result (group_at self.new ≡ reported_group (group_at self.old) (report_of report.now)) }
         ensures same { OnErr result (group_at self.new ≡ group_at self.old) }
         ensures place { self.new.place ≡ self.old.place }
     {
-        if senders(self.copies.as_slice()).contains(copied.from) {
+        if senders(self.copies.as_slice()).contains(report.from) {
             return Ok(());
         }
-        self.copies.push(copied)
+        let contents = report.contents.clone()?;
+        self.copies.push(Copied {
+            from: report.from,
+            contents,
+        })?;
+        Ok(())
     }
 
     /// Raises the point to what the counted acknowledgements satisfy now.

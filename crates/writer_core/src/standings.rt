@@ -8,12 +8,10 @@ ghost use Rattle.writer_core.specs.Standings.{groups_of, ArePlaced};
 use crate::count::Count;
 use crate::moving::{are_places, follow, raise, reread};
 use crate::standing::Standing;
-use hydration::Copied;
 use plan::CheckedPlan;
 use std::alloc::{AllocError, AllocFailed, Global};
 use std::sync::Arc;
-use volume_model::Fault;
-use wire::{Ack, Label, Place};
+use wire::{Ack, Label, Place, Report};
 
 /// What a client keeps of the groups of its plan, in their order.
 #[derive(Drop)]
@@ -26,13 +24,11 @@ pub struct Standings {
 
 impl Standings {
     ghost use Rattle.std.specs.Prelude.{◌<◌, ◌≤◌, true, IfOk, OnOk, OnErr, MatchOption, map, replicate};
-    ghost use Rattle.volume_model.specs.Answer.{Answers};
     ghost use Rattle.volume_model.specs.Client.{newly_at, at_root, group_of, point_of, moved, later_group, reread_group, raised, are_places, has_read, has_installed};
     ghost use Rattle.volume_model.specs.Client as client;
     ghost use Rattle.wire.specs.Message.{place_of, label_of};
-    ghost use Rattle.hydration.specs.Copies.{copy_of};
-    ghost use Rattle.writer_core.specs.Standings.{group_at, counted_in, reported_in};
-    ghost use Rattle.writer_core.specs.Groups.{groups_in, groups_made, standings_plan, found_at, keeping};
+    ghost use Rattle.writer_core.specs.Standings.{group_at, counted_in, report_of, reported_in};
+    ghost use Rattle.writer_core.specs.Groups.{groups_in, standings_plan, keeping};
 
     /// As a client comes to a new volume: each group at its root.
     pub fn at_roots(alloc: Global, plan: Arc<CheckedPlan>) -> Result<Standings, AllocError>
@@ -51,19 +47,16 @@ impl Standings {
         Ok(Standings { plan, list })
     }
 
-    /// As a client comes to groups that stand at these places. `NotInPlan` where they aren't the places of the plan's groups, each at
-    /// one of its configurations.
+    /// As a client comes to groups that stand at these places.
     pub fn at_places(
         alloc: Global,
         plan: Arc<CheckedPlan>,
         places: &[Place],
-    ) -> Result<Standings, Fault>
-        ensures groups { Answers groups_made (found_at (checked_model (arc_value plan)) (map place_of places.now)) tt result tt }
+    ) -> Result<Standings, AllocError>
+        requires { are_places (checked_model (arc_value plan)) (map place_of places.now) ≡ true }
+        ensures groups { IfOk result (λ s. groups_in s ≡ map newly_at (map place_of places.now)) }
         ensures plan { IfOk result (λ s. standings_plan s ≡ checked_model (arc_value plan)) }
     {
-        if !are_places(&plan, places) {
-            return Err(Fault::NotInPlan);
-        }
         let mut list = Vec::new(alloc);
         for place in places {
             list.push(Standing::at(alloc, *place))?;
@@ -133,14 +126,16 @@ impl Standings {
         self.list[usize::from(ack.group)].count(ack.from, ack.scl)
     }
 
-    /// Keeps what a member of a group says that it holds, where it is the member's first report. Where memory runs out nothing has changed.
-    pub fn keep(&mut self, group: u8, copied: Copied) -> Result<(), AllocFailed<Copied>>
-        requires group { group < (standings_plan self.old).groups }
-        ensures kept { OnOk result (groups_in self.new ≡ reported_in (groups_in self.old) group (copy_of copied)) }
+    /// Keeps a copy of what a member of a group says that it holds, where it is the member's first report. Where memory runs out
+    /// nothing has changed.
+    pub fn keep(&mut self, report: &Report) -> Result<(), AllocError>
+        requires group { report.now.group < (standings_plan self.old).groups }
+        requires sender { report.now.from < 64 }
+        ensures kept { OnOk result (groups_in self.new ≡ reported_in (groups_in self.old) report.now.group (report_of report.now)) }
         ensures same { OnErr result (groups_in self.new ≡ groups_in self.old) }
         ensures plan { standings_plan self.new ≡ standings_plan self.old }
     {
-        self.list[usize::from(group)].keep(copied)
+        self.list[usize::from(report.group)].keep(report)
     }
 
     /// Raises the points of all groups to what the counted acknowledgements satisfy now. A point never falls.

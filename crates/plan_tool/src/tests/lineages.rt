@@ -1,4 +1,4 @@
-use lineage::{Lineage, newest};
+use lineage::Lineage;
 use redo_record::{Packet, Payload, Record, RecordSet};
 use std::alloc::Global;
 use std::test::Fail;
@@ -44,12 +44,16 @@ fn two_recoveries(rt: HostRuntime) -> Result<(), Fail> {
     Ok(())
 }
 
+/// The lineage of the greater last epoch is the newer, and of two with the same the first.
 #[test]
-fn newest_of_three(rt: HostRuntime) -> Result<(), Fail> {
+fn newer_of_two(rt: HostRuntime) -> Result<(), Fail> {
     let alloc = rt.alloc();
+    let birth = Lineage::birth(alloc)?;
     let third = recovered(alloc, 3, 3)?;
-    let lineages = [Lineage::birth(alloc)?, third.clone()?, third];
-    assert_eq!(rt; newest(&lineages), 1);
+    let other = recovered(alloc, 3, 5)?;
+    assert_eq!(rt; birth.newer(&third).last_cut(), 3);
+    assert_eq!(rt; third.newer(&birth).last_cut(), 3);
+    assert_eq!(rt; third.newer(&other).last_cut(), 3);
     Ok(())
 }
 

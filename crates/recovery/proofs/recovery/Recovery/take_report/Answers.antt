@@ -1,18 +1,17 @@
 use Rattle.std.proofs.Common.{◌≡◌, ◌<◌, true, Result, Err, sym, ap, ◌∙◌, subst}
 use Rattle.std.proofs.lemmas.Result.{err_from_is_err_and}
-use Rattle.volume_model.specs.Answer.{Answers}
+use Rattle.volume_model.specs.Answer.{Answers, never_late}
 use Rattle.volume_model.specs.Client.{Client, ClientAnswer, taken}
 use Rattle.volume_model.specs.declared.fault.Fault.{Fault}
-use Rattle.volume_model.specs.Lineage.{Contents, last_epoch}
+use Rattle.volume_model.specs.Lineage.{last_epoch}
 use Rattle.volume_model.specs.Node.{From}
-use Rattle.wire.specs.Contents.{contents_of}
 use Rattle.wire.specs.declared.message.Message.{Message}
 use Rattle.wire.specs.Message.{message_of}
 use Rattle.writer_core.specs.Writers.{silent}
 use Rattle.writer_core.proofs.Answering.{judged, refused}
 use Rattle.recovery.specs.Recoveries.{client_of, recovery_plan, recovery_volume}
 use Rattle.writer_core.specs.Groups.{groups_in}
-use Rattle.writer_core.specs.Standings.{reported_in}
+use Rattle.writer_core.specs.Standings.{report_of, reported_in}
 use Rattle.recovery.specs.Cuts.{are_older}
 use Rattle.recovery.proofs.Older.{older-reported}
 use Rattle.recovery.proofs.Views.{either}
@@ -23,10 +22,10 @@ invariant_of-self-clause-older c =
     let self = c.args.self.now in
     let report = c.args.report.now in
     let groups = groups_in self.standings in
-    let copied : From = record { sender = report.from; contents = contents_of c.in_ok-clone.field-0 } in
-    let less : last_epoch copied.contents.lineage < self.volume = subst (λ n. n < self.volume) (c.last_epoch.ensures ∙ ap (λ (x : Contents). last_epoch x.lineage) (sym c.in_ok-clone.ensures.cases)) c.if-last_epoch-self.false in
-    either c.keep.result (λ gs. are_older self.volume gs ≡ true) (groups_in c.keep.new.self) (reported_in groups report.group copied) groups c.keep.ensures.kept c.keep.ensures.same
-    (older-reported self.volume groups report.group copied self.older less) self.older
+    let kept : From = report_of report in
+    let less : last_epoch kept.contents.lineage < self.volume = subst (λ n. n < self.volume) c.last_epoch.ensures c.if-last_epoch-self.false in
+    either c.keep.result (λ gs. are_older self.volume gs ≡ true) (groups_in c.keep.new.self) (reported_in groups report.group kept) groups c.keep.ensures.kept c.keep.ensures.same
+    (older-reported self.volume groups report.group kept self.older less) self.older
 
 pub returns-in_err-admits_report-clause-answers : goal.returns-in_err-admits_report-clause-answers
 returns-in_err-admits_report-clause-answers c =
@@ -37,4 +36,4 @@ returns-in_err-admits_report-clause-answers c =
     let p = err_from_is_err_and c.from_residual.result c.from_residual.ensures.1 in
     let same : c.from_residual.result ≡ Err fault = p.1 ∙ ap Err p.2 in
     subst (λ (r : Result (Unit {0}) Fault). Answers silent defined client r client) (sym same)
-    (refused silent fault defined client c.in_err-admits_report.ensures.own (judged fault defined c.in_err-admits_report.ensures.refusal))
+    (refused never_late silent fault defined client c.in_err-admits_report.ensures.own (judged fault defined c.in_err-admits_report.ensures.refusal))

@@ -14,7 +14,6 @@ pub invariant_of-result-clause-placed : goal.invariant_of-result-clause-placed
 invariant_of-result-clause-placed c =
     let plan = checked_model (arc_value c.args.plan) in
     let places = c.args.places.now in
-    let good : are_places plan (map place_of places) ≡ true = ap (λ (p : CheckedPlan). are_places (checked_model p) (map place_of places)) (sym c.deref.ensures) ∙ sym c.are_places.ensures ∙ c.if-not-are_places.false in
     let whole : take c.loop-place.place-index places ≡ places = take_all c.loop-place.place-index places c.loop-place-test.false in
     let all : groups_of c.loop-place.list.items ≡ map newly_at (map place_of places) = c.loop-place.invariant.found ∙ ap (λ (xs : List Place). map newly_at (map place_of xs)) whole in
-    subst (ArePlaced plan) (sym all) (found-placed plan (map place_of places) good)
+    subst (ArePlaced plan) (sym all) (found-placed plan (map place_of places) c.requires)

@@ -1,7 +1,6 @@
 use Rattle.std.proofs.Common.{◌<◌, length, sym, subst}
 use Rattle.writer_core.specs.Groups.{standings_plan}
-use Rattle.writer_core.specs.Standings.{reported_group}
-use Rattle.hydration.specs.Copies.{copy_of}
+use Rattle.writer_core.specs.Standings.{report_of, reported_group}
 use Rattle.writer_core.proofs.Placing.{changed-ok, changed-err, changed-placed}
 use Rattle.writer_core.proofs.standings.Standings.keep.Goals as goal
 
@@ -17,7 +16,7 @@ returns-clause-kept c =
     let list = c.args.self.now.list.items in
     let i = c.from.result in
     let within : i < length list = subst (λ n. i < n) (sym c.args.self.now.each_group) (subst (λ n. n < (standings_plan c.args.self.now).groups) (sym c.from.ensures) c.requires.group) in
-    changed-ok c.keep.result (λ g. reported_group g (copy_of c.args.copied)) list i c.args.group c.index_mut.result.now c.keep.new.self within c.index_mut.ensures.value c.from.ensures c.keep.ensures.kept
+    changed-ok c.keep.result (λ g. reported_group g (report_of c.args.report.now)) list i c.args.report.now.group c.index_mut.result.now c.keep.new.self within c.index_mut.ensures.value c.from.ensures c.keep.ensures.kept
 
 pub returns-clause-same : goal.returns-clause-same
 returns-clause-same c =

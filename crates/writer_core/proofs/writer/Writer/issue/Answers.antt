@@ -4,7 +4,7 @@ use Rattle.std.specs.Global.{Global}
 use Rattle.std.proofs.lemmas.Result.{err_from_is_err_and}
 use Rattle.redo_record.specs.declared.«record».Record.{Record}
 use Rattle.wire.specs.declared.message.Message.{Message}
-use Rattle.volume_model.specs.Answer.{Answers}
+use Rattle.volume_model.specs.Answer.{Answers, never_late}
 use Rattle.volume_model.specs.Client.{Client, ClientAnswer, issued, point_of}
 use Rattle.volume_model.specs.declared.fault.Fault.{Fault}
 use Rattle.writer_core.specs.Changes.{changes_of}
@@ -23,7 +23,7 @@ returns-in_err-admits-clause-answers c =
     let fault : Fault = c.in_err-admits.field-0.0 in
     let p = err_from_is_err_and c.from_residual.result c.from_residual.ensures.1 in
     let same : c.from_residual.result ≡ Err fault = p.1 ∙ ap Err p.2 in
-    subst (λ (r : Result (Vec Message Global) Fault). Answers acted defined client r client) (sym same) (refused acted fault defined client c.in_err-admits.ensures.own (judged fault defined c.in_err-admits.ensures.refusal))
+    subst (λ (r : Result (Vec Message Global) Fault). Answers acted defined client r client) (sym same) (refused never_late acted fault defined client c.in_err-admits.ensures.own (judged fault defined c.in_err-admits.ensures.refusal))
 
 pub invariant_of-self-in-Err-clause-growing : goal.invariant_of-self-in-Err-clause-growing
 invariant_of-self-in-Err-clause-growing c =

@@ -1,4 +1,4 @@
-use super::*;
+use epochs::Authority;
 use plan::{check_plan, read_plan};
 use std::sync::Arc;
 use std::test::*;

@@ -1,7 +1,7 @@
 use super::messages::*;
 use super::nodes::{At, checked, node, segment};
 use super::plans::SMALL;
-use crate::Segment;
+use segment_core::Segment;
 use std::test::*;
 use volume_model::Fault;
 use wire::Message;

@@ -1,4 +1,4 @@
-use super::*;
+use hydration::{Copied, Hydration, newest_with, senders, with_found};
 use lineage::Lineage;
 use quorum_expr::Expr;
 use redo_record::{Packet, Payload, Record, RecordSet};
@@ -101,10 +101,9 @@ fn what_copies_hold(rt: HostRuntime) -> Result<(), Fail> {
         },
     ];
     assert_eq!(rt; senders(&copies).len(), 2);
-    let mut lineages = Vec::new(alloc);
-    add_lineages(&copies, &mut lineages)?;
-    assert_eq!(rt; lineages[0].last_epoch(), 2);
-    assert_eq!(rt; lineages[1].last_epoch(), 1);
+    let none = Lineage::empty(alloc);
+    assert_eq!(rt; newest_with(&copies, &none).last_epoch(), 2);
+    assert_eq!(rt; newest_with(&[], &lineage).last_epoch(), 2);
     let found = with_found(alloc, &lineage, &copies, RecordSet::new(alloc))?;
     assert_eq!(rt; found.len(), 3);
     Ok(())

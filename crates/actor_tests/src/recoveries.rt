@@ -1,6 +1,6 @@
-use crate::{Recovery, cut_of, is_growing};
 use lineage::Lineage;
 use plan::{check_plan, read_plan};
+use recovery::{Recovery, cut_of, is_growing};
 use redo_record::{Packet, Payload, Record, RecordSet};
 use std::alloc::Global;
 use std::sync::Arc;

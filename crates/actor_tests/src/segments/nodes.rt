@@ -1,7 +1,7 @@
 use super::messages::{fence, label, step};
 use super::plans::SMALL;
-use crate::Segment;
 use plan::{CheckedPlan, check_plan, read_plan};
+use segment_core::Segment;
 use std::alloc::Global;
 use std::sync::Arc;
 use std::test::Fail;

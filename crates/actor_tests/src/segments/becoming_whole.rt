@@ -1,7 +1,7 @@
 use super::messages::*;
 use super::nodes::segment;
 use super::plans::REPLACED;
-use crate::Segment;
+use segment_core::Segment;
 use std::alloc::Global;
 use std::test::*;
 use volume_model::Fault;

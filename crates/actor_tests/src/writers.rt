@@ -1,10 +1,10 @@
-use super::*;
 use plan::{check_plan, read_plan};
 use std::alloc::Global;
 use std::sync::Arc;
 use std::test::*;
 use volume_model::Fault;
 use wire::{Ack, Label, Message, Place, View};
+use writer_core::{Change, Writer};
 
 /// One group of six members, of which three read and four write.
 const SIX: &[u8] =
