@@ -1,4 +1,4 @@
-use Rattle.std.specs.Prelude.{ℕ, ◌+◌, ◌^◌, max, nat_lt, nat_le, if◌then◌else◌, List, [], ◌∷◌, map, Result, Ok}
+use Rattle.std.specs.Prelude.{ℕ, ◌+◌, ◌^◌, max, nat_lt, nat_le, if◌then◌else◌, Result, Ok}
 use Rattle.volume_model.specs.Lineage as model
 use Rattle.volume_model.specs.Refusal.{refuse_if}
 use Rattle.volume_model.specs.declared.fault.Fault.{Fault}

@@ -5,7 +5,6 @@ use Rattle.std.specs.List.{list_any}
 use Rattle.volume_model.specs.declared.fault.Fault.{Fault}
 use Rattle.volume_model.specs.Names.{fault_text}
 use Rattle.volume_model.specs.Lineage.{last_start}
-use Rattle.lineage.specs.Lineage.{last_cut}
 use Rattle.volume_model.specs.Outcome.{Opened, Find}
 use Rattle.volume_model.specs.Plan.{Plan}
 use Rattle.volume_model.specs.Redo.{last_lsn}
@@ -63,7 +62,7 @@ writer_line opened =
 -- the line of a recovery that has cut
 abbrev pub find_line : Find → List ℕ
 find_line find =
-    codes "recovery " ++ decimal find.volume ++ codes " cut " ++ decimal (last_cut find.lineage) ++ codes " start " ++ decimal (last_start find.lineage) ++ codes "\n"
+    codes "recovery " ++ decimal find.volume ++ codes " cut " ++ decimal find.cut ++ codes " start " ++ decimal (last_start find.lineage) ++ codes "\n"
 
 -- a line for each, in order
 abbrev pub each_line : {A : Type 0} → (A → List ℕ) → List A → List ℕ

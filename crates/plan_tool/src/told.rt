@@ -163,8 +163,8 @@ fn add_find(text: &mut String, find: &FindEnd) -> Result<(), AllocError>
     ensures { OnOk result (string_bytes text.new ≡ string_bytes text.old ++ find_line (find_of find.now)) }
 {
     let volume = find.volume;
-    let cut = find.lineage.last_cut();
-    let start = find.lineage.last_start();
+    let cut = find.found.cut;
+    let start = find.found.lineage.last_start();
     write!(text, "recovery {volume} cut {cut} start {start}\n")
 }
 

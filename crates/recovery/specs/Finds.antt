@@ -1,13 +1,13 @@
 -- What a recovery finds.
-use Rattle.std.specs.Prelude.{ℕ, ◌^◌, Bool, true, false, nat_lt, List, Result, Ok}
+use Rattle.std.specs.Prelude.{◌≡◌, ℕ, ◌^◌, Bool, true, false, nat_lt, List, Result, Ok}
 use Rattle.volume_model.specs.Refusal.{refuse_if}
 use Rattle.volume_model.specs.declared.fault.Fault.{Fault}
 use Rattle.volume_model.specs.declared.fault.Fault.TheVariants.{LsnSpent}
 use Rattle.volume_model.specs.Plan.{Plan}
 use Rattle.volume_model.specs.Redo.{Redo, cut_of, log_found}
 use Rattle.volume_model.specs.Lineage.{Lineage, last_start, extended, newest, found_in}
-use Rattle.volume_model.specs.Client.{ClientGroup}
-use Rattle.lineage.specs.Lineage.{lineage_of}
+use Rattle.volume_model.specs.Client.{Client, ClientGroup}
+use Rattle.lineage.specs.Lineage.{last_cut, lineage_of}
 use Rattle.writer_core.specs.Logs.{log_of}
 use Rattle.recovery.specs.declared.found.Found.{Found}
 use Rattle.recovery.specs.Reported.{reports_in}
@@ -20,6 +20,18 @@ pub record Find : Type 0 where
 -- what a program's find is
 abbrev pub find_of : Found → Find
 find_of found = record { lineage = lineage_of found.lineage; log = log_of found.log.items }
+
+-- This is what a client has found: the log, where it cut, and its lineage.
+pub record IsFindOf (client : Client) (found : Found) : Type 0 where
+  pub log_is : log_of found.log.items ≡ client.found
+  pub cut_is : found.cut ≡ last_cut client.lineage
+  pub lineage_is : lineage_of found.lineage ≡ client.lineage
+
+-- The one is found as the other is: the same log, cut and lineage.
+pub record IsSameFind (found other : Found) : Type 0 where
+  pub same_log : log_of other.log.items ≡ log_of found.log.items
+  pub same_cut : other.cut ≡ found.cut
+  pub same_lineage : lineage_of other.lineage ≡ lineage_of found.lineage
 
 -- the records that the reports of these groups hold, as far as they are live in the newest lineage
 abbrev pub live_records : List ClientGroup → List Redo

@@ -7,6 +7,8 @@ ghost use Rattle.lineage.specs.Lineage.{last_cut};
 
 use lineage::Lineage;
 use redo_record::Record;
+use std::alloc::{AllocError, Global};
+use writer_core::Writer;
 
 /// What a recovery has found, and where it has cut.
 #[derive(Drop)]
@@ -19,4 +21,36 @@ pub struct Found {
     pub lineage: Lineage,
     pub ghost growing: { is_growing (log_of log.items) ≡ true },
     pub ghost entered: { last_cut (lineage_of lineage) ≡ cut },
+}
+
+impl Found {
+    ghost use Rattle.std.specs.Prelude.{IfOk};
+    ghost use Rattle.writer_core.specs.Writers.{client_of};
+    ghost use Rattle.recovery.specs.Finds.{IsFindOf};
+
+    /// What the recovery had found that has become this writer. The writer that a volume is born with was none: of it that is no record,
+    /// and its lineage.
+    pub fn of_writer(alloc: Global, writer: &Writer) -> Result<Found, AllocError>
+        ensures { IfOk result (IsFindOf (client_of writer.now)) }
+    {
+        Ok(Found {
+            log: writer.found().to_vec(alloc)?,
+            cut: writer.lineage().last_cut(),
+            lineage: writer.lineage().clone()?,
+        })
+    }
+}
+
+impl Clone for Found {
+    ghost use Rattle.recovery.specs.Finds.{IsSameFind};
+
+    ghost is_clone = { IsSameFind };
+
+    fn clone(&self) -> Result<Found, AllocError> {
+        Ok(Found {
+            log: self.log.clone()?,
+            cut: self.cut,
+            lineage: self.lineage.clone()?,
+        })
+    }
 }

@@ -37,9 +37,8 @@ impl Recovery {
     ghost use Rattle.lineage.specs.Lineage.{lineage_of};
     ghost use Rattle.writer_core.specs.Logs.{log_of};
     ghost use Rattle.writer_core.specs.Writers.{writer_plan, writer_volume, acted, silent};
-    ghost use Rattle.lineage.specs.Lineage.{last_cut};
     ghost use Rattle.recovery.specs.Recoveries.{client_of, recovery_groups, recovery_plan, recovery_volume, admitted, begun, birth_of, cut_step, view_volume, Opens};
-    ghost use Rattle.recovery.specs.Finds.{is_spent};
+    ghost use Rattle.recovery.specs.Finds.{is_spent, IsFindOf};
 
     /// The View that makes a recovery, refused as [`Recovery::admits_birth`] says.
     fn first_view<'a>(plan: &CheckedPlan, message: &'a Message) -> Result<&'a View, Fault>
@@ -249,7 +248,7 @@ impl Recovery {
 
     /// What it has found, and none before its cut.
     pub fn found(&self) -> Option<&Found>
-        ensures { MatchOption result (has_cut (client_of self.now).stage ≡ false) (λ found. (has_cut (client_of self.now).stage ≡ true) × (log_of found.now.log.items ≡ (client_of self.now).found) × (lineage_of found.now.lineage ≡ (client_of self.now).lineage) × (found.now.cut ≡ last_cut (client_of self.now).lineage)) }
+        ensures { MatchOption result (has_cut (client_of self.now).stage ≡ false) (λ found. (has_cut (client_of self.now).stage ≡ true) × IsFindOf (client_of self.now) found.now) }
     {
         self.found.as_ref()
     }

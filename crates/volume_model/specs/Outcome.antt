@@ -2,7 +2,7 @@
 use Rattle.std.specs.Prelude.{ℕ, suc, ◌&&◌, nat_lt, List}
 use Rattle.volume_model.specs.Lists.{each_below}
 use Rattle.volume_model.specs.Redo.{Redo}
-use Rattle.volume_model.specs.Lineage.{Lineage, last_start}
+use Rattle.volume_model.specs.Lineage.{Lineage, last_cut, last_start}
 use Rattle.volume_model.specs.Client.{is_open, has_cut}
 use Rattle.volume_model.specs.ClientPoints.{durable_point}
 use Rattle.volume_model.specs.World.{World}
@@ -14,10 +14,11 @@ pub record Opened : Type 0 where
   pub log : List Redo
   pub durable : ℕ
 
--- a recovery that has cut: its volume epoch, the log found newest first, its lineage
+-- a recovery that has cut: its volume epoch, the log found newest first, the number up to which it kept it, its lineage
 pub record Find : Type 0 where
   pub volume : ℕ
   pub found : List Redo
+  pub cut : ℕ
   pub lineage : Lineage
 
 -- the opened writers, in growing volume epoch
@@ -30,4 +31,4 @@ writers_in world =
 abbrev pub finds_in : World → List Find
 finds_in world =
     each_below (suc world.authority.last_volume) (λ volume. nat_lt 1 volume && has_cut (world.clients volume).stage) (λ volume.
-    record { volume = volume; found = (world.clients volume).found; lineage = (world.clients volume).lineage })
+    record { volume = volume; found = (world.clients volume).found; cut = last_cut (world.clients volume).lineage; lineage = (world.clients volume).lineage })

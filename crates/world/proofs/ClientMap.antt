@@ -8,8 +8,8 @@ use Rattle.std.proofs.lemmas.Bool.Decides.{nat_tests}
 use Rattle.volume_model.specs.Lists.{put}
 use Rattle.volume_model.specs.Plan.{Plan}
 use Rattle.volume_model.specs.Client.{unborn}
-use Rattle.world.specs.declared.client_kind.Client.{Client}
-use Rattle.world.specs.Clients.{seen_client, client_or_unborn, clients_of, IsClientOf, AreClients}
+use Rattle.world.specs.declared.client.Client.{Client}
+use Rattle.world.specs.Clients.{seen_client, client_or_unborn, clients_of, IsClientOf, IsSameClient, AreClients}
 
 -- a number is found by itself, and by no other
 found_by : (v w : ℕ) → w ≡ v → is_at (nat_cmp v) w ≡ true
@@ -42,6 +42,10 @@ module _ (old new : BTreeMap ℕ Client) (v : ℕ) (client : Client) (is : IsPut
         | inr ne ↦ all w other (sym (is w ∙ ap (λ (b : Bool). cond b (Some client) (get nat_cmp old w)) (missed_by v w ne)) ∙ found)
       ]
 
+-- a client that acts stays the client of its volume epoch and its plan
+pub same_client : (plan : Plan) (volume : ℕ) (old new : Client) → IsClientOf plan volume old → IsSameClient old new → IsClientOf plan volume new
+same_client plan volume old new is same = record { plan_is = same.plan_is ∙ is.plan_is; volume_is = same.volume_is ∙ is.volume_is }
+
 -- before any client was kept there is none
 no_client : (clients : BTreeMap ℕ Client) → clients.entries ≡ [] → (w : ℕ) → get nat_cmp clients w ≡ None
 no_client clients e w = rw e refl
@@ -55,6 +59,3 @@ none_kept clients e plan w client found = let h : None ≡ Some client = sym (no
 -- clients that stay the same
 pub same_clients : (plan : Plan) (old new : BTreeMap ℕ Client) → new.entries ≡ old.entries → AreClients plan old → AreClients plan new
 same_clients plan old new e all w client found = all w client (ap (lookup (is_at (nat_cmp w))) (sym e) ∙ found)
-
-pub clients_same : (old new : BTreeMap ℕ Client) → new.entries ≡ old.entries → clients_of new ≡ clients_of old
-clients_same old new e = λ j w. client_or_unborn (lookup (is_at (nat_cmp w)) (e j))

@@ -6,3 +6,4 @@ pub mod Steps
 pub mod Numbers
 pub mod Runs
 pub mod Moving
+pub mod Returned

@@ -1,5 +1,5 @@
 -- Answers of actors, carried along.
-use Rattle.std.proofs.Common.{◌≡◌, ◌≢◌, ℕ, Bool, false, true≢false, List, [], ◌++◌, length, Result, Ok, Err, refl, sym, ap, ◌∙◌}
+use Rattle.std.proofs.Common.{◌≡◌, ℕ, Bool, false, true≢false, List, [], ◌++◌, length, Result, Ok, Err, refl, sym, ap, ◌∙◌}
 use Rattle.std.specs.Prelude.{is_err, OnOk}
 use Rattle.std.proofs.lemmas.List.{length-map}
 use Rattle.volume_model.specs.declared.fault.Fault.{Fault}
@@ -31,11 +31,6 @@ pub answers_along : {R S V T U : Type 0} (late : Fault → Bool) (step : R → S
 answers_along late step onward f g law defined old (Ok r) new h = ap (map_ok f) h ∙ ap Ok (law r new)
 answers_along late step onward f g law defined old (Err NoMemory) new h = (wants-map late f defined ∙ h.0, ap g h.1)
 answers_along late step onward f g law defined old (Err fault) new h = (ap (map_ok f) h.0, ap g h.1)
-
--- a refusal that is no want of memory
-pub refused : {R S T : Type 0} (late : Fault → Bool) (step : R → S → T) (fault : Fault) (defined : Result T Fault) (now : S) → fault ≢ NoMemory → defined ≡ Err fault → AnswersLate late step defined now (Err fault) now
-refused late step NoMemory defined now own e = absurd (own refl)
-refused late step fault defined now own e = (e, refl)
 
 -- what is told of a step that makes these messages
 pub told_made : {T S : Type 0} (made : T → List model.Message) (actor : T → S) (kept now answers : List Message) (defined : Result T Fault) (step : T) (new : S) (count : ℕ)

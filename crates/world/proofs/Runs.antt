@@ -3,12 +3,13 @@ use Rattle.std.proofs.Common.{◌≡◌, ◌≢◌, ℕ, Bool, ◌+◌, List, []
 use Rattle.volume_model.specs.declared.fault.Fault.{Fault}
 use Rattle.volume_model.specs.declared.fault.Fault.TheVariants.{NoMemory}
 use Rattle.volume_model.specs.Headline.{AcknowledgementsLast, StaysSo}
+use Rattle.volume_model.specs.Finds.{FindsLast, StaysFound}
 use Rattle.volume_model.specs.Plan.{Plan, IsCertified}
 use Rattle.volume_model.specs.World.{World, Event, Step, step, after, after_step, opening, told, run, results}
 use Rattle.world.specs.declared.event.Order.{Order}
 use Rattle.world.specs.Events.{made_by, total_made, ordered, events_from}
 use Rattle.world.specs.Actors.{moved, moved_of, Moved, Steps}
-use Rattle.world.specs.Outcomes.{KeepsAcknowledgements}
+use Rattle.world.specs.Outcomes.{KeepsAcknowledgements, KeepsFinds}
 use Rattle.world.proofs.Numbers.{grows, total_made-push}
 
 -- what is told where memory didn't run out
@@ -59,8 +60,14 @@ run-append : (plan : Plan) (world : World) (earlier later : List Event) → run 
 run-append plan world [] later = refl
 run-append plan world (event ∷ earlier) later = run-append plan (after plan world event) earlier later
 
+-- the world after both lists
+whole_run : (plan : Plan) (events earlier later : List Event) → earlier ++ later ≡ events → run plan (run plan (opening plan) earlier) later ≡ run plan (opening plan) events
+whole_run plan events earlier later is = sym (run-append plan (opening plan) earlier later) ∙ ap (run plan (opening plan)) is
+
 -- what lasts from one list to the other lasts to the end of both
 pub lasting : (plan : Plan) → IsCertified plan → AcknowledgementsLast → (events : List Event) → KeepsAcknowledgements plan events
-lasting plan certified last events earlier later is =
-    let all : run plan (run plan (opening plan) earlier) later ≡ run plan (opening plan) events = sym (run-append plan (opening plan) earlier later) ∙ ap (run plan (opening plan)) is in
-    subst (StaysSo (run plan (opening plan) earlier)) all (last plan certified earlier later)
+lasting plan certified last events earlier later is = subst (StaysSo (run plan (opening plan) earlier)) (whole_run plan events earlier later is) (last plan certified earlier later)
+
+pub finds_lasting : (plan : Plan) → FindsLast → (events : List Event) → KeepsFinds plan events
+finds_lasting plan last events earlier later volume is found =
+    subst (λ (w : World). StaysFound ((run plan (opening plan) earlier).clients volume) (w.clients volume)) (whole_run plan events earlier later is) (last plan (run plan (opening plan) earlier) later volume found)

@@ -7,21 +7,21 @@ use Rattle.std.proofs.lemmas.Option.{slice_get_read, slice_get_within}
 use Rattle.std.proofs.lemmas.Bool.{le-ltb, lt-ltb}
 use Rattle.std.proofs.lemmas.Bool.Decides.{nat_tests}
 use Rattle.volume_model.specs.declared.fault.Fault.{Fault}
-use Rattle.volume_model.specs.declared.fault.Fault.TheVariants.{NoActor, NoMemory}
+use Rattle.volume_model.specs.declared.fault.Fault.TheVariants.{NoActor}
 use Rattle.volume_model.specs.Lists.{some_below, put, put_at}
 use Rattle.volume_model.specs.Plan.{Plan, is_named, has_member}
 use Rattle.volume_model.specs.Message.{Message}
-use Rattle.volume_model.specs.Answer.{may_want_memory, never_late, AnswersLate}
+use Rattle.volume_model.specs.Answer.{never_late, AnswersLate}
 use Rattle.volume_model.specs.Refusal.{refuse_if}
 use Rattle.volume_model.specs.Node.{Node, NodeAnswer, NodeStep, born_node}
 use Rattle.volume_model.specs.Client.{Client, ClientAnswer, ClientStep}
-use Rattle.volume_model.specs.World.{Authority, AuthorityStep, World, of_authority, of_node, of_client, if_named}
+use Rattle.volume_model.specs.World.{Authority, AuthorityStep, Step, World, of_authority, of_node, of_client, if_named}
 use Rattle.segment_core.specs.declared.segment.Segment.{Segment}
 use Rattle.segment_core.specs.Segment.{node_of, segment_plan, segment_group, segment_member, IsSegmentOf, IsSameActor}
 use Rattle.world.specs.Slots.{members, slot_of, in_slot, node_or, node_at, FindsSlot}
 use Rattle.world.specs.Homes.{nodes_of, IsPlace, AreHomes}
 use Rattle.world.specs.Worlds.{world_with}
-use Rattle.world.specs.Moves.{counted, told_of, AuthorityMoves, ClientMoves, Held, NodeMoves, Told}
+use Rattle.world.specs.Moves.{counted, told_of, AuthorityMoves, ClientMoves, Held, Moves, NodeMoves, Told}
 use Rattle.world.specs.Actors.{moved, moved_of, Moved, Steps}
 use Rattle.world.proofs.Moving.{answers_along, map_ok}
 use Rattle.world.proofs.OneNode.{node_at-set, put_at-same, slice_get-map, in_place, each-set, map-set, put-same}
@@ -64,6 +64,23 @@ unnamed_steps late plan world g m defined e =
     let refused : of_node world g m (if_named plan g m defined) ≡ Err NoActor = ap (λ (b : Bool). of_node world g m (refuse_if (not b) NoActor defined)) e in
     (ap moved_of refused, refl)
 
+-- what the step of an actor leaves in the world, where the world in which the actor is this and these are all messages is placed so
+module _ {S T : Type 0} (made : T → List Message) (actor : T → S) (placed : Held S → World) where
+  -- what is told of the actor, told of the world
+  abbrev pub onward : Told S → Moved
+  onward t = record { count = t.count; world = placed (record { actor = t.actor; messages = t.messages }) }
+
+  pub placed_steps : (late : Fault → Bool) (defined : Result T Fault) (whole : Result Step Fault) (kept now : List Message) (old new : S) (before after : World) → map_ok onward (told_of made actor kept defined) ≡ moved_of whole
+      → placed (record { actor = old; messages = kept }) ≡ before → placed (record { actor = new; messages = now }) ≡ after → (result : Result ℕ Fault) → Moves made actor late defined old kept result new now → Steps late whole before result after
+  placed_steps late defined whole kept now old new before after is here there result moves =
+      let told : Result (Told S) Fault = told_of made actor kept defined in
+      let was : Held S = record { actor = old; messages = kept } in
+      let will_be : Held S = record { actor = new; messages = now } in
+      subst (λ (d : Result Moved Fault). AnswersLate late moved d before result after) is
+      (subst (λ (w : World). AnswersLate late moved (map_ok onward told) w result after) here
+      (subst (λ (w : World). AnswersLate late moved (map_ok onward told) (placed was) result w) there
+      (answers_along late counted moved onward placed (λ r h. refl) told was result will_be moves)))
+
 -- what a node's step leaves in the world
 module _ (plan : Plan) (authority : Authority) (slots : List (Option Node)) (clients : ℕ → Client) (kept : List Message) (g m : ℕ) (low : m < 64) (within : slot_of g m < length slots) (old new : Node) (there : node_at plan slots g m ≡ old) (named : is_named plan g m ≡ true) (defined : NodeAnswer) where
   abbrev pub before : World
@@ -79,11 +96,7 @@ module _ (plan : Plan) (authority : Authority) (slots : List (Option Node)) (cli
   abbrev placed : Held Node → World
   placed held = world_with authority (put_at (node_at plan slots) g m held.actor) clients held.messages
 
-  -- what is told of the node, told of the world
-  abbrev onward : Told Node → Moved
-  onward t = record { count = t.count; world = placed (record { actor = t.actor; messages = t.messages }) }
-
-  moved_on : (answer : NodeAnswer) → map_ok onward (told_of (λ (s : NodeStep). s.made) (λ (s : NodeStep). s.node) kept answer) ≡ moved_of (of_node before g m answer)
+  moved_on : (answer : NodeAnswer) → map_ok (onward (λ (s : NodeStep). s.made) (λ (s : NodeStep). s.node) placed) (told_of (λ (s : NodeStep). s.made) (λ (s : NodeStep). s.node) kept answer) ≡ moved_of (of_node before g m answer)
   moved_on (Err fault) = refl
   moved_on (Ok step) = refl
 
@@ -95,13 +108,7 @@ module _ (plan : Plan) (authority : Authority) (slots : List (Option Node)) (cli
 
   pub node_steps : (late : Fault → Bool) (result : Result ℕ Fault) (now : List Message) → NodeMoves late defined old kept result new now → Steps late (of_node before g m (if_named plan g m defined)) before result (after now)
   node_steps late result now moves =
-      let told : Result (Told Node) Fault = told_of (λ (s : NodeStep). s.made) (λ (s : NodeStep). s.node) kept defined in
-      let along : AnswersLate late moved (map_ok onward told) (placed (record { actor = old; messages = kept })) result (placed (record { actor = new; messages = now })) =
-      answers_along late counted moved onward placed (λ r h. refl) told (record { actor = old; messages = kept }) result (record { actor = new; messages = now }) moves in
-      let whole : map_ok onward told ≡ moved_of (of_node before g m (if_named plan g m defined)) = moved_on defined ∙ ap moved_of (sym asked) in
-      subst (λ (d : Result Moved Fault). AnswersLate late moved d before result (after now)) whole
-      (subst (λ (w : World). AnswersLate late moved (map_ok onward told) w result (after now)) here
-      (subst (λ (w : World). AnswersLate late moved (map_ok onward told) (placed (record { actor = old; messages = kept })) result w) (there_now now) along))
+      placed_steps (λ (s : NodeStep). s.made) (λ (s : NodeStep). s.node) placed late defined (of_node before g m (if_named plan g m defined)) kept now old new before (after now) (moved_on defined ∙ ap moved_of (sym asked)) here (there_now now) result moves
 
 -- what stands where a slot was found
 pub found_there : (slots : List (Option Segment)) (slot at : ℕ) (x o : Option Segment) → x ≡ get_or slots slot x → slot ≡ at → slot < length slots → x ≡ o → slice_get slots at ≡ Some o
@@ -142,37 +149,14 @@ module _ (authority : Authority) (nodes : ℕ → ℕ → Node) (clients : ℕ �
   abbrev client_placed : Held Client → World
   client_placed held = world_with authority nodes (put clients v held.actor) held.messages
 
-  -- what is told of the client, told of the world
-  abbrev client_onward : Told Client → Moved
-  client_onward t = record { count = t.count; world = client_placed (record { actor = t.actor; messages = t.messages }) }
-
-  client_moved_on : (answer : ClientAnswer) → map_ok client_onward (told_of (λ (s : ClientStep). s.made) (λ (s : ClientStep). s.client) kept answer) ≡ moved_of (of_client begun v answer)
+  client_moved_on : (answer : ClientAnswer) → map_ok (onward (λ (s : ClientStep). s.made) (λ (s : ClientStep). s.client) client_placed) (told_of (λ (s : ClientStep). s.made) (λ (s : ClientStep). s.client) kept answer) ≡ moved_of (of_client begun v answer)
   client_moved_on (Err fault) = refl
   client_moved_on (Ok step) = refl
 
   pub client_steps : (late : Fault → Bool) (defined : ClientAnswer) (old new : Client) → clients v ≡ old → (later : ℕ → Client) → put clients v new ≡ later → (result : Result ℕ Fault) (now : List Message) → ClientMoves late defined old kept result new now → Steps late (of_client begun v defined) begun result (world_with authority nodes later now)
   client_steps late defined old new there later is result now moves =
-      let told : Result (Told Client) Fault = told_of (λ (s : ClientStep). s.made) (λ (s : ClientStep). s.client) kept defined in
-      let along : AnswersLate late moved (map_ok client_onward told) (client_placed (record { actor = old; messages = kept })) result (client_placed (record { actor = new; messages = now })) =
-      answers_along late counted moved client_onward client_placed (λ r h. refl) told (record { actor = old; messages = kept }) result (record { actor = new; messages = now }) moves in
-      let here : client_placed (record { actor = old; messages = kept }) ≡ begun = ap (λ (f : ℕ → Client). world_with authority nodes f kept) (ap (put clients v) (sym there) ∙ put-same clients v) in
-      let there_now : client_placed (record { actor = new; messages = now }) ≡ world_with authority nodes later now = ap (λ (f : ℕ → Client). world_with authority nodes f now) is in
-      subst (λ (d : Result Moved Fault). AnswersLate late moved d begun result (world_with authority nodes later now)) (client_moved_on defined)
-      (subst (λ (w : World). AnswersLate late moved (map_ok client_onward told) w result (world_with authority nodes later now)) here
-      (subst (λ (w : World). AnswersLate late moved (map_ok client_onward told) (client_placed (record { actor = old; messages = kept })) result w) there_now along))
-
-  -- a refusal of a client that isn't kept
-  pub client_refused : {R : Type 0} (late : Fault → Bool) (step : R → Client → ClientStep) (defined : ClientAnswer) (now : Client) (fault : Fault) → AnswersLate late step defined now (Err fault) now → Steps late (of_client begun v defined) begun (Err fault) begun
-  client_refused late step defined now NoMemory h = (wants-moved late defined ∙ h.0, refl)
-    where
-      wants-moved : (late : Fault → Bool) (answer : ClientAnswer) → may_want_memory late (moved_of (of_client begun v answer)) ≡ may_want_memory late answer
-      wants-moved late (Err fault) = refl
-      wants-moved late (Ok s) = refl
-  client_refused late step defined now fault h = (ap (λ (d : ClientAnswer). moved_of (of_client begun v d)) h.0, refl)
-
-  -- memory that is wanted where there is a step
-  pub client_wants : (late : Fault → Bool) (defined : ClientAnswer) (s : ClientStep) → defined ≡ Ok s → may_want_memory late (moved_of (of_client begun v defined)) ≡ true
-  client_wants late defined s e = ap (λ (d : ClientAnswer). may_want_memory late (moved_of (of_client begun v d))) e
+      placed_steps (λ (s : ClientStep). s.made) (λ (s : ClientStep). s.client) client_placed late defined (of_client begun v defined) kept now old new begun (world_with authority nodes later now) (client_moved_on defined)
+      (ap (λ (f : ℕ → Client). world_with authority nodes f kept) (ap (put clients v) (sym there) ∙ put-same clients v)) (ap (λ (f : ℕ → Client). world_with authority nodes f now) is) result moves
 
 -- what a step of the authority leaves in the world
 module _ (old : Authority) (nodes : ℕ → ℕ → Node) (clients : ℕ → Client) (kept : List Message) where
@@ -183,15 +167,10 @@ module _ (old : Authority) (nodes : ℕ → ℕ → Node) (clients : ℕ → Cli
   abbrev authority_placed : Held Authority → World
   authority_placed held = world_with held.actor nodes clients held.messages
 
-  -- what is told of the authority, told of the world
-  abbrev authority_onward : Told Authority → Moved
-  authority_onward t = record { count = t.count; world = authority_placed (record { actor = t.actor; messages = t.messages }) }
-
-  authority_moved_on : (answer : Result AuthorityStep Fault) → map_ok authority_onward (told_of (λ (s : AuthorityStep). s.made ∷ []) (λ (s : AuthorityStep). s.authority) kept answer) ≡ moved_of (of_authority asked_of answer)
+  authority_moved_on : (answer : Result AuthorityStep Fault) → map_ok (onward (λ (s : AuthorityStep). s.made ∷ []) (λ (s : AuthorityStep). s.authority) authority_placed) (told_of (λ (s : AuthorityStep). s.made ∷ []) (λ (s : AuthorityStep). s.authority) kept answer) ≡ moved_of (of_authority asked_of answer)
   authority_moved_on (Err fault) = refl
   authority_moved_on (Ok step) = refl
 
   pub authority_steps : (defined : Result AuthorityStep Fault) (new : Authority) (result : Result ℕ Fault) (now : List Message) → AuthorityMoves defined old kept result new now → Steps never_late (of_authority asked_of defined) asked_of result (world_with new nodes clients now)
   authority_steps defined new result now moves =
-      subst (λ (d : Result Moved Fault). AnswersLate never_late moved d asked_of result (world_with new nodes clients now)) (authority_moved_on defined)
-      (answers_along never_late counted moved authority_onward authority_placed (λ r h. refl) (told_of (λ (s : AuthorityStep). s.made ∷ []) (λ (s : AuthorityStep). s.authority) kept defined) (record { actor = old; messages = kept }) result (record { actor = new; messages = now }) moves)
+      placed_steps (λ (s : AuthorityStep). s.made ∷ []) (λ (s : AuthorityStep). s.authority) authority_placed never_late defined (of_authority asked_of defined) kept now old new asked_of (world_with new nodes clients now) (authority_moved_on defined) refl refl result moves

@@ -1,4 +1,5 @@
 pub mod Acts
+pub mod Addressed
 pub mod Clients
 pub mod Events
 pub mod Slots

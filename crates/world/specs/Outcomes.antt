@@ -1,10 +1,16 @@
 -- What a program's outcome tells.
-use Rattle.std.specs.Prelude.{◌≡◌, ℕ, List, ◌++◌, map}
+use Rattle.std.specs.Prelude.{◌≡◌, ℕ, ◌<◌, true, ◌&&◌, nat_le, List, ◌++◌, ◌∷◌, Ok, map}
 use Rattle.volume_model.specs.Plan.{Plan}
 use Rattle.volume_model.specs.Lineage.{last_start}
-use Rattle.volume_model.specs.Client.{Client, durable_point}
-use Rattle.volume_model.specs.World.{Event, opening, run, results}
-use Rattle.volume_model.specs.Headline.{StaysSo}
+use Rattle.volume_model.specs.Lists.{IsIn, IsBeginningOf}
+use Rattle.volume_model.specs.Redo.{Redo, up_to}
+use Rattle.volume_model.specs.Client.{Client, durable_point, is_point_of}
+use Rattle.volume_model.specs.World.{Event, Step, opening, run, results, step}
+use Rattle.volume_model.specs.World.Event.{Open}
+use Rattle.volume_model.specs.Headline.{HasFound, KeepsCommits, SaysTruePages, StaysSo}
+use Rattle.volume_model.specs.Finds.{HasOneLineageAnEpoch, StaysFound}
+use Rattle.volume_model.specs.Opens.{last_cut, IsAtItsCut}
+use Rattle.volume_model.specs.Orderly.{IsOrderly}
 use Rattle.volume_model.specs.Outcome as model
 use Rattle.volume_model.specs.Outcome.{writers_in, finds_in}
 use Rattle.writer_core.specs.Logs.{log_of}
@@ -23,16 +29,26 @@ opened_of w = record { volume = w.volume; start = w.start; log = log_of w.log.it
 
 -- what is told of a recovery that has cut
 abbrev pub found_client : ℕ → Client → model.Find
-found_client volume client = record { volume = volume; found = client.found; lineage = client.lineage }
+found_client volume client = record { volume = volume; found = client.found; cut = last_cut client.lineage; lineage = client.lineage }
 
 -- the recovery that this is
 abbrev pub find_of : FindEnd → model.Find
-find_of f = record { volume = f.volume; found = log_of f.log.items; lineage = lineage_of f.lineage }
+find_of f = record { volume = f.volume; found = log_of f.found.log.items; cut = f.found.cut; lineage = lineage_of f.found.lineage }
 
 -- What was acknowledged after some of the events stays so to their end, with the same log before it, and no opened writer's durable
 -- point has fallen.
 abbrev pub KeepsAcknowledgements : Plan → List Event → Type 0
 KeepsAcknowledgements plan events = (earlier later : List Event) → earlier ++ later ≡ events → StaysSo (run plan (opening plan) earlier) (run plan (opening plan) events)
+
+-- What was found after some of the events stays so to their end, with the same lineage.
+abbrev pub KeepsFinds : Plan → List Event → Type 0
+KeepsFinds plan events =
+    (earlier later : List Event) (volume : ℕ) → earlier ++ later ≡ events → HasFound (run plan (opening plan) earlier) volume → StaysFound ((run plan (opening plan) earlier).clients volume) ((run plan (opening plan) events).clients volume)
+
+-- Each client that opens among the events, and isn't refused, has its cut as its durable point then.
+abbrev pub OpenAtTheirCuts : Plan → List Event → Type 0
+OpenAtTheirCuts plan events =
+    (earlier later : List Event) (volume : ℕ) (opened : Step) → earlier ++ Open volume ∷ later ≡ events → step plan (run plan (opening plan) earlier) (Open volume) ≡ Ok opened → IsAtItsCut (opened.world.clients volume)
 
 -- The outcome tells exactly the model's run of these events: what is told of each event, and of the world after them the opened
 -- writers and the recoveries that have cut.
@@ -40,3 +56,39 @@ pub record TellsRun (plan : Plan) (events : List Event) (outcome : Outcome) : Ty
   pub results_are : outcome.results.items ≡ results plan (opening plan) events
   pub writers_are : map opened_of outcome.writers.items ≡ writers_in (run plan (opening plan) events)
   pub finds_are : map find_of outcome.finds.items ≡ finds_in (run plan (opening plan) events)
+
+-- Of the run of these events every promise of the volume holds.
+pub record KeepsPromises (plan : Plan) (events : List Event) : Type 0 where
+  -- every commit that any writer acknowledges stands, with the whole log before it, in the log found by every recovery of a later
+  -- volume epoch, and no two records are acknowledged under one LSN
+  pub commits : KeepsCommits (run plan (opening plan) events)
+  -- every page that any node made is that of its writer's log at the point asked
+  pub pages : SaysTruePages (run plan (opening plan) events)
+  -- what was acknowledged stays so
+  pub acknowledgements_last : KeepsAcknowledgements plan events
+  -- what was found stays so
+  pub finds_last : KeepsFinds plan events
+  -- no two lineages with one last volume epoch differ
+  pub one_lineage_an_epoch : HasOneLineageAnEpoch (run plan (opening plan) events)
+  -- who opens has its cut as its durable point
+  pub opens_at_its_cut : OpenAtTheirCuts plan events
+  -- each lineage's epochs grow, and each record's links fall
+  pub orderly : IsOrderly (run plan (opening plan) events)
+
+-- the same, of every list of events
+abbrev pub PromisesRuns : Plan → Type 0
+PromisesRuns plan = (events : List Event) → KeepsPromises plan events
+
+-- The writer has acknowledged the commit of this number: it is that of a consistency point of its log, and at most its durable point.
+abbrev pub HasAcknowledged : WriterEnd → ℕ → Type 0
+HasAcknowledged writer n = (is_point_of n (log_of writer.log.items) && nat_le n writer.durable) ≡ true
+
+-- what an acknowledged commit covers: the writer's log up to it
+abbrev pub covered_by : WriterEnd → ℕ → List Redo
+covered_by writer n = up_to n (log_of writer.log.items)
+
+-- The promise said of what was returned alone: each commit that a returned writer has acknowledged stands, with its whole log before it, in
+-- the log of each returned find of a later volume epoch, and no two different records were acknowledged by returned writers under one LSN.
+pub record KeepsReturned (outcome : Outcome) : Type 0 where
+  pub found_later : (writer : WriterEnd) (find : FindEnd) (n : ℕ) → IsIn writer outcome.writers.items → IsIn find outcome.finds.items → writer.volume < find.volume → HasAcknowledged writer n → IsBeginningOf (covered_by writer n) (log_of find.found.log.items)
+  pub one_record : (writer other : WriterEnd) (n m : ℕ) (r s : Redo) → IsIn writer outcome.writers.items → IsIn other outcome.writers.items → HasAcknowledged writer n → HasAcknowledged other m → IsIn r (covered_by writer n) → IsIn s (covered_by other m) → r.lsn ≡ s.lsn → r ≡ s

@@ -1,12 +1,12 @@
 //! All actors, and all messages ever made.
 
 use crate::acts::{AuthorityAct, ClientAct, ClientOrder, NodeAct};
-use crate::client_kind::Client;
+use crate::client::Client;
 use crate::client_step::act_of;
 use crate::event::Event;
 use crate::nodes::{all_born, slot};
 use crate::numbering::enter;
-use crate::{authority_step, client_step, node_step};
+use crate::{authority_step, birth, client_step, node_step};
 use epochs::Authority;
 use plan::CheckedPlan;
 use segment_core::Segment;
@@ -15,7 +15,6 @@ use std::collections::BTreeMap;
 use std::sync::Arc;
 use volume_model::Fault;
 use wire::Message;
-use writer_core::Writer;
 
 /// All actors, and all messages ever made, in the order of making.
 #[derive(Drop)]
@@ -49,9 +48,9 @@ impl Actors {
         ensures good { IfOk result AreActors }
         ensures memory { IfErr result (λ e. e ≡ NoMemory) }
     {
-        let first = Writer::first(alloc, plan.clone()?)?;
+        let first = Client::first(alloc, plan.clone()?)?;
         let mut clients = BTreeMap::new(alloc);
-        clients.insert(1, Client::Writer(first))?;
+        clients.insert(1, first)?;
         Ok(Actors {
             plan: plan.clone()?,
             authority: Authority::new(alloc, plan.clone()?)?,
@@ -110,9 +109,7 @@ impl Actors {
         }
         match self.clients.get_mut(&volume) {
             None => Err(Fault::NoActor),
-            Some(client) => {
-                client_step::act(alloc, &self.plan, volume, client, &mut self.messages, order)
-            }
+            Some(client) => client_step::act(alloc, client, &mut self.messages, order),
         }
     }
 
@@ -130,8 +127,9 @@ impl Actors {
         ensures plan { plan_of self.new ≡ plan_of self.old }
     {
         let act = act_of(order, self.messages.as_slice())?;
-        let mut client = Client::Unborn;
-        let made = client.act(alloc, &self.plan, volume, act)?;
+        birth::admits(&self.plan, volume, act)?;
+        let mut client = Client::unborn(self.plan.clone()?, volume);
+        let made = client.act(alloc, act)?;
         self.messages.reserve(made.len())?;
         self.clients.insert(volume, client)?;
         Ok(enter(&mut self.messages, made))
@@ -147,7 +145,7 @@ impl Actors {
         match self.clients.get_mut(&volume) {
             None => Err(Fault::NoActor),
             Some(client) => {
-                client.open(&self.plan, volume)?;
+                client.open()?;
                 Ok(0)
             }
         }

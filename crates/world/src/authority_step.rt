@@ -14,32 +14,34 @@ use std::alloc::Global;
 use volume_model::Fault;
 use wire::Message;
 
-/// Whether the authority would act.
-fn admits(authority: &Authority, act: AuthorityAct) -> Result<(), Fault>
-    ensures { result ≡ refusal_of (authority_acted (authority_plan authority.now) (authority_of authority.now) act) }
-{
-    match act {
-        AuthorityAct::Assign => authority.admits_assign(),
-        AuthorityAct::Advance {
-            group,
-            configuration,
-        } => authority.admits_advance(group, configuration),
-        AuthorityAct::Refresh { volume } => authority.admits_refresh(volume),
+impl AuthorityAct {
+    /// Whether the authority would do it: exactly the refusal of [`AuthorityAct::done_by`], without acting. Takes no memory.
+    pub fn admitted_by(self, authority: &Authority) -> Result<(), Fault>
+        ensures { result ≡ refusal_of (authority_acted (authority_plan authority.now) (authority_of authority.now) self) }
+    {
+        match self {
+            AuthorityAct::Assign => authority.admits_assign(),
+            AuthorityAct::Advance {
+                group,
+                configuration,
+            } => authority.admits_advance(group, configuration),
+            AuthorityAct::Refresh { volume } => authority.admits_refresh(volume),
+        }
     }
-}
 
-/// Lets the authority act, and answers the message that it makes.
-fn tell(alloc: Global, authority: &mut Authority, act: AuthorityAct) -> Result<Message, Fault>
-    ensures answers { Answers told (authority_acted (authority_plan authority.old) (authority_of authority.old) act) (authority_of authority.old) result (authority_of authority.new) }
-    ensures plan { authority_plan authority.new ≡ authority_plan authority.old }
-{
-    match act {
-        AuthorityAct::Assign => authority.assign(alloc),
-        AuthorityAct::Advance {
-            group,
-            configuration,
-        } => authority.advance(group, configuration),
-        AuthorityAct::Refresh { volume } => authority.refresh(alloc, volume),
+    /// Lets the authority do it, and answers the message that it makes. Where it refuses, or memory runs out, it is what it was.
+    pub fn done_by(self, alloc: Global, authority: &mut Authority) -> Result<Message, Fault>
+        ensures answers { Answers told (authority_acted (authority_plan authority.old) (authority_of authority.old) self) (authority_of authority.old) result (authority_of authority.new) }
+        ensures plan { authority_plan authority.new ≡ authority_plan authority.old }
+    {
+        match self {
+            AuthorityAct::Assign => authority.assign(alloc),
+            AuthorityAct::Advance {
+                group,
+                configuration,
+            } => authority.advance(group, configuration),
+            AuthorityAct::Refresh { volume } => authority.refresh(alloc, volume),
+        }
     }
 }
 
@@ -54,11 +56,11 @@ pub fn act(
     ensures moves { AuthorityMoves (authority_acted (authority_plan authority.old) (authority_of authority.old) act) (authority_of authority.old) (added (messages_of messages.old.items) []) result (authority_of authority.new) (added (messages_of messages.new.items) []) }
     ensures plan { authority_plan authority.new ≡ authority_plan authority.old }
 {
-    if let Err(fault) = admits(authority, act) {
+    if let Err(fault) = act.admitted_by(authority) {
         return Err(fault);
     }
     messages.reserve(1)?;
-    let message = tell(alloc, authority, act)?;
+    let message = act.done_by(alloc, authority)?;
     messages.push(message).unwrap();
     Ok(1)
 }

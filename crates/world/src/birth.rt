@@ -2,13 +2,16 @@
 
 ghost use Rattle.std.specs.Prelude.{◌≡◌, ◌≢◌, IfErr, IfOk};
 ghost use Rattle.std.specs.Arc.{arc_value};
-ghost use Rattle.volume_model.specs.Answer.{refusal_of, Answers};
+ghost use Rattle.volume_model.specs.Answer.{refusal_of, Answers, AnswersLate};
 ghost use Rattle.volume_model.specs.Client.{taken, unborn};
 ghost use Rattle.volume_model.specs.declared.fault.Fault.TheVariants.{NoMemory};
 ghost use Rattle.plan.specs.CheckedModel.{checked_model};
 ghost use Rattle.wire.specs.Message.{message_of};
-ghost use Rattle.recovery.specs.Recoveries.{begun, birth_of, recovery_plan, recovery_volume, view_volume};
+ghost use Rattle.recovery.specs.Recoveries.{admitted, begun, birth_of, recovery_plan, recovery_volume, view_volume};
+ghost use Rattle.world.specs.Acts.{client_acted, client_late};
 
+use crate::acts::ClientAct;
+use crate::addressed::addressed;
 use plan::CheckedPlan;
 use recovery::Recovery;
 use std::alloc::Global;
@@ -18,17 +21,25 @@ use wire::Message;
 
 /// Whether a client that isn't there would become a recovery by a message: by a View of its volume epoch, at places of the plan (else
 /// `NotInPlan`). Any other message is refused: `NotAddressed` where it isn't for the client, else `NoActor`, as there is none to take it.
-pub fn admits_birth(plan: &CheckedPlan, volume: u32, message: &Message) -> Result<(), Fault>
+fn admits_birth(plan: &CheckedPlan, volume: u32, message: &Message) -> Result<(), Fault>
     ensures refusal { result ≡ refusal_of (taken (checked_model plan.now) volume unborn (message_of message.now)) }
     ensures own { IfErr result (λ fault. fault ≢ NoMemory) }
 {
-    let groups = plan.groups();
+    addressed(volume, plan.groups(), message)?;
     match message {
-        Message::View(view) if view.volume == volume => Recovery::admits_birth(plan, message),
-        Message::Report(report) if report.is_to(volume, groups) => Err(Fault::NoActor),
-        Message::Ack(ack) if ack.is_to(volume, groups) => Err(Fault::NoActor),
-        Message::Page(page) if page.is_to(volume, groups) => Err(Fault::NoActor),
-        _ => Err(Fault::NotAddressed),
+        Message::View(_) => Recovery::admits_birth(plan, message),
+        _ => Err(Fault::NoActor),
+    }
+}
+
+/// Whether a client that no View has reached would act: by a View alone.
+pub fn admits(plan: &CheckedPlan, volume: u32, act: ClientAct<'_>) -> Result<(), Fault>
+    ensures answers { AnswersLate (client_late act.entry) admitted (refusal_of (client_acted act.entry (checked_model plan.now) volume unborn)) tt result tt }
+    ensures own { IfErr result (λ fault. fault ≢ NoMemory) }
+{
+    match act {
+        ClientAct::Take(message) => admits_birth(plan, volume, message),
+        _ => Err(Fault::NoActor),
     }
 }
 
@@ -48,7 +59,7 @@ fn begin_by_view(
 
 /// The recovery that a client which isn't there becomes by a View of its volume epoch, and the messages that it makes. Refused as
 /// [`admits_birth`] says.
-pub fn begin(
+fn begin(
     alloc: Global,
     plan: &Arc<CheckedPlan>,
     volume: u32,
@@ -58,12 +69,26 @@ pub fn begin(
     ensures plan { IfOk result (λ r. recovery_plan r.0 ≡ checked_model (arc_value plan.now)) }
     ensures volume { IfOk result (λ r. recovery_volume r.0 ≡ volume) }
 {
-    let groups = plan.groups();
+    addressed(volume, plan.groups(), message)?;
     match message {
-        Message::View(view) if view.volume == volume => begin_by_view(alloc, plan, message),
-        Message::Report(report) if report.is_to(volume, groups) => Err(Fault::NoActor),
-        Message::Ack(ack) if ack.is_to(volume, groups) => Err(Fault::NoActor),
-        Message::Page(page) if page.is_to(volume, groups) => Err(Fault::NoActor),
-        _ => Err(Fault::NotAddressed),
+        Message::View(_) => begin_by_view(alloc, plan, message),
+        _ => Err(Fault::NoActor),
+    }
+}
+
+/// A client that no View has reached acts: it becomes a recovery by a View, and anything else is refused.
+pub fn act(
+    alloc: Global,
+    plan: &Arc<CheckedPlan>,
+    volume: u32,
+    act: ClientAct<'_>,
+) -> Result<(Recovery, Vec<Message>), Fault>
+    ensures step { AnswersLate (client_late act.entry) begun (client_acted act.entry (checked_model (arc_value plan.now)) volume unborn) tt result tt }
+    ensures plan { IfOk result (λ r. recovery_plan r.0 ≡ checked_model (arc_value plan.now)) }
+    ensures volume { IfOk result (λ r. recovery_volume r.0 ≡ volume) }
+{
+    match act {
+        ClientAct::Take(message) => begin(alloc, plan, volume, message),
+        _ => Err(Fault::NoActor),
     }
 }

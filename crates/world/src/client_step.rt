@@ -1,21 +1,17 @@
 //! A client's step, among all messages.
 
 ghost use Rattle.std.specs.Prelude.{◌≡◌, ◌≤◌, [], Err, MatchResult};
-ghost use Rattle.std.specs.Arc.{arc_value};
 ghost use Rattle.volume_model.specs.Lists.{added};
 ghost use Rattle.volume_model.specs.declared.fault.Fault.TheVariants.{NoMessage};
-ghost use Rattle.plan.specs.CheckedModel.{checked_model};
 ghost use Rattle.wire.specs.Message.{messages_of};
 ghost use Rattle.world.specs.Acts.{client_ordered, order_late, ActsFew, IsOrderOf, IsRefusedOrder, MakesAtMost};
-ghost use Rattle.world.specs.Clients.{seen_client, IsClientOf};
+ghost use Rattle.world.specs.Clients.{client_plan, client_volume, seen_client, IsSameClient};
 ghost use Rattle.world.specs.Moves.{ClientMoves};
 
 use crate::acts::{ClientAct, ClientOrder};
-use crate::client_kind::Client;
+use crate::client::Client;
 use crate::numbering::{enter, message_at};
-use plan::CheckedPlan;
 use std::alloc::Global;
-use std::sync::Arc;
 use volume_model::{Fault, steps_are_few};
 use wire::Message;
 
@@ -32,28 +28,28 @@ pub fn act_of<'a>(order: ClientOrder<'a>, messages: &'a [Message]) -> Result<Cli
     }
 }
 
-/// No more messages than this many are made by an act.
-fn most_acted(plan: &CheckedPlan, act: ClientAct<'_>) -> usize
-    ensures { ActsFew (checked_model plan.now) act.entry result }
+/// No more messages than this many are made by an act of a client.
+fn most_acted(client: &Client, act: ClientAct<'_>) -> usize
+    ensures { ActsFew (client_plan client.now) act.entry result }
 {
     steps_are_few();
     match act {
-        ClientAct::Take(_) => usize::from(plan.groups()),
-        ClientAct::Cut => usize::from(plan.groups()),
+        ClientAct::Take(_) => usize::from(client.groups()),
+        ClientAct::Cut => usize::from(client.groups()),
         ClientAct::Issue(changes) => changes.len(),
         ClientAct::Resend { .. } => 1,
         ClientAct::Read { .. } => 1,
     }
 }
 
-/// No more messages than this many are made by what an order asks for.
-fn most_made(plan: &CheckedPlan, order: ClientOrder<'_>) -> usize
-    ensures { MakesAtMost (checked_model plan.now) order.entry result }
+/// No more messages than this many are made by what an order asks of a client.
+fn most_made(client: &Client, order: ClientOrder<'_>) -> usize
+    ensures { MakesAtMost (client_plan client.now) order.entry result }
 {
     steps_are_few();
     match order {
-        ClientOrder::Take { .. } => usize::from(plan.groups()),
-        ClientOrder::Act(act) => most_acted(plan, act),
+        ClientOrder::Take { .. } => usize::from(client.groups()),
+        ClientOrder::Act(act) => most_acted(client, act),
     }
 }
 
@@ -61,25 +57,22 @@ fn most_made(plan: &CheckedPlan, order: ClientOrder<'_>) -> usize
 /// runs out nothing has changed.
 pub fn act(
     alloc: Global,
-    plan: &Arc<CheckedPlan>,
-    volume: u32,
     client: &mut Client,
     messages: &mut Vec<Message>,
     order: ClientOrder<'_>,
 ) -> Result<u64, Fault>
-    requires client { IsClientOf (checked_model (arc_value plan.now)) volume client.old }
-    ensures moves { ClientMoves (order_late order.entry) (client_ordered (added (messages_of messages.old.items) []) order.entry (checked_model (arc_value plan.now)) volume (seen_client client.old)) (seen_client client.old) (added (messages_of messages.old.items) []) result (seen_client client.new) (added (messages_of messages.new.items) []) }
-    ensures client { IsClientOf (checked_model (arc_value plan.now)) volume client.new }
+    ensures moves { ClientMoves (order_late order.entry) (client_ordered (added (messages_of messages.old.items) []) order.entry (client_plan client.old) (client_volume client.old) (seen_client client.old)) (seen_client client.old) (added (messages_of messages.old.items) []) result (seen_client client.new) (added (messages_of messages.new.items) []) }
+    ensures same { IsSameClient client.old client.new }
 {
-    let room = messages.reserve(most_made(plan, order));
+    let room = messages.reserve(most_made(client, order));
     let act = match act_of(order, messages.as_slice()) {
         Ok(act) => act,
         Err(fault) => return Err(fault),
     };
     if room.is_err() {
-        client.admits(alloc, plan, volume, act)?;
+        client.admits(alloc, act)?;
         return Err(Fault::NoMemory);
     }
-    let made = client.act(alloc, plan, volume, act)?;
+    let made = client.act(alloc, act)?;
     Ok(enter(messages, made))
 }

@@ -1,75 +1,49 @@
 //! What is told of the actors when a run has ended.
 
 ghost use Rattle.std.specs.Prelude.{◌≡◌, ◌++◌, ◌∷◌, [], ◌&&◌, IfOk, Some, None, if◌then◌else◌, map, nat_lt, option_map};
-ghost use Rattle.lineage.specs.Lineage.{lineage_of};
 ghost use Rattle.volume_model.specs.Client.{has_cut, is_open};
-ghost use Rattle.volume_model.specs.Lineage as model;
-ghost use Rattle.writer_core.specs.Logs.{log_of};
-ghost use Rattle.writer_core.specs.Writers.{client_of, writer_volume};
 ghost use Rattle.world.specs.Clients.{seen_client};
 ghost use Rattle.world.specs.Outcomes.{find_of, found_client, opened_of, opened_client};
 
 use crate::actors::Actors;
-use crate::client_kind::Client;
+use crate::client::{Client, ClientState};
 use crate::outcome::{FindEnd, WriterEnd};
-use lineage::Lineage;
-use redo_record::Record;
+use recovery::Found;
 use std::alloc::{AllocError, Global};
-use writer_core::Writer;
 
-/// What is told of a writer.
-fn writer_end(alloc: Global, writer: &Writer) -> Result<WriterEnd, AllocError>
-    ensures { IfOk result (λ end. opened_of end ≡ opened_client (writer_volume writer.now) (client_of writer.now)) }
+/// What is told of the client of a volume epoch as a writer, where it is one.
+fn opened_by(alloc: Global, volume: u32, client: &Client) -> Result<Option<WriterEnd>, AllocError>
+    ensures { IfOk result (λ opened. option_map opened_of opened ≡ (if is_open (seen_client client.now).stage then Some (opened_client volume (seen_client client.now)) else None)) }
 {
-    Ok(WriterEnd {
-        volume: writer.volume(),
-        start: writer.start(),
-        log: writer.log().to_vec(alloc)?,
-        durable: writer.durable_point(),
-    })
-}
-
-/// What is told of a recovery that has cut, by the log that it found and its lineage.
-fn find_end(
-    alloc: Global,
-    volume: u32,
-    log: &[Record],
-    lineage: &Lineage,
-) -> Result<FindEnd, AllocError>
-    ensures volume { IfOk result (λ end. end.volume ≡ volume) }
-    ensures log { IfOk result (λ end. log_of end.log.items ≡ log_of log.now) }
-    ensures lineage { IfOk result (λ end. lineage_of end.lineage ≡ lineage_of lineage.now) }
-{
-    Ok(FindEnd {
-        volume,
-        log: log.to_vec(alloc)?,
-        lineage: lineage.clone()?,
-    })
+    match client.state() {
+        ClientState::Writer(writer) => Ok(Some(WriterEnd {
+            volume,
+            start: writer.start(),
+            log: writer.log().to_vec(alloc)?,
+            durable: writer.durable_point(),
+        })),
+        _ => Ok(None),
+    }
 }
 
 /// What is told of the client of a volume epoch as a recovery, where it has cut.
 fn found_by(alloc: Global, volume: u32, client: &Client) -> Result<Option<FindEnd>, AllocError>
     ensures { IfOk result (λ found. option_map find_of found ≡ (if has_cut (seen_client client.now).stage then Some (found_client volume (seen_client client.now)) else None)) }
 {
-    match client {
-        Client::Unborn => Ok(None),
-        Client::Writer(writer) => {
-            let end = find_end(alloc, volume, writer.found(), writer.lineage())?;
-            Ok(Some(end))
-        }
-        Client::Recovery(recovery) => match recovery.found() {
-            Some(found) => {
-                let end = find_end(alloc, volume, found.log.as_slice(), &found.lineage)?;
-                Ok(Some(end))
-            }
-            None => Ok(None),
+    let found = match client.state() {
+        ClientState::Unborn => return Ok(None),
+        ClientState::Writer(writer) => Found::of_writer(alloc, writer)?,
+        ClientState::Recovery(recovery) => match recovery.found() {
+            Some(found) => found.clone()?,
+            None => return Ok(None),
         },
-    }
+    };
+    Ok(Some(FindEnd { volume, found }))
 }
 
 impl Actors {
     ghost use Rattle.volume_model.specs.Outcome.{finds_in, writers_in};
-    ghost use Rattle.world.specs.Actors.{world_of, AreActors};
+    ghost use Rattle.world.specs.Actors.{world_of};
     ghost use Rattle.world.specs.Clients.{clients_of};
 
     /// Adds what is told of the writer of a volume epoch, where there is one.
@@ -79,18 +53,19 @@ impl Actors {
         volume: u32,
         ends: &mut Vec<WriterEnd>,
     ) -> Result<(), AllocError>
-        requires { AreActors self.now }
         ensures { IfOk result (λ _. map opened_of ends.new.items ≡ map opened_of ends.old.items ++ (if is_open (clients_of self.now.clients volume).stage then opened_client volume (clients_of self.now.clients volume) ∷ [] else [])) }
     {
-        if let Some(Client::Writer(writer)) = self.clients.get(&volume) {
-            ends.push(writer_end(alloc, writer)?)?;
+        let Some(client) = self.clients.get(&volume) else {
+            return Ok(());
+        };
+        if let Some(end) = opened_by(alloc, volume, client)? {
+            ends.push(end)?;
         }
         Ok(())
     }
 
     /// The opened writers, in growing volume epoch.
     pub fn writers(&self, alloc: Global) -> Result<Vec<WriterEnd>, AllocError>
-        requires { AreActors self.now }
         ensures { IfOk result (λ ends. map opened_of ends.items ≡ writers_in (world_of self.now)) }
     {
         let last = self.authority.last_volume();

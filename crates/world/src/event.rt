@@ -1,5 +1,6 @@
 //! What may happen to a volume.
 
+use std::alloc::AllocError;
 use writer_core::Change;
 
 /// What may happen next, to one actor. A lost message is one that no event names. Messages are numbered from 1 in the order of
@@ -52,4 +53,70 @@ pub enum Order {
         event: usize,
         place: u64,
     },
+}
+
+impl Clone for Event {
+    ghost use Rattle.std.specs.Prelude.{◌≡◌};
+    ghost use Rattle.world.specs.Events.{event_of};
+
+    ghost is_clone = { λ event copy. event_of copy ≡ event_of event };
+
+    fn clone(&self) -> Result<Event, AllocError> {
+        match self {
+            Event::Assign => Ok(Event::Assign),
+            Event::Advance {
+                group,
+                configuration,
+            } => Ok(Event::Advance {
+                group: *group,
+                configuration: *configuration,
+            }),
+            Event::Refresh { volume } => Ok(Event::Refresh { volume: *volume }),
+            Event::Issue { volume, changes } => Ok(Event::Issue {
+                volume: *volume,
+                changes: changes.clone()?,
+            }),
+            Event::Take { volume, message } => Ok(Event::Take {
+                volume: *volume,
+                message: *message,
+            }),
+            Event::Cut { volume } => Ok(Event::Cut { volume: *volume }),
+            Event::Open { volume } => Ok(Event::Open { volume: *volume }),
+            Event::Resend { volume, lsn } => Ok(Event::Resend {
+                volume: *volume,
+                lsn: *lsn,
+            }),
+            Event::Read {
+                volume,
+                group,
+                block,
+            } => Ok(Event::Read {
+                volume: *volume,
+                group: *group,
+                block: *block,
+            }),
+            Event::Deliver {
+                group,
+                member,
+                message,
+            } => Ok(Event::Deliver {
+                group: *group,
+                member: *member,
+                message: *message,
+            }),
+            Event::Hydrate { group, member } => Ok(Event::Hydrate {
+                group: *group,
+                member: *member,
+            }),
+            Event::Restart { group, member } => Ok(Event::Restart {
+                group: *group,
+                member: *member,
+            }),
+            Event::Offer { group, member, lsn } => Ok(Event::Offer {
+                group: *group,
+                member: *member,
+                lsn: *lsn,
+            }),
+        }
+    }
 }

@@ -3,10 +3,10 @@
 
 mod actors;
 mod acts;
+mod addressed;
 mod authority_step;
 mod birth;
 mod client;
-mod client_kind;
 mod client_step;
 mod ending;
 mod event;
@@ -15,8 +15,16 @@ mod nodes;
 mod numbering;
 mod orders;
 mod outcome;
+mod recovering;
 mod running;
+mod writing;
 
+pub use acts::{AuthorityAct, ClientAct};
+pub use client::{Client, ClientState};
 pub use event::{Event, Order};
 pub use outcome::{FindEnd, Outcome, WriterEnd};
+pub use recovery::Found;
 pub use running::{run, run_orders};
+
+#[cfg(test)]
+mod tests;

@@ -1,6 +1,6 @@
 //! What a run leaves to be told.
 
-use lineage::Lineage;
+use recovery::Found;
 use redo_record::Record;
 use volume_model::Fault;
 
@@ -22,10 +22,8 @@ pub struct WriterEnd {
 pub struct FindEnd {
     /// Its volume epoch.
     pub volume: u32,
-    /// The log that it found, in growing LSN.
-    pub log: Vec<Record>,
-    /// Its lineage, whose last entry says where it cut.
-    pub lineage: Lineage,
+    /// The log that it found, where it cut, and its lineage.
+    pub found: Found,
 }
 
 /// What is told of a run.

@@ -1,14 +1,11 @@
 //! Whole runs.
 
-ghost use Rattle.std.specs.Prelude.{◌≡◌, ◌≢◌, [], IfOk, IfErr, OnOk};
+ghost use Rattle.std.specs.Prelude.{◌≡◌, ◌≢◌, IfOk, IfErr, OnOk};
 ghost use Rattle.std.specs.Arc.{arc_value};
 ghost use Rattle.volume_model.specs.declared.fault.Fault.TheVariants.{NoMemory};
-ghost use Rattle.volume_model.specs.World as model;
-ghost use Rattle.volume_model.specs.World.{opening};
-ghost use Rattle.volume_model.specs.Headline.{KeepsCommits, SaysTruePages};
 ghost use Rattle.plan.specs.CheckedModel.{checked_model};
-ghost use Rattle.world.specs.Events.{events_of, events_from};
-ghost use Rattle.world.specs.Outcomes.{KeepsAcknowledgements, TellsRun};
+ghost use Rattle.world.specs.Events.{events_of, ordered_events};
+ghost use Rattle.world.specs.Outcomes.{KeepsPromises, KeepsReturned, PromisesRuns, TellsRun};
 
 use crate::actors::Actors;
 use crate::event::{Event, Order};
@@ -17,7 +14,10 @@ use crate::outcome::Outcome;
 use plan::CheckedPlan;
 use std::alloc::Global;
 use std::sync::Arc;
-use volume_model::{Fault, acknowledgements_last, pages_are_true, volume_keeps_commits};
+use volume_model::{
+    Fault, acknowledgements_last, finds_last, one_lineage_an_epoch, opens_at_its_cut,
+    pages_are_true, runs_are_orderly, volume_keeps_commits,
+};
 
 /// What is told of an event; want of memory ends the run.
 fn told(step: Result<u64, Fault>) -> Result<Result<u64, Fault>, Fault>
@@ -31,27 +31,25 @@ fn told(step: Result<u64, Fault>) -> Result<Result<u64, Fault>, Fault>
     }
 }
 
-/// Makes events happen one after the other, from the birth of a checked plan's volume on. A refused event changes nothing.
-/// Want of memory ends the run.
-pub fn run(alloc: Global, plan: &Arc<CheckedPlan>, events: &[Event]) -> Result<Outcome, Fault>
-    // The outcome is exactly that of the model.
-    ensures tells { IfOk result (TellsRun (checked_model (arc_value plan.now)) (events_of events.now)) }
-
-    // Whatever the events: every commit that any writer acknowledges stands, with the whole log before it, in the log found by
-    // every recovery of a later volume epoch, and no two records are acknowledged under one LSN.
-    ensures commits { OnOk result (KeepsCommits (model.run (checked_model (arc_value plan.now)) (opening (checked_model (arc_value plan.now))) (events_of events.now))) }
-
-    // What was acknowledged stays so, and no opened writer's durable point falls.
-    ensures lasts { OnOk result (KeepsAcknowledgements (checked_model (arc_value plan.now)) (events_of events.now)) }
-
-    // Every page that any node made is that of its writer's log at the point asked.
-    ensures pages { OnOk result (SaysTruePages (model.run (checked_model (arc_value plan.now)) (opening (checked_model (arc_value plan.now))) (events_of events.now))) }
-    ensures memory { IfErr result (λ e. e ≡ NoMemory) }
+/// Every promise that the volume makes of a plan's runs.
+fn promised(plan: &CheckedPlan)
+    ensures { PromisesRuns (checked_model plan.now) }
 {
     plan.certified();
     volume_keeps_commits();
     pages_are_true();
     acknowledgements_last();
+    finds_last();
+    one_lineage_an_epoch();
+    opens_at_its_cut();
+    runs_are_orderly();
+}
+
+/// The outcome of events that happen one after the other.
+fn outcome_of(alloc: Global, plan: &Arc<CheckedPlan>, events: &[Event]) -> Result<Outcome, Fault>
+    ensures tells { IfOk result (TellsRun (checked_model (arc_value plan.now)) (events_of events.now)) }
+    ensures memory { IfErr result (λ e. e ≡ NoMemory) }
+{
     let mut actors = Actors::open(alloc, plan)?;
     let mut results = Vec::new(alloc);
     for event in events {
@@ -67,22 +65,15 @@ pub fn run(alloc: Global, plan: &Arc<CheckedPlan>, events: &[Event]) -> Result<O
     })
 }
 
-/// `run`, of events whose messages may be named by the events that made them.
-pub fn run_orders(
+/// The outcome of orders that are followed one after the other.
+fn outcome_of_orders(
     alloc: Global,
     plan: &Arc<CheckedPlan>,
     orders: &[Order],
 ) -> Result<Outcome, Fault>
-    ensures tells { IfOk result (TellsRun (checked_model (arc_value plan.now)) (events_from (checked_model (arc_value plan.now)) (opening (checked_model (arc_value plan.now))) [] orders.now)) }
-    ensures commits { OnOk result (KeepsCommits (model.run (checked_model (arc_value plan.now)) (opening (checked_model (arc_value plan.now))) (events_from (checked_model (arc_value plan.now)) (opening (checked_model (arc_value plan.now))) [] orders.now))) }
-    ensures lasts { OnOk result (KeepsAcknowledgements (checked_model (arc_value plan.now)) (events_from (checked_model (arc_value plan.now)) (opening (checked_model (arc_value plan.now))) [] orders.now)) }
-    ensures pages { OnOk result (SaysTruePages (model.run (checked_model (arc_value plan.now)) (opening (checked_model (arc_value plan.now))) (events_from (checked_model (arc_value plan.now)) (opening (checked_model (arc_value plan.now))) [] orders.now))) }
+    ensures tells { IfOk result (TellsRun (checked_model (arc_value plan.now)) (ordered_events (checked_model (arc_value plan.now)) orders.now)) }
     ensures memory { IfErr result (λ e. e ≡ NoMemory) }
 {
-    plan.certified();
-    volume_keeps_commits();
-    pages_are_true();
-    acknowledgements_last();
     let mut actors = Actors::open(alloc, plan)?;
     let mut firsts = Vec::new(alloc);
     let mut results = Vec::new(alloc);
@@ -106,4 +97,37 @@ pub fn run_orders(
         writers,
         finds,
     })
+}
+
+/// Makes events happen one after the other, from the birth of a checked plan's volume on. A refused event changes nothing.
+/// Want of memory ends the run.
+pub fn run(alloc: Global, plan: &Arc<CheckedPlan>, events: &[Event]) -> Result<Outcome, Fault>
+    // The outcome is exactly that of the model.
+    ensures tells { IfOk result (TellsRun (checked_model (arc_value plan.now)) (events_of events.now)) }
+
+    // Whatever the events: every commit that a returned writer has acknowledged stands, with the whole log before it, in the log of every
+    // returned find of a later volume epoch, and no two records are acknowledged under one LSN.
+    ensures returned { IfOk result KeepsReturned }
+
+    // The same holds of all clients in the world of the run, with all else that the volume promises of a run.
+    ensures promises { OnOk result (KeepsPromises (checked_model (arc_value plan.now)) (events_of events.now)) }
+    ensures memory { IfErr result (λ e. e ≡ NoMemory) }
+{
+    promised(plan);
+    outcome_of(alloc, plan, events)
+}
+
+/// `run`, of events whose messages may be named by the events that made them.
+pub fn run_orders(
+    alloc: Global,
+    plan: &Arc<CheckedPlan>,
+    orders: &[Order],
+) -> Result<Outcome, Fault>
+    ensures tells { IfOk result (TellsRun (checked_model (arc_value plan.now)) (ordered_events (checked_model (arc_value plan.now)) orders.now)) }
+    ensures returned { IfOk result KeepsReturned }
+    ensures promises { OnOk result (KeepsPromises (checked_model (arc_value plan.now)) (ordered_events (checked_model (arc_value plan.now)) orders.now)) }
+    ensures memory { IfErr result (λ e. e ≡ NoMemory) }
+{
+    promised(plan);
+    outcome_of_orders(alloc, plan, orders)
 }

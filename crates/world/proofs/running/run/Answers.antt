@@ -1,40 +1,16 @@
-use Rattle.std.proofs.Common.{◌≡◌, ◌≢◌, ℕ, ◌+◌, ◌++◌, ◌∷◌, List, Result, Err, drop, sym, ap, ap₂, ◌∙◌, subst, drop-cons, add-one}
+use Rattle.std.proofs.Common.{subst}
 use Rattle.std.specs.Arc.{arc_value}
-use Rattle.volume_model.specs.declared.fault.Fault.{Fault}
-use Rattle.volume_model.specs.declared.fault.Fault.TheVariants.{NoMemory}
-use Rattle.volume_model.specs.Plan.{Plan, IsCertified}
-use Rattle.volume_model.specs.World as model
 use Rattle.plan.specs.declared.checked.CheckedPlan.{CheckedPlan}
 use Rattle.plan.specs.CheckedModel.{checked_model}
-use Rattle.world.specs.declared.event.Event.{Event}
-use Rattle.world.specs.Actors.{event_late, world_of, Steps}
-use Rattle.world.specs.Events.{event_of, events_of}
-use Rattle.world.proofs.Runs.{lasting, told_on, run_on}
+use Rattle.world.specs.Events.{events_of}
+use Rattle.world.specs.Outcomes.{PromisesRuns}
+use Rattle.world.proofs.Returned.{returned_of, promised_of}
 use Rattle.world.proofs.running.run.Goals as goal
 
-pub returns-clause-commits : goal.returns-clause-commits
-returns-clause-commits c = c.volume_keeps_commits.ensures (checked_model (arc_value c.args.plan.now)) (subst (λ (p : CheckedPlan). IsCertified (checked_model p)) c.deref.ensures c.certified.ensures) (events_of c.args.events.now)
+pub returns-clause-promises : goal.returns-clause-promises
+returns-clause-promises c =
+    promised_of (checked_model (arc_value c.args.plan.now)) (events_of c.args.events.now) (subst (λ (p : CheckedPlan). PromisesRuns (checked_model p)) c.deref.ensures c.promised.ensures) c.outcome_of.result
 
-pub returns-clause-pages : goal.returns-clause-pages
-returns-clause-pages c = c.pages_are_true.ensures (checked_model (arc_value c.args.plan.now)) (subst (λ (p : CheckedPlan). IsCertified (checked_model p)) c.deref.ensures c.certified.ensures) (events_of c.args.events.now)
-
-pub loop-event-preserved : goal.loop-event-preserved
-loop-event-preserved c =
-    let plan : Plan = checked_model (arc_value c.args.plan.now) in
-    let e : Event = c.event-item.result in
-    let told : Result ℕ Fault = c.in_ok-result.result in
-    let later : List model.Event = events_of (drop (c.loop-event.event-index + 1) c.args.events.now) in
-    let rest : events_of (drop c.loop-event.event-index c.args.events.now) ≡ event_of e ∷ later =
-    ap events_of (drop-cons c.args.events.now c.loop-event.event-index e c.loop-event-test.true) ∙ ap₂ (λ (x : Event) (n : ℕ). event_of x ∷ events_of (drop n c.args.events.now)) (sym c.event-item.is) (sym (add-one c.loop-event.event-index)) in
-    let steps : Steps (event_late (event_of e)) (model.step plan (world_of c.loop-event.actors) (event_of e)) (world_of c.loop-event.actors) told (world_of c.step.new.self) =
-    subst (λ (p : Plan). Steps (event_late (event_of e)) (model.step p (world_of c.loop-event.actors) (event_of e)) (world_of c.loop-event.actors) told (world_of c.step.new.self)) c.loop-event.invariant.plan_is (rw c.in_ok-result.ensures.same c.step.ensures.steps) in
-    let ne : told ≢ Err NoMemory = c.in_ok-result.ensures.some in
-    record {
-      good = c.step.ensures.good;
-      plan_is = c.step.ensures.plan ∙ c.loop-event.invariant.plan_is;
-      told = rw c.in_ok-push.ensures.items (told_on (event_late (event_of e)) plan (world_of c.loop-event.actors) (world_of c.step.new.self) (event_of e) told ne steps c.loop-event.results.items later) ∙ ap (λ (es : List model.Event). c.loop-event.results.items ++ model.results plan (world_of c.loop-event.actors) es) (sym rest) ∙ c.loop-event.invariant.told;
-      rest = run_on (event_late (event_of e)) plan (world_of c.loop-event.actors) (world_of c.step.new.self) (event_of e) told ne steps c.loop-event.results.items later ∙ ap (model.run plan (world_of c.loop-event.actors)) (sym rest) ∙ c.loop-event.invariant.rest;
-    }
-
-pub returns-clause-lasts : goal.returns-clause-lasts
-returns-clause-lasts c = lasting (checked_model (arc_value c.args.plan.now)) (subst (λ (p : CheckedPlan). IsCertified (checked_model p)) c.deref.ensures c.certified.ensures) c.acknowledgements_last.ensures (events_of c.args.events.now)
+pub returns-clause-returned : goal.returns-clause-returned
+returns-clause-returned c =
+    returned_of (checked_model (arc_value c.args.plan.now)) (events_of c.args.events.now) (subst (λ (p : CheckedPlan). PromisesRuns (checked_model p)) c.deref.ensures c.promised.ensures) c.outcome_of.result c.outcome_of.ensures.tells

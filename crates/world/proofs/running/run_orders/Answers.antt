@@ -1,52 +1,16 @@
-use Rattle.std.proofs.Common.{◌≡◌, ◌≢◌, ℕ, ◌+◌, ◌++◌, ◌∷◌, [], List, Result, Err, drop, sym, ap, ap₂, ◌∙◌, subst, arith}
+use Rattle.std.proofs.Common.{subst}
 use Rattle.std.specs.Arc.{arc_value}
-use Rattle.volume_model.specs.declared.fault.Fault.{Fault}
-use Rattle.volume_model.specs.declared.fault.Fault.TheVariants.{NoMemory}
-use Rattle.volume_model.specs.Plan.{Plan, IsCertified}
-use Rattle.volume_model.specs.World as model
 use Rattle.plan.specs.declared.checked.CheckedPlan.{CheckedPlan}
 use Rattle.plan.specs.CheckedModel.{checked_model}
-use Rattle.world.specs.declared.event.Order.{Order}
-use Rattle.world.specs.Actors.{event_late, plan_of, world_of, Steps}
-use Rattle.world.specs.Events.{total_made, ordered, events_from}
-use Rattle.world.proofs.Runs.{lasting, told_on, run_on, order_rest, total_on}
-use Rattle.world.proofs.Numbers.{firsts_of-push}
+use Rattle.world.specs.Events.{ordered_events}
+use Rattle.world.specs.Outcomes.{PromisesRuns}
+use Rattle.world.proofs.Returned.{returned_of, promised_of}
 use Rattle.world.proofs.running.run_orders.Goals as goal
 
-pub returns-clause-commits : goal.returns-clause-commits
-returns-clause-commits c = c.volume_keeps_commits.ensures (checked_model (arc_value c.args.plan.now)) (subst (λ (p : CheckedPlan). IsCertified (checked_model p)) c.deref.ensures c.certified.ensures) (events_from (checked_model (arc_value c.args.plan.now)) (model.opening (checked_model (arc_value c.args.plan.now))) [] c.args.orders.now)
+pub returns-clause-promises : goal.returns-clause-promises
+returns-clause-promises c =
+    promised_of (checked_model (arc_value c.args.plan.now)) (ordered_events (checked_model (arc_value c.args.plan.now)) c.args.orders.now) (subst (λ (p : CheckedPlan). PromisesRuns (checked_model p)) c.deref.ensures c.promised.ensures) c.outcome_of_orders.result
 
-pub returns-clause-pages : goal.returns-clause-pages
-returns-clause-pages c = c.pages_are_true.ensures (checked_model (arc_value c.args.plan.now)) (subst (λ (p : CheckedPlan). IsCertified (checked_model p)) c.deref.ensures c.certified.ensures) (events_from (checked_model (arc_value c.args.plan.now)) (model.opening (checked_model (arc_value c.args.plan.now))) [] c.args.orders.now)
-
-pub loop-order-preserved : goal.loop-order-preserved
-loop-order-preserved c =
-    let plan : Plan = checked_model (arc_value c.args.plan.now) in
-    let order : Order = c.order-item.result in
-    let result : Result ℕ Fault = c.in_ok-result.result in
-    let results : List (Result ℕ Fault) = c.loop-order.results.items in
-    let old : model.World = world_of c.loop-order.actors in
-    let new : model.World = world_of c.follow-step.new.actors in
-    let left : List Order = drop (c.loop-order.order-index + 1) c.args.orders.now in
-    let event : model.Event = ordered results order in
-    let later : List model.Event = events_from plan new (results ++ result ∷ []) left in
-    let followed : Steps (event_late event) (model.step (plan_of c.loop-order.actors) old event) old c.follow-step.result new = rw c.as_slice-in-loop-order.ensures.value at c.follow-step.ensures.steps in
-    let steps : Steps (event_late event) (model.step plan old event) old result new =
-    subst (λ (p : Plan). Steps (event_late event) (model.step p old event) old result new) c.loop-order.invariant.plan_is (rw c.in_ok-result.ensures.same followed) in
-    let ne : result ≢ Err NoMemory = c.in_ok-result.ensures.some in
-    let rest : events_from plan old results (drop c.loop-order.order-index c.args.orders.now) ≡ event ∷ later =
-    order_rest (event_late event) plan old new results c.args.orders.now c.loop-order.order-index order c.loop-order-test.true c.order-item.is result ne steps in
-    let items : c.push-in-loop-order.new.self.items ≡ results ++ result ∷ [] = c.in_ok-push-2.ensures.items in
-    let firsts : c.push.new.self.items ≡ c.loop-order.firsts.items ++ c.made-made.result ∷ [] = c.in_ok-push.ensures.items in
-    let made : c.made-made.result ≡ 0 + total_made results = omega (arith, c.made-made.ensures, c.loop-order.invariant.total) in
-    record {
-      good = c.follow-step.ensures.good;
-      plan_is = c.follow-step.ensures.plan ∙ c.loop-order.invariant.plan_is;
-      told = rw items (told_on (event_late event) plan old new event result ne steps results later ∙ ap (λ (es : List model.Event). results ++ model.results plan old es) (sym rest) ∙ c.loop-order.invariant.told);
-      rest = rw items (run_on (event_late event) plan old new event result ne steps results later ∙ ap (model.run plan old) (sym rest) ∙ c.loop-order.invariant.rest);
-      firsts = rw (items, firsts) (ap₂ (λ (ns : List ℕ) (n : ℕ). ns ++ n ∷ []) c.loop-order.invariant.firsts made ∙ sym (firsts_of-push 0 results result));
-      total = rw items (total_on (event_late event) plan old new event result ne steps results c.loop-order.invariant.total);
-    }
-
-pub returns-clause-lasts : goal.returns-clause-lasts
-returns-clause-lasts c = lasting (checked_model (arc_value c.args.plan.now)) (subst (λ (p : CheckedPlan). IsCertified (checked_model p)) c.deref.ensures c.certified.ensures) c.acknowledgements_last.ensures (events_from (checked_model (arc_value c.args.plan.now)) (model.opening (checked_model (arc_value c.args.plan.now))) [] c.args.orders.now)
+pub returns-clause-returned : goal.returns-clause-returned
+returns-clause-returned c =
+    returned_of (checked_model (arc_value c.args.plan.now)) (ordered_events (checked_model (arc_value c.args.plan.now)) c.args.orders.now) (subst (λ (p : CheckedPlan). PromisesRuns (checked_model p)) c.deref.ensures c.promised.ensures) c.outcome_of_orders.result c.outcome_of_orders.ensures.tells

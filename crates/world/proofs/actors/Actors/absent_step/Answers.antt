@@ -1,18 +1,19 @@
-use Rattle.std.proofs.Common.{◌≡◌, ◌++◌, [], List, Ok, refl, sym, ap, ◌∙◌, subst}
+use Rattle.std.proofs.Common.{◌≡◌, ◌++◌, [], List, Ok, refl, sym, ap, ◌∙◌, subst, rules}
+use Rattle.std.specs.Arc.{arc_value}
+use Rattle.plan.specs.CheckedModel.{checked_model}
 use Rattle.volume_model.specs.Lists.{added}
-use Rattle.volume_model.specs.Plan.{Plan}
 use Rattle.volume_model.specs.Client.{ClientAnswer, ClientStep, unborn}
 use Rattle.wire.specs.declared.message.Message.{Message}
 use Rattle.wire.specs.Message.{messages_of}
 use Rattle.epochs.specs.Authority.{authority_of}
 use Rattle.writer_core.specs.Writers.{acted}
-use Rattle.world.specs.declared.client_kind.Client.{Client}
+use Rattle.world.specs.declared.client.Client.{Client}
 use Rattle.world.specs.Slots.{node_at}
 use Rattle.world.specs.Homes.{nodes_of}
-use Rattle.world.specs.Clients.{seen_client, client_or_unborn, clients_of}
+use Rattle.world.specs.Clients.{client_plan, client_volume, seen_client, client_or_unborn, clients_of, IsClientOf}
 use Rattle.world.specs.Acts.{client_acted, client_ordered, order_late, IsOrderOf}
 use Rattle.world.specs.Actors.{plan_of, messages_in}
-use Rattle.world.proofs.ClientMap.{IsPut, client_put}
+use Rattle.world.proofs.ClientMap.{IsPut, client_put, clients_on, same_client, same_clients}
 use Rattle.world.proofs.Moving.{told_made}
 use Rattle.world.proofs.Steps.{client_steps}
 use Rattle.world.proofs.actors.Actors.absent_step.Goals as goal
@@ -26,9 +27,37 @@ returns-clause-steps c =
     let is : IsPut self.clients c.args.volume born c.insert.new.self = c.in_ok-insert.ensures.updates.0 in
     let ordered : IsOrderOf (messages_in self) c.args.order c.in_ok-act.act = subst (λ (ms : List Message). IsOrderOf (added (messages_of ms) []) c.args.order c.in_ok-act.act) c.as_slice.ensures.value c.in_ok-act.ensures in
     let defined : ClientAnswer = client_ordered (messages_in self) c.args.order (plan_of self) c.args.volume unborn in
-    let steps : defined ≡ Ok (acted c.in_ok-made.made (seen_client born)) =
-    ordered.does (plan_of self) c.args.volume unborn ∙ ap (λ (p : Plan). client_acted c.in_ok-act.act p c.args.volume unborn) (sym c.requires.actors.plan) ∙ c.in_ok-made.ensures.answers in
+    let new : Client = c.unborn-client.result in
+    let cloned : checked_model (arc_value c.in_ok-clone.field-0) ≡ checked_model (arc_value self.plan) = search rules in
+    let asked : client_acted c.in_ok-act.act (plan_of self) c.args.volume unborn ≡ client_acted c.in_ok-act.act (client_plan new) (client_volume new) (seen_client new) =
+    λ i. client_acted c.in_ok-act.act (sym (c.unborn-client.ensures.own.plan_is ∙ cloned ∙ c.requires.actors.plan) i) (sym c.unborn-client.ensures.own.volume_is i) (sym c.unborn-client.ensures.client i) in
+    let steps : defined ≡ Ok (acted c.in_ok-made.made (seen_client born)) = ordered.does (plan_of self) c.args.volume unborn ∙ asked ∙ c.in_ok-made.ensures.answers in
     client_steps (authority_of self.authority) (node_at (plan_of self) (nodes_of self.nodes.items)) (clients_of self.clients) (messages_in self) c.args.volume (order_late c.args.order) defined unborn (seen_client born) (ap client_or_unborn c.requires.absent)
     (clients_of c.insert.new.self) (client_put self.clients c.insert.new.self c.args.volume born is) (Ok c.enter.result) (added (messages_of c.enter.new.messages.items) [])
     (told_made (λ (step : ClientStep). step.made) (λ (step : ClientStep). step.client) kept c.enter.new.messages.items made defined (acted c.in_ok-made.made (seen_client born)) (seen_client born) c.enter.result
     steps refl refl c.enter.ensures.count (c.enter.ensures.added ∙ ap (λ (ms : List Message). ms ++ made) c.in_ok-reserve.ensures.items))
+
+pub returns-clause-good : goal.returns-clause-good
+returns-clause-good c =
+    let self = c.args.self.now in
+    let new : Client = c.unborn-client.result in
+    let born : Client = c.act.new.self in
+    let is : IsPut self.clients c.args.volume born c.insert.new.self = c.in_ok-insert.ensures.updates.0 in
+    let cloned : checked_model (arc_value c.in_ok-clone.field-0) ≡ checked_model (arc_value self.plan) = search rules in
+    let own : IsClientOf (plan_of self) c.args.volume new = record { plan_is = c.unborn-client.ensures.own.plan_is ∙ cloned ∙ c.requires.actors.plan; volume_is = c.unborn-client.ensures.own.volume_is } in
+    record {
+      plan = c.requires.actors.plan;
+      homes = c.requires.actors.homes;
+      low = c.requires.actors.low;
+      clients = clients_on self.clients c.insert.new.self c.args.volume born is (plan_of self) c.requires.actors.clients (same_client (plan_of self) c.args.volume new born own c.act.ensures.same);
+    }
+
+pub returns-in_err-insert-clause-good : goal.returns-in_err-insert-clause-good
+returns-in_err-insert-clause-good c =
+    let self = c.args.self.now in
+    record {
+      plan = c.requires.actors.plan;
+      homes = c.requires.actors.homes;
+      low = c.requires.actors.low;
+      clients = same_clients (plan_of self) self.clients c.insert.new.self (search rules) c.requires.actors.clients;
+    }

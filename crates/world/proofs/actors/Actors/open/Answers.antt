@@ -9,14 +9,12 @@ use Rattle.plan.specs.Plan.{plan_data}
 use Rattle.volume_model.specs.World.{opening}
 use Rattle.wire.specs.Message.{messages_of}
 use Rattle.epochs.specs.Authority.{authority_of, authority_plan}
-use Rattle.writer_core.specs.Writers.{client_of, writer_plan}
 use Rattle.plan.specs.CheckedModel.{checked_model}
-use Rattle.world.specs.declared.client_kind.Client.{Client}
-use Rattle.world.specs.declared.client_kind.Client.TheVariants.{Writer}
+use Rattle.world.specs.declared.client.Client.{Client}
 use Rattle.world.specs.Slots.{node_at}
 use Rattle.world.specs.Homes.{nodes_of, AreHomes}
 use Rattle.world.specs.Worlds.{world_with}
-use Rattle.world.specs.Clients.{clients_of, AreClients}
+use Rattle.world.specs.Clients.{clients_of, seen_client, AreClients, IsClientOf}
 use Rattle.world.proofs.ClientMap.{IsPut, client_put, clients_on, none_yet, none_kept}
 use Rattle.world.proofs.Low.{is_low}
 use Rattle.world.proofs.Steps.{LowFor}
@@ -26,8 +24,8 @@ pub returns-clause-good : goal.returns-clause-good
 returns-clause-good c =
     let plan : Plan = checked_model (arc_value c.args.plan.now) in
     let same : authority_plan c.in_ok-new.field-0 ≡ plan = search rules in
-    let first : Client = Writer c.in_ok-first.first in
-    let mine : writer_plan c.in_ok-first.first ≡ plan = search rules in
+    let first : Client = c.in_ok-first.first in
+    let mine : IsClientOf plan 1 first = search rules in
     let is : IsPut c.new-clients.result 1 first c.insert.new.self = c.in_ok-insert.ensures.updates.0 in
     let cloned : checked_model (arc_value c.in_ok-clone-2.field-0) ≡ plan = search rules in
     let whole : checked_model (arc_value c.in_ok-clone-2.field-0) ≡ authority_plan c.in_ok-new.field-0 = cloned ∙ sym same in
@@ -35,17 +33,17 @@ returns-clause-good c =
       plan = whole;
       homes = subst (λ (p : Plan). AreHomes p c.in_ok-all_born.field-0.items) (sym same) c.in_ok-all_born.ensures.homes;
       low = subst LowFor (sym same) (λ group member h. is_low (plan_data (arc_value c.args.plan.now).plan) group member h);
-      clients = subst (λ (p : Plan). AreClients p c.insert.new.self) (sym same) (clients_on c.new-clients.result c.insert.new.self 1 first is plan (none_kept c.new-clients.result c.new-clients.ensures.empty plan) (mine, c.in_ok-first.ensures.volume));
+      clients = subst (λ (p : Plan). AreClients p c.insert.new.self) (sym same) (clients_on c.new-clients.result c.insert.new.self 1 first is plan (none_kept c.new-clients.result c.new-clients.ensures.empty plan) mine);
     }
 
 pub returns-clause-world : goal.returns-clause-world
 returns-clause-world c =
     let plan : Plan = checked_model (arc_value c.args.plan.now) in
     let same : authority_plan c.in_ok-new.field-0 ≡ plan = search rules in
-    let first : Client = Writer c.in_ok-first.first in
+    let first : Client = c.in_ok-first.first in
     let is : IsPut c.new-clients.result 1 first c.insert.new.self = c.in_ok-insert.ensures.updates.0 in
     let authority : authority_of c.in_ok-new.field-0 ≡ (opening plan).authority = search rules in
-    let writer : client_of c.in_ok-first.first ≡ first_writer plan = search rules in
+    let writer : seen_client first ≡ first_writer plan = search rules in
     let clients : clients_of c.insert.new.self ≡ put (λ volume. unborn) 1 (first_writer plan) =
     sym (client_put c.new-clients.result c.insert.new.self 1 first is) ∙ ap₂ (λ (f : ℕ → model.Client) (one : model.Client). put f 1 one) (none_yet c.new-clients.result c.new-clients.ensures.empty) writer in
     let nodes : node_at (authority_plan c.in_ok-new.field-0) (nodes_of c.in_ok-all_born.field-0.items) ≡ born_node plan = ap (λ (p : Plan). node_at p (nodes_of c.in_ok-all_born.field-0.items)) same ∙ c.in_ok-all_born.ensures.nodes in

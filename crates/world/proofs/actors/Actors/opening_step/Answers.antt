@@ -1,20 +1,18 @@
 use Rattle.std.proofs.Common.{◌≡◌, Some, Err, IsSome, refl, sym, ap, subst}
 use Rattle.std.proofs.lemmas.Result.{err_from_is_err_and}
-use Rattle.std.specs.Arc.{arc_value}
 use Rattle.std.specs.Ordering.{nat_cmp}
 use Rattle.std.specs.BTreeMap.{get}
 use Rattle.epochs.specs.Authority.{authority_of}
 use Rattle.volume_model.specs.Answer.{never_late, AnswersLate}
 use Rattle.volume_model.specs.declared.fault.Fault.{Fault}
 use Rattle.volume_model.specs.Client.{ClientAnswer, opened}
-use Rattle.plan.specs.CheckedModel.{checked_model}
 use Rattle.writer_core.specs.Writers.{silent}
-use Rattle.world.specs.declared.client_kind.Client.{Client}
+use Rattle.world.specs.declared.client.Client.{Client}
 use Rattle.world.specs.Slots.{node_at}
 use Rattle.world.specs.Homes.{nodes_of}
-use Rattle.world.specs.Clients.{seen_client, client_or_unborn, clients_of}
+use Rattle.world.specs.Clients.{client_plan, seen_client, client_or_unborn, clients_of}
 use Rattle.world.specs.Actors.{plan_of, messages_in}
-use Rattle.world.proofs.ClientMap.{IsPut, client_put}
+use Rattle.world.proofs.ClientMap.{IsPut, client_put, clients_on, same_client}
 use Rattle.world.proofs.Moving.{silent_refused}
 use Rattle.world.proofs.Steps.{client_steps}
 use Rattle.world.proofs.actors.Actors.opening_step.Goals as goal
@@ -28,10 +26,38 @@ returns-in_err-open-in-Some-clause-steps c =
     let there : get nat_cmp self.clients c.args.volume ≡ Some old = sym c.in-Some.ensures.value in
     let is : IsPut self.clients c.args.volume new (c.get_mut.follows.lender new) = ((c.get_mut.follows.holds new).3 (subst IsSome (sym there) refl)).0 in
     let at : clients_of self.clients c.args.volume ≡ seen_client old = ap client_or_unborn there in
-    let asked : opened (checked_model (arc_value self.plan)) (seen_client old) ≡ opened (plan_of self) (clients_of self.clients c.args.volume) = λ i. opened (c.requires.plan i) (sym at i) in
+    let asked : opened (client_plan old) (seen_client old) ≡ opened (plan_of self) (clients_of self.clients c.args.volume) = λ i. opened ((c.requires.clients c.args.volume old there).plan_is i) (sym at i) in
     let answers : AnswersLate never_late silent (opened (plan_of self) (clients_of self.clients c.args.volume)) (seen_client old) (Err fault) (seen_client new) =
     subst (λ (d : ClientAnswer). AnswersLate never_late silent d (seen_client old) (Err fault) (seen_client new)) asked c.in_err-open-in-Some.ensures.answers in
     let p = err_from_is_err_and c.from_residual.result c.from_residual.ensures.1 in
     rw (p.1, p.2) (client_steps (authority_of self.authority) (node_at (plan_of self) (nodes_of self.nodes.items)) (clients_of self.clients) (messages_in self) c.args.volume never_late _ (seen_client old) (seen_client new) at
     (clients_of (c.get_mut.follows.lender new)) (client_put self.clients (c.get_mut.follows.lender new) c.args.volume new is) (Err fault) (messages_in self)
     (silent_refused never_late _ (seen_client old) (seen_client new) (messages_in self) fault answers))
+
+pub returns-in_err-open-in-Some-clause-good : goal.returns-in_err-open-in-Some-clause-good
+returns-in_err-open-in-Some-clause-good c =
+    let self = c.args.self.now in
+    let old : Client = c.in-Some.client.now in
+    let new : Client = c.open.new.self in
+    let there : get nat_cmp self.clients c.args.volume ≡ Some old = sym c.in-Some.ensures.value in
+    let is : IsPut self.clients c.args.volume new (c.get_mut.follows.lender new) = ((c.get_mut.follows.holds new).3 (subst IsSome (sym there) refl)).0 in
+    record {
+      plan = c.requires.plan;
+      homes = c.requires.homes;
+      low = c.requires.low;
+      clients = clients_on self.clients (c.get_mut.follows.lender new) c.args.volume new is (plan_of self) c.requires.clients (same_client (plan_of self) c.args.volume old new (c.requires.clients c.args.volume old there) c.open.ensures.same);
+    }
+
+pub returns-in_ok-open-in-Some-clause-good : goal.returns-in_ok-open-in-Some-clause-good
+returns-in_ok-open-in-Some-clause-good c =
+    let self = c.args.self.now in
+    let old : Client = c.in-Some.client.now in
+    let new : Client = c.open.new.self in
+    let there : get nat_cmp self.clients c.args.volume ≡ Some old = sym c.in-Some.ensures.value in
+    let is : IsPut self.clients c.args.volume new (c.get_mut.follows.lender new) = ((c.get_mut.follows.holds new).3 (subst IsSome (sym there) refl)).0 in
+    record {
+      plan = c.requires.plan;
+      homes = c.requires.homes;
+      low = c.requires.low;
+      clients = clients_on self.clients (c.get_mut.follows.lender new) c.args.volume new is (plan_of self) c.requires.clients (same_client (plan_of self) c.args.volume old new (c.requires.clients c.args.volume old there) c.open.ensures.same);
+    }

@@ -4,7 +4,7 @@ use Rattle.volume_model.specs.World as model
 use Rattle.plan.specs.CheckedModel.{checked_model}
 use Rattle.world.specs.Actors.{plan_of, world_of, AreActors}
 use Rattle.world.specs.Events.{events_of}
-use Rattle.world.proofs.running.run.Given as goal
+use Rattle.world.proofs.running.outcome_of.Given as goal
 
 abbrev pub invariant-loop-event : goal.invariant-loop-event
 invariant-loop-event l =

@@ -4,7 +4,7 @@ use Rattle.volume_model.specs.World as model
 use Rattle.plan.specs.CheckedModel.{checked_model}
 use Rattle.world.specs.Actors.{plan_of, world_of, messages_in, AreActors}
 use Rattle.world.specs.Events.{events_from, firsts_of, total_made}
-use Rattle.world.proofs.running.run_orders.Given as goal
+use Rattle.world.proofs.running.outcome_of_orders.Given as goal
 
 abbrev pub invariant-loop-order : goal.invariant-loop-order
 invariant-loop-order l =

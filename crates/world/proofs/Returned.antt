@@ -1,0 +1,120 @@
+-- What a run promises, said of the values that it returns.
+use Rattle.std.proofs.Common.{◌≡◌, ℕ, zero, suc, ◌<◌, Bool, true, false, ◌&&◌, nat_lt, nat_le, if◌then◌else◌, ◌⊎◌, inl, inr, List, [], ◌∷◌, ◌++◌, map, Result, Ok, Err, refl, sym, ap, ap₂, ◌∙◌, subst}
+use Rattle.std.specs.Prelude.{IfOk, OnOk}
+use borrow.Author.Tests.{ltb-true}
+use Rattle.volume_model.specs.declared.fault.Fault.{Fault}
+use Rattle.volume_model.specs.Lists.{IsIn, IsBeginningOf, each_below}
+use Rattle.volume_model.specs.Redo.{Redo, up_to}
+use Rattle.volume_model.specs.Plan.{Plan}
+use Rattle.volume_model.specs.Client.{durable_point, has_cut, is_open, is_point_of}
+use Rattle.volume_model.specs.World.{World, Event, opening, run}
+use Rattle.volume_model.specs.Headline.{Acknowledges, HasFound, KeepsCommits}
+use Rattle.volume_model.specs.Outcome as model
+use Rattle.volume_model.specs.Outcome.{writers_in, finds_in}
+use Rattle.writer_core.specs.Logs.{log_of}
+use Rattle.world.specs.declared.outcome.FindEnd.{FindEnd}
+use Rattle.world.specs.declared.outcome.WriterEnd.{WriterEnd}
+use Rattle.world.specs.declared.outcome.Outcome.{Outcome}
+use Rattle.world.specs.Outcomes.{opened_client, opened_of, found_client, find_of, covered_by, HasAcknowledged, KeepsPromises, KeepsReturned, PromisesRuns, TellsRun}
+
+is_in-append : {A : Type 0} (x : A) (xs ys : List A) → IsIn x (xs ++ ys) → IsIn x xs ⊎ IsIn x ys
+is_in-append x [] ys h = inr h
+is_in-append x (y ∷ xs) ys (inl e) = inl (inl e)
+is_in-append x (y ∷ xs) ys (inr h) = elim (is_in-append x xs ys h) [ inl a ↦ inl (inr a) | inr b ↦ inr b ]
+
+is_in-map : {A B : Type 0} (f : A → B) (x : A) (xs : List A) → IsIn x xs → IsIn (f x) (map f xs)
+is_in-map f x (y ∷ xs) (inl e) = inl (ap f e)
+is_in-map f x (y ∷ xs) (inr h) = inr (is_in-map f x xs h)
+is_in-map f x [] h = absurd h
+
+-- what stands in such a list is what f gives for a number that passes the test
+in_each_below : {A : Type 0} (x : A) (n : ℕ) (test : ℕ → Bool) (f : ℕ → A) → IsIn x (each_below n test f) → (v : ℕ) × ((test v ≡ true) × (x ≡ f v))
+in_each_below x zero test f h = absurd h
+in_each_below x (suc n) test f h =
+    elim (is_in-append x (each_below n test f) (if test n then f n ∷ [] else []) h) [
+      | inl before ↦ in_each_below x n test f before
+      | inr last ↦ here (test n) refl last
+    ]
+  where
+    here : (b : Bool) → test n ≡ b → IsIn x (if b then f n ∷ [] else []) → (v : ℕ) × ((test v ≡ true) × (x ≡ f v))
+    here true passed (inl e) = (n, (passed, e))
+    here true passed (inr none) = absurd none
+    here false passed none = absurd none
+
+both : (p q : Bool) → (p && q) ≡ true → (p ≡ true) × (q ≡ true)
+both true true h = (refl, refl)
+both true false h = absurd cc
+both false q h = absurd cc
+
+-- what is told of a writer of the world, and of a recovery that has cut
+abbrev told_writer : World → ℕ → model.Opened
+told_writer world volume = opened_client volume (world.clients volume)
+
+abbrev told_find : World → ℕ → model.Find
+told_find world volume = found_client volume (world.clients volume)
+
+-- a returned writer is one of the world
+record IsWriterOf (world : World) (w : WriterEnd) : Type 0 where
+  open_is : is_open (world.clients w.volume).stage ≡ true
+  log_is : log_of w.log.items ≡ (world.clients w.volume).log
+  durable_is : w.durable ≡ durable_point (world.clients w.volume)
+
+writer_of : (world : World) (w : WriterEnd) (ws : List WriterEnd) → map opened_of ws ≡ writers_in world → IsIn w ws → IsWriterOf world w
+writer_of world w ws are within =
+    let found = in_each_below (opened_of w) (suc world.authority.last_volume) (λ (v : ℕ). is_open (world.clients v).stage) (told_writer world) (subst (IsIn (opened_of w)) are (is_in-map opened_of w ws within)) in
+    let v : w.volume ≡ found.0 = ap (λ (o : model.Opened). o.volume) found.1.1 in
+    record {
+      open_is = ap (λ (n : ℕ). is_open (world.clients n).stage) v ∙ found.1.0;
+      log_is = ap (λ (o : model.Opened). o.log) found.1.1 ∙ ap (λ (n : ℕ). (world.clients n).log) (sym v);
+      durable_is = ap (λ (o : model.Opened). o.durable) found.1.1 ∙ ap (λ (n : ℕ). durable_point (world.clients n)) (sym v);
+    }
+
+-- a returned find is that of a recovery of the world that has cut
+record IsFinderOf (world : World) (f : FindEnd) : Type 0 where
+  found_is : HasFound world f.volume
+  log_is : log_of f.found.log.items ≡ (world.clients f.volume).found
+
+finder_of : (world : World) (f : FindEnd) (fs : List FindEnd) → map find_of fs ≡ finds_in world → IsIn f fs → IsFinderOf world f
+finder_of world f fs are within =
+    let found = in_each_below (find_of f) (suc world.authority.last_volume) (λ (v : ℕ). nat_lt 1 v && has_cut (world.clients v).stage) (told_find world) (subst (IsIn (find_of f)) are (is_in-map find_of f fs within)) in
+    let v : f.volume ≡ found.0 = ap (λ (o : model.Find). o.volume) found.1.1 in
+    let tests = both (nat_lt 1 found.0) (has_cut (world.clients found.0).stage) found.1.0 in
+    let later : 1 < found.0 = ltb-true 1 found.0 tests.0 in
+    let cut : has_cut (world.clients found.0).stage ≡ true = tests.1 in
+    let has : HasFound world found.0 = assumption in
+    record {
+      found_is = subst (HasFound world) (sym v) has;
+      log_is = ap (λ (o : model.Find). o.found) found.1.1 ∙ ap (λ (n : ℕ). (world.clients n).found) (sym v);
+    }
+
+module _ (world : World) (keeps : KeepsCommits world) where
+  acknowledges : (w : WriterEnd) (n : ℕ) → IsWriterOf world w → HasAcknowledged w n → Acknowledges world w.volume n
+  acknowledges w n is has =
+      ap₂ (λ (p q : Bool). p && q) is.open_is (ap₂ (λ (l : List Redo) (d : ℕ). is_point_of n l && nat_le n d) (sym is.log_is) (sym is.durable_is) ∙ has)
+
+  covered_is : (w : WriterEnd) (n : ℕ) → IsWriterOf world w → covered_by w n ≡ up_to n (world.clients w.volume).log
+  covered_is w n is = ap (up_to n) is.log_is
+
+  -- the promise of a world, said of what was returned of it
+  pub kept_returned : (outcome : Outcome) → map opened_of outcome.writers.items ≡ writers_in world → map find_of outcome.finds.items ≡ finds_in world → KeepsReturned outcome
+  kept_returned outcome writers finds = record {
+    found_later = λ writer find n there here later has.
+        let w = writer_of world writer outcome.writers.items writers there in
+        let f = finder_of world find outcome.finds.items finds here in
+        subst (λ (log : List Redo). IsBeginningOf log (log_of find.found.log.items)) (sym (covered_is writer n w))
+        (subst (IsBeginningOf (up_to n (world.clients writer.volume).log)) (sym f.log_is)
+        (keeps.found_later writer.volume find.volume n later (acknowledges writer n w has) f.found_is));
+    one_record = λ writer other n m r s there here has had one two.
+        let w = writer_of world writer outcome.writers.items writers there in
+        let o = writer_of world other outcome.writers.items writers here in
+        keeps.one_record writer.volume other.volume n m r s (acknowledges writer n w has) (acknowledges other m o had) (subst (IsIn r) (covered_is writer n w) one) (subst (IsIn s) (covered_is other m o) two);
+  }
+
+-- the same of an answer
+pub returned_of : (plan : Plan) (events : List Event) → PromisesRuns plan → (result : Result Outcome Fault) → IfOk result (TellsRun plan events) → IfOk result KeepsReturned
+returned_of plan events promises (Ok outcome) tells = kept_returned (run plan (opening plan) events) (promises events).commits outcome tells.writers_are tells.finds_are
+returned_of plan events promises (Err fault) tells = tells
+
+pub promised_of : (plan : Plan) (events : List Event) → PromisesRuns plan → (result : Result Outcome Fault) → OnOk result (KeepsPromises plan events)
+promised_of plan events promises (Ok outcome) = promises events
+promised_of plan events promises (Err fault) = tt

@@ -1,0 +1,28 @@
+//! Which messages are for a client.
+
+ghost use Rattle.std.specs.Prelude.{◌≡◌, true, false, MatchResult};
+ghost use Rattle.volume_model.specs.declared.fault.Fault.TheVariants.{NotAddressed};
+ghost use Rattle.wire.specs.Message.{message_of};
+ghost use Rattle.world.specs.Addressed.{is_for};
+
+use volume_model::Fault;
+use wire::Message;
+
+/// Whether a message is for the client of a volume epoch, over so many groups: a View of its volume epoch, or a report, an
+/// acknowledgement or a page for it. `NotAddressed` where it is for another, or for none.
+pub fn addressed(volume: u32, groups: u8, message: &Message) -> Result<(), Fault>
+    ensures { MatchResult result (λ _. is_for volume groups (message_of message.now) ≡ true) (λ fault. (is_for volume groups (message_of message.now) ≡ false) × (fault ≡ NotAddressed)) }
+{
+    let is_for = match message {
+        Message::View(view) => view.volume == volume,
+        Message::Report(report) => report.is_to(volume, groups),
+        Message::Ack(ack) => ack.is_to(volume, groups),
+        Message::Page(page) => page.is_to(volume, groups),
+        _ => false,
+    };
+    if is_for {
+        Ok(())
+    } else {
+        Err(Fault::NotAddressed)
+    }
+}

@@ -1,0 +1,76 @@
+//! What a writer does.
+
+ghost use Rattle.std.specs.Prelude.{◌≡◌};
+ghost use Rattle.volume_model.specs.Answer.{refusal_of, Answers, AnswersLate};
+ghost use Rattle.volume_model.specs.Client.{taken};
+ghost use Rattle.wire.specs.Message.{message_of};
+ghost use Rattle.writer_core.specs.Writers.{acted, client_of, silent, writer_plan, writer_volume};
+ghost use Rattle.recovery.specs.Recoveries.{admitted};
+ghost use Rattle.world.specs.Acts.{client_acted, client_late};
+
+use crate::acts::ClientAct;
+use crate::addressed::addressed;
+use std::alloc::Global;
+use volume_model::Fault;
+use wire::{Message, only};
+use writer_core::Writer;
+
+/// Whether a writer would take a message. `NotAddressed` where it isn't for it, `NotInPlan` for a View of other places.
+fn admits_message(writer: &Writer, message: &Message) -> Result<(), Fault>
+    ensures { result ≡ refusal_of (taken (writer_plan writer.now) (writer_volume writer.now) (client_of writer.now) (message_of message.now)) }
+{
+    match message {
+        Message::View(view) => writer.admits_view(view),
+        _ => addressed(writer.volume(), writer.groups(), message),
+    }
+}
+
+/// Whether a writer would act. `AlreadyDone` where it is to cut.
+pub fn admits(writer: &Writer, act: ClientAct<'_>) -> Result<(), Fault>
+    ensures { AnswersLate (client_late act.entry) admitted (refusal_of (client_acted act.entry (writer_plan writer.now) (writer_volume writer.now) (client_of writer.now))) tt result tt }
+{
+    match act {
+        ClientAct::Issue(changes) => writer.admits(changes),
+        ClientAct::Take(message) => admits_message(writer, message),
+        ClientAct::Cut => Err(Fault::AlreadyDone),
+        ClientAct::Resend { lsn } => match writer.resend(lsn) {
+            Ok(_) => Ok(()),
+            Err(fault) => Err(fault),
+        },
+        ClientAct::Read { group, block } => match writer.read(group, block) {
+            Ok(_) => Ok(()),
+            Err(fault) => Err(fault),
+        },
+    }
+}
+
+/// A writer takes a message. It makes none.
+fn take(writer: &mut Writer, message: &Message) -> Result<(), Fault>
+    ensures answers { Answers silent (taken (writer_plan writer.old) (writer_volume writer.old) (client_of writer.old) (message_of message.now)) (client_of writer.old) result (client_of writer.new) }
+    ensures plan { writer_plan writer.new ≡ writer_plan writer.old }
+    ensures volume { writer_volume writer.new ≡ writer_volume writer.old }
+{
+    match message {
+        Message::View(view) => writer.view(view),
+        Message::Ack(ack) => writer.take_ack(ack),
+        _ => addressed(writer.volume(), writer.groups(), message),
+    }
+}
+
+/// A writer acts. `AlreadyDone` where it is to cut.
+pub fn act(alloc: Global, writer: &mut Writer, act: ClientAct<'_>) -> Result<Vec<Message>, Fault>
+    ensures answers { AnswersLate (client_late act.entry) acted (client_acted act.entry (writer_plan writer.old) (writer_volume writer.old) (client_of writer.old)) (client_of writer.old) result (client_of writer.new) }
+    ensures plan { writer_plan writer.new ≡ writer_plan writer.old }
+    ensures volume { writer_volume writer.new ≡ writer_volume writer.old }
+{
+    match act {
+        ClientAct::Issue(changes) => writer.issue(alloc, changes),
+        ClientAct::Take(message) => {
+            take(writer, message)?;
+            Ok(Vec::new(alloc))
+        }
+        ClientAct::Cut => Err(Fault::AlreadyDone),
+        ClientAct::Resend { lsn } => Ok(only(alloc, writer.resend(lsn)?)?),
+        ClientAct::Read { group, block } => Ok(only(alloc, writer.read(group, block)?)?),
+    }
+}
