@@ -81,7 +81,7 @@ finder_of world f fs are within =
     let tests = both (nat_lt 1 found.0) (has_cut (world.clients found.0).stage) found.1.0 in
     let later : 1 < found.0 = ltb-true 1 found.0 tests.0 in
     let cut : has_cut (world.clients found.0).stage ≡ true = tests.1 in
-    let has : HasFound world found.0 = assumption in
+    let has : HasFound world found.0 = (later, cut) in
     record {
       found_is = subst (HasFound world) (sym v) has;
       log_is = ap (λ (o : model.Find). o.found) found.1.1 ∙ ap (λ (n : ℕ). (world.clients n).found) (sym v);

@@ -1,7 +1,7 @@
 -- What a program's outcome tells.
 use Rattle.std.specs.Prelude.{◌≡◌, ℕ, ◌<◌, true, ◌&&◌, nat_le, List, ◌++◌, ◌∷◌, Ok, map}
 use Rattle.volume_model.specs.Plan.{Plan}
-use Rattle.volume_model.specs.Lineage.{last_start}
+use Rattle.volume_model.specs.Lineage.{last_cut, last_start}
 use Rattle.volume_model.specs.Lists.{IsIn, IsBeginningOf}
 use Rattle.volume_model.specs.Redo.{Redo, up_to}
 use Rattle.volume_model.specs.Client.{Client, durable_point, is_point_of}
@@ -9,7 +9,7 @@ use Rattle.volume_model.specs.World.{Event, Step, opening, run, results, step}
 use Rattle.volume_model.specs.World.Event.{Open}
 use Rattle.volume_model.specs.Headline.{HasFound, KeepsCommits, SaysTruePages, StaysSo}
 use Rattle.volume_model.specs.Finds.{HasOneLineageAnEpoch, StaysFound}
-use Rattle.volume_model.specs.Opens.{last_cut, IsAtItsCut}
+use Rattle.volume_model.specs.Opens.{IsAtItsCut}
 use Rattle.volume_model.specs.Orderly.{IsOrderly}
 use Rattle.volume_model.specs.Outcome as model
 use Rattle.volume_model.specs.Outcome.{writers_in, finds_in}
