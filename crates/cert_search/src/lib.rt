@@ -20,8 +20,6 @@ mod searching;
 mod settling;
 mod state;
 mod table;
-#[cfg(test)]
-mod tests;
 mod working;
 
 pub use dealing::deal;

@@ -48,6 +48,3 @@ pub fn page_of(packets: &[Packet], block: u32, point: u64) -> [u8; BLOCK]
     }
     page
 }
-
-#[cfg(test)]
-mod tests;

@@ -25,6 +25,3 @@ pub use event::{Event, Order};
 pub use outcome::{FindEnd, Outcome, WriterEnd};
 pub use recovery::Found;
 pub use running::{run, run_orders};
-
-#[cfg(test)]
-mod tests;

@@ -1,22 +1,15 @@
-use crate::{AuthorityAct, Client, ClientAct, ClientState, Event};
+use world::{AuthorityAct, Client, ClientAct, ClientState, Event};
 use epochs::Authority;
 use lineage::Lineage;
 use plan::{check_plan, read_plan};
 use redo_record::RecordSet;
+use super::texts::SIX;
 use std::alloc::Global;
 use std::sync::Arc;
 use std::test::*;
 use volume_model::Fault;
 use wire::{Ack, Contents, Label, Message, Place, Report, View};
 use writer_core::Change;
-
-/// One group of six members, of which three read and four write.
-const SIX: &[u8] =
-    b"{\"format\":1,\"lal\":10,\"groups\":[{\"configurations\":[{\"parent\":null,\"members\":[0,1,2,3,4,5],\"full\":[0,1,2,3,4,5],\
-\"read\":{\"k\":3,\"of\":\"all\"},\"write\":{\"k\":4,\"of\":\"all\"},\"meets\":{\"rule\":\"match\",\"left\":0,\"right\":0,\
-\"pairs\":[[0,0],[1,1],[2,2],[3,3],[4,4],[5,5]],\"then\":[\
-{\"rule\":\"clash\",\"left\":0,\"right\":0},{\"rule\":\"clash\",\"left\":0,\"right\":0},{\"rule\":\"clash\",\"left\":0,\"right\":0},\
-{\"rule\":\"clash\",\"left\":0,\"right\":0},{\"rule\":\"clash\",\"left\":0,\"right\":0},{\"rule\":\"clash\",\"left\":0,\"right\":0}]},\"step\":null}]}]}";
 
 /// The label under which volume epoch 2 speaks.
 const LABEL: Label = Label {

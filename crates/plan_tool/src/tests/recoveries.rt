@@ -2,20 +2,13 @@ use lineage::Lineage;
 use plan::{check_plan, read_plan};
 use recovery::{Recovery, cut_of, is_growing};
 use redo_record::{Packet, Payload, Record, RecordSet};
+use super::texts::SIX;
 use std::alloc::Global;
 use std::sync::Arc;
 use std::test::*;
 use volume_model::Fault;
 use wire::{Ack, Contents, Label, Message, Place, Report, View};
 use writer_core::Change;
-
-/// One group of six members, of which three read and four write.
-const SIX: &[u8] =
-    b"{\"format\":1,\"lal\":10,\"groups\":[{\"configurations\":[{\"parent\":null,\"members\":[0,1,2,3,4,5],\"full\":[0,1,2,3,4,5],\
-\"read\":{\"k\":3,\"of\":\"all\"},\"write\":{\"k\":4,\"of\":\"all\"},\"meets\":{\"rule\":\"match\",\"left\":0,\"right\":0,\
-\"pairs\":[[0,0],[1,1],[2,2],[3,3],[4,4],[5,5]],\"then\":[\
-{\"rule\":\"clash\",\"left\":0,\"right\":0},{\"rule\":\"clash\",\"left\":0,\"right\":0},{\"rule\":\"clash\",\"left\":0,\"right\":0},\
-{\"rule\":\"clash\",\"left\":0,\"right\":0},{\"rule\":\"clash\",\"left\":0,\"right\":0},{\"rule\":\"clash\",\"left\":0,\"right\":0}]},\"step\":null}]}]}";
 
 /// The record of an LSN of volume epoch 1, whose links go to the LSN before it.
 fn record(lsn: u64, point: bool) -> Result<Record, Fail> {

@@ -1,4 +1,4 @@
-use crate::{BLOCK, page_of};
+use pages::{BLOCK, page_of};
 use redo_record::{Packet, Payload, Record};
 use std::test::Fail;
 

@@ -1,4 +1,4 @@
-use crate::deal;
+use cert_search::deal;
 use std::test::Fail;
 
 /// Two workers have five claims between them, each once, and then none.
