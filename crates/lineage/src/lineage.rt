@@ -22,7 +22,8 @@ impl Lineage {
     ghost use Rattle.std.specs.Prelude.{◌<◌, ◌≤◌, [], IfOk};
     ghost use Rattle.volume_model.specs.Answer.{Gives};
     ghost use Rattle.volume_model.specs.Lineage.{birth, is_live, last_epoch, last_start};
-    ghost use Rattle.lineage.specs.Lineage.{lineage_of, extension, last_cut, newer};
+    ghost use Rattle.lineage.specs.Lineage.{lineage_of, extension, newer};
+    ghost use Rattle.volume_model.specs.Lineage.{last_cut};
 
     /// No entry: what a segment has that was told nothing yet.
     pub fn empty(alloc: Global) -> Lineage

@@ -11,7 +11,8 @@ use Rattle.volume_model.specs.Message as model
 use Rattle.volume_model.specs.Redo.{Redo, record_at, follow, chain_from, chain_or_none, ends_at_point, cut_of, log_found}
 use Rattle.volume_model.specs.Lineage.{Lineage, Contents, last_start, extended, newest, found_in}
 use Rattle.volume_model.specs.Node.{contents_of}
-use Rattle.volume_model.specs.Client.{ClientGroup, ClientAnswer, no_group, reports_of, place_of, all_reports, has_read, installs, cut_client}
+use Rattle.volume_model.specs.Client.{ClientGroup, ClientAnswer, no_group, reports_of, place_of}
+use Rattle.volume_model.specs.ClientRecovery.{all_reports, has_read, installs, cut_client}
 use Rattle.volume_model.specs.Client.Stage.{Installing}
 use Rattle.volume_model.proofs.Chains.{record_at-some, record_at-there, greatest_point-is, greatest_point-above}
 use Rattle.lineage.specs.Lineage.{lineage_of, extension}

@@ -6,7 +6,8 @@ use Rattle.volume_model.specs.Lists.{every}
 use Rattle.volume_model.specs.Lineage.{Contents, last_epoch, newest}
 use Rattle.volume_model.specs.Message as model
 use Rattle.volume_model.specs.Node.{From, with_first, senders, contents_of}
-use Rattle.volume_model.specs.Client.{ClientGroup, group_of, newly_at, moved, later_group, reread_group, is_raised, no_group}
+use Rattle.volume_model.specs.Client.{ClientGroup, group_of, newly_at, no_group}
+use Rattle.volume_model.specs.ClientMessages.{with_places, later_group, reread_group, is_later}
 use Rattle.writer_core.specs.Standings.{counted_group, counted_in, reported_group, reported_in}
 use Rattle.recovery.specs.Cuts.{is_older, are_older}
 use Rattle.recovery.specs.Reported.{reports_in}
@@ -57,20 +58,20 @@ pub older-new : (volume : ℕ) (places : List model.Place) → are_older volume 
 older-new volume [] = refl
 older-new volume (p ∷ places) = older-new volume places
 
-older-moved : (volume : ℕ) (move : ClientGroup → model.Place → ClientGroup) → ((g : ClientGroup) (p : model.Place) → is_older volume g ≡ true → is_older volume (move g p) ≡ true)
-    → (groups : List ClientGroup) (places : List model.Place) → are_older volume groups ≡ true → are_older volume (moved move groups places) ≡ true
-older-moved volume move on [] [] h = h
-older-moved volume move on (g ∷ groups) [] h = h
-older-moved volume move on [] (p ∷ places) h = and_true _ _ (on no_group p refl) (older-moved volume move on [] places refl)
-older-moved volume move on (g ∷ groups) (p ∷ places) h =
+older-with_places : (volume : ℕ) (move : ClientGroup → model.Place → ClientGroup) → ((g : ClientGroup) (p : model.Place) → is_older volume g ≡ true → is_older volume (move g p) ≡ true)
+    → (groups : List ClientGroup) (places : List model.Place) → are_older volume groups ≡ true → are_older volume (with_places move groups places) ≡ true
+older-with_places volume move on [] [] h = h
+older-with_places volume move on (g ∷ groups) [] h = h
+older-with_places volume move on [] (p ∷ places) h = and_true _ _ (on no_group p refl) (older-with_places volume move on [] places refl)
+older-with_places volume move on (g ∷ groups) (p ∷ places) h =
     let (a, b) = and_parts (is_older volume g) (are_older volume groups) h in
-    and_true _ _ (on g p a) (older-moved volume move on groups places b)
+    and_true _ _ (on g p a) (older-with_places volume move on groups places b)
 
-pub older-later : (volume : ℕ) (groups : List ClientGroup) (places : List model.Place) → are_older volume groups ≡ true → are_older volume (moved later_group groups places) ≡ true
-older-later volume groups places h = older-moved volume later_group (λ g p e. elim (cases_Bool (is_raised g.place p)) [ inl t ↦ rw t e | inr t ↦ rw t e ]) groups places h
+pub older-later : (volume : ℕ) (groups : List ClientGroup) (places : List model.Place) → are_older volume groups ≡ true → are_older volume (with_places later_group groups places) ≡ true
+older-later volume groups places h = older-with_places volume later_group (λ g p e. elim (cases_Bool (is_later g.place p)) [ inl t ↦ rw t e | inr t ↦ rw t e ]) groups places h
 
-pub older-reread : (volume : ℕ) (groups : List ClientGroup) (places : List model.Place) → are_older volume groups ≡ true → are_older volume (moved reread_group groups places) ≡ true
-older-reread volume groups places h = older-moved volume reread_group (λ g p e. elim (cases_Bool (is_raised g.place p)) [ inl t ↦ rw t refl | inr t ↦ rw t e ]) groups places h
+pub older-reread : (volume : ℕ) (groups : List ClientGroup) (places : List model.Place) → are_older volume groups ≡ true → are_older volume (with_places reread_group groups places) ≡ true
+older-reread volume groups places h = older-with_places volume reread_group (λ g p e. elim (cases_Bool (is_later g.place p)) [ inl t ↦ rw t refl | inr t ↦ rw t e ]) groups places h
 
 -- ---- the newest of older lineages is older
 

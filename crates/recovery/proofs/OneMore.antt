@@ -6,7 +6,8 @@ use Rattle.volume_model.specs.Message as model
 use Rattle.volume_model.specs.Message.{place_in}
 use Rattle.volume_model.specs.Lineage.{Contents, Lineage, found_in, with_live}
 use Rattle.volume_model.specs.Node.{contents_of}
-use Rattle.volume_model.specs.Client.{ClientGroup, place_of, raised_in}
+use Rattle.volume_model.specs.Client.{ClientGroup, place_of}
+use Rattle.volume_model.specs.ClientMessages.{later_in}
 use Rattle.lineage.specs.Lineage.{newer}
 use Rattle.hydration.specs.declared.copied.Copied.{Copied}
 use Rattle.hydration.specs.Copies.{copies_in, newest_with, with_found}
@@ -38,7 +39,7 @@ pub place-is : (places : List Place) (i k : ℕ) (d : Place) → i < length plac
 place-is places i k d within same = place_in-at places i d within ∙ ap (λ n. wire.place_of (get_or places n d)) (sym same)
 
 -- whether a place raises its group
-pub raised-is : (groups : List ClientGroup) (places : List Place) (i k e : ℕ) (d : Place) (b : Bool) → i < length places → k ≡ i → e ≡ (place_of groups i).epoch → nat_lt e (get_or places k d).epoch ≡ b → raised_in (place_of groups) (place_in (map wire.place_of places)) i ≡ b
+pub raised-is : (groups : List ClientGroup) (places : List Place) (i k e : ℕ) (d : Place) (b : Bool) → i < length places → k ≡ i → e ≡ (place_of groups i).epoch → nat_lt e (get_or places k d).epoch ≡ b → later_in (place_of groups) (place_in (map wire.place_of places)) i ≡ b
 raised-is groups places i k e d b within same is test =
     ap₂ (λ m (p : model.Place). nat_lt m p.epoch) (sym is) (place-is places i k d within same) ∙ test
 

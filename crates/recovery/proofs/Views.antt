@@ -10,7 +10,9 @@ use Rattle.volume_model.specs.Message as model
 use Rattle.volume_model.specs.Message.{place_in}
 use Rattle.volume_model.specs.Redo.{Redo, of_group}
 use Rattle.volume_model.specs.Lineage.{Lineage}
-use Rattle.volume_model.specs.Client.{ClientGroup, unborn, newly_at, place_of, label_of, is_raised, raised_in, later_group, reread_group, moved, fences, installs, are_places, taken}
+use Rattle.volume_model.specs.Client.{ClientGroup, unborn, newly_at, place_of, label_of}
+use Rattle.volume_model.specs.ClientRecovery.{fences, installs}
+use Rattle.volume_model.specs.ClientMessages.{is_later, later_in, later_group, reread_group, with_places, are_places, taken}
 use Rattle.lineage.specs.Lineage.{lineage_of}
 use Rattle.writer_core.specs.Logs.{log_of}
 use Rattle.writer_core.proofs.Placing.{new-place, places-many}
@@ -36,45 +38,45 @@ each-same (suc n) test f g h =
     last true e = ap (λ x. x ∷ []) (h n (omega arith) e)
     last false e = refl
 
-moved-raised : (move : ClientGroup → model.Place → ClientGroup) → ((g : ClientGroup) (p : model.Place) → is_raised g.place p ≡ true → (move g p).place ≡ p) → (groups : List ClientGroup) (places : List model.Place) → length groups ≡ length places
-    → (k : ℕ) → k < length groups → raised_in (place_of groups) (place_in places) k ≡ true → place_of (moved move groups places) k ≡ place_in places k
-moved-raised move on [] places many k h raised = absurd (omega arith)
-moved-raised move on (g ∷ groups) [] many k h raised = absurd (omega arith)
-moved-raised move on (g ∷ groups) (p ∷ places) many zero h raised = on g p raised
-moved-raised move on (g ∷ groups) (p ∷ places) many (suc k) h raised = moved-raised move on groups places (omega arith) k (omega arith) raised
+with_places-raised : (move : ClientGroup → model.Place → ClientGroup) → ((g : ClientGroup) (p : model.Place) → is_later g.place p ≡ true → (move g p).place ≡ p) → (groups : List ClientGroup) (places : List model.Place) → length groups ≡ length places
+    → (k : ℕ) → k < length groups → later_in (place_of groups) (place_in places) k ≡ true → place_of (with_places move groups places) k ≡ place_in places k
+with_places-raised move on [] places many k h raised = absurd (omega arith)
+with_places-raised move on (g ∷ groups) [] many k h raised = absurd (omega arith)
+with_places-raised move on (g ∷ groups) (p ∷ places) many zero h raised = on g p raised
+with_places-raised move on (g ∷ groups) (p ∷ places) many (suc k) h raised = with_places-raised move on groups places (omega arith) k (omega arith) raised
 
-fences-moved : (plan : Plan) (volume : ℕ) (groups : List ClientGroup) (places : List model.Place) → length groups ≡ plan.groups → are_places plan places ≡ true
-    → fences plan volume (place_in places) (raised_in (place_of groups) (place_in places)) ≡ fences plan volume (place_of (moved reread_group groups places)) (raised_in (place_of groups) (place_in places))
-fences-moved plan volume groups places many good =
+fences-with_places : (plan : Plan) (volume : ℕ) (groups : List ClientGroup) (places : List model.Place) → length groups ≡ plan.groups → are_places plan places ≡ true
+    → fences plan volume (place_in places) (later_in (place_of groups) (place_in places)) ≡ fences plan volume (place_of (with_places reread_group groups places)) (later_in (place_of groups) (place_in places))
+fences-with_places plan volume groups places many good =
     let wide : length places ≡ plan.groups = places-many plan places good in
-    each-same plan.groups (raised_in (place_of groups) (place_in places)) (λ k. model.Message.Fence k (label_of volume (place_in places) k)) (λ k. model.Message.Fence k (label_of volume (place_of (moved reread_group groups places)) k))
-    (λ k l t. ap (λ (p : model.Place). model.Message.Fence k (record { volume = volume; member = p.epoch })) (sym (moved-raised reread_group (λ g p e. rw e refl) groups places (many ∙ sym wide) k (omega (arith, many, l)) t)))
+    each-same plan.groups (later_in (place_of groups) (place_in places)) (λ k. model.Message.Fence k (label_of volume (place_in places) k)) (λ k. model.Message.Fence k (label_of volume (place_of (with_places reread_group groups places)) k))
+    (λ k l t. ap (λ (p : model.Place). model.Message.Fence k (record { volume = volume; member = p.epoch })) (sym (with_places-raised reread_group (λ g p e. rw e refl) groups places (many ∙ sym wide) k (omega (arith, many, l)) t)))
 
-installs-moved : (plan : Plan) (volume : ℕ) (groups : List ClientGroup) (places : List model.Place) (lineage : Lineage) (log : List Redo) → length groups ≡ plan.groups → are_places plan places ≡ true
-    → installs plan volume (place_in places) lineage log (raised_in (place_of groups) (place_in places)) ≡ installs plan volume (place_of (moved later_group groups places)) lineage log (raised_in (place_of groups) (place_in places))
-installs-moved plan volume groups places lineage log many good =
+installs-with_places : (plan : Plan) (volume : ℕ) (groups : List ClientGroup) (places : List model.Place) (lineage : Lineage) (log : List Redo) → length groups ≡ plan.groups → are_places plan places ≡ true
+    → installs plan volume (place_in places) lineage log (later_in (place_of groups) (place_in places)) ≡ installs plan volume (place_of (with_places later_group groups places)) lineage log (later_in (place_of groups) (place_in places))
+installs-with_places plan volume groups places lineage log many good =
     let wide : length places ≡ plan.groups = places-many plan places good in
-    each-same plan.groups (raised_in (place_of groups) (place_in places)) (λ k. model.Message.Install k (label_of volume (place_in places) k) (record { lineage = lineage; records = of_group k log }))
-    (λ k. model.Message.Install k (label_of volume (place_of (moved later_group groups places)) k) (record { lineage = lineage; records = of_group k log }))
-    (λ k l t. ap (λ (p : model.Place). model.Message.Install k (record { volume = volume; member = p.epoch }) (record { lineage = lineage; records = of_group k log })) (sym (moved-raised later_group (λ g p e. rw e refl) groups places (many ∙ sym wide) k (omega (arith, many, l)) t)))
+    each-same plan.groups (later_in (place_of groups) (place_in places)) (λ k. model.Message.Install k (label_of volume (place_in places) k) (record { lineage = lineage; records = of_group k log }))
+    (λ k. model.Message.Install k (label_of volume (place_of (with_places later_group groups places)) k) (record { lineage = lineage; records = of_group k log }))
+    (λ k l t. ap (λ (p : model.Place). model.Message.Install k (record { volume = volume; member = p.epoch }) (record { lineage = lineage; records = of_group k log })) (sym (with_places-raised later_group (λ g p e. rw e refl) groups places (many ∙ sym wide) k (omega (arith, many, l)) t)))
 
 -- ---- a later View
 
 pub view-reading : (plan : Plan) (volume of : ℕ) (groups now : List ClientGroup) (places : List model.Place) (found : Option Found) (made : List model.Message) → of ≡ volume → length groups ≡ plan.groups → are_places plan places ≡ true → found ≡ None
-    → now ≡ moved reread_group groups places → made ≡ fences plan volume (place_in places) (raised_in (place_of groups) (place_in places))
+    → now ≡ with_places reread_group groups places → made ≡ fences plan volume (place_in places) (later_in (place_of groups) (place_in places))
     → taken plan volume (client_with groups found) (model.Message.View of places) ≡ Ok (record { made = made; client = client_with now found })
 view-reading plan volume of groups now places found made same many good none new is =
-    let base : taken plan volume (client_with groups None) (model.Message.View of places) ≡ Ok (record { made = made; client = client_with (moved reread_group groups places) None }) =
-    rw (eq-eqb of volume same, good) (ap (λ ms. Ok (record { made = ms; client = client_with (moved reread_group groups places) None })) (sym (is ∙ fences-moved plan volume groups places many good))) in
+    let base : taken plan volume (client_with groups None) (model.Message.View of places) ≡ Ok (record { made = made; client = client_with (with_places reread_group groups places) None }) =
+    rw (eq-eqb of volume same, good) (ap (λ ms. Ok (record { made = ms; client = client_with (with_places reread_group groups places) None })) (sym (is ∙ fences-with_places plan volume groups places many good))) in
     subst (λ f. taken plan volume (client_with groups f) (model.Message.View of places) ≡ Ok (record { made = made; client = client_with now f })) (sym none)
     (base ∙ ap (λ gs. Ok (record { made = made; client = client_with gs None })) (sym new))
 
 pub view-installing : (plan : Plan) (volume of : ℕ) (groups now : List ClientGroup) (places : List model.Place) (before : Option Found) (found : Found) (made : List model.Message) → of ≡ volume → length groups ≡ plan.groups → are_places plan places ≡ true → before ≡ Some found
-    → now ≡ moved later_group groups places → made ≡ installs plan volume (place_in places) (lineage_of found.lineage) (log_of found.log.items) (raised_in (place_of groups) (place_in places))
+    → now ≡ with_places later_group groups places → made ≡ installs plan volume (place_in places) (lineage_of found.lineage) (log_of found.log.items) (later_in (place_of groups) (place_in places))
     → taken plan volume (client_with groups before) (model.Message.View of places) ≡ Ok (record { made = made; client = client_with now before })
 view-installing plan volume of groups now places before found made same many good there new is =
-    let base : taken plan volume (client_with groups (Some found)) (model.Message.View of places) ≡ Ok (record { made = made; client = client_with (moved later_group groups places) (Some found) }) =
-    rw (eq-eqb of volume same, good) (ap (λ ms. Ok (record { made = ms; client = client_with (moved later_group groups places) (Some found) })) (sym (is ∙ installs-moved plan volume groups places (lineage_of found.lineage) (log_of found.log.items) many good))) in
+    let base : taken plan volume (client_with groups (Some found)) (model.Message.View of places) ≡ Ok (record { made = made; client = client_with (with_places later_group groups places) (Some found) }) =
+    rw (eq-eqb of volume same, good) (ap (λ ms. Ok (record { made = ms; client = client_with (with_places later_group groups places) (Some found) })) (sym (is ∙ installs-with_places plan volume groups places (lineage_of found.lineage) (log_of found.log.items) many good))) in
     subst (λ f. taken plan volume (client_with groups f) (model.Message.View of places) ≡ Ok (record { made = made; client = client_with now f })) (sym there)
     (base ∙ ap (λ gs. Ok (record { made = made; client = client_with gs (Some found) })) (sym new))
 

@@ -7,7 +7,8 @@ use Rattle.volume_model.specs.Plan.{Plan}
 use Rattle.volume_model.specs.Redo.{Redo, cut_of, log_found}
 use Rattle.volume_model.specs.Lineage.{Lineage, last_start, extended, newest, found_in}
 use Rattle.volume_model.specs.Client.{Client, ClientGroup}
-use Rattle.lineage.specs.Lineage.{last_cut, lineage_of}
+use Rattle.lineage.specs.Lineage.{lineage_of}
+use Rattle.volume_model.specs.Lineage.{last_cut}
 use Rattle.writer_core.specs.Logs.{log_of}
 use Rattle.recovery.specs.declared.found.Found.{Found}
 use Rattle.recovery.specs.Reported.{reports_in}

@@ -7,7 +7,9 @@ use Rattle.volume_model.specs.declared.fault.Fault.TheVariants.{NotAddressed}
 use Rattle.volume_model.specs.Plan.{Plan}
 use Rattle.volume_model.specs.Message as model
 use Rattle.volume_model.specs.Message.Message.{View, StepTo, Fence, Report, Install, Write, Gossip, Ack, CopyAsk, CopyReport, PageAsk, Page}
-use Rattle.volume_model.specs.Client.{Client, ClientGroup, ClientStep, ClientAnswer, installs, place_of, unborn, taken}
+use Rattle.volume_model.specs.Client.{Client, ClientGroup, ClientStep, ClientAnswer, place_of, unborn}
+use Rattle.volume_model.specs.ClientRecovery.{installs}
+use Rattle.volume_model.specs.ClientMessages.{taken}
 use Rattle.volume_model.specs.Client.Stage.{Reading, Installing}
 use Rattle.lineage.specs.Lineage.{lineage_of}
 use Rattle.wire.specs.declared.message.Message.{Message}

@@ -3,7 +3,7 @@
 ghost use Rattle.std.specs.Prelude.{◌≡◌, true};
 ghost use Rattle.lineage.specs.Lineage.{lineage_of};
 ghost use Rattle.writer_core.specs.Logs.{log_of, is_growing};
-ghost use Rattle.lineage.specs.Lineage.{last_cut};
+ghost use Rattle.volume_model.specs.Lineage.{last_cut};
 
 use lineage::Lineage;
 use redo_record::Record;

@@ -30,7 +30,9 @@ impl Recovery {
     ghost use Rattle.std.specs.Arc.{arc_value};
     ghost use Rattle.volume_model.specs.Answer.{Answers, AnswersLate, refusal_of};
     ghost use Rattle.volume_model.specs.declared.fault.Fault.TheVariants.{NoMemory};
-    ghost use Rattle.volume_model.specs.Client.{are_places, has_cut, taken, cut_client, opened};
+    ghost use Rattle.volume_model.specs.Client.{has_cut};
+    ghost use Rattle.volume_model.specs.ClientRecovery.{cut_client, opened};
+    ghost use Rattle.volume_model.specs.ClientMessages.{are_places, taken};
     ghost use Rattle.plan.specs.CheckedModel.{checked_model};
     ghost use Rattle.wire.specs.Message.{message_of, place_of};
     ghost use Rattle.wire.specs.Addressed.{is_ack_to, is_report_to};

@@ -4,7 +4,9 @@ ghost use Rattle.std.specs.Prelude.{◌≡◌, true, length, map, IfOk};
 ghost use Rattle.volume_model.specs.Message as model;
 ghost use Rattle.volume_model.specs.Message.{place_in};
 ghost use Rattle.volume_model.specs.Redo.{of_group};
-ghost use Rattle.volume_model.specs.Client.{fences, installs, label_of, place_of, raised_in};
+ghost use Rattle.volume_model.specs.Client.{label_of, place_of};
+ghost use Rattle.volume_model.specs.ClientRecovery.{fences, installs};
+ghost use Rattle.volume_model.specs.ClientMessages.{later_in};
 ghost use Rattle.lineage.specs.Lineage.{lineage_of};
 ghost use Rattle.redo_record.specs.RecordSet.{records_of};
 ghost use Rattle.wire.specs.Message as wire;
@@ -50,7 +52,7 @@ pub fn later_fences(
     places: &[Place],
 ) -> Result<Vec<Message>, AllocError>
     requires { length places.now ≡ (standings_plan standings.now).groups }
-    ensures { IfOk result (λ messages. messages_of messages.items ≡ fences (standings_plan standings.now) volume (place_in (map wire.place_of places.now)) (raised_in (place_of (groups_in standings.now)) (place_in (map wire.place_of places.now)))) }
+    ensures { IfOk result (λ messages. messages_of messages.items ≡ fences (standings_plan standings.now) volume (place_in (map wire.place_of places.now)) (later_in (place_of (groups_in standings.now)) (place_in (map wire.place_of places.now)))) }
 {
     let mut messages = Vec::new(alloc);
     for group in 0..standings.plan().groups() {
@@ -118,7 +120,7 @@ pub fn later_installs(
     places: &[Place],
 ) -> Result<Vec<Message>, AllocError>
     requires { length places.now ≡ (standings_plan standings.now).groups }
-    ensures { IfOk result (λ messages. messages_of messages.items ≡ installs (standings_plan standings.now) volume (place_in (map wire.place_of places.now)) (lineage_of found.now.lineage) (log_of found.now.log.items) (raised_in (place_of (groups_in standings.now)) (place_in (map wire.place_of places.now)))) }
+    ensures { IfOk result (λ messages. messages_of messages.items ≡ installs (standings_plan standings.now) volume (place_in (map wire.place_of places.now)) (lineage_of found.now.lineage) (log_of found.now.log.items) (later_in (place_of (groups_in standings.now)) (place_in (map wire.place_of places.now)))) }
 {
     let mut messages = Vec::new(alloc);
     for group in 0..standings.plan().groups() {

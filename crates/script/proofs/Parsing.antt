@@ -4,7 +4,7 @@ use Rattle.std.specs.Str.{bytes_eq}
 use Rattle.std.proofs.lemmas.Bool.{false_from_ne_true}
 use Rattle.std.proofs.lemmas.List.{append_assoc, map-append}
 use Rattle.std.proofs.lemmas.Slice.Eq.{bytes_eq-Decides}
-use Rattle.volume_model.specs.Client as model
+use Rattle.volume_model.specs.ClientWriter as model
 use Rattle.writer_core.specs.Changes.{change_of, changes_of}
 use Rattle.writer_core.specs.declared.change.Change.{Change}
 use Rattle.script.specs.Grammar.{change_by, changes_in, deliver_in, offer_in, read_in, take_in}

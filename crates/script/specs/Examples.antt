@@ -1,6 +1,6 @@
 -- What some lines say.
 use Rattle.std.specs.Prelude.{◌≡◌, [], ◌∷◌, ℕ, Some, None, codes}
-use Rattle.volume_model.specs.Client.{Change}
+use Rattle.volume_model.specs.ClientWriter.{Change}
 use Rattle.volume_model.specs.World.{Event}
 use Rattle.script.specs.Grammar.{deed_of}
 use Rattle.script.specs.Grammar.Deed.{Nothing, Waits, Makes, Delivers, Takes}

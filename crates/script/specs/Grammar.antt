@@ -1,7 +1,7 @@
 -- What a line of a script says.
 use Rattle.std.specs.Prelude.{ℕ, ◌==◌, ◌&&◌, nat_le, if◌then◌else◌, Bool, true, List, [], ◌∷◌, Option, Some, None, codes, find, option_and_then, option_map}
 use Rattle.std.specs.Str.{bytes_eq}
-use Rattle.volume_model.specs.Client.{Change}
+use Rattle.volume_model.specs.ClientWriter.{Change}
 use Rattle.volume_model.specs.World.{Event}
 use Rattle.script.specs.Words.{words_in, fields_in, sides_in, number_in, bytes_in}
 use Rattle.script.specs.declared.line.Verb.{Verb}

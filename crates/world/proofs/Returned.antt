@@ -6,7 +6,8 @@ use Rattle.volume_model.specs.declared.fault.Fault.{Fault}
 use Rattle.volume_model.specs.Lists.{IsIn, IsBeginningOf, each_below}
 use Rattle.volume_model.specs.Redo.{Redo, up_to}
 use Rattle.volume_model.specs.Plan.{Plan}
-use Rattle.volume_model.specs.Client.{durable_point, has_cut, is_open, is_point_of}
+use Rattle.volume_model.specs.Client.{has_cut, is_open}
+use Rattle.volume_model.specs.ClientPoints.{durable_point, is_consistency_point}
 use Rattle.volume_model.specs.World.{World, Event, opening, run}
 use Rattle.volume_model.specs.Headline.{Acknowledges, HasFound, KeepsCommits}
 use Rattle.volume_model.specs.Outcome as model
@@ -90,7 +91,7 @@ finder_of world f fs are within =
 module _ (world : World) (keeps : KeepsCommits world) where
   acknowledges : (w : WriterEnd) (n : ℕ) → IsWriterOf world w → HasAcknowledged w n → Acknowledges world w.volume n
   acknowledges w n is has =
-      ap₂ (λ (p q : Bool). p && q) is.open_is (ap₂ (λ (l : List Redo) (d : ℕ). is_point_of n l && nat_le n d) (sym is.log_is) (sym is.durable_is) ∙ has)
+      ap₂ (λ (p q : Bool). p && q) is.open_is (ap₂ (λ (l : List Redo) (d : ℕ). is_consistency_point n l && nat_le n d) (sym is.log_is) (sym is.durable_is) ∙ has)
 
   covered_is : (w : WriterEnd) (n : ℕ) → IsWriterOf world w → covered_by w n ≡ up_to n (world.clients w.volume).log
   covered_is w n is = ap (up_to n) is.log_is

@@ -7,7 +7,10 @@ use Rattle.volume_model.specs.Plan.{Plan}
 use Rattle.volume_model.specs.Message as model
 use Rattle.volume_model.specs.Node.{Node, NodeAnswer, hydrated, offered, restarted}
 use Rattle.volume_model.specs.declared.fault.Fault.TheVariants.{NoMessage}
-use Rattle.volume_model.specs.Client.{Client, ClientAnswer, cut_client, issued, page_asked, resent, taken}
+use Rattle.volume_model.specs.Client.{Client, ClientAnswer}
+use Rattle.volume_model.specs.ClientWriter.{issued, page_asked, resent}
+use Rattle.volume_model.specs.ClientRecovery.{cut_client}
+use Rattle.volume_model.specs.ClientMessages.{taken}
 use Rattle.wire.specs.Message.{message_of}
 use Rattle.volume_model.specs.World.{Authority, AuthorityStep, assigned, advanced, refreshed, deliver, take}
 use Rattle.segment_core.specs.Segment.{is_full}

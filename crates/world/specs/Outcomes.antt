@@ -4,7 +4,8 @@ use Rattle.volume_model.specs.Plan.{Plan}
 use Rattle.volume_model.specs.Lineage.{last_cut, last_start}
 use Rattle.volume_model.specs.Lists.{IsIn, IsBeginningOf}
 use Rattle.volume_model.specs.Redo.{Redo, up_to}
-use Rattle.volume_model.specs.Client.{Client, durable_point, is_point_of}
+use Rattle.volume_model.specs.Client.{Client}
+use Rattle.volume_model.specs.ClientPoints.{durable_point, is_consistency_point}
 use Rattle.volume_model.specs.World.{Event, Step, opening, run, results, step}
 use Rattle.volume_model.specs.World.Event.{Open}
 use Rattle.volume_model.specs.Headline.{HasFound, KeepsCommits, SaysTruePages, StaysSo}
@@ -81,7 +82,7 @@ PromisesRuns plan = (events : List Event) → KeepsPromises plan events
 
 -- The writer has acknowledged the commit of this number: it is that of a consistency point of its log, and at most its durable point.
 abbrev pub HasAcknowledged : WriterEnd → ℕ → Type 0
-HasAcknowledged writer n = (is_point_of n (log_of writer.log.items) && nat_le n writer.durable) ≡ true
+HasAcknowledged writer n = (is_consistency_point n (log_of writer.log.items) && nat_le n writer.durable) ≡ true
 
 -- what an acknowledged commit covers: the writer's log up to it
 abbrev pub covered_by : WriterEnd → ℕ → List Redo

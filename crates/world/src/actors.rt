@@ -33,7 +33,8 @@ impl Actors {
     ghost use Rattle.std.specs.Prelude.{None};
     ghost use Rattle.std.specs.Ordering.{nat_cmp};
     ghost use Rattle.std.specs.BTreeMap.{get};
-    ghost use Rattle.volume_model.specs.Client.{opened, unborn};
+    ghost use Rattle.volume_model.specs.Client.{unborn};
+    ghost use Rattle.volume_model.specs.ClientRecovery.{opened};
     ghost use Rattle.volume_model.specs.World.{if_named, of_authority, of_client, of_node, opening, step};
     ghost use Rattle.plan.specs.CheckedModel.{checked_model};
     ghost use Rattle.volume_model.specs.Answer.{never_late};

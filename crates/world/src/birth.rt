@@ -3,7 +3,8 @@
 ghost use Rattle.std.specs.Prelude.{◌≡◌, ◌≢◌, IfErr, IfOk};
 ghost use Rattle.std.specs.Arc.{arc_value};
 ghost use Rattle.volume_model.specs.Answer.{refusal_of, Answers, AnswersLate};
-ghost use Rattle.volume_model.specs.Client.{taken, unborn};
+ghost use Rattle.volume_model.specs.Client.{unborn};
+ghost use Rattle.volume_model.specs.ClientMessages.{taken};
 ghost use Rattle.volume_model.specs.declared.fault.Fault.TheVariants.{NoMemory};
 ghost use Rattle.plan.specs.CheckedModel.{checked_model};
 ghost use Rattle.wire.specs.Message.{message_of};

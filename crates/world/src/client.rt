@@ -36,7 +36,8 @@ impl Client {
     ghost use Rattle.std.specs.Prelude.{◌≡◌, IfOk, Ok};
     ghost use Rattle.std.specs.Arc.{arc_value};
     ghost use Rattle.volume_model.specs.Answer.{never_late, refusal_of, AnswersLate, Gives};
-    ghost use Rattle.volume_model.specs.Client.{first_writer, opened, unborn};
+    ghost use Rattle.volume_model.specs.Client.{first_writer, unborn};
+    ghost use Rattle.volume_model.specs.ClientRecovery.{opened};
     ghost use Rattle.plan.specs.CheckedModel.{checked_model};
     ghost use Rattle.writer_core.specs.Writers.{acted, silent};
     ghost use Rattle.recovery.specs.Recoveries.{admitted};

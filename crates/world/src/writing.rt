@@ -2,7 +2,7 @@
 
 ghost use Rattle.std.specs.Prelude.{◌≡◌};
 ghost use Rattle.volume_model.specs.Answer.{refusal_of, Answers, AnswersLate};
-ghost use Rattle.volume_model.specs.Client.{taken};
+ghost use Rattle.volume_model.specs.ClientMessages.{taken};
 ghost use Rattle.wire.specs.Message.{message_of};
 ghost use Rattle.writer_core.specs.Writers.{acted, client_of, silent, writer_plan, writer_volume};
 ghost use Rattle.recovery.specs.Recoveries.{admitted};

@@ -6,7 +6,7 @@ use Rattle.volume_model.specs.Lists.{every_below}
 use Rattle.volume_model.specs.Plan.{Plan, is_configuration}
 use Rattle.volume_model.specs.Message as model
 use Rattle.volume_model.specs.Message.{place_in}
-use Rattle.volume_model.specs.Client.{are_places}
+use Rattle.volume_model.specs.ClientMessages.{are_places}
 use Rattle.wire.specs.declared.label.Place.{Place}
 use Rattle.wire.specs.Message.{place_of}
 

@@ -6,7 +6,7 @@ use Rattle.std.proofs.lemmas.List.{take-map, drop-map, length-map, set_split}
 use Rattle.std.specs.Ordering.{nat_cmp}
 use Rattle.std.specs.FinSet.{FinSet, contains, insert}
 use Rattle.volume_model.proofs.Sets.{contains-put}
-use Rattle.volume_model.specs.Client.{reaching, with_count}
+use Rattle.volume_model.specs.ClientPoints.{reaching, with_count}
 use Rattle.writer_core.specs.declared.count.Count.{Count}
 use Rattle.writer_core.specs.Counts.{count_of, counts_of}
 

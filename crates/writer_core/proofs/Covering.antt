@@ -6,7 +6,7 @@ use Rattle.std.proofs.lemmas.Bool.{and_parts, and_from, eq-eqb, le-leb, lt-leb, 
 use Rattle.std.proofs.lemmas.Bool.Decides.{nat_tests}
 use Rattle.volume_model.specs.Lists.{every, added}
 use Rattle.volume_model.specs.Redo.{Redo, last_lsn}
-use Rattle.volume_model.specs.Client.{complete_of, point_below}
+use Rattle.volume_model.specs.ClientPoints.{complete_of, consistency_point_below}
 use Rattle.redo_record.specs.declared.«record».Record.{Record}
 use Rattle.redo_record.specs.Record.{redo_of}
 use Rattle.writer_core.specs.Logs.{log_of, is_growing}
@@ -43,13 +43,13 @@ complete_of-covered points (r ∷ older) h =
     rw e refl
 
 -- a greater bound than the last number finds no other consistency point
-point_below-whole : (n : ℕ) (log : List Redo) → is_growing log ≡ true → last_lsn log ≤ n → point_below n log ≡ point_below (last_lsn log) log
-point_below-whole n [] h le = refl
-point_below-whole n (r ∷ older) h le =
+consistency_point_below-whole : (n : ℕ) (log : List Redo) → is_growing log ≡ true → last_lsn log ≤ n → consistency_point_below n log ≡ consistency_point_below (last_lsn log) log
+consistency_point_below-whole n [] h le = refl
+consistency_point_below-whole n (r ∷ older) h le =
     let (less, rest) = both (last_lsn older) r.lsn (is_growing older) h in
     let here : nat_le r.lsn n ≡ true = le-leb r.lsn n le in
     let self : nat_le r.lsn r.lsn ≡ true = le-leb r.lsn r.lsn (omega arith) in
-    let inner : point_below n older ≡ point_below r.lsn older = point_below-whole n older rest (omega arith) ∙ sym (point_below-whole r.lsn older rest (omega arith)) in
+    let inner : consistency_point_below n older ≡ consistency_point_below r.lsn older = consistency_point_below-whole n older rest (omega arith) ∙ sym (consistency_point_below-whole r.lsn older rest (omega arith)) in
     rw (here, self) (ap (λ x. if r.point && true then r.lsn else x) inner)
 
 -- ---- one record isn't
@@ -64,13 +64,13 @@ complete_of-stuck points (x ∷ xs) kept h less =
     complete_of-stuck points xs (redo_of x ∷ kept) h (omega arith) ∙ step
 
 -- later records have greater numbers than the bound
-point_below-later : (n : ℕ) (xs : List Record) (kept : List Redo) → is_growing (added (map redo_of xs) kept) ≡ true → n ≤ last_lsn kept → point_below n (added (map redo_of xs) kept) ≡ point_below n kept
-point_below-later n [] kept h le = refl
-point_below-later n (x ∷ xs) kept h le =
+consistency_point_below-later : (n : ℕ) (xs : List Record) (kept : List Redo) → is_growing (added (map redo_of xs) kept) ≡ true → n ≤ last_lsn kept → consistency_point_below n (added (map redo_of xs) kept) ≡ consistency_point_below n kept
+consistency_point_below-later n [] kept h le = refl
+consistency_point_below-later n (x ∷ xs) kept h le =
     let more : last_lsn kept < x.lsn = (both (last_lsn kept) x.lsn (is_growing kept) (above xs (redo_of x ∷ kept) h).0).0 in
     let later : nat_le x.lsn n ≡ false = lt-leb x.lsn n (omega arith) in
-    let step : point_below n (redo_of x ∷ kept) ≡ point_below n kept = ap (λ b. if b then x.lsn else point_below n kept) (ap (λ b. x.point && b) later ∙ and_false x.point) in
-    point_below-later n xs (redo_of x ∷ kept) h (omega arith) ∙ step
+    let step : consistency_point_below n (redo_of x ∷ kept) ≡ consistency_point_below n kept = ap (λ b. if b then x.lsn else consistency_point_below n kept) (ap (λ b. x.point && b) later ∙ and_false x.point) in
+    consistency_point_below-later n xs (redo_of x ∷ kept) h (omega arith) ∙ step
 
 -- ---- what is kept of a front
 
@@ -95,18 +95,18 @@ module _ (points : ℕ → ℕ) (records : List Record) (growing : is_growing (l
       subst (λ log. is_growing log ≡ true) (log_of-more records old.records r within ∙ ap (λ x. redo_of x ∷ kept) (sym is)) (more-grows (old.records + 1)) in
       let link : last_lsn kept < r.lsn = (both (last_lsn kept) r.lsn (is_growing kept) next).0 in
       let self : nat_le r.lsn r.lsn ≡ true = le-leb r.lsn r.lsn (omega arith) in
-      let bound : point_below r.lsn kept ≡ old.durable = point_below-whole r.lsn kept kept_grows (omega arith) ∙ sym (front.durable ∙ ap (λ n. point_below n kept) front.complete) in
+      let bound : consistency_point_below r.lsn kept ≡ old.durable = consistency_point_below-whole r.lsn kept kept_grows (omega arith) ∙ sym (front.durable ∙ ap (λ n. consistency_point_below n kept) front.complete) in
       record {
         within = omega (arith, counted);
         all = ap (every (is_covered points)) whole ∙ and_from _ _ here front.all;
         complete = complete ∙ sym (ap last_lsn whole);
-        durable = durable ∙ sym (ap₂ point_below complete whole ∙ last r.point self bound);
+        durable = durable ∙ sym (ap₂ consistency_point_below complete whole ∙ last r.point self bound);
       }
     where
       more-grows : (n : ℕ) → is_growing (log_of (take n records)) ≡ true
       more-grows n = (above (drop n records) (log_of (take n records)) (subst (λ log. is_growing log ≡ true) (split records n) growing)).0
 
-      last : (point : Bool) → nat_le r.lsn r.lsn ≡ true → point_below r.lsn kept ≡ old.durable → (if point && nat_le r.lsn r.lsn then r.lsn else point_below r.lsn kept) ≡ (if point then r.lsn else old.durable)
+      last : (point : Bool) → nat_le r.lsn r.lsn ≡ true → consistency_point_below r.lsn kept ≡ old.durable → (if point && nat_le r.lsn r.lsn then r.lsn else consistency_point_below r.lsn kept) ≡ (if point then r.lsn else old.durable)
       last true self bound = rw self refl
       last false self bound = bound
 
@@ -119,7 +119,7 @@ module _ (points : ℕ → ℕ) (records : List Record) (growing : is_growing (l
       record {
         front = front;
         complete = complete;
-        durable = front.durable ∙ ap₂ (λ n (xs : List Record). point_below n (log_of xs)) complete whole;
+        durable = front.durable ∙ ap₂ (λ n (xs : List Record). consistency_point_below n (log_of xs)) complete whole;
       }
 
   -- the next record isn't covered
@@ -137,12 +137,12 @@ module _ (points : ℕ → ℕ) (records : List Record) (growing : is_growing (l
       ap (λ b. if b then r.lsn else complete_of points kept) (ap (λ b. (complete_of points kept == last_lsn kept) && b) here ∙ and_false _) ∙ covered in
       let stuck : complete_of points (log_of records) ≡ last_lsn kept =
       ap (complete_of points) whole ∙ complete_of-stuck points (drop (old.records + 1) records) (redo_of r ∷ kept) grows (omega arith) ∙ step in
-      let later : point_below (last_lsn kept) (log_of records) ≡ point_below (last_lsn kept) kept =
-      ap (point_below (last_lsn kept)) (split records old.records) ∙ point_below-later (last_lsn kept) (drop old.records records) kept grown (omega arith) in
+      let later : consistency_point_below (last_lsn kept) (log_of records) ≡ consistency_point_below (last_lsn kept) kept =
+      ap (consistency_point_below (last_lsn kept)) (split records old.records) ∙ consistency_point_below-later (last_lsn kept) (drop old.records records) kept grown (omega arith) in
       record {
         front = front;
         complete = front.complete ∙ sym stuck;
-        durable = front.durable ∙ ap (λ n. point_below n kept) front.complete ∙ sym (ap (λ n. point_below n (log_of records)) stuck ∙ later);
+        durable = front.durable ∙ ap (λ n. consistency_point_below n kept) front.complete ∙ sym (ap (λ n. consistency_point_below n (log_of records)) stuck ∙ later);
       }
 
 -- ---- points that rise, and logs that grow

@@ -6,7 +6,7 @@ use Rattle.std.proofs.lemmas.Bool.Decides.{nat_tests}
 use Rattle.std.specs.List.Sorted.{IsNonDecreasingBy, IsPartitionPoint}
 use Rattle.volume_model.specs.Lists.{IsIn, added}
 use Rattle.volume_model.specs.Redo.{Redo, last_lsn, record_at}
-use Rattle.volume_model.specs.Client.{is_point_of}
+use Rattle.volume_model.specs.ClientPoints.{is_consistency_point}
 use Rattle.volume_model.proofs.Basics.{IsIn-added}
 use Rattle.volume_model.proofs.Chains.{record_at-some, record_at-there}
 use Rattle.redo_record.specs.declared.«record».Record.{Record}
@@ -113,11 +113,11 @@ is_point_at None = false
 is_point_at (Some r) = r.point
 
 -- a number that is that of a consistency point is so by the one record that has it
-pub is_point_of-record_at : (log : List Redo) (n : ℕ) → is_growing log ≡ true → is_point_of n log ≡ is_point_at (record_at log n)
-is_point_of-record_at [] n h = refl
-is_point_of-record_at (r ∷ older) n h =
+pub is_consistency_point-record_at : (log : List Redo) (n : ℕ) → is_growing log ≡ true → is_consistency_point n log ≡ is_point_at (record_at log n)
+is_consistency_point-record_at [] n h = refl
+is_consistency_point-record_at (r ∷ older) n h =
     let (less, rest) = both (last_lsn older) r.lsn (is_growing older) h in
-    let inner : is_point_of n older ≡ is_point_at (record_at older n) = is_point_of-record_at older n rest in
+    let inner : is_consistency_point n older ≡ is_point_at (record_at older n) = is_consistency_point-record_at older n rest in
     elim (cases_eq r.lsn n) [
       | inl e ↦ (
           let here : nat_eq r.lsn n ≡ true = eq-eqb r.lsn n e in

@@ -7,7 +7,7 @@ use Rattle.volume_model.specs.Lists.{every}
 use Rattle.volume_model.specs.Redo.{last_lsn}
 use Rattle.volume_model.specs.Message as model
 use Rattle.volume_model.specs.Client as client
-use Rattle.volume_model.specs.Client.{record_of, is_last, issued_log, issued_writes, is_change}
+use Rattle.volume_model.specs.ClientWriter.{record_of, is_last, issued_log, issued_writes, is_change}
 use Rattle.redo_record.specs.declared.«record».Record.{Record}
 use Rattle.redo_record.specs.Record.{redo_of}
 use Rattle.wire.specs.declared.message.Message.{Message}

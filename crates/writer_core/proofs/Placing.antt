@@ -10,7 +10,9 @@ use Rattle.volume_model.proofs.ClientSteps.{every_below-all}
 use Rattle.std.proofs.lemmas.Bool.{cases_Bool, and_parts, ltb-true, eqb-true}
 use Rattle.volume_model.specs.Plan.{Plan}
 use Rattle.writer_core.proofs.Below.{below-fails, is_place}
-use Rattle.volume_model.specs.Client.{ClientGroup, group_of, place_of, newly_at, at_root, raised_group, raised_from, moved, later_group, reread_group, is_raised, are_places}
+use Rattle.volume_model.specs.Client.{ClientGroup, group_of, place_of, newly_at, at_root}
+use Rattle.volume_model.specs.ClientPoints.{raised_group, raised_from}
+use Rattle.volume_model.specs.ClientMessages.{with_places, later_group, reread_group, is_later, are_places}
 use Rattle.writer_core.specs.declared.standing.Standing.{Standing}
 use Rattle.writer_core.specs.Standings.{group_at, groups_of, ArePlaced}
 
@@ -105,17 +107,17 @@ abbrev MovesOn : (ClientGroup → model.Place → ClientGroup) → Type 0
 MovesOn move = (g : ClientGroup) (p : model.Place) → ((move g p).place ≡ g.place) ⊎ ((move g p).place ≡ p)
 
 pub later-moves : MovesOn later_group
-later-moves g p = elim (cases_Bool (is_raised g.place p)) [ inl e ↦ inr (rw e refl) | inr e ↦ inl (rw e refl) ]
+later-moves g p = elim (cases_Bool (is_later g.place p)) [ inl e ↦ inr (rw e refl) | inr e ↦ inl (rw e refl) ]
 
 pub reread-moves : MovesOn reread_group
-reread-moves g p = elim (cases_Bool (is_raised g.place p)) [ inl e ↦ inr (rw e refl) | inr e ↦ inl (rw e refl) ]
+reread-moves g p = elim (cases_Bool (is_later g.place p)) [ inl e ↦ inr (rw e refl) | inr e ↦ inl (rw e refl) ]
 
-moved-place : (move : ClientGroup → model.Place → ClientGroup) → MovesOn move → (groups : List ClientGroup) (places : List model.Place) → length groups ≡ length places → (k : ℕ) → k < length groups
-    → (place_of (moved move groups places) k ≡ place_of groups k) ⊎ (place_of (moved move groups places) k ≡ place_in places k)
-moved-place move on [] places many k h = absurd (omega arith)
-moved-place move on (g ∷ groups) [] many k h = absurd (omega arith)
-moved-place move on (g ∷ groups) (p ∷ places) many zero h = on g p
-moved-place move on (g ∷ groups) (p ∷ places) many (suc k) h = moved-place move on groups places (omega arith) k (omega arith)
+with_places-place : (move : ClientGroup → model.Place → ClientGroup) → MovesOn move → (groups : List ClientGroup) (places : List model.Place) → length groups ≡ length places → (k : ℕ) → k < length groups
+    → (place_of (with_places move groups places) k ≡ place_of groups k) ⊎ (place_of (with_places move groups places) k ≡ place_in places k)
+with_places-place move on [] places many k h = absurd (omega arith)
+with_places-place move on (g ∷ groups) [] many k h = absurd (omega arith)
+with_places-place move on (g ∷ groups) (p ∷ places) many zero h = on g p
+with_places-place move on (g ∷ groups) (p ∷ places) many (suc k) h = with_places-place move on groups places (omega arith) k (omega arith)
 
 -- each place is one of a configuration
 place-good : (plan : Plan) (places : List model.Place) → are_places plan places ≡ true → (k : ℕ) → k < plan.groups → (place_in places k).configuration < plan.configurations k
@@ -128,12 +130,12 @@ pub places-many : (plan : Plan) (places : List model.Place) → are_places plan 
 places-many plan places h = eqb-true (length places) plan.groups (and_parts (length places == plan.groups) (every_below plan.groups (is_place plan places)) h).0
 
 -- groups that are moved to places of the plan
-pub moved-placed : (plan : Plan) (move : ClientGroup → model.Place → ClientGroup) → MovesOn move → (groups : List ClientGroup) (places : List model.Place) → length groups ≡ plan.groups → are_places plan places ≡ true → ArePlaced plan groups → ArePlaced plan (moved move groups places)
-moved-placed plan move on groups places many good placed k h =
+pub with_places-placed : (plan : Plan) (move : ClientGroup → model.Place → ClientGroup) → MovesOn move → (groups : List ClientGroup) (places : List model.Place) → length groups ≡ plan.groups → are_places plan places ≡ true → ArePlaced plan groups → ArePlaced plan (with_places move groups places)
+with_places-placed plan move on groups places many good placed k h =
     let wide : length places ≡ plan.groups = places-many plan places good in
     let same : length groups ≡ length places = many ∙ sym wide in
     let within : k < length groups = omega (arith, many, h) in
-    elim (moved-place move on groups places same k within) [
+    elim (with_places-place move on groups places same k within) [
       | inl e ↦ subst (λ (p : model.Place). p.configuration < plan.configurations k) (sym e) (placed k h)
       | inr e ↦ subst (λ (p : model.Place). p.configuration < plan.configurations k) (sym e) (place-good plan places good k h)
     ]

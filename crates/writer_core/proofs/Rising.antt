@@ -3,30 +3,32 @@ use Rattle.std.proofs.Common.{◌≡◌, ℕ, ◌≤◌, List, refl, ap, ◌∙�
 use Rattle.std.proofs.lemmas.Bool.{cases_Bool}
 use Rattle.volume_model.specs.Plan.{Plan}
 use Rattle.volume_model.specs.Message.{Place, place_in}
-use Rattle.volume_model.specs.Client.{ClientGroup, no_group, group_of, point_of, raised, raised_group, moved, later_group, is_raised}
-use Rattle.volume_model.proofs.Groups.{set-all, group_of-moved, later_group-none, group_of-raised}
+use Rattle.volume_model.specs.Client.{ClientGroup, no_group, group_of, group_point_of}
+use Rattle.volume_model.specs.ClientPoints.{raised, raised_group}
+use Rattle.volume_model.specs.ClientMessages.{with_places, later_group, is_later}
+use Rattle.volume_model.proofs.Groups.{set-all, group_of-with_places, later_group-none, group_of-raised}
 use Rattle.writer_core.specs.Standings.{counted_group, counted_in}
 
-point_of-raised : (plan : Plan) (groups : List ClientGroup) (k : ℕ) → point_of groups k ≤ point_of (raised plan groups) k
-point_of-raised plan groups k =
-    let e : point_of (raised plan groups) k ≡ (raised_group plan k (group_of groups k)).point = ap (λ g. g.point) (group_of-raised plan groups k) in
+group_point_of-raised : (plan : Plan) (groups : List ClientGroup) (k : ℕ) → group_point_of groups k ≤ group_point_of (raised plan groups) k
+group_point_of-raised plan groups k =
+    let e : group_point_of (raised plan groups) k ≡ (raised_group plan k (group_of groups k)).group_point = ap (λ g. g.group_point) (group_of-raised plan groups k) in
     omega arith
 
 -- an acknowledgement was counted, and the points were raised
-pub point_of-counted : (plan : Plan) (groups : List ClientGroup) (group sender reached k : ℕ) → point_of groups k ≤ point_of (raised plan (counted_in groups group sender reached)) k
-point_of-counted plan groups group sender reached k =
-    let same : point_of (counted_in groups group sender reached) k ≡ point_of groups k =
-    set-all no_group (λ g x. x.point ≡ point_of groups g) groups group (counted_group (group_of groups group) sender reached) refl (λ g. refl) k in
-    let rises : point_of (counted_in groups group sender reached) k ≤ point_of (raised plan (counted_in groups group sender reached)) k = point_of-raised plan (counted_in groups group sender reached) k in
+pub group_point_of-counted : (plan : Plan) (groups : List ClientGroup) (group sender reached k : ℕ) → group_point_of groups k ≤ group_point_of (raised plan (counted_in groups group sender reached)) k
+group_point_of-counted plan groups group sender reached k =
+    let same : group_point_of (counted_in groups group sender reached) k ≡ group_point_of groups k =
+    set-all no_group (λ g x. x.group_point ≡ group_point_of groups g) groups group (counted_group (group_of groups group) sender reached) refl (λ g. refl) k in
+    let rises : group_point_of (counted_in groups group sender reached) k ≤ group_point_of (raised plan (counted_in groups group sender reached)) k = group_point_of-raised plan (counted_in groups group sender reached) k in
     omega arith
 
-later_point : (g : ClientGroup) (place : Place) → (later_group g place).point ≡ g.point
-later_point g place = elim (cases_Bool (is_raised g.place place)) [ inl e ↦ rw e refl | inr e ↦ rw e refl ]
+later_point : (g : ClientGroup) (place : Place) → (later_group g place).group_point ≡ g.group_point
+later_point g place = elim (cases_Bool (is_later g.place place)) [ inl e ↦ rw e refl | inr e ↦ rw e refl ]
 
 -- groups were moved to later places, and the points were raised
-pub point_of-moved : (plan : Plan) (groups : List ClientGroup) (places : List Place) (k : ℕ) → point_of groups k ≤ point_of (raised plan (moved later_group groups places)) k
-point_of-moved plan groups places k =
-    let same : point_of (moved later_group groups places) k ≡ point_of groups k =
-    ap (λ g. g.point) (group_of-moved later_group later_group-none groups places k) ∙ later_point (group_of groups k) (place_in places k) in
-    let rises : point_of (moved later_group groups places) k ≤ point_of (raised plan (moved later_group groups places)) k = point_of-raised plan (moved later_group groups places) k in
+pub group_point_of-with_places : (plan : Plan) (groups : List ClientGroup) (places : List Place) (k : ℕ) → group_point_of groups k ≤ group_point_of (raised plan (with_places later_group groups places)) k
+group_point_of-with_places plan groups places k =
+    let same : group_point_of (with_places later_group groups places) k ≡ group_point_of groups k =
+    ap (λ g. g.group_point) (group_of-with_places later_group later_group-none groups places k) ∙ later_point (group_of groups k) (place_in places k) in
+    let rises : group_point_of (with_places later_group groups places) k ≤ group_point_of (raised plan (with_places later_group groups places)) k = group_point_of-raised plan (with_places later_group groups places) k in
     omega arith

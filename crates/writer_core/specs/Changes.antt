@@ -1,6 +1,6 @@
 -- The changes of a transaction, as the model has them.
 use Rattle.std.specs.Prelude.{List, map}
-use Rattle.volume_model.specs.Client as model
+use Rattle.volume_model.specs.ClientWriter as model
 use Rattle.writer_core.specs.declared.change.Change.{Change}
 
 -- the change that a program's change is

@@ -3,7 +3,8 @@ use Rattle.std.specs.Prelude.{ℕ, ◌<◌, List, map, slice_set}
 use Rattle.volume_model.specs.Plan.{Plan}
 use Rattle.volume_model.specs.Node.{From, with_first}
 use Rattle.volume_model.specs.Client as model
-use Rattle.volume_model.specs.Client.{ClientGroup, group_of, with_count}
+use Rattle.volume_model.specs.Client.{ClientGroup, group_of}
+use Rattle.volume_model.specs.ClientPoints.{with_count}
 use Rattle.wire.specs.declared.message.Report.{Report}
 use Rattle.wire.specs.Contents.{contents_of}
 use Rattle.wire.specs.Message.{place_of}
@@ -13,7 +14,7 @@ use Rattle.writer_core.specs.Counts.{counts_of}
 
 -- what a client keeps of a group
 abbrev pub group_at : Standing → ClientGroup
-group_at s = record { place = place_of s.place; reports = copies_in s.copies.items; counts = counts_of s.counts.items; point = s.point }
+group_at s = record { place = place_of s.place; reports = copies_in s.copies.items; counts = counts_of s.counts.items; group_point = s.point }
 
 -- what a client keeps of its groups
 abbrev pub groups_of : List Standing → List ClientGroup

@@ -5,7 +5,9 @@ use Rattle.std.specs.Global.{Global}
 use Rattle.volume_model.specs.Plan.{Plan}
 use Rattle.volume_model.specs.Redo.{Redo, last_lsn}
 use Rattle.volume_model.specs.Lineage.{Lineage, last_start}
-use Rattle.volume_model.specs.Client.{Client, ClientGroup, Change, ClientStep, is_transaction, issued_log, issued_writes, place_of, raised}
+use Rattle.volume_model.specs.Client.{Client, ClientGroup, ClientStep, place_of}
+use Rattle.volume_model.specs.ClientPoints.{raised}
+use Rattle.volume_model.specs.ClientWriter.{Change, is_transaction, issued_log, issued_writes}
 use Rattle.volume_model.specs.Client.Stage.{Writing}
 use Rattle.lineage.specs.Lineage.{lineage_of}
 use Rattle.wire.specs.declared.message.Message.{Message}

@@ -2,7 +2,7 @@
 
 ghost use Rattle.std.specs.Prelude.{◌≡◌, ◌<◌, OnOk, OnErr, MatchOption};
 ghost use Rattle.std.specs.FinSet as set;
-ghost use Rattle.volume_model.specs.Client.{best, reaching, with_count};
+ghost use Rattle.volume_model.specs.ClientPoints.{best, reaching, with_count};
 ghost use Rattle.quorum_expr.specs.Expr.{formula_of};
 ghost use Rattle.writer_core.specs.Counts.{counts_of, IsNew, IsPlaceOf};
 

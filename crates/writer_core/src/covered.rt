@@ -17,7 +17,7 @@ pub struct Covered {
 impl Covered {
     ghost use Rattle.std.specs.Prelude.{◌≡◌, true};
     ghost use Rattle.writer_core.specs.Covered.{none};
-    ghost use Rattle.volume_model.specs.Client.{point_of};
+    ghost use Rattle.volume_model.specs.Client.{group_point_of};
     ghost use Rattle.writer_core.specs.Logs.{log_of, is_growing};
     ghost use Rattle.writer_core.specs.Groups.{groups_in};
     ghost use Rattle.writer_core.specs.Covered.{CoversFront, CoversLog};
@@ -36,8 +36,8 @@ impl Covered {
     /// Goes on behind the records that are covered, up to the first that isn't.
     pub fn follow(&mut self, log: &[Record], standings: &Standings)
         requires growing { is_growing (log_of log.now) ≡ true }
-        requires front { CoversFront self.old (point_of (groups_in standings.now)) log.now }
-        ensures { CoversLog self.new (point_of (groups_in standings.now)) log.now }
+        requires front { CoversFront self.old (group_point_of (groups_in standings.now)) log.now }
+        ensures { CoversLog self.new (group_point_of (groups_in standings.now)) log.now }
     {
         while self.records < log.len() {
             let record = log[self.records];

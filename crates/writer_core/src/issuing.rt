@@ -3,7 +3,8 @@
 ghost use Rattle.std.specs.Prelude.{◌≡◌, ◌+◌, ◌^◌, ◌<◌, ◌≤◌, ◌++◌, true, length, max, take, OnOk, IfErr};
 ghost use Rattle.volume_model.specs.declared.fault.Fault.TheVariants.{NoMemory};
 ghost use Rattle.volume_model.specs.Redo.{last_lsn};
-ghost use Rattle.volume_model.specs.Client.{record_of, issued_log, issued_writes, is_change, place_of};
+ghost use Rattle.volume_model.specs.Client.{place_of};
+ghost use Rattle.volume_model.specs.ClientWriter.{record_of, issued_log, issued_writes, is_change};
 ghost use Rattle.volume_model.specs.Lists.{every};
 ghost use Rattle.redo_record.specs.Record.{redo_of};
 ghost use Rattle.redo_record.specs.Payload.{HasRoom};

@@ -2,7 +2,8 @@
 
 ghost use Rattle.std.specs.Prelude.{◌≡◌, true, option_map};
 ghost use Rattle.volume_model.specs.Redo.{last_lsn, record_at};
-ghost use Rattle.volume_model.specs.Client.{is_point_of, last_of_group_below};
+ghost use Rattle.volume_model.specs.ClientPoints.{is_consistency_point};
+ghost use Rattle.volume_model.specs.ClientWriter.{last_of_group_below};
 ghost use Rattle.redo_record.specs.Record.{redo_of};
 ghost use Rattle.writer_core.specs.Logs.{log_of, is_growing};
 
@@ -45,7 +46,7 @@ pub fn record_at(log: &[Record], lsn: u64) -> Option<Record>
 /// Whether a record of this LSN is a consistency point.
 pub fn is_point(log: &[Record], lsn: u64) -> bool
     requires { is_growing (log_of log.now) ≡ true }
-    ensures { result ≡ is_point_of lsn (log_of log.now) }
+    ensures { result ≡ is_consistency_point lsn (log_of log.now) }
 {
     match record_at(log, lsn) {
         Some(record) => record.point,

@@ -1,7 +1,8 @@
 //! Where the groups of a plan stand, and what a client keeps of them there.
 
 ghost use Rattle.std.specs.Prelude.{◌≡◌, length, map};
-ghost use Rattle.volume_model.specs.Client.{raised, moved, later_group, reread_group, are_places};
+ghost use Rattle.volume_model.specs.ClientPoints.{raised};
+ghost use Rattle.volume_model.specs.ClientMessages.{with_places, later_group, reread_group, are_places};
 ghost use Rattle.plan.specs.CheckedModel.{checked_model};
 ghost use Rattle.wire.specs.Message.{place_of};
 ghost use Rattle.writer_core.specs.Standings.{groups_of, ArePlaced};
@@ -41,7 +42,7 @@ pub fn raise(plan: &CheckedPlan, standings: &mut [Standing])
 /// Moves each group to its place, where that is one of a later epoch.
 pub fn follow(standings: &mut [Standing], places: &[Place])
     requires { length places.now ≡ length standings.old }
-    ensures moved { groups_of standings.new ≡ moved later_group (groups_of standings.old) (map place_of places.now) }
+    ensures moved { groups_of standings.new ≡ with_places later_group (groups_of standings.old) (map place_of places.now) }
     ensures many { length standings.new ≡ length standings.old }
 {
     for group in 0..standings.len() {
@@ -52,7 +53,7 @@ pub fn follow(standings: &mut [Standing], places: &[Place])
 /// Moves each group to its place, where that is one of a later epoch, and then drops the group's reports.
 pub fn reread(standings: &mut [Standing], places: &[Place])
     requires { length places.now ≡ length standings.old }
-    ensures moved { groups_of standings.new ≡ moved reread_group (groups_of standings.old) (map place_of places.now) }
+    ensures moved { groups_of standings.new ≡ with_places reread_group (groups_of standings.old) (map place_of places.now) }
     ensures many { length standings.new ≡ length standings.old }
 {
     for group in 0..standings.len() {

@@ -25,7 +25,9 @@ impl Standing {
     ghost use Rattle.std.specs.Prelude.{◌≡◌, ◌<◌, OnOk, OnErr};
     ghost use Rattle.volume_model.specs.Formula.{sat};
     ghost use Rattle.volume_model.specs.Node.{senders};
-    ghost use Rattle.volume_model.specs.Client.{newly_at, raised_group, later_group, reread_group, place_configuration, counted_by};
+    ghost use Rattle.volume_model.specs.Client.{newly_at, place_configuration};
+    ghost use Rattle.volume_model.specs.ClientPoints.{raised_group, counted_by};
+    ghost use Rattle.volume_model.specs.ClientMessages.{later_group, reread_group};
     ghost use Rattle.plan.specs.CheckedModel.{checked_model};
     ghost use Rattle.wire.specs.Message.{place_of};
     ghost use Rattle.writer_core.specs.Standings.{group_at, counted_group, report_of, reported_group};

@@ -24,7 +24,10 @@ pub struct Standings {
 
 impl Standings {
     ghost use Rattle.std.specs.Prelude.{◌<◌, ◌≤◌, true, IfOk, OnOk, OnErr, MatchOption, map, replicate};
-    ghost use Rattle.volume_model.specs.Client.{newly_at, at_root, group_of, point_of, moved, later_group, reread_group, raised, are_places, has_read, has_installed};
+    ghost use Rattle.volume_model.specs.Client.{newly_at, at_root, group_of, group_point_of};
+    ghost use Rattle.volume_model.specs.ClientPoints.{raised};
+    ghost use Rattle.volume_model.specs.ClientRecovery.{has_read, has_installed};
+    ghost use Rattle.volume_model.specs.ClientMessages.{with_places, later_group, reread_group, are_places};
     ghost use Rattle.volume_model.specs.Client as client;
     ghost use Rattle.wire.specs.Message.{place_of, label_of};
     ghost use Rattle.writer_core.specs.Standings.{group_at, counted_in, report_of, reported_in};
@@ -88,7 +91,7 @@ impl Standings {
 
     /// The LSN up to which a group is acknowledged, and 0 where the plan has no such group.
     pub fn point(&self, group: u8) -> u64
-        ensures { result ≡ point_of (groups_in self.now) group }
+        ensures { result ≡ group_point_of (groups_in self.now) group }
     {
         self.list
             .get(usize::from(group))
@@ -156,7 +159,7 @@ impl Standings {
     /// Moves each group to its place, where that is one of a later epoch.
     pub fn follow(&mut self, places: &[Place])
         requires { are_places (standings_plan self.old) (map place_of places.now) ≡ true }
-        ensures groups { groups_in self.new ≡ moved later_group (groups_in self.old) (map place_of places.now) }
+        ensures groups { groups_in self.new ≡ with_places later_group (groups_in self.old) (map place_of places.now) }
         ensures plan { standings_plan self.new ≡ standings_plan self.old }
     {
         follow(self.list.as_mut_slice(), places);
@@ -165,7 +168,7 @@ impl Standings {
     /// Moves each group to its place, where that is one of a later epoch, and then drops the group's reports.
     pub fn reread(&mut self, places: &[Place])
         requires { are_places (standings_plan self.old) (map place_of places.now) ≡ true }
-        ensures groups { groups_in self.new ≡ moved reread_group (groups_in self.old) (map place_of places.now) }
+        ensures groups { groups_in self.new ≡ with_places reread_group (groups_in self.old) (map place_of places.now) }
         ensures plan { standings_plan self.new ≡ standings_plan self.old }
     {
         reread(self.list.as_mut_slice(), places);

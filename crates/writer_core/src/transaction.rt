@@ -1,7 +1,7 @@
 //! Which transactions are good ones.
 
 ghost use Rattle.std.specs.Prelude.{◌≡◌};
-ghost use Rattle.volume_model.specs.Client.{is_change, is_transaction};
+ghost use Rattle.volume_model.specs.ClientWriter.{is_change, is_transaction};
 ghost use Rattle.writer_core.specs.Changes.{change_of, changes_of};
 
 use crate::change::Change;

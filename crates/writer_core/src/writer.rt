@@ -5,7 +5,7 @@ ghost use Rattle.writer_core.specs.Logs.{log_of, is_growing};
 ghost use Rattle.writer_core.specs.Lasts.{AreLastsOfFront};
 ghost use Rattle.writer_core.specs.Covered.{CoversLog};
 ghost use Rattle.writer_core.specs.Groups.{groups_in};
-ghost use Rattle.volume_model.specs.Client.{point_of};
+ghost use Rattle.volume_model.specs.Client.{group_point_of};
 
 use crate::change::Change;
 use crate::covered::Covered;
@@ -42,7 +42,7 @@ pub struct Writer {
     ghost within: { found ≤ length log.items },
     ghost growing: { is_growing (log_of log.items) ≡ true },
     ghost front: { AreLastsOfFront lasts log.items },
-    ghost covers: { CoversLog covered (point_of (groups_in standings)) log.items },
+    ghost covers: { CoversLog covered (group_point_of (groups_in standings)) log.items },
 }
 
 impl Writer {
@@ -50,7 +50,10 @@ impl Writer {
     ghost use Rattle.std.specs.Arc.{arc_value};
     ghost use Rattle.plan.specs.CheckedModel.{checked_model};
     ghost use Rattle.volume_model.specs.Answer.{Answers, AnswersAlways, refusal_of};
-    ghost use Rattle.volume_model.specs.Client.{acknowledged, are_places, first_writer, issued, complete_point, durable_point, taken, resent, page_asked};
+    ghost use Rattle.volume_model.specs.Client.{first_writer};
+    ghost use Rattle.volume_model.specs.ClientPoints.{acknowledged, complete_point, durable_point};
+    ghost use Rattle.volume_model.specs.ClientWriter.{issued, resent, page_asked};
+    ghost use Rattle.volume_model.specs.ClientMessages.{are_places, taken};
     ghost use Rattle.volume_model.specs.declared.fault.Fault.TheVariants.{NoGroup, NoMemory};
     ghost use Rattle.wire.specs.Message.{message_of, place_of};
     ghost use Rattle.wire.specs.Addressed.{is_ack_to};
@@ -252,7 +255,7 @@ impl Writer {
     /// The LSN up to which a group is acknowledged: the greatest that a write set of its members has said at some moment. `NoGroup`
     /// where the volume has no such group.
     pub fn group_point(&self, group: u8) -> Result<u64, Fault>
-        ensures { MatchResult result (λ point. (group < (writer_plan self.now).groups) × (point_of (client_of self.now).groups group ≡ point)) (λ fault. ((writer_plan self.now).groups ≤ group) × (fault ≡ NoGroup)) }
+        ensures { MatchResult result (λ point. (group < (writer_plan self.now).groups) × (group_point_of (client_of self.now).groups group ≡ point)) (λ fault. ((writer_plan self.now).groups ≤ group) × (fault ≡ NoGroup)) }
     {
         match self.standings.get(group) {
             Some(standing) => Ok(standing.point),

@@ -3,7 +3,8 @@ use Rattle.std.proofs.lemmas.Bool.{lt-ltb, le-ltb}
 use Rattle.volume_model.specs.Plan.{Plan}
 use Rattle.volume_model.specs.Message as model
 use Rattle.volume_model.specs.Message.{place_in}
-use Rattle.volume_model.specs.Client.{label_of, place_of, raised_in}
+use Rattle.volume_model.specs.Client.{label_of, place_of}
+use Rattle.volume_model.specs.ClientMessages.{later_in}
 use Rattle.wire.specs.declared.label.Place.{Place}
 use Rattle.wire.specs.Message as wire
 use Rattle.writer_core.specs.Groups.{groups_in}
@@ -19,7 +20,7 @@ loop-group-preserved c =
     let i = c.loop-group.group in
     let k = c.from.result in
     let none : Place = record { configuration = 0; epoch = 0 } in
-    let test : ℕ → Bool = raised_in (place_of groups) (place_in (map wire.place_of places)) in
+    let test : ℕ → Bool = later_in (place_of groups) (place_in (map wire.place_of places)) in
     let said : ℕ → model.Message = λ group. model.Message.Fence group (label_of volume (place_in (map wire.place_of places)) group) in
     let many = c.groups-group-end.ensures.groups ∙ ap (λ (p : Plan). p.groups) c.plan.ensures ∙ sym c.requires in
     let within : i < length places = subst (λ n. i < n) many c.loop-group-test.true in

@@ -3,7 +3,8 @@ use Rattle.std.proofs.lemmas.Bool.{lt-ltb, le-ltb}
 use Rattle.volume_model.specs.Plan.{Plan}
 use Rattle.volume_model.specs.Message as model
 use Rattle.volume_model.specs.Message.{place_in}
-use Rattle.volume_model.specs.Client.{label_of, place_of, raised_in}
+use Rattle.volume_model.specs.Client.{label_of, place_of}
+use Rattle.volume_model.specs.ClientMessages.{later_in}
 use Rattle.volume_model.specs.Redo.{of_group}
 use Rattle.volume_model.specs.Lineage.{Contents}
 use Rattle.lineage.specs.Lineage.{lineage_of}
@@ -23,7 +24,7 @@ loop-group-preserved c =
     let i = c.loop-group.group in
     let k = c.from.result in
     let none : Place = record { configuration = 0; epoch = 0 } in
-    let test : ℕ → Bool = raised_in (place_of groups) (place_in (map wire.place_of places)) in
+    let test : ℕ → Bool = later_in (place_of groups) (place_in (map wire.place_of places)) in
     let contents : ℕ → Contents = λ (group : ℕ). record { lineage = lineage_of c.args.found.now.lineage; records = of_group group (log_of c.args.found.now.log.items) } in
     let said : ℕ → model.Message = λ group. model.Message.Install group (label_of volume (place_in (map wire.place_of places)) group) (contents group) in
     let many = c.groups-group-end.ensures.groups ∙ ap (λ (p : Plan). p.groups) c.plan.ensures ∙ sym c.requires in

@@ -3,7 +3,8 @@ use Rattle.volume_model.specs.Few.{Few}
 use Rattle.volume_model.specs.Lists.{numbered}
 use Rattle.volume_model.specs.Message.{Message}
 use Rattle.volume_model.specs.Plan.{Plan}
-use Rattle.volume_model.specs.Client.{Client, taken}
+use Rattle.volume_model.specs.Client.{Client}
+use Rattle.volume_model.specs.ClientMessages.{taken}
 use Rattle.volume_model.specs.World.{take}
 use Rattle.world.specs.declared.acts.ClientOrder.{ClientOrder}
 use Rattle.world.specs.declared.acts.ClientOrder.TheVariants as order

@@ -1,7 +1,7 @@
 use Rattle.std.proofs.Common.{◌≡◌, drop}
 use Rattle.std.specs.Prelude.{max}
 use Rattle.quorum_expr.specs.Expr.{formula_of}
-use Rattle.volume_model.specs.Client.{best}
+use Rattle.volume_model.specs.ClientPoints.{best}
 use Rattle.writer_core.specs.Counts.{counts_of}
 use Rattle.writer_core.proofs.counts.best.Given as goal
 

@@ -1,7 +1,8 @@
 use Rattle.std.proofs.Common.{arith, ◌≡◌, ℕ, ap, subst, ◌∙◌, ◌++◌, ◌∷◌, [], nat_eq, ◌+◌, length}
 use Rattle.volume_model.specs.Redo.{Redo}
 use Rattle.volume_model.specs.Message as model
-use Rattle.volume_model.specs.Client.{place_of, record_of, label_of}
+use Rattle.volume_model.specs.Client.{place_of, label_of}
+use Rattle.volume_model.specs.ClientWriter.{record_of}
 use Rattle.wire.specs.Message.{message_of}
 use Rattle.redo_record.specs.Record.{redo_of}
 use Rattle.writer_core.specs.Logs.{log_of}

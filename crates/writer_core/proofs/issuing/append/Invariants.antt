@@ -1,7 +1,8 @@
 use Rattle.std.proofs.Common.{◌≡◌, ◌+◌, ◌^◌, ◌≤◌, ◌++◌, true, drop, take, length, max}
 use Rattle.volume_model.specs.Lists.{every}
 use Rattle.volume_model.specs.Redo.{last_lsn}
-use Rattle.volume_model.specs.Client.{is_change, issued_log, issued_writes, place_of}
+use Rattle.volume_model.specs.Client.{place_of}
+use Rattle.volume_model.specs.ClientWriter.{is_change, issued_log, issued_writes}
 use Rattle.wire.specs.Message.{messages_of}
 use Rattle.writer_core.specs.Logs.{log_of, is_growing}
 use Rattle.writer_core.specs.Lasts.{AreLastsOfFront}

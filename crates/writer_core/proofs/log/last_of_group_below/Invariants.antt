@@ -1,5 +1,5 @@
 use Rattle.std.proofs.Common.{◌≡◌, take}
-use Rattle.volume_model.specs.Client.{last_of_group_below}
+use Rattle.volume_model.specs.ClientWriter.{last_of_group_below}
 use Rattle.writer_core.specs.Logs.{log_of}
 use Rattle.writer_core.proofs.log.last_of_group_below.Given as goal
 

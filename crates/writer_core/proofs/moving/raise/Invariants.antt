@@ -1,6 +1,6 @@
 use Rattle.std.proofs.Common.{◌≡◌, ◌++◌, take, drop}
 use Rattle.plan.specs.CheckedModel.{checked_model}
-use Rattle.volume_model.specs.Client.{raised, raised_from}
+use Rattle.volume_model.specs.ClientPoints.{raised, raised_from}
 use Rattle.writer_core.specs.Standings.{groups_of, ArePlaced}
 use Rattle.writer_core.proofs.moving.raise.Given as goal
 

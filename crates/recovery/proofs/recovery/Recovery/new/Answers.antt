@@ -2,7 +2,9 @@ use Rattle.std.proofs.Common.{◌≡◌, List, map, true, sym, ap, subst, ◌∙
 use Rattle.std.specs.Arc.{arc_value}
 use Rattle.volume_model.specs.Plan.{Plan}
 use Rattle.volume_model.specs.Client as client
-use Rattle.volume_model.specs.Client.{are_places, fences, newly_at}
+use Rattle.volume_model.specs.Client.{newly_at}
+use Rattle.volume_model.specs.ClientRecovery.{fences}
+use Rattle.volume_model.specs.ClientMessages.{are_places}
 use Rattle.plan.specs.declared.checked.CheckedPlan.{CheckedPlan}
 use Rattle.plan.specs.CheckedModel.{checked_model}
 use Rattle.wire.specs.declared.label.Place.{Place}

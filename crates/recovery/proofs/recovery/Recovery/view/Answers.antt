@@ -6,7 +6,9 @@ use Rattle.volume_model.specs.Message.{place_in}
 use Rattle.volume_model.specs.Client as client
 use Rattle.lineage.specs.Lineage.{lineage_of}
 use Rattle.writer_core.specs.Logs.{log_of}
-use Rattle.volume_model.specs.Client.{ClientGroup, later_group, reread_group, moved, taken, are_places, fences, installs, raised_in}
+use Rattle.volume_model.specs.Client.{ClientGroup}
+use Rattle.volume_model.specs.ClientRecovery.{fences, installs}
+use Rattle.volume_model.specs.ClientMessages.{later_group, reread_group, with_places, taken, are_places, later_in}
 use Rattle.wire.specs.declared.label.Place.{Place}
 use Rattle.wire.specs.Message.{place_of, messages_of}
 use Rattle.writer_core.specs.Standings.{group_at}
@@ -30,9 +32,9 @@ returns-in_ok-messages-in-None-clause-answers c =
     let value : c.as_slice-places.result.now ≡ items = c.as_slice-places.ensures.value in
     let many : length groups ≡ plan.groups = length-map self.standings.list.items group_at ∙ self.standings.each_group in
     let good : are_places plan (map place_of items) ≡ true = c.in_ok-admits_view.ensures.places in
-    let now : groups_in c.reread.new.self ≡ moved reread_group groups (map place_of items) = subst (λ (xs : List Place). groups_in c.reread.new.self ≡ moved reread_group groups (map place_of xs)) value c.reread.ensures.groups in
+    let now : groups_in c.reread.new.self ≡ with_places reread_group groups (map place_of items) = subst (λ (xs : List Place). groups_in c.reread.new.self ≡ with_places reread_group groups (map place_of xs)) value c.reread.ensures.groups in
     let made : List model.Message = messages_of c.in_ok-messages-in-None.messages.items in
-    let said = subst (λ (xs : List Place). made ≡ fences plan self.volume (place_in (map place_of xs)) (raised_in (client.place_of groups) (place_in (map place_of xs)))) value c.in_ok-messages-in-None.ensures in
+    let said = subst (λ (xs : List Place). made ≡ fences plan self.volume (place_in (map place_of xs)) (later_in (client.place_of groups) (place_in (map place_of xs)))) value c.in_ok-messages-in-None.ensures in
     view-reading plan self.volume c.args.view.now.volume groups (groups_in c.reread.new.self) (map place_of items) self.found made c.in_ok-admits_view.ensures.epoch many good c.in-None.is now said
 
 pub invariant_of-self-in-Some-clause-older : goal.invariant_of-self-in-Some-clause-older
@@ -49,7 +51,7 @@ returns-in_ok-messages-in-Some-clause-answers c =
     let value : c.as_slice-places.result.now ≡ items = c.as_slice-places.ensures.value in
     let many : length groups ≡ plan.groups = length-map self.standings.list.items group_at ∙ self.standings.each_group in
     let good : are_places plan (map place_of items) ≡ true = c.in_ok-admits_view.ensures.places in
-    let now : groups_in c.follow.new.self ≡ moved later_group groups (map place_of items) = subst (λ (xs : List Place). groups_in c.follow.new.self ≡ moved later_group groups (map place_of xs)) value c.follow.ensures.groups in
+    let now : groups_in c.follow.new.self ≡ with_places later_group groups (map place_of items) = subst (λ (xs : List Place). groups_in c.follow.new.self ≡ with_places later_group groups (map place_of xs)) value c.follow.ensures.groups in
     let made : List model.Message = messages_of c.in_ok-messages-in-Some.messages.items in
-    let said = subst (λ (xs : List Place). made ≡ installs plan self.volume (place_in (map place_of xs)) (lineage_of c.in-Some.found.lineage) (log_of c.in-Some.found.log.items) (raised_in (client.place_of groups) (place_in (map place_of xs)))) value c.in_ok-messages-in-Some.ensures in
+    let said = subst (λ (xs : List Place). made ≡ installs plan self.volume (place_in (map place_of xs)) (lineage_of c.in-Some.found.lineage) (log_of c.in-Some.found.log.items) (later_in (client.place_of groups) (place_in (map place_of xs)))) value c.in_ok-messages-in-Some.ensures in
     view-installing plan self.volume c.args.view.now.volume groups (groups_in c.follow.new.self) (map place_of items) self.found c.in-Some.found made c.in_ok-admits_view.ensures.epoch many good c.in-Some.is now said

@@ -5,7 +5,8 @@ use Rattle.std.specs.BTreeMap.{get}
 use Rattle.epochs.specs.Authority.{authority_of}
 use Rattle.volume_model.specs.Answer.{never_late, AnswersLate}
 use Rattle.volume_model.specs.declared.fault.Fault.{Fault}
-use Rattle.volume_model.specs.Client.{ClientAnswer, opened}
+use Rattle.volume_model.specs.Client.{ClientAnswer}
+use Rattle.volume_model.specs.ClientRecovery.{opened}
 use Rattle.writer_core.specs.Writers.{silent}
 use Rattle.world.specs.declared.client.Client.{Client}
 use Rattle.world.specs.Slots.{node_at}

@@ -1,6 +1,6 @@
 use Rattle.std.proofs.Common.{◌≡◌, List, [], ◌∷◌, refl, sym, ap, ap₂, ◌∙◌}
 use Rattle.std.specs.List.{AllZip}
-use Rattle.volume_model.specs.Client as model
+use Rattle.volume_model.specs.ClientWriter as model
 use Rattle.volume_model.specs.World.Event.{Issue}
 use Rattle.writer_core.specs.declared.change.Change.{Change}
 use Rattle.writer_core.specs.Changes.{change_of, changes_of}

@@ -1,11 +1,11 @@
 use Rattle.std.proofs.Common.{length, ◌-◌}
-use Rattle.volume_model.specs.Client.{point_of}
+use Rattle.volume_model.specs.Client.{group_point_of}
 use Rattle.writer_core.specs.Groups.{groups_in}
 use Rattle.writer_core.specs.Covered.{CoversFront}
 use Rattle.writer_core.proofs.covered.Covered.follow.Given as goal
 
 abbrev pub invariant-loop-self : goal.invariant-loop-self
-invariant-loop-self l = CoversFront l.self (point_of (groups_in l.standings)) l.log
+invariant-loop-self l = CoversFront l.self (group_point_of (groups_in l.standings)) l.log
 
 abbrev pub decreases-loop-self : goal.decreases-loop-self
 decreases-loop-self l = length l.log - l.self.records

@@ -1,7 +1,8 @@
 use Rattle.std.proofs.Common.{◌≡◌, ℕ, Bool, false, get_or, List, sym, ap, subst, length, ◌∙◌, ◌<◌}
 use Rattle.volume_model.specs.Formula.{sat}
 use Rattle.volume_model.specs.Plan.{Plan}
-use Rattle.volume_model.specs.Client.{ClientGroup, place_configuration, counted_by}
+use Rattle.volume_model.specs.Client.{ClientGroup, place_configuration}
+use Rattle.volume_model.specs.ClientPoints.{counted_by}
 use Rattle.plan.specs.declared.checked.CheckedPlan.{CheckedPlan}
 use Rattle.plan.specs.CheckedModel.{checked_model}
 use Rattle.writer_core.specs.declared.standing.Standing.{Standing}

@@ -5,7 +5,8 @@ use Rattle.std.proofs.lemmas.Result.{err_from_is_err_and}
 use Rattle.redo_record.specs.declared.«record».Record.{Record}
 use Rattle.wire.specs.declared.message.Message.{Message}
 use Rattle.volume_model.specs.Answer.{Answers, never_late}
-use Rattle.volume_model.specs.Client.{Client, ClientAnswer, issued, point_of}
+use Rattle.volume_model.specs.Client.{Client, ClientAnswer, group_point_of}
+use Rattle.volume_model.specs.ClientWriter.{issued}
 use Rattle.volume_model.specs.declared.fault.Fault.{Fault}
 use Rattle.writer_core.specs.Changes.{changes_of}
 use Rattle.writer_core.specs.Covered.{CoversLog}
@@ -37,4 +38,4 @@ invariant_of-self-in-Err-clause-covers c =
     let self = c.args.self.now in
     let many : c.len-length.result ≡ length self.log.items = omega arith in
     let back : c.truncate.new.self.items ≡ self.log.items = c.truncate.ensures.items ∙ ap (λ (n : ℕ). take n c.append.new.log.items) many ∙ c.append.ensures.front in
-    subst (λ (xs : List Record). CoversLog self.covered (point_of (groups_in self.standings)) xs) (sym back) self.covers
+    subst (λ (xs : List Record). CoversLog self.covered (group_point_of (groups_in self.standings)) xs) (sym back) self.covers
