@@ -1,14 +1,14 @@
-use world::{AuthorityAct, Client, ClientAct, ClientState, Event};
+use super::texts::SIX;
 use epochs::Authority;
 use lineage::Lineage;
 use plan::{check_plan, read_plan};
 use redo_record::RecordSet;
-use super::texts::SIX;
 use std::alloc::Global;
 use std::sync::Arc;
 use std::test::*;
 use volume_model::Fault;
 use wire::{Ack, Contents, Label, Message, Place, Report, View};
+use world::{AuthorityAct, Client, ClientAct, ClientState, Event};
 use writer_core::Change;
 
 /// The label under which volume epoch 2 speaks.

@@ -1,8 +1,8 @@
+use super::texts::SIX;
 use lineage::Lineage;
 use plan::{check_plan, read_plan};
 use recovery::{Recovery, cut_of, is_growing};
 use redo_record::{Packet, Payload, Record, RecordSet};
-use super::texts::SIX;
 use std::alloc::Global;
 use std::sync::Arc;
 use std::test::*;

@@ -1,5 +1,5 @@
-use plan::{check_plan, read_plan};
 use super::texts::SIX;
+use plan::{check_plan, read_plan};
 use std::alloc::Global;
 use std::sync::Arc;
 use std::test::*;
