@@ -1,20 +1,11 @@
 //! Checks plans of a quorum log volume, certifies them, and runs scripts over them.
 #![tactic(auto)]
 
-mod files;
-mod inputs;
-mod outputs;
-mod perform;
-mod reply;
-mod search;
 #[cfg(test)]
 mod tests;
-mod told;
 
 use command_line::{Usage, job};
-use files::Source;
-use outputs::{Output, deliver};
-use perform::perform;
+use jobs::{Output, Source, deliver, perform};
 use std::alloc::{AllocError, Global};
 use std::io::{ErrorKind, Write};
 use std::process::ExitCode;

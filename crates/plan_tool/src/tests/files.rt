@@ -1,9 +1,7 @@
 use super::said::{SIX_COPIES, done, job, missing, said};
-use crate::files::Source;
-use crate::outputs::Output;
-use crate::perform::perform;
 use crate::source;
 use command_line::{Action, Job};
+use jobs::{Output, Source, perform};
 use std::alloc::{AllocError, Global};
 use std::io;
 use std::io::{ErrorKind, Read, Write};

@@ -1,7 +1,5 @@
-use crate::files::Source;
-use crate::outputs::Output;
-use crate::perform::perform;
 use command_line::{Action, Job};
+use jobs::{Output, Source, perform};
 use std::alloc::Global;
 use std::io;
 use std::io::{ErrorKind, Read};

@@ -1,0 +1,14 @@
+//! A job, done on the contents of its files: what is answered to it, printed and told.
+#![tactic(auto)]
+
+mod files;
+mod inputs;
+mod outputs;
+mod performing;
+mod reply;
+mod search;
+mod told;
+
+pub use files::{ReadFault, Source};
+pub use outputs::{Output, WriteFailed, deliver};
+pub use performing::perform;

@@ -1,0 +1,187 @@
+//! The search for the certificates of a plan's claims.
+
+ghost use Rattle.std.specs.Prelude.{◌≡◌, ◌<◌, ◌≤◌, ◌++◌, Err, IfErr, IfOk, Ok, OnOk, is_none, length, map, option_map, string_bytes};
+ghost use Rattle.std.specs.List.{list_any};
+ghost use Rattle.refutation.specs.Certificate.{certificate_rule};
+ghost use Rattle.plan.specs.FaultText.{claim_text};
+ghost use Rattle.plan.specs.NamedClaims.{all_placed, placed};
+ghost use Rattle.plan.specs.Plan.{plan_data};
+ghost use Rattle.plan.specs.PlanClaims.{claims_in};
+ghost use Rattle.plan.specs.PlanData.{PlanData};
+ghost use Rattle.plan.specs.Written.{HasPlaces, rewritten};
+ghost use Rattle.cert_search.specs.Answers.{AreAnswersOf};
+ghost use Rattle.jobs.specs.Answers.{AnswersOf, file_of};
+ghost use Rattle.jobs.specs.Searched.{IsPlanLine, SearchesTo, TellsSearch, claims_of, found_answer};
+ghost use Rattle.jobs.specs.Stops.{StopsBy};
+ghost use Rattle.jobs.specs.Unfound.{claim_line, unfound_line, unfound_lines};
+ghost use Rattle.jobs.specs.declared.reply.Stop.TheVariants.{NoMemory};
+
+use crate::files::Source;
+use crate::inputs::{contents, plan_in};
+use crate::reply::{Found, Stop};
+use cert_search::{Gate, search_all};
+use command_line::Job;
+use plan::{NamedClaim, Plan, claims, no_fault_is_certified, write_plan};
+use refutation::Certificate;
+use std::alloc::{AllocError, Global};
+use std::io::Read;
+use std::sync::Wait;
+use std::thread::Threads;
+
+/// How many nodes are tried for a claim at most.
+const BUDGET: u64 = 100_000;
+
+/// Lets the search go on, and tells nobody of it.
+struct NoGate;
+
+impl Gate for NoGate {
+    fn started(&self, _claim: usize) {}
+
+    fn finished(&self, _claim: usize) {}
+}
+
+/// The claims of a plan.
+fn claims_of(alloc: Global, plan: &Plan) -> Result<Vec<NamedClaim>, Stop<'static>>
+    ensures claims { IfOk result (λ v. claims_in (plan_data plan.now) ≡ Ok (all_placed v.items)) }
+    ensures stop { IfErr result (StopsBy (λ fault. claims_in (plan_data plan.now) ≡ Err fault)) }
+{
+    match claims(alloc, plan) {
+        Ok(claims) => Ok(claims),
+        Err(fault) => Err(Stop::of_plan(fault)),
+    }
+}
+
+/// What the search answers to the claims of a plan that has them, so that memory alone can be missing.
+fn answers<H: Threads + Wait + Sync>(
+    rt: &H,
+    alloc: Global,
+    plan: &Plan,
+    workers: u8,
+) -> Result<Vec<Option<Certificate<Global>>>, Stop<'static>>
+    requires { (0 < workers) × (workers ≤ 16) }
+    ensures answers { IfOk result (λ v. AreAnswersOf 100000 (claims_in (plan_data plan.now)) v.items) }
+    ensures stop { IfErr result (λ stop. stop ≡ NoMemory) }
+{
+    match search_all(rt, alloc, plan, usize::from(workers), BUDGET, &NoGate) {
+        Ok(answers) => Ok(answers),
+        Err(_) => Err(Stop::NoMemory),
+    }
+}
+
+/// The line of a text's plan with these certificates.
+fn plan_line(
+    alloc: Global,
+    text: &[u8],
+    certificates: &[Option<Certificate<Global>>],
+) -> Result<Vec<u8>, Stop<'static>>
+    requires { HasPlaces text.now (length certificates.now) }
+    ensures line { IfOk result (λ line. (plan : PlanData) × (rewritten text.now (map (option_map certificate_rule) certificates.now) ≡ Ok plan) × IsPlanLine plan line.items) }
+    ensures stop { IfErr result (λ stop. stop ≡ NoMemory) }
+{
+    match write_plan(alloc, text, certificates) {
+        Ok(mut line) => {
+            line.push(b'\n')?;
+            Ok(line)
+        }
+        Err(_) => Err(Stop::NoMemory),
+    }
+}
+
+/// The name of a claim: that of a step, or that read sets meet write sets.
+fn claim_name(step: bool) -> &'static str
+    ensures { result.now ≡ claim_text step }
+{
+    if step { "step" } else { "meets" }
+}
+
+/// Adds the line of a claim without a certificate.
+fn add_claim(text: &mut String, claim: &NamedClaim) -> Result<(), AllocError>
+    ensures { OnOk result (string_bytes text.new ≡ string_bytes text.old ++ claim_line (placed claim.now)) }
+{
+    let group = claim.group;
+    let configuration = claim.configuration;
+    let name = claim_name(claim.step);
+    write!(
+        text,
+        "unfound: group {group} configuration {configuration} {name}\n"
+    )
+}
+
+/// Adds the line of a claim, where it has no certificate.
+fn add_unfound(
+    text: &mut String,
+    claim: &NamedClaim,
+    certificate: &Option<Certificate<Global>>,
+) -> Result<(), AllocError>
+    ensures { OnOk result (string_bytes text.new ≡ string_bytes text.old ++ unfound_line (placed claim.now) (option_map certificate_rule certificate.now)) }
+{
+    match certificate {
+        None => add_claim(text, claim),
+        Some(_) => Ok(()),
+    }
+}
+
+/// A line for each claim without a certificate.
+fn unfound(
+    alloc: Global,
+    claims: &[NamedClaim],
+    certificates: &[Option<Certificate<Global>>],
+) -> Result<String, AllocError>
+    ensures { IfOk result (λ text. string_bytes text ≡ unfound_lines (all_placed claims.now) (map (option_map certificate_rule) certificates.now)) }
+{
+    let mut text = String::new(alloc);
+    let mut left = certificates;
+    for claim in claims {
+        let Some((certificate, later)) = left.split_first() else {
+            break;
+        };
+        add_unfound(&mut text, claim, certificate)?;
+        left = later;
+    }
+    Ok(text)
+}
+
+/// Whether a claim has no certificate.
+fn has_gap(certificates: &[Option<Certificate<Global>>]) -> bool
+    ensures { result ≡ list_any (λ certificate. is_none certificate) certificates.now }
+{
+    certificates.iter().any(|certificate| certificate.is_none())
+}
+
+/// What a search for the certificates of a text's plan says.
+fn searched<H: Threads + Wait + Sync>(
+    rt: &H,
+    alloc: Global,
+    text: &[u8],
+    workers: u8,
+) -> Result<Found, Stop<'static>>
+    requires { (0 < workers) × (workers ≤ 16) }
+    ensures told { IfOk result (λ found. TellsSearch text.now found.status found.plan.items (string_bytes found.unfound)) }
+    ensures stop { IfErr result (StopsBy (λ fault. claims_of text.now ≡ Err fault)) }
+{
+    no_fault_is_certified();
+    let plan = plan_in(alloc, text)?;
+    let claims = claims_of(alloc, &plan)?;
+    let certificates = answers(rt, alloc, &plan, workers)?;
+    let line = plan_line(alloc, text, &certificates)?;
+    let unfound = unfound(alloc, &claims, &certificates)?;
+    let status = u8::from(has_gap(&certificates));
+    Ok(Found {
+        status,
+        plan: line,
+        unfound,
+    })
+}
+
+/// What `search` says.
+pub fn search<'a, H: Threads + Wait + Sync, P: Read>(
+    rt: &H,
+    alloc: Global,
+    job: &Job<'a>,
+    plan: &mut Source<P>,
+) -> Result<Found, Stop<'a>>
+    ensures { AnswersOf (file_of P.remaining job.now.plan.now plan.old plan.new) SearchesTo (found_answer result) }
+{
+    let text = contents(alloc, job.plan, plan)?;
+    searched(rt, alloc, text.as_slice(), job.workers)
+}

@@ -1,0 +1,202 @@
+//! The lines that the program prints.
+
+ghost use Rattle.std.specs.Prelude.{◌≡◌, ◌≤◌, ◌++◌, IfOk, OnOk, is_err, map, string_bytes};
+ghost use Rattle.std.specs.List.{list_any};
+ghost use Rattle.std.specs.Option.{option_copied};
+ghost use Rattle.volume_model.specs.Redo.{last_lsn};
+ghost use Rattle.plan.specs.CheckedModel.{checked_model};
+ghost use Rattle.writer_core.specs.Logs.{log_of};
+ghost use Rattle.world.specs.Outcomes.{find_of, opened_of};
+ghost use Rattle.jobs.specs.Told.{TellsOf, counts_line, each_line, find_line, first_if, next_lsn, plan_line, refused_line, rest_if, sum_below, writer_line};
+ghost use Rattle.jobs.specs.ToldLines.{AppendsLine, AppendsLines};
+
+use crate::reply::Reply;
+use plan::CheckedPlan;
+use redo_record::Record;
+use script::Step;
+use std::alloc::{AllocError, Global};
+use volume_model::Fault;
+use world::{FindEnd, Outcome, WriterEnd};
+
+/// How many configurations the groups have together.
+fn configurations(plan: &CheckedPlan) -> u64
+    ensures counted { result ≡ sum_below (checked_model plan.now).configurations (checked_model plan.now).groups }
+    ensures few { result ≤ 4080 }
+{
+    let mut count = 0u64;
+    for group in 0..plan.groups() {
+        count += u64::from(plan.configurations(group));
+    }
+    count
+}
+
+/// What is said of a plan without a fault: it has a certificate a configuration, and one more for each that has a parent.
+pub fn checked_line(alloc: Global, plan: &CheckedPlan) -> Result<String, AllocError>
+    ensures { IfOk result (λ text. string_bytes text ≡ plan_line (checked_model plan.now)) }
+{
+    let groups = u64::from(plan.groups());
+    let configurations = configurations(plan);
+    let certificates = (2 * configurations).saturating_sub(groups);
+    counts_line(alloc, groups, configurations, certificates)
+}
+
+/// The line of a plan without a fault that has so many groups, configurations and certificates.
+fn counts_line(
+    alloc: Global,
+    groups: u64,
+    configurations: u64,
+    certificates: u64,
+) -> Result<String, AllocError>
+    ensures { IfOk result (λ text. string_bytes text ≡ counts_line groups configurations certificates) }
+{
+    let mut text = String::new(alloc);
+    write!(
+        text,
+        "yes: {groups} groups, {configurations} configurations, {certificates} certificates\n"
+    )?;
+    Ok(text)
+}
+
+/// Whether an event was refused.
+fn has_refusal(results: &[Result<u64, Fault>]) -> bool
+    ensures { result ≡ list_any (λ told. is_err told) results.now }
+{
+    results.iter().any(|told| told.is_err())
+}
+
+/// What is told of a step's event, if it has one, and what is told of the later ones.
+fn first_told(
+    has_event: bool,
+    results: &[Result<u64, Fault>],
+) -> (Option<&Result<u64, Fault>>, &[Result<u64, Fault>])
+    ensures first { option_copied result.0 ≡ first_if has_event results.now }
+    ensures rest { result.1.now ≡ rest_if has_event results.now }
+{
+    if !has_event {
+        return (None, results);
+    }
+    match results.split_first() {
+        Some((first, later)) => (Some(first), later),
+        None => (None, results),
+    }
+}
+
+/// Adds the line of a step whose event was refused.
+fn add_refusal(text: &mut String, line: usize, fault: Fault) -> Result<(), AllocError>
+    ensures { OnOk result (string_bytes text.new ≡ string_bytes text.old ++ refused_line line fault) }
+{
+    write!(text, "{line} refused {fault}\n")
+}
+
+/// Adds what is told of a step's event.
+fn add_told(text: &mut String, line: usize, told: &Result<u64, Fault>) -> Result<(), AllocError>
+    ensures { OnOk result (AppendsLine line (Some told.now) (string_bytes text.old) (string_bytes text.new)) }
+{
+    match told {
+        Ok(made) => write!(text, "{line} ok {made}\n"),
+        Err(fault) => add_refusal(text, line, *fault),
+    }
+}
+
+/// Adds a step's line.
+fn add_step(
+    text: &mut String,
+    line: usize,
+    told: Option<&Result<u64, Fault>>,
+) -> Result<(), AllocError>
+    ensures { OnOk result (AppendsLine line (option_copied told.entry) (string_bytes text.old) (string_bytes text.new)) }
+{
+    match told {
+        None => write!(text, "{line} ok 0\n"),
+        Some(told) => add_told(text, line, told),
+    }
+}
+
+/// Adds a line for each step.
+fn add_steps(
+    text: &mut String,
+    steps: &[Step],
+    results: &[Result<u64, Fault>],
+) -> Result<(), AllocError>
+    ensures { OnOk result (AppendsLines steps.now results.now (string_bytes text.old) (string_bytes text.new)) }
+{
+    let mut left = results;
+    for step in steps {
+        let (told, later) = first_told(step.has_event, left);
+        add_step(text, step.line, told)?;
+        left = later;
+    }
+    Ok(())
+}
+
+/// The last LSN of a log, or 0 for an empty one.
+fn last_lsn(log: &[Record]) -> u64
+    ensures { result ≡ last_lsn (log_of log.now) }
+{
+    match log.last() {
+        Some(record) => record.lsn,
+        None => 0,
+    }
+}
+
+/// The LSN of the writer's next record: one above the greater of its log's last LSN, else 0, and its span's start.
+fn next_lsn(writer: &WriterEnd) -> u64
+    ensures { result ≡ next_lsn (opened_of writer.now) }
+{
+    last_lsn(writer.log.as_slice())
+        .max(writer.start)
+        .saturating_add(1)
+}
+
+/// Adds the line of an opened writer.
+fn add_writer(text: &mut String, writer: &WriterEnd) -> Result<(), AllocError>
+    ensures { OnOk result (string_bytes text.new ≡ string_bytes text.old ++ writer_line (opened_of writer.now)) }
+{
+    let volume = writer.volume;
+    let durable = writer.durable;
+    let next = next_lsn(writer);
+    write!(text, "writer {volume} durable {durable} next {next}\n")
+}
+
+/// Adds the line of a recovery that has cut.
+fn add_find(text: &mut String, find: &FindEnd) -> Result<(), AllocError>
+    ensures { OnOk result (string_bytes text.new ≡ string_bytes text.old ++ find_line (find_of find.now)) }
+{
+    let volume = find.volume;
+    let cut = find.found.cut;
+    let start = find.found.lineage.last_start();
+    write!(text, "recovery {volume} cut {cut} start {start}\n")
+}
+
+/// Adds a line for each recovery that has cut.
+fn add_finds(text: &mut String, finds: &[FindEnd]) -> Result<(), AllocError>
+    ensures { OnOk result (string_bytes text.new ≡ string_bytes text.old ++ each_line find_line (map find_of finds.now)) }
+{
+    for find in finds {
+        add_find(text, find)?;
+    }
+    Ok(())
+}
+
+/// Adds a line for each opened writer.
+fn add_writers(text: &mut String, writers: &[WriterEnd]) -> Result<(), AllocError>
+    ensures { OnOk result (string_bytes text.new ≡ string_bytes text.old ++ each_line writer_line (map opened_of writers.now)) }
+{
+    for writer in writers {
+        add_writer(text, writer)?;
+    }
+    Ok(())
+}
+
+/// A line for each step of a script, then one for each opened writer, then one for each recovery that has cut. The status is 1 where a
+/// step was refused.
+pub fn run_lines(alloc: Global, steps: &[Step], outcome: &Outcome) -> Result<Reply, AllocError>
+    ensures { IfOk result (λ reply. TellsOf steps.now outcome.now.results.items (map opened_of outcome.now.writers.items) (map find_of outcome.now.finds.items) reply.status (string_bytes reply.text)) }
+{
+    let mut text = String::new(alloc);
+    add_steps(&mut text, steps, outcome.results.as_slice())?;
+    add_writers(&mut text, outcome.writers.as_slice())?;
+    add_finds(&mut text, outcome.finds.as_slice())?;
+    let status = u8::from(has_refusal(outcome.results.as_slice()));
+    Ok(Reply { status, text })
+}

@@ -1,8 +1,0 @@
-use Rattle.std.proofs.Common.{◌≡◌, ◌++◌, drop, map, string_bytes}
-use Rattle.plan.specs.NamedClaims.{all_placed}
-use Rattle.plan_tool.specs.Unfound.{unfound_lines}
-use Rattle.plan_tool.proofs.Searching.{rule_in}
-use Rattle.plan_tool.proofs.search.unfound.Given as goal
-
-abbrev pub invariant-loop-claim : goal.invariant-loop-claim
-invariant-loop-claim l = unfound_lines (all_placed l.claims) (map rule_in l.certificates) ≡ string_bytes l.text ++ unfound_lines (all_placed (drop l.claim-index l.claims)) (map rule_in l.left)
