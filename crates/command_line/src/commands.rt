@@ -5,14 +5,19 @@ ghost use Rattle.clap.specs.Words.{app_of, rule_of, with_subcommand};
 ghost use Rattle.clap.specs.declared.builder.command.Command.TheViews.{out-Command as fields_of};
 ghost use Rattle.command_line.specs.CommandLine.{IsLeaf, file_rule, tool, program, file_leaf, script_leaf, workers_leaf, workers_rule};
 
+use crate::help;
 use clap::{Arg, ArgAction, Command, value_parser};
 use std::alloc::{AllocError, Global};
 
-fn file<'a>(alloc: Global, id: &'a str) -> Arg<'a>
+/// An argument that names a file.
+fn file<'a>(alloc: Global, id: &'a str, about: &'a str) -> Arg<'a>
     ensures rule { rule_of result ≡ file_rule id.entry.now }
     ensures local { result.global ≡ false }
 {
-    Arg::new(alloc, id).required(true).action(ArgAction::Set)
+    Arg::new(alloc, id)
+        .required(true)
+        .action(ArgAction::Set)
+        .help(about)
 }
 
 /// The program before its subcommands.
@@ -23,15 +28,22 @@ fn program<'a>(alloc: Global) -> Command<'a>
         .about("Checks plans of a quorum log volume, certifies them, and runs scripts over them")
         .version("0.1.0")
         .subcommand_required(true)
+        .after_help(help::PROGRAM)
 }
 
-/// A subcommand of one file.
-fn of_file<'a>(alloc: Global, name: &'a str, about: &'a str) -> Result<Command<'a>, AllocError>
+/// A subcommand of a plan's file.
+fn of_file<'a>(
+    alloc: Global,
+    name: &'a str,
+    about: &'a str,
+    notes: &'a str,
+) -> Result<Command<'a>, AllocError>
     ensures { IfOk result (IsLeaf (file_leaf name.entry.now)) }
 {
     Command::new(alloc, name)
         .about(about)
-        .arg(file(alloc, "plan"))
+        .after_help(notes)
+        .arg(file(alloc, "plan", "The plan's file: a JSON text"))
 }
 
 /// The option of how many workers there are.
@@ -43,23 +55,34 @@ fn workers<'a>(alloc: Global) -> Arg<'a>
         .short('w')
         .long("workers")
         .value_name("N")
-        .help("How many workers search")
+        .help("How many workers search, 1 to 16")
         .value_parser(value_parser!(u8).range(1..=16))
         .default_value("4")
 }
 
 /// A subcommand of a plan's file and a number of workers.
-fn of_workers<'a>(alloc: Global, name: &'a str, about: &'a str) -> Result<Command<'a>, AllocError>
+fn of_workers<'a>(
+    alloc: Global,
+    name: &'a str,
+    about: &'a str,
+    notes: &'a str,
+) -> Result<Command<'a>, AllocError>
     ensures { IfOk result (IsLeaf (workers_leaf name.entry.now)) }
 {
-    of_file(alloc, name, about)?.arg(workers(alloc))
+    of_file(alloc, name, about, notes)?.arg(workers(alloc))
 }
 
 /// A subcommand of a plan and a script.
-fn of_script<'a>(alloc: Global, name: &'a str, about: &'a str) -> Result<Command<'a>, AllocError>
+fn of_script<'a>(
+    alloc: Global,
+    name: &'a str,
+    about: &'a str,
+    notes: &'a str,
+) -> Result<Command<'a>, AllocError>
     ensures { IfOk result (IsLeaf (script_leaf name.entry.now)) }
 {
-    of_file(alloc, name, about)?.arg(file(alloc, "script"))
+    let script = file(alloc, "script", "The script's file: an event a line");
+    of_file(alloc, name, about, notes)?.arg(script)
 }
 
 fn add<'a>(command: Command<'a>, leaf: Command<'a>) -> Result<Command<'a>, AllocError>
@@ -75,14 +98,20 @@ pub fn command_line<'a>(alloc: Global) -> Result<Command<'a>, AllocError>
     ensures { IfOk result (λ c. app_of c ≡ tool) }
 {
     let command = program(alloc);
-    let check = of_file(alloc, "check", "Says whether a plan's quorums all meet")?;
+    let check = of_file(
+        alloc,
+        "check",
+        "Says whether a plan's quorums all meet",
+        help::CHECK,
+    )?;
     let command = add(command, check)?;
-    let run = of_script(alloc, "run", "Runs a script over a plan")?;
+    let run = of_script(alloc, "run", "Runs a script over a plan", help::RUN)?;
     let command = add(command, run)?;
     let search = of_workers(
         alloc,
         "search",
         "Writes a plan with certificates for its claims",
+        help::SEARCH,
     )?;
     add(command, search)
 }

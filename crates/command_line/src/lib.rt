@@ -3,6 +3,7 @@
 
 mod action;
 mod commands;
+mod help;
 mod usage;
 mod words;
 

@@ -1,0 +1,40 @@
+//! What the help says behind its lists.
+
+/// Of the whole program.
+pub const PROGRAM: &str = "\
+Exit status: 0 for yes, 1 for a refusal, 2 for words, files or texts that can't be used (told on standard error),
+and for an output that can't be written.
+
+Every plan's key is said in docs/PLANS.md, every script's word in docs/SCRIPTS.md, every refusal in docs/FAULTS.md.
+
+Example: plan_tool check examples/six_copies.json";
+
+/// Of `check`.
+pub const CHECK: &str = "\
+Reads the plan, and prints `yes: G groups, C configurations, K certificates`, or the plan's first fault.
+
+Exit status: 0 for yes; 1 for a fault; 2 where the file can't be read or its text isn't a plan's (told on standard
+error).
+
+Example: plan_tool check examples/six_copies.json";
+
+/// Of `run`.
+pub const RUN: &str = "\
+Checks the plan, reads the whole script, and makes its events happen over a volume that is just born. Prints a line an
+event, `LINE ok M` with the number of messages that it made or `LINE refused NUMBER NAME`; then the open writers, with
+what is durable, and the recoveries that have cut.
+
+Exit status: 0 where no event was refused; 1 where one was, or for a fault of the plan; 2 where a file can't be read or
+its text isn't a plan's or a script's (told on standard error).
+
+Example: plan_tool run examples/six_copies.json examples/recovery.script";
+
+/// Of `search`.
+pub const SEARCH: &str = "\
+Reads the plan, and prints it with the certificates that are found for its claims; tells on standard error of each claim
+for which none is found.
+
+Exit status: 0 where each claim has one; 1 where a claim has none, or for a fault of the plan; 2 where the file can't be
+read or its text isn't a plan's (told on standard error).
+
+Example: plan_tool search examples/uncertified.json -w 4 > certified.json";
