@@ -14,9 +14,9 @@ use Rattle.volume_model.specs.Plan.{has_member, is_fresh, IsAbove, IsCertified}
 use Rattle.volume_model.proofs.Above.{ancestor, steps_above}
 use Rattle.volume_model.specs.Claims.{KeepsClaim, KeepsStepClaim, ClaimsCertify}
 use Rattle.quorum_expr.specs.MemberSet.{all_members}
-use Rattle.quorum_expr.specs.MemberSetBits.{contains-all_members}
+use Rattle.quorum_expr.proofs.MemberSetLaws.{contains-all_members}
 use Rattle.quorum_expr.specs.Valid.{expression_fault}
-use Rattle.quorum_expr.specs.ValidLaws.{below_64, HasCounts-from, SpeaksOf-from}
+use Rattle.quorum_expr.proofs.ValidLaws.{below_64, HasCounts-from, SpeaksOf-from}
 use Rattle.refutation.specs.Rule.{Rule}
 use Rattle.quorum_checker.specs.Refutes.{Refutes, State, claim_state}
 use Rattle.quorum_checker.specs.FirstFault.{first_fault}

@@ -10,9 +10,9 @@ use Rattle.quorum_expr.specs.declared.expression.Expr.TheVariants.{KOf}
 use Rattle.volume_model.specs.Formula.{Formula, member, at_least, each_once, total_weight, formulas, weight_at, HasCounts}
 use Rattle.volume_model.proofs.FormulaLaws.{EachWeighs-to, each_once_weighs, formulas-each_once, total_weight-each_once}
 use Rattle.quorum_expr.specs.Expr.{formula_of}
-use Rattle.quorum_expr.specs.ExprLaws.{formula_of-KOf}
+use Rattle.quorum_expr.proofs.ExprLaws.{formula_of-KOf}
 use Rattle.quorum_expr.specs.Valid.{expression_fault}
-use Rattle.quorum_expr.specs.ValidLaws.{HasCounts-from}
+use Rattle.quorum_expr.proofs.ValidLaws.{HasCounts-from}
 use Rattle.volume_model.specs.declared.fault.Fault.{Fault}
 use Rattle.volume_model.specs.declared.fault.Fault.TheVariants.{NotAll, BadPair, TooFewPicked, CountTooSmall, BranchCount}
 use Rattle.quorum_checker.specs.Refutes.{picked_weight, paired_weight}

@@ -9,7 +9,7 @@ use Rattle.std.proofs.lemmas.Bool.Decides.{nat_tests}
 use Rattle.volume_model.specs.Formula.{Formula, Children, Members, member, at_least, no_child, child, sat, weight_held, total_weight, formulas, weight_at, EachWeighs}
 use Rattle.volume_model.proofs.FormulaLaws.{sat_more, unheld, item, picked, unheld-sum, unheld-at, picked_le}
 use Rattle.quorum_expr.specs.MemberSet.{all_members}
-use Rattle.quorum_expr.specs.MemberSetBits.{contains-all_members}
+use Rattle.quorum_expr.proofs.MemberSetLaws.{contains-all_members}
 use Rattle.volume_model.proofs.Sets.{contains-put}
 use Rattle.refutation.specs.declared.Side.{Side}
 use Rattle.refutation.specs.declared.Side.TheVariants.{Left, Right}

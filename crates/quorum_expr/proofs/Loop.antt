@@ -1,5 +1,5 @@
 -- Reading the items of a list one after the other, as a loop does.
-use Rattle.std.proofs.Common.{◌≡◌, ℕ, suc, ◌+◌, ◌<◌, List, ◌∷◌, ◌++◌, length, drop, get_or, map, ap, ◌∙◌, sym, add-one, drop-cons, Result, Ok}
+use Rattle.std.proofs.Common.{List, ◌++◌, Result, Ok}
 use Rattle.volume_model.specs.declared.fault.Fault.{Fault}
 use Rattle.volume_model.specs.Answer.{◌>>=◌}
 use Rattle.volume_model.specs.Formula.{Formula}
@@ -7,7 +7,3 @@ use Rattle.volume_model.specs.Formula.{Formula}
 -- what was read before, and what is still read
 abbrev pub with_front : List Formula → Result (List Formula) Fault → Result (List Formula) Fault
 with_front front read = read >>= λ fs. Ok (front ++ fs)
-
--- the element at hand and those after it
-pub next : {A B : Type 0} (f : A → B) (xs : List A) (i : ℕ) (x : A) → i < length xs → x ≡ get_or xs i x → map f (drop i xs) ≡ f x ∷ map f (drop (i + 1) xs)
-next f xs i x h is = ap (map f) (drop-cons xs i x h ∙ ap (λ y. y ∷ drop (suc i) xs) (sym is)) ∙ ap (λ n. f x ∷ map f (drop n xs)) (sym (add-one i))

@@ -9,11 +9,12 @@ use Rattle.volume_model.specs.Lists.{each_below}
 use Rattle.quorum_expr.specs.declared.expression.Expr.{Expr}
 use Rattle.quorum_expr.specs.declared.expression.Expr.TheVariants.{Member}
 use Rattle.quorum_expr.specs.Expr.{formula_of}
-use Rattle.quorum_expr.specs.ExprLaws.{formula_of-Member}
+use Rattle.quorum_expr.proofs.ExprLaws.{formula_of-Member}
 use Rattle.quorum_expr.specs.Forms.{formulas_of}
 use Rattle.quorum_expr.specs.Valid.{nodes, row_nodes}
 use Rattle.volume_model.specs.Sets.{listed}
-use Rattle.quorum_expr.specs.MemberSetBits.{same_members, contains-members_of}
+use Rattle.quorum_expr.specs.MemberSetBits.{contains-members_of}
+use Rattle.quorum_expr.proofs.MemberSetLaws.{same_members}
 use Rattle.quorum_expr.specs.MemberSet.{members_of}
 use Rattle.std.specs.Int.{bit_at, trailing_zeros, w64}
 use Rattle.std.proofs.lemmas.Nat.Bits.{bit_at-trailing_zeros}

@@ -10,7 +10,7 @@ use Rattle.quorum_expr.specs.declared.expression.Expr.TheVariants.{KOf}
 use Rattle.volume_model.specs.Formula.{Formula, at_least, each_once, formulas, total_weight, dual_of, HasCounts, EachHasCounts}
 use Rattle.volume_model.proofs.FormulaLaws.{formulas-each_once, total_weight-each_once, dual_of-once}
 use Rattle.quorum_expr.specs.Expr.{formula_of}
-use Rattle.quorum_expr.specs.ExprLaws.{formula_of-KOf}
+use Rattle.quorum_expr.proofs.ExprLaws.{formula_of-KOf}
 
 -- what a call gave is what its definition gives
 pub given : (x y : Formula) → ◌≡◌ {A = Result Formula Fault} (Ok x) (Ok y) → y ≡ x

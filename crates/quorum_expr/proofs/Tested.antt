@@ -9,7 +9,7 @@ use Rattle.volume_model.specs.Formula.{each_once, formulas, total_weight}
 use Rattle.volume_model.proofs.FormulaLaws.{formulas-each_once, total_weight-each_once}
 use Rattle.quorum_expr.specs.Expr.{formula_of}
 use Rattle.quorum_expr.specs.Valid.{or_then, good_count, good_threshold, shape_fault, row_fault, nodes, row_nodes}
-use Rattle.quorum_expr.specs.ExprLaws.{formula_of-KOf}
+use Rattle.quorum_expr.proofs.ExprLaws.{formula_of-KOf}
 
 pub shape-is : {A : Type 0} (e : Expr A) (k : ℕ) (of : Vec (Expr A) A) (levels : ℕ) → e ≡ KOf k of → shape_fault (formula_of e) levels ≡ (if levels == 0 then Some TooDeep else (if good_count k (vec_len of) then row_fault (each_once (map formula_of of.items)) (levels - 1) else Some BadCount))
 shape-is e k of levels is =

@@ -1,9 +1,6 @@
 pub mod Expr
-pub mod ExprLaws
 pub mod Forms
 pub mod MemberSet
 pub mod MemberSetBits
 pub mod Reading
-pub mod ReadingLaws
 pub mod Valid
-pub mod ValidLaws

@@ -2,7 +2,7 @@ use Rattle.std.proofs.Common.{◌+◌, ◌∷◌, [], ◌++◌, length, map, dro
 use Rattle.std.proofs.lemmas.List.{length-append}
 use Rattle.quorum_expr.specs.Expr.{formula_of}
 use Rattle.cert_search.specs.Plain.{equal_pairs}
-use Rattle.quorum_expr.proofs.Loop.{next}
+use Rattle.refutation.proofs.Loop.{next}
 use Rattle.cert_search.proofs.Pairs.{kept, paired}
 use Rattle.cert_search.proofs.plain.equal_pairs.Goals.{in-Some+in_ok-push, in_default}
 use Rattle.cert_search.proofs.plain.equal_pairs.Goals as goal

@@ -4,7 +4,7 @@ use Rattle.std.proofs.lemmas.Bool.Decides.{nat_tests}
 use Rattle.serde_json.specs.View.{view}
 use Rattle.quorum_expr.specs.Expr.{formula_of}
 use Rattle.quorum_expr.specs.Valid.{nodes}
-use Rattle.quorum_expr.specs.ReadingLaws.{valid_read}
+use Rattle.quorum_expr.proofs.ReadingLaws.{valid_read}
 use Rattle.quorum_expr.proofs.reading.read_expr.Goals as goal
 
 pub returns-clause-valid : goal.returns-clause-valid

@@ -1,7 +1,7 @@
 use Rattle.std.proofs.Common.{ap, ◌∙◌, sym, map}
 use Rattle.volume_model.specs.Formula.{at_least, each_once}
 use Rattle.quorum_expr.specs.Expr.{formula_of}
-use Rattle.quorum_expr.specs.ExprLaws.{formula_of-KOf}
+use Rattle.quorum_expr.proofs.ExprLaws.{formula_of-KOf}
 use Rattle.quorum_expr.proofs.Rebuilt.{pushed, finish, given, Ok-same}
 use Rattle.quorum_expr.proofs.rebuilding.+copy_in.Goals as goal
 

@@ -1,7 +1,7 @@
 use Rattle.std.proofs.Common.{◌+◌, ◌-◌, ap, ◌∙◌, sym, subst, map, arith}
 use Rattle.volume_model.specs.Formula.{at_least, each_once, dual_of, HasCounts}
 use Rattle.quorum_expr.specs.Expr.{formula_of}
-use Rattle.quorum_expr.specs.ExprLaws.{formula_of-KOf}
+use Rattle.quorum_expr.proofs.ExprLaws.{formula_of-KOf}
 use Rattle.quorum_expr.proofs.Rebuilt.{pushed, finish, counts_step, counts-KOf, dual_of-KOf, given, Ok-same}
 use Rattle.quorum_expr.proofs.rebuilding.+dual_formula.Goals as goal
 

@@ -7,7 +7,7 @@ use Rattle.volume_model.proofs.FormulaLaws.{sat-dual_of}
 use Rattle.quorum_expr.specs.declared.expression.Expr.{Expr}
 use Rattle.quorum_expr.specs.Expr.{formula_of}
 use Rattle.quorum_expr.specs.Valid.{expression_fault}
-use Rattle.quorum_expr.specs.ValidLaws.{HasCounts-from, valid-dual_of}
+use Rattle.quorum_expr.proofs.ValidLaws.{HasCounts-from, valid-dual_of}
 use Rattle.quorum_expr.proofs.Rebuilt.{given}
 use Rattle.quorum_expr.proofs.rebuilding.dual_in.Goals as goal
 

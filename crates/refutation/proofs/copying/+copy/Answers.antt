@@ -1,10 +1,11 @@
 use Rattle.std.proofs.Common.{◌≡◌, ◌+◌, ◌*◌, ◌<◌, ◌≤◌, ◌∙◌, ap, sym, subst, map, arith, Ok}
 use Rattle.volume_model.specs.Answer.{Gives}
+use Rattle.quorum_expr.proofs.Rebuilt.{pushed}
 use Rattle.refutation.specs.Rule.{pick, pair_up, branches_of, branch_depth, depth_of}
 use Rattle.refutation.specs.Refutation.{rule_of}
 use Rattle.refutation.specs.Forms.{rules_of}
 use Rattle.refutation.proofs.Rules.{rule_of-Pick, rule_of-Match, depth_step}
-use Rattle.refutation.proofs.Copied.{pushed, pick-copied, match-copied}
+use Rattle.refutation.proofs.Copied.{pick-copied, match-copied}
 use Rattle.refutation.proofs.copying.+copy.Goals as goal
 
 pub copy_tree-copy_branches-requires : goal.copy_tree-copy_branches-requires

@@ -1,6 +1,6 @@
 use Rattle.std.proofs.Common.{◌≡◌, ap, ◌∙◌, sym, arith}
 use Rattle.quorum_expr.specs.MemberSet.{members_of}
-use Rattle.quorum_expr.specs.MemberSetBits.{members_of-zero}
+use Rattle.quorum_expr.proofs.MemberSetLaws.{members_of-zero}
 use Rattle.quorum_expr.proofs.MemberLists.{none_in_empty, least_of}
 use Rattle.quorum_expr.proofs.member_set.MemberSet.first.Goals as goal
 

@@ -1,6 +1,6 @@
 use Rattle.std.proofs.Common.{◌∙◌}
 use Rattle.std.specs.FinSet as set
-use Rattle.quorum_expr.specs.MemberSetBits.{members_of-intersection}
+use Rattle.quorum_expr.proofs.MemberSetLaws.{members_of-intersection}
 use Rattle.quorum_expr.proofs.member_set.MemberSet.intersection.Goals as goal
 
 pub returns : goal.returns

@@ -1,7 +1,7 @@
 use Rattle.std.proofs.Common.{◌∙◌}
 use Rattle.std.proofs.lemmas.Nat.{or_lt}
 use Rattle.std.specs.FinSet as set
-use Rattle.quorum_expr.specs.MemberSetBits.{members_of-union}
+use Rattle.quorum_expr.proofs.MemberSetLaws.{members_of-union}
 use Rattle.quorum_expr.proofs.member_set.MemberSet.union.Goals as goal
 
 pub invariant_of-result : goal.invariant_of-result

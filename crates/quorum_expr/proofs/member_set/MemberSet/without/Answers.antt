@@ -1,6 +1,6 @@
 use Rattle.std.proofs.Common.{◌∙◌, ap}
 use Rattle.std.specs.FinSet as set
-use Rattle.quorum_expr.specs.MemberSetBits.{difference-one}
+use Rattle.quorum_expr.proofs.MemberSetLaws.{difference-one}
 use Rattle.quorum_expr.proofs.member_set.MemberSet.without.Goals as goal
 
 pub returns : goal.returns

@@ -16,7 +16,7 @@ use Rattle.volume_model.specs.Lists.{each_below}
 use Rattle.volume_model.specs.Sets.{listed}
 use Rattle.quorum_expr.specs.declared.form.Lists.{Lists}
 use Rattle.quorum_expr.specs.Valid.{good_count, good_threshold, shape_fault, row_fault, nodes, expression_fault}
-use Rattle.quorum_expr.specs.ValidLaws.{neither}
+use Rattle.quorum_expr.proofs.ValidLaws.{neither}
 use Rattle.quorum_expr.specs.Reading.{ChildList, each, named, Form, single, choice, set_of, form_of, child_count, each_of, members_at, children_at, formula_from, formula_at, expression_in}
 
 -- ---- the parts of a reading without a fault
