@@ -1,16 +1,18 @@
 -- Expressions that are rebuilt child by child.
 use Rattle.std.proofs.Common.{◌≡◌, ℕ, suc, ◌+◌, ◌-◌, ◌<◌, ◌≤◌, List, [], ◌∷◌, ◌++◌, length, get_or, drop, map, arith, ap, subst, vec_len, ◌∙◌, sym, append_assoc, add-one, drop-cons}
 use Rattle.std.specs.Prelude.{Vec, Result, Ok}
+use mir.Syntax.{w64}
+use mir.Val.{Fits}
 use Rattle.volume_model.specs.declared.fault.Fault.{Fault}
 use Rattle.std.proofs.lemmas.List.{drop_all}
 use Rattle.std.proofs.lemmas.List.{append-nil, map-append, length-map}
 use Rattle.std.proofs.lemmas.Simd.{map-map}
 use Rattle.quorum_expr.specs.declared.expression.Expr.{Expr}
-use Rattle.quorum_expr.specs.declared.expression.Expr.TheVariants.{KOf}
+use Rattle.quorum_expr.specs.declared.expression.Expr.TheVariants.{Member, KOf}
 use Rattle.volume_model.specs.Formula.{Formula, at_least, each_once, formulas, total_weight, dual_of, HasCounts, EachHasCounts}
 use Rattle.volume_model.proofs.FormulaLaws.{formulas-each_once, total_weight-each_once, dual_of-once}
 use Rattle.quorum_expr.specs.Expr.{formula_of}
-use Rattle.quorum_expr.proofs.ExprLaws.{formula_of-KOf}
+use Rattle.quorum_expr.proofs.ExprLaws.{formula_of-Member, formula_of-KOf}
 
 -- what a call gave is what its definition gives
 pub given : (x y : Formula) → ◌≡◌ {A = Result Formula Fault} (Ok x) (Ok y) → y ≡ x
@@ -50,6 +52,24 @@ counts-KOf k of h =
     let many : total_weight (each_once (map formula_of of.items)) ≡ vec_len of = total_weight-each_once (map formula_of of.items) ∙ length-map of.items formula_of ∙ sym (of.ok.0) in
     let children : length (formulas (each_once (map formula_of of.items))) ≡ vec_len of = ap length (formulas-each_once (map formula_of of.items)) ∙ length-map of.items formula_of ∙ sym (of.ok.0) in
     (here.0, omega (arith, many, here.1), omega (arith, children, here.2))
+
+-- the thresholds of its children
+pub counts-children : {A : Type 0} (e : Expr A) (k : ℕ) (of : Vec (Expr A) A) (xs : List (Expr A)) → e ≡ KOf k of → xs ≡ of.items → HasCounts (formula_of e) → EachHasCounts (each_once (map formula_of xs))
+counts-children e k of xs is list h =
+    let here : HasCounts (at_least k (each_once (map formula_of of.items))) = subst HasCounts (ap formula_of is ∙ formula_of-KOf k of) h in
+    subst (λ ys. EachHasCounts (each_once (map formula_of ys))) (sym list) here.3
+
+-- a member is its own dual
+pub dual_of-Member : {A : Type 0} (B : Type 0) (e : Expr A) (m : ℕ) → e ≡ Member m → dual_of (formula_of e) ≡ formula_of {A = B} (Member m)
+dual_of-Member {A} B e m is = ap (λ x. dual_of (formula_of x)) is ∙ ap dual_of (formula_of-Member A m) ∙ sym (formula_of-Member B m)
+
+-- a member is the same in any memory
+pub copy_of-Member : {A : Type 0} (B : Type 0) (e : Expr A) (m : ℕ) → e ≡ Member m → formula_of e ≡ formula_of {A = B} (Member m)
+copy_of-Member {A} B e m is = ap formula_of is ∙ formula_of-Member A m ∙ sym (formula_of-Member B m)
+
+-- the sum of a threshold's children and one fits a word
+pub few_fit : (n : ℕ) → n ≤ 64 → Fits w64 (n + 1)
+few_fit n h = omega arith
 
 -- the dual, child by child
 pub dual_of-KOf : {A : Type 0} (k : ℕ) (of : Vec (Expr A) A) → dual_of (formula_of (KOf k of)) ≡ at_least (vec_len of + 1 - k) (each_once (map (λ e. dual_of (formula_of e)) of.items))

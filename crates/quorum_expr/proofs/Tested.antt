@@ -1,15 +1,17 @@
 -- The test of an expression, child by child.
-use Rattle.std.proofs.Common.{◌≡◌, ℕ, suc, ◌+◌, ◌-◌, ◌<◌, ◌≤◌, List, ◌∷◌, length, get_or, drop, map, vec_len, ap, ◌∙◌, sym, add-one, drop-cons}
-use Rattle.std.specs.Prelude.{◌==◌, if◌then◌else◌, Some, None, Vec}
+use Rattle.std.proofs.Common.{◌≡◌, ℕ, suc, ◌+◌, ◌-◌, ◌<◌, ◌≤◌, List, ◌∷◌, length, get_or, drop, map, vec_len, arith, ap, ◌∙◌, sym, add-one, drop-cons}
+use Rattle.std.specs.Prelude.{◌==◌, ◌≢◌, true, false, nat_lt, if◌then◌else◌, Option, Some, None, Vec}
+use Rattle.std.proofs.lemmas.Bool.Decides.{nat_tests}
 use Rattle.std.proofs.lemmas.List.{drop_all, length-map}
 use Rattle.quorum_expr.specs.declared.expression.Expr.{Expr}
-use Rattle.quorum_expr.specs.declared.expression.Expr.TheVariants.{KOf}
-use Rattle.volume_model.specs.declared.fault.Fault.TheVariants.{BadCount, TooDeep}
-use Rattle.volume_model.specs.Formula.{each_once, formulas, total_weight}
+use Rattle.quorum_expr.specs.declared.expression.Expr.TheVariants.{Member, KOf}
+use Rattle.volume_model.specs.declared.fault.Fault.{Fault}
+use Rattle.volume_model.specs.declared.fault.Fault.TheVariants.{BadCount, TooDeep, NotAMember}
+use Rattle.volume_model.specs.Formula.{Formula, member, at_least, each_once, formulas, total_weight}
 use Rattle.volume_model.proofs.FormulaLaws.{formulas-each_once, total_weight-each_once}
 use Rattle.quorum_expr.specs.Expr.{formula_of}
 use Rattle.quorum_expr.specs.Valid.{or_then, good_count, good_threshold, shape_fault, row_fault, nodes, row_nodes}
-use Rattle.quorum_expr.proofs.ExprLaws.{formula_of-KOf}
+use Rattle.quorum_expr.proofs.ExprLaws.{formula_of-Member, formula_of-KOf}
 
 pub shape-is : {A : Type 0} (e : Expr A) (k : ℕ) (of : Vec (Expr A) A) (levels : ℕ) → e ≡ KOf k of → shape_fault (formula_of e) levels ≡ (if levels == 0 then Some TooDeep else (if good_count k (vec_len of) then row_fault (each_once (map formula_of of.items)) (levels - 1) else Some BadCount))
 shape-is e k of levels is =
@@ -44,3 +46,62 @@ nodes_done xs i h = ap (λ ys. row_nodes (each_once (map formula_of ys))) (drop_
 
 pub nodes-is : {A : Type 0} (e : Expr A) (k : ℕ) (of : Vec (Expr A) A) → e ≡ KOf k of → nodes (formula_of e) ≡ 1 + row_nodes (each_once (map formula_of of.items))
 nodes-is e k of is = ap nodes (ap formula_of is ∙ formula_of-KOf k of)
+
+-- ---- the fault of one level
+
+some_level : (levels : ℕ) → levels ≢ 0 → (levels == 0) ≡ false
+some_level levels h = grind (arith, nat_tests)
+
+pub no_level : (f : Formula) (levels : ℕ) → levels ≡ 0 → Some TooDeep ≡ shape_fault f levels
+no_level (member x) levels h = ap (λ n. if n == 0 then Some TooDeep else (if nat_lt x 64 then None else Some NotAMember)) (sym h)
+no_level (at_least k of) levels h = ap (λ n. if n == 0 then Some TooDeep else (if good_threshold k (total_weight of) (length (formulas of)) then row_fault of (n - 1) else Some BadCount)) (sym h)
+
+member-is : {A : Type 0} (e : Expr A) (m levels : ℕ) → levels ≢ 0 → e ≡ Member m → shape_fault (formula_of e) levels ≡ (if nat_lt m 64 then None else Some NotAMember)
+member-is {A} e m levels h is =
+    ap (λ f. shape_fault f levels) (ap formula_of is ∙ formula_of-Member A m) ∙ ap (λ b. if b then Some TooDeep else (if nat_lt m 64 then None else Some NotAMember)) (some_level levels h)
+
+below : (m : ℕ) → m < 64 → nat_lt m 64 ≡ true
+below m h = grind (arith, nat_tests)
+
+not_below : (m : ℕ) → 64 ≤ m → nat_lt m 64 ≡ false
+not_below m h = grind (arith, nat_tests)
+
+pub good_member : {A : Type 0} (e : Expr A) (m levels : ℕ) → levels ≢ 0 → e ≡ Member m → m < 64 → None ≡ shape_fault (formula_of e) levels
+good_member e m levels h is low = sym (member-is e m levels h is ∙ ap (λ b. if b then None else Some NotAMember) (below m low))
+
+pub bad_member : {A : Type 0} (e : Expr A) (m levels : ℕ) → levels ≢ 0 → e ≡ Member m → 64 ≤ m → Some NotAMember ≡ shape_fault (formula_of e) levels
+bad_member e m levels h is high = sym (member-is e m levels h is ∙ ap (λ b. if b then None else Some NotAMember) (not_below m high))
+
+-- ---- the count of one level
+
+pub counted_member : {A : Type 0} (e : Expr A) (m left room : ℕ) → e ≡ Member m → left ≡ room - 1 → left ≡ room - nodes (formula_of e)
+counted_member {A} e m left room is h = h ∙ ap (λ n. room - n) (sym (ap nodes (ap formula_of is ∙ formula_of-Member A m)))
+
+counted_here : (left room here rest before whole : ℕ) → before ≡ here + rest → left ≡ room - here → room - before ≡ whole → left - rest ≡ whole
+counted_here left room here rest before whole e h so_far = omega arith
+
+pub counted_step : {A : Type 0} (xs : List (Expr A)) (i : ℕ) (x : Expr A) (left room whole : ℕ) → i < length xs → x ≡ get_or xs i x → left ≡ room - nodes (formula_of x) → room - row_nodes (each_once (map formula_of (drop i xs))) ≡ whole
+    → left - row_nodes (each_once (map formula_of (drop (i + 1) xs))) ≡ whole
+counted_step xs i x left room whole h is here so_far =
+    counted_here left room (nodes (formula_of x)) (row_nodes (each_once (map formula_of (drop (i + 1) xs)))) (row_nodes (each_once (map formula_of (drop i xs)))) whole (nodes_step xs i x h is) here so_far
+
+all_counted : (left rest start all room whole : ℕ) → rest ≡ 0 → left - rest ≡ start - all → start ≡ room - 1 → whole ≡ 1 + all → left ≡ room - whole
+all_counted left rest start all room whole e so_far h i = omega arith
+
+pub counted_all : {A : Type 0} (e : Expr A) (k : ℕ) (of : Vec (Expr A) A) (xs : List (Expr A)) (i left start room : ℕ) → e ≡ KOf k of → xs ≡ of.items → length xs ≤ i → start ≡ room - 1
+    → left - row_nodes (each_once (map formula_of (drop i xs))) ≡ start - row_nodes (each_once (map formula_of xs)) → left ≡ room - nodes (formula_of e)
+counted_all e k of xs i left start room is list past first so_far =
+    all_counted left (row_nodes (each_once (map formula_of (drop i xs)))) start (row_nodes (each_once (map formula_of xs))) room (nodes (formula_of e)) (nodes_done xs i past) so_far first
+    (nodes-is e k of is ∙ ap (λ ys. 1 + row_nodes (each_once (map formula_of ys))) (sym list))
+
+pub row_skipped : {A : Type 0} (xs : List (Expr A)) (i levels : ℕ) (x : Expr A) (whole : Option Fault) → i < length xs → x ≡ get_or xs i x → None ≡ shape_fault (formula_of x) levels → row_fault (each_once (map formula_of (drop i xs))) levels ≡ whole
+    → row_fault (each_once (map formula_of (drop (i + 1) xs))) levels ≡ whole
+row_skipped xs i levels x whole h is none so_far =
+    ap (λ o. or_then o (row_fault (each_once (map formula_of (drop (i + 1) xs))) levels)) none ∙ sym (row_step xs i levels x h is) ∙ so_far
+
+-- one level fewer is fewer than all
+pub one_fewer : (levels t : ℕ) → levels ≢ 0 → levels ≡ t → levels - 1 < t
+one_fewer levels t h e = omega arith
+
+pub some_positive : (levels : ℕ) → levels ≢ 0 → 1 ≤ levels
+some_positive levels h = omega arith

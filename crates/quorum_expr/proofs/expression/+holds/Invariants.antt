@@ -2,8 +2,14 @@ use Rattle.std.proofs.Common.{◌≡◌, ◌+◌, ◌≤◌, drop, map}
 use Rattle.std.specs.FinSet as set
 use Rattle.volume_model.specs.Formula.{weight_held, each_once}
 use Rattle.quorum_expr.specs.Expr.{formula_of}
+use Rattle.quorum_expr.specs.Valid.{nodes}
 use Rattle.quorum_expr.proofs.expression.+holds.Given as goal
 
+-- how many nodes there are
+abbrev pub decreases-holds : goal.decreases-holds
+decreases-holds g l = nodes (formula_of l.expr.now)
+
+-- what held so far, and what holds of the children that are left
 abbrev pub invariant-loop-child : goal.invariant-loop-child
 invariant-loop-child g l =
     record {
