@@ -18,10 +18,6 @@ authority_plan a = checked_model (arc_value a.plan)
 abbrev pub authority_of : Authority → model.Authority
 authority_of a = record { last_volume = a.last_volume; configurations = a.configurations.items }
 
--- the authority that an authority is born as
-abbrev pub opened_as : Authority → Unit {0} → model.Authority
-opened_as a u = authority_of a
-
 -- the step of an authority that makes this message and is then this
 abbrev pub told : Message → model.Authority → AuthorityStep
 told message authority = record { made = message_of message; authority = authority }

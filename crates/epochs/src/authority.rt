@@ -23,14 +23,14 @@ pub struct Authority {
 
 impl Authority {
     ghost use Rattle.std.specs.Prelude.{◌<◌, Err, Ok, IfErr, IfOk, OnOk, map};
-    ghost use Rattle.volume_model.specs.Answer.{refusal_of, Answers, AnswersAlways};
+    ghost use Rattle.volume_model.specs.Answer.{refusal_of, Answers, AnswersAlways, AnswersNew};
     ghost use Rattle.volume_model.specs.World.{opening, places_now, place_now, assigned, advanced, refreshed};
     ghost use Rattle.wire.specs.Message.{place_of};
-    ghost use Rattle.epochs.specs.Authority.{advance_of, authority_of, authority_plan, opened_as, told};
+    ghost use Rattle.epochs.specs.Authority.{advance_of, authority_of, authority_plan, told};
 
     /// The authority of a new volume: volume epoch 1 is assigned, and each group stands at its root.
     pub fn new(alloc: Global, plan: Arc<CheckedPlan>) -> Result<Authority, Fault>
-        ensures authority { Answers opened_as (Ok (opening (checked_model (arc_value plan))).authority) tt result tt }
+        ensures authority { AnswersNew authority_of (Ok (opening (checked_model (arc_value plan))).authority) result }
         ensures plan { IfOk result (λ a. authority_plan a ≡ checked_model (arc_value plan)) }
     {
         let mut configurations = Vec::new(alloc);

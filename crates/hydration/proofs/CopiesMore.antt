@@ -6,10 +6,10 @@ use Rattle.std.specs.Ordering.{nat_cmp}
 use Rattle.std.specs.FinSet.{FinSet, contains, insert}
 use Rattle.volume_model.proofs.Sets.{contains-put}
 use Rattle.volume_model.specs.Lineage as model
-use Rattle.volume_model.specs.Lineage.{newest, found_in, with_live}
+use Rattle.volume_model.specs.Lineage.{newer, newest, found_in, with_live}
 use Rattle.volume_model.specs.Node.{senders}
 use Rattle.lineage.specs.declared.lineage.Lineage.{Lineage}
-use Rattle.lineage.specs.Lineage.{lineage_of, newer}
+use Rattle.lineage.specs.Lineage.{lineage_of}
 use Rattle.hydration.specs.declared.copied.Copied.{Copied}
 use Rattle.hydration.specs.Copies.{copy_of, copies_in, newest_with, with_found}
 

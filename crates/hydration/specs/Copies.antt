@@ -1,9 +1,8 @@
 use Rattle.std.specs.Prelude.{List, [], ◌∷◌, map}
 use Rattle.volume_model.specs.Redo.{Redo}
 use Rattle.volume_model.specs.Lineage as model
-use Rattle.volume_model.specs.Lineage.{with_live}
+use Rattle.volume_model.specs.Lineage.{newer, with_live}
 use Rattle.volume_model.specs.Node.{From}
-use Rattle.lineage.specs.Lineage.{newer}
 use Rattle.wire.specs.Contents.{contents_of}
 use Rattle.hydration.specs.declared.copied.Copied.{Copied}
 

@@ -1,12 +1,8 @@
-use Rattle.std.specs.Prelude.{◌≡◌, ℕ, ◌<◌, false, nat_le, if◌then◌else◌, List, [], ◌∷◌, ◌++◌, length, vec_capacity, Option, Some, None, Result, Ok}
+use Rattle.std.specs.Prelude.{◌≡◌, ◌<◌, false, nat_le, List, [], ◌∷◌, ◌++◌, length, vec_capacity, Option, Some, None, Result, Ok}
 use Rattle.volume_model.specs.declared.fault.Fault.{Fault}
 use Rattle.volume_model.specs.declared.fault.Fault.TheVariants.{NotAddressed}
 use Rattle.volume_model.specs.Refusal.{refuse_if}
-use Rattle.volume_model.specs.Formula.{Formula, sat}
-use Rattle.volume_model.specs.Lineage as model
-use Rattle.volume_model.specs.Lineage.{last_epoch, newest, found_in}
-use Rattle.volume_model.specs.Node as nodes
-use Rattle.volume_model.specs.Node.{From, senders, with_first}
+use Rattle.volume_model.specs.Node.{From, Hydrated, senders, with_first}
 use Rattle.wire.specs.declared.message.CopyReport.{CopyReport}
 use Rattle.wire.specs.Contents.{contents_of}
 use Rattle.hydration.specs.declared.copied.Copied.{Copied}
@@ -18,21 +14,9 @@ use Rattle.hydration.specs.Copies.{copy_of, copies_in}
 abbrev pub copies_of : Hydration → List From
 copies_of h = copies_in h.copies.items
 
--- what a node becomes: its volume epoch, and what it holds
-pub record Hydrated : Type 0 where
-  pub volume : ℕ
-  pub contents : model.Contents
-
+-- what a node becomes, as the model says it
 abbrev pub state_of : State → Hydrated
 state_of s = record { volume = s.volume; contents = contents_of s.contents }
-
--- From the copies of a read set a node gets the newest lineage, and all records that are live in it.
-abbrev pub finished : Formula → List From → Option Hydrated
-finished read copies =
-    let lineage = newest (nodes.contents_of copies) in
-    if sat read (senders copies)
-    then Some (record { volume = last_epoch lineage; contents = record { lineage = lineage; records = found_in lineage (nodes.contents_of copies) } })
-    else None
 
 -- the copy of the model that a member's report is
 abbrev pub reported : CopyReport → From

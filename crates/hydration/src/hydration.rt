@@ -5,9 +5,9 @@ ghost use Rattle.std.specs.FinSet as set;
 ghost use Rattle.volume_model.specs.Answer.{Answers, Gives};
 ghost use Rattle.volume_model.specs.declared.fault.Fault.TheVariants.{NoMemory};
 ghost use Rattle.quorum_expr.specs.Expr.{formula_of};
-ghost use Rattle.volume_model.specs.Node.{senders};
+ghost use Rattle.volume_model.specs.Node.{finished, senders};
 ghost use Rattle.hydration.specs.Copies.{copy_of};
-ghost use Rattle.hydration.specs.Hydration.{copies_of, finished, just, kept_after, state_of, with_ready, CanKeep, CanKeepAny};
+ghost use Rattle.hydration.specs.Hydration.{copies_of, just, kept_after, state_of, with_ready, CanKeep, CanKeepAny};
 
 use crate::copied::{Copied, State};
 use crate::found::{found_in, newest_lineage, senders};

@@ -20,10 +20,9 @@ pub struct Lineage {
 
 impl Lineage {
     ghost use Rattle.std.specs.Prelude.{◌<◌, ◌≤◌, [], IfOk};
-    ghost use Rattle.volume_model.specs.Answer.{Gives};
-    ghost use Rattle.volume_model.specs.Lineage.{birth, is_live, last_epoch, last_start};
-    ghost use Rattle.lineage.specs.Lineage.{lineage_of, extension, newer};
-    ghost use Rattle.volume_model.specs.Lineage.{last_cut};
+    ghost use Rattle.volume_model.specs.Answer.{AnswersNew};
+    ghost use Rattle.volume_model.specs.Lineage.{birth, extension, is_live, last_cut, last_epoch, last_start, newer};
+    ghost use Rattle.lineage.specs.Lineage.{lineage_of};
 
     /// No entry: what a segment has that was told nothing yet.
     pub fn empty(alloc: Global) -> Lineage
@@ -106,11 +105,11 @@ impl Lineage {
     }
 
     /// The lineage with the entry that a recovery of a later volume epoch adds, whose own numbers begin `lal` above all that its log
-    /// can have. Refused 73 where they would begin above the greatest number, 9 where there is no memory.
+    /// can have. `LsnSpent` where they would begin above the greatest number, and else `NoMemory` where there is no memory.
     pub fn extend(&self, volume_epoch: u32, cut: u64, lal: u64) -> Result<Lineage, Fault>
         requires later { last_epoch (lineage_of self.now) < volume_epoch }
         requires allowance { 1 ≤ lal }
-        ensures { Gives lineage_of result (extension (lineage_of self.now) volume_epoch cut lal) }
+        ensures { AnswersNew lineage_of (extension (lineage_of self.now) volume_epoch cut lal) result }
     {
         let Some(start) = cut.max(self.last_start()).checked_add(lal) else {
             return Err(Fault::LsnSpent);

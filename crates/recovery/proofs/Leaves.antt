@@ -1,27 +1,25 @@
 -- What a cut leaves.
-use Rattle.std.proofs.Common.{◌≡◌, ℕ, zero, suc, ◌+◌, ◌^◌, ◌≤◌, max, true, not, nat_lt, nat_eq, List, [], ◌∷◌, ◌++◌, Option, Some, None, Result, Ok, Err, is_some, length, take, get_or, if◌then◌else◌, refl, sym, ap, ap₂, ◌∙◌, inl, inr, arith, append-nil, add-one}
-use Rattle.std.proofs.lemmas.Bool.{cases_Bool}
+use Rattle.std.proofs.Common.{◌≡◌, ℕ, zero, suc, ◌^◌, ◌≤◌, Bool, true, false, not, nat_lt, nat_eq, List, [], ◌∷◌, ◌++◌, Option, Some, None, Result, Ok, Err, is_some, length, take, get_or, if◌then◌else◌, refl, sym, ap, ap₂, ◌∙◌, inl, inr, arith, append-nil, add-one}
 use Rattle.std.proofs.lemmas.List.{take_more, take_all}
 use Rattle.volume_model.specs.declared.fault.Fault.{Fault}
 use Rattle.volume_model.specs.declared.fault.Fault.TheVariants.{LsnSpent, NoMemory, NotReady}
-use Rattle.volume_model.specs.Answer.{AnswersLate, Gives, may_want_memory}
+use Rattle.std.specs.Prelude.{IfOk}
+use Rattle.volume_model.specs.Answer.{◌>>=◌, AnswersLate, AnswersNew, Fails, Gives, may_want_memory}
 use Rattle.volume_model.specs.Refusal.{refuse_if}
 use Rattle.volume_model.specs.Plan.{Plan}
-use Rattle.volume_model.specs.Message as model
 use Rattle.volume_model.specs.Redo.{Redo, record_at, follow, chain_from, chain_or_none, ends_at_point, cut_of, log_found}
-use Rattle.volume_model.specs.Lineage.{Lineage, Contents, last_start, extended, newest, found_in}
+use Rattle.volume_model.specs.Lineage.{Lineage, Contents, last_start, extended, extension, newest, found_in}
 use Rattle.volume_model.specs.Node.{contents_of}
-use Rattle.volume_model.specs.Client.{ClientGroup, ClientAnswer, no_group, reports_of, place_of}
-use Rattle.volume_model.specs.ClientRecovery.{all_reports, has_read, installs, cut_client}
-use Rattle.volume_model.specs.Client.Stage.{Installing}
+use Rattle.volume_model.specs.Client.{ClientGroup, ClientStep, ClientAnswer, no_group, reports_of}
+use Rattle.volume_model.specs.ClientRecovery.{all_reports, has_read, cut_step, cut_client}
 use Rattle.volume_model.proofs.Chains.{record_at-some, record_at-there, greatest_point-is, greatest_point-above}
-use Rattle.lineage.specs.Lineage.{lineage_of, extension}
+use Rattle.lineage.specs.Lineage.{lineage_of}
 use Rattle.writer_core.specs.Logs.{log_of}
 use Rattle.writer_core.specs.Groups.{keeping}
 use Rattle.recovery.specs.declared.found.Found.{Found}
 use Rattle.recovery.specs.Reported.{reports_in}
-use Rattle.recovery.specs.Finds.{Find, find_of, is_spent, live_records, found_by}
-use Rattle.recovery.specs.Recoveries.{client_with, cut_step}
+use Rattle.recovery.specs.Finds.{is_spent, live_records}
+use Rattle.recovery.specs.Recoveries.{client_with, found_step}
 use Rattle.recovery.proofs.OneMore.{reports-append}
 
 -- ---- records that are found alike
@@ -76,41 +74,16 @@ cut-there log =
 
 -- ---- the lineage's own entry
 
-pub entered : (parent lineage : Lineage) (volume cut lal : ℕ) → extension parent volume cut lal ≡ Ok lineage → lineage ≡ extended parent volume cut lal
-entered parent lineage volume cut lal h =
-    elim (cases_Bool (nat_lt (2 ^ 62) (max cut (last_start parent) + lal))) [
-      | inl e ↦ (let q : Err LsnSpent ≡ Ok lineage = rw e at h in cc)
-      | inr e ↦ (let q : Ok (extended parent volume cut lal) ≡ Ok lineage = rw e at h in cc)
-    ]
+-- the lineage that is found, from its parts
+pub found-lineage : (groups : List ClientGroup) (parent : Lineage) (volume cut own lal : ℕ) → parent ≡ newest (reports_in groups) → cut ≡ cut_of (live_records groups) → own ≡ lal
+    → extension parent volume cut own ≡ extension (newest (reports_in groups)) volume (cut_of (live_records groups)) lal
+found-lineage groups parent volume cut own lal p c l =
+    ap (λ q. extension q volume cut own) p ∙ ap₂ (extension (newest (reports_in groups)) volume) c l
 
--- what is found, from its parts
-abbrev found_with : Plan → ℕ → Lineage → ℕ → List Redo → Result Find Fault
-found_with plan volume parent cut log = refuse_if (nat_lt (2 ^ 62) (max cut (last_start parent) + plan.lal)) LsnSpent (Ok (record { lineage = extended parent volume cut plan.lal; log = log }))
-
-parts : (plan : Plan) (volume : ℕ) (groups : List ClientGroup) (parent : Lineage) (cut : ℕ) (log : List Redo) → parent ≡ newest (reports_in groups) → cut ≡ cut_of (live_records groups) → log ≡ log_found (live_records groups)
-    → found_by plan volume groups ≡ found_with plan volume parent cut log
-parts plan volume groups parent cut log p c l =
-    ap (λ q. found_with plan volume q (cut_of (live_records groups)) (log_found (live_records groups))) (sym p)
-    ∙ ap₂ (λ n k. found_with plan volume parent n k) (sym c) (sym l)
-
-pub found-ok : (plan : Plan) (volume : ℕ) (groups : List ClientGroup) (parent lineage : Lineage) (cut : ℕ) (log : List Redo) → parent ≡ newest (reports_in groups) → cut ≡ cut_of (live_records groups) → log ≡ log_found (live_records groups)
-    → extension parent volume cut plan.lal ≡ Ok lineage → found_by plan volume groups ≡ Ok (record { lineage = lineage; log = log })
-found-ok plan volume groups parent lineage cut log p c l h =
-    let is : lineage ≡ extended parent volume cut plan.lal = entered parent lineage volume cut plan.lal h in
-    parts plan volume groups parent cut log p c l
-    ∙ elim (cases_Bool (nat_lt (2 ^ 62) (max cut (last_start parent) + plan.lal))) [
-      | inl e ↦ (let q : Err LsnSpent ≡ Ok lineage = rw e at h in cc)
-      | inr e ↦ rw e (ap (λ (x : Lineage). Ok (record { lineage = x; log = log })) (sym is))
-    ]
-
-pub found-err : (plan : Plan) (volume : ℕ) (groups : List ClientGroup) (parent : Lineage) (cut : ℕ) (log : List Redo) (fault : Fault) → parent ≡ newest (reports_in groups) → cut ≡ cut_of (live_records groups) → log ≡ log_found (live_records groups)
-    → extension parent volume cut plan.lal ≡ Err fault → found_by plan volume groups ≡ Err fault
-found-err plan volume groups parent cut log fault p c l h =
-    parts plan volume groups parent cut log p c l
-    ∙ elim (cases_Bool (nat_lt (2 ^ 62) (max cut (last_start parent) + plan.lal))) [
-      | inl e ↦ (let q : Err LsnSpent ≡ Err fault = rw e at h in let f : LsnSpent ≡ fault = cc in rw e (ap Err f))
-      | inr e ↦ (let q : Ok (extended parent volume cut plan.lal) ≡ Err fault = rw e at h in cc)
-    ]
+-- a fault of a call that makes something new is that of its definition
+pub fails-new : {R T : Type 0} (view : R → T) (fault : Fault) (defined : Result T Fault) → AnswersNew view defined (Err fault) → Fails fault defined
+fails-new view NoMemory defined h = tt
+fails-new view fault defined h = h.0
 
 -- ---- the client's cut
 
@@ -135,55 +108,36 @@ abbrev cut_with : Plan → ℕ → List ClientGroup → List Contents → Client
 cut_with plan volume groups reported =
     let parent = newest reported in
     let records = found_in parent reported in
-    let lineage = extended parent volume (cut_of records) plan.lal in
-    let found = log_found records in
     refuse_if (not (has_read plan (keeping groups))) NotReady (
-    refuse_if (nat_lt (2 ^ 62) (last_start lineage)) LsnSpent (
-    Ok (record {
-      made = installs plan volume (place_of groups) lineage found (λ group. true);
-      client = record { stage = Installing; groups = groups; lineage = lineage; found = found; log = found };
-    })))
+    extension parent volume (cut_of records) plan.lal >>= λ lineage. Ok (cut_step plan volume (keeping groups) (log_found records) lineage))
 
-cut-with : (plan : Plan) (volume : ℕ) (groups : List ClientGroup) → length groups ≡ plan.groups → cut_client plan volume (client_with groups None) ≡ cut_with plan volume groups (reports_in groups)
-cut-with plan volume groups many = ap (cut_with plan volume groups) (all-reports groups plan.groups many)
+-- memory may be missing wherever enough is read
+late-then : (b : Bool) (own : Lineage) (step : Lineage → ClientStep) → may_want_memory is_spent (refuse_if b LsnSpent (Ok own) >>= λ lineage. Ok (step lineage)) ≡ true
+late-then true own step = refl
+late-then false own step = refl
 
-pub cut-ok : (plan : Plan) (volume : ℕ) (groups : List ClientGroup) (before : Option Found) (found : Found) (made : List model.Message) → length groups ≡ plan.groups → before ≡ None → has_read plan (keeping groups) ≡ true
-    → found_by plan volume groups ≡ Ok (find_of found) → made ≡ installs plan volume (place_of groups) (lineage_of found.lineage) (log_of found.log.items) (λ group. true)
-    → cut_client plan volume (client_with groups before) ≡ Ok (record { made = made; client = client_with groups (Some found) })
-cut-ok plan volume groups before found made many none ready h is =
-    ap (λ b. cut_client plan volume (client_with groups b)) none ∙ cut-with plan volume groups many
-    ∙ elim (cases_Bool (nat_lt (2 ^ 62) (max (cut_of (live_records groups)) (last_start (newest (reports_in groups))) + plan.lal))) [
-      | inl e ↦ (let q : Err LsnSpent ≡ Ok (find_of found) = rw e at h in cc)
-      | inr e ↦ (
-          let lineage = extended (newest (reports_in groups)) volume (cut_of (live_records groups)) plan.lal in
-          let log = log_found (live_records groups) in
-          let whole : Find = record { lineage = lineage; log = log } in
-          let q : Ok whole ≡ Ok (find_of found) = rw e at h in
-          let same : whole ≡ find_of found = cc in
-          rw (ready, e) (ap (λ (f : Find). Ok (record { made = installs plan volume (place_of groups) f.lineage f.log (λ group. true); client = record { stage = Installing; groups = groups; lineage = f.lineage; found = f.log; log = f.log } })) same
-          ∙ ap (λ ms. Ok (record { made = ms; client = client_with groups (Some found) })) (sym is)))
-    ]
+module _ (plan : Plan) (volume : ℕ) (groups : List ClientGroup) (before : Option Found) (many : length groups ≡ plan.groups) (none : before ≡ None) (ready : has_read plan (keeping groups) ≡ true) where
+  -- the lineage that it finds
+  abbrev found : Result Lineage Fault
+  found = extension (newest (reports_in groups)) volume (cut_of (live_records groups)) plan.lal
 
-pub cut-err : (plan : Plan) (volume : ℕ) (groups : List ClientGroup) (before : Option Found) (fault : Fault) → length groups ≡ plan.groups → before ≡ None → has_read plan (keeping groups) ≡ true → found_by plan volume groups ≡ Err fault
-    → cut_client plan volume (client_with groups before) ≡ Err fault
-cut-err plan volume groups before fault many none ready h =
-    ap (λ b. cut_client plan volume (client_with groups b)) none ∙ cut-with plan volume groups many
-    ∙ elim (cases_Bool (nat_lt (2 ^ 62) (max (cut_of (live_records groups)) (last_start (newest (reports_in groups))) + plan.lal))) [
-      | inl e ↦ (let q : Err LsnSpent ≡ Err fault = rw e at h in let f : LsnSpent ≡ fault = cc in rw (ready, e) (ap Err f))
-      | inr e ↦ (let q : Ok (record { lineage = extended (newest (reports_in groups)) volume (cut_of (live_records groups)) plan.lal; log = log_found (live_records groups) }) ≡ Err fault = rw e at h in cc)
-    ]
+  -- its step, under a lineage
+  abbrev cut_under : Lineage → ClientStep
+  cut_under lineage = cut_step plan volume (keeping groups) (log_found (live_records groups)) lineage
 
-cut-late : (plan : Plan) (volume : ℕ) (groups : List ClientGroup) (before : Option Found) → length groups ≡ plan.groups → before ≡ None → has_read plan (keeping groups) ≡ true → may_want_memory is_spent (cut_client plan volume (client_with groups before)) ≡ true
-cut-late plan volume groups before many none ready =
-    ap (λ b. may_want_memory is_spent (cut_client plan volume (client_with groups b))) none ∙ ap (may_want_memory is_spent) (cut-with plan volume groups many)
-    ∙ elim (cases_Bool (nat_lt (2 ^ 62) (max (cut_of (live_records groups)) (last_start (newest (reports_in groups))) + plan.lal))) [
-      | inl e ↦ rw (ready, e) refl
-      | inr e ↦ rw (ready, e) refl
-    ]
+  cuts : cut_client plan volume (client_with groups before) ≡ (found >>= λ lineage. Ok (cut_under lineage))
+  cuts =
+      ap (λ b. cut_client plan volume (client_with groups b)) none
+      ∙ ap (cut_with plan volume groups) (all-reports groups plan.groups many)
+      ∙ ap (λ b. refuse_if (not b) NotReady (found >>= λ lineage. Ok (cut_under lineage))) ready
 
--- what a recovery finds that hasn't cut, and has read enough, is what its cut leaves
-pub cut-found : (plan : Plan) (volume : ℕ) (groups : List ClientGroup) (before : Option Found) (result : Result Found Fault) → length groups ≡ plan.groups → before ≡ None → has_read plan (keeping groups) ≡ true
-    → Gives find_of result (found_by plan volume groups) → AnswersLate is_spent (cut_step plan volume) (cut_client plan volume (client_with groups before)) groups result groups
-cut-found plan volume groups before (Ok found) many none ready h = cut-ok plan volume groups before found (installs plan volume (place_of groups) (lineage_of found.lineage) (log_of found.log.items) (λ group. true)) many none ready h refl
-cut-found plan volume groups before (Err NoMemory) many none ready h = (cut-late plan volume groups before many none ready, refl)
-cut-found plan volume groups before (Err fault) many none ready h = (cut-err plan volume groups before fault many none ready h, refl)
+  -- what a recovery finds that hasn't cut, and has read enough, is what its cut leaves
+  pub cut-found : (result : Result Found Fault) → Gives (λ f. lineage_of f.lineage) result found → IfOk result (λ f. log_of f.log.items ≡ log_found (live_records groups))
+      → AnswersLate is_spent (found_step plan volume) (cut_client plan volume (client_with groups before)) groups result groups
+  cut-found (Ok f) h log =
+      cuts ∙ ap (λ (r : Result Lineage Fault). r >>= λ lineage. Ok (cut_under lineage)) h
+      ∙ ap (λ (l : List Redo). Ok (cut_step plan volume (keeping groups) l (lineage_of f.lineage))) (sym log)
+  cut-found (Err NoMemory) h log =
+      let own = extended (newest (reports_in groups)) volume (cut_of (live_records groups)) plan.lal in
+      (ap (may_want_memory is_spent) cuts ∙ late-then (nat_lt (2 ^ 62) (last_start own)) own cut_under, refl)
+  cut-found (Err fault) h log = (cuts ∙ ap (λ (r : Result Lineage Fault). r >>= λ lineage. Ok (cut_under lineage)) h, refl)

@@ -1,22 +1,20 @@
 -- One message more, and one report more.
 use Rattle.std.proofs.Common.{◌≡◌, ℕ, ◌+◌, ◌-◌, ◌<◌, Bool, true, false, nat_lt, List, [], ◌∷◌, ◌++◌, length, get_or, take, drop, map, if◌then◌else◌, refl, sym, ap, ap₂, ◌∙◌, append_assoc, append-nil, add-one, arith}
-use Rattle.std.proofs.lemmas.List.{map-append, take_more, take_all}
+use Rattle.std.proofs.lemmas.List.{map-append, take_all}
 use Rattle.volume_model.specs.Lists.{each_below}
 use Rattle.volume_model.specs.Message as model
 use Rattle.volume_model.specs.Message.{place_in}
-use Rattle.volume_model.specs.Lineage.{Contents, Lineage, found_in, with_live}
+use Rattle.volume_model.specs.Lineage.{Contents, Lineage, found_in, newer, with_live}
 use Rattle.volume_model.specs.Node.{contents_of}
 use Rattle.volume_model.specs.Client.{ClientGroup, place_of}
 use Rattle.volume_model.specs.ClientMessages.{later_in}
-use Rattle.lineage.specs.Lineage.{newer}
-use Rattle.hydration.specs.declared.copied.Copied.{Copied}
 use Rattle.hydration.specs.Copies.{copies_in, newest_with, with_found}
 use Rattle.wire.specs.declared.label.Place.{Place}
 use Rattle.wire.specs.declared.message.Message.{Message}
 use Rattle.wire.specs.Message as wire
 use Rattle.wire.specs.Message.{message_of, messages_of}
 use Rattle.writer_core.specs.declared.standing.Standing.{Standing}
-use Rattle.writer_core.specs.Standings.{group_at, groups_of}
+use Rattle.writer_core.specs.Standings.{groups_of}
 use Rattle.writer_core.proofs.Below.{place_in-at}
 use Rattle.recovery.specs.Reported.{reports_in}
 

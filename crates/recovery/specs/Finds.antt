@@ -1,26 +1,14 @@
 -- What a recovery finds.
-use Rattle.std.specs.Prelude.{◌≡◌, ℕ, ◌^◌, Bool, true, false, nat_lt, List, Result, Ok}
-use Rattle.volume_model.specs.Refusal.{refuse_if}
+use Rattle.std.specs.Prelude.{◌≡◌, Bool, true, false, List}
 use Rattle.volume_model.specs.declared.fault.Fault.{Fault}
 use Rattle.volume_model.specs.declared.fault.Fault.TheVariants.{LsnSpent}
-use Rattle.volume_model.specs.Plan.{Plan}
-use Rattle.volume_model.specs.Redo.{Redo, cut_of, log_found}
-use Rattle.volume_model.specs.Lineage.{Lineage, last_start, extended, newest, found_in}
+use Rattle.volume_model.specs.Redo.{Redo}
+use Rattle.volume_model.specs.Lineage.{last_cut, newest, found_in}
 use Rattle.volume_model.specs.Client.{Client, ClientGroup}
 use Rattle.lineage.specs.Lineage.{lineage_of}
-use Rattle.volume_model.specs.Lineage.{last_cut}
 use Rattle.writer_core.specs.Logs.{log_of}
 use Rattle.recovery.specs.declared.found.Found.{Found}
 use Rattle.recovery.specs.Reported.{reports_in}
-
--- the lineage of a recovery that has cut, and the log that it has found
-pub record Find : Type 0 where
-  pub lineage : Lineage
-  pub log : List Redo
-
--- what a program's find is
-abbrev pub find_of : Found → Find
-find_of found = record { lineage = lineage_of found.lineage; log = log_of found.log.items }
 
 -- This is what a client has found: the log, where it cut, and its lineage.
 pub record IsFindOf (client : Client) (found : Found) : Type 0 where
@@ -37,12 +25,6 @@ pub record IsSameFind (found other : Found) : Type 0 where
 -- the records that the reports of these groups hold, as far as they are live in the newest lineage
 abbrev pub live_records : List ClientGroup → List Redo
 live_records groups = found_in (newest (reports_in groups)) (reports_in groups)
-
--- what a recovery of this volume epoch finds in the reports of these groups, refused where its own numbers would begin above the greatest
-abbrev pub found_by : Plan → ℕ → List ClientGroup → Result Find Fault
-found_by plan volume groups =
-    let lineage = extended (newest (reports_in groups)) volume (cut_of (live_records groups)) plan.lal in
-    refuse_if (nat_lt (2 ^ 62) (last_start lineage)) LsnSpent (Ok (record { lineage = lineage; log = log_found (live_records groups) }))
 
 -- that the recovery's own numbers would begin above the greatest may be said after want of memory, since the log must be found first
 abbrev pub is_spent : Fault → Bool

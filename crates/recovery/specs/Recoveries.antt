@@ -1,5 +1,5 @@
 -- What a recovery is, as the model's client, and what it answers.
-use Rattle.std.specs.Prelude.{◌≡◌, ℕ, true, List, [], Option, Some, None, Result, Ok, Err}
+use Rattle.std.specs.Prelude.{◌≡◌, ℕ, List, [], Option, Some, None, Result, Ok, Err}
 use Rattle.std.specs.Prelude.{Vec}
 use Rattle.std.specs.Global.{Global}
 use Rattle.volume_model.specs.declared.fault.Fault.{Fault}
@@ -7,8 +7,8 @@ use Rattle.volume_model.specs.declared.fault.Fault.TheVariants.{NotAddressed}
 use Rattle.volume_model.specs.Plan.{Plan}
 use Rattle.volume_model.specs.Message as model
 use Rattle.volume_model.specs.Message.Message.{View, StepTo, Fence, Report, Install, Write, Gossip, Ack, CopyAsk, CopyReport, PageAsk, Page}
-use Rattle.volume_model.specs.Client.{Client, ClientGroup, ClientStep, ClientAnswer, place_of, unborn}
-use Rattle.volume_model.specs.ClientRecovery.{installs}
+use Rattle.volume_model.specs.Client.{Client, ClientGroup, ClientStep, ClientAnswer, unborn}
+use Rattle.volume_model.specs.ClientRecovery.{cut_step}
 use Rattle.volume_model.specs.ClientMessages.{taken}
 use Rattle.volume_model.specs.Client.Stage.{Reading, Installing}
 use Rattle.lineage.specs.Lineage.{lineage_of}
@@ -16,7 +16,7 @@ use Rattle.wire.specs.declared.message.Message.{Message}
 use Rattle.wire.specs.Message.{messages_of}
 use Rattle.writer_core.specs.declared.writer.Writer.{Writer}
 use Rattle.writer_core.specs.Logs.{log_of}
-use Rattle.writer_core.specs.Groups.{groups_in, standings_plan}
+use Rattle.writer_core.specs.Groups.{groups_in, keeping, standings_plan}
 use Rattle.writer_core.specs.Writers as writers
 use Rattle.recovery.specs.declared.found.Found.{Found}
 use Rattle.recovery.specs.declared.recovery.Recovery.{Recovery}
@@ -73,15 +73,12 @@ view_volume (PageAsk group label block point) = 0
 view_volume (Page group label sender block point bytes) = 0
 
 -- a new recovery with the messages that it makes, as a step
-abbrev pub begun : Recovery × Vec Message Global → Unit {0} → ClientStep
-begun (r, messages) u = record { made = messages_of messages.items; client = client_of r }
+abbrev pub begun : Recovery × Vec Message Global → ClientStep
+begun (r, messages) = record { made = messages_of messages.items; client = client_of r }
 
 -- the cut of a recovery that keeps these of its groups, with what it finds
-abbrev pub cut_step : Plan → ℕ → Found → List ClientGroup → ClientStep
-cut_step plan volume found groups = record {
-  made = installs plan volume (place_of groups) (lineage_of found.lineage) (log_of found.log.items) (λ group. true);
-  client = client_with groups (Some found);
-}
+abbrev pub found_step : Plan → ℕ → Found → List ClientGroup → ClientStep
+found_step plan volume found groups = cut_step plan volume (keeping groups) (log_of found.log.items) (lineage_of found.lineage)
 
 -- a call isn't refused
 abbrev pub admitted : Unit {0} → Unit {0} → Unit {0}

@@ -1,10 +1,15 @@
 //! What a recovery finds in the reports that it has.
 
-ghost use Rattle.std.specs.Prelude.{◌≡◌, ◌≤◌, true};
+ghost use Rattle.std.specs.Prelude.{◌≡◌, ◌≤◌, true, IfOk};
 ghost use Rattle.volume_model.specs.Answer.{Gives};
+ghost use Rattle.volume_model.specs.Lineage.{extension, newest};
+ghost use Rattle.volume_model.specs.Redo.{cut_of, log_found};
+ghost use Rattle.lineage.specs.Lineage.{lineage_of};
 ghost use Rattle.writer_core.specs.Groups.{groups_in, standings_plan};
+ghost use Rattle.writer_core.specs.Logs.{log_of};
 ghost use Rattle.recovery.specs.Cuts.{are_older};
-ghost use Rattle.recovery.specs.Finds.{find_of, found_by};
+ghost use Rattle.recovery.specs.Finds.{live_records};
+ghost use Rattle.recovery.specs.Reported.{reports_in};
 
 use crate::chain::{chain_of, firsts};
 use crate::cutting::cut_of;
@@ -19,7 +24,8 @@ use writer_core::Standings;
 pub fn find(alloc: Global, volume: u32, standings: &Standings) -> Result<Found, Fault>
     requires assigned { 1 ≤ volume }
     requires older { are_older volume (groups_in standings.now) ≡ true }
-    ensures { Gives find_of result (found_by (standings_plan standings.now) volume (groups_in standings.now)) }
+    ensures lineage { Gives (λ found. lineage_of found.lineage) result (extension (newest (reports_in (groups_in standings.now))) volume (cut_of (live_records (groups_in standings.now))) (standings_plan standings.now).lal) }
+    ensures log { IfOk result (λ found. log_of found.log.items ≡ log_found (live_records (groups_in standings.now))) }
 {
     standings.plan().certified();
     let parent = newest_lineage(alloc, standings.as_slice())?;

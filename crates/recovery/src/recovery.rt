@@ -28,18 +28,15 @@ pub struct Recovery {
 impl Recovery {
     ghost use Rattle.std.specs.Prelude.{◌≢◌, false, map, IfErr, IfOk, MatchOption, OnOk};
     ghost use Rattle.std.specs.Arc.{arc_value};
-    ghost use Rattle.volume_model.specs.Answer.{Answers, AnswersLate, refusal_of};
+    ghost use Rattle.volume_model.specs.Answer.{Answers, AnswersLate, AnswersNew, refusal_of};
     ghost use Rattle.volume_model.specs.declared.fault.Fault.TheVariants.{NoMemory};
     ghost use Rattle.volume_model.specs.Client.{has_cut};
     ghost use Rattle.volume_model.specs.ClientRecovery.{cut_client, opened};
-    ghost use Rattle.volume_model.specs.ClientMessages.{are_places, taken};
+    ghost use Rattle.volume_model.specs.ClientMessages.{are_places, is_for, taken};
     ghost use Rattle.plan.specs.CheckedModel.{checked_model};
     ghost use Rattle.wire.specs.Message.{message_of, place_of};
-    ghost use Rattle.wire.specs.Addressed.{is_ack_to, is_report_to};
-    ghost use Rattle.lineage.specs.Lineage.{lineage_of};
-    ghost use Rattle.writer_core.specs.Logs.{log_of};
     ghost use Rattle.writer_core.specs.Writers.{writer_plan, writer_volume, acted, silent};
-    ghost use Rattle.recovery.specs.Recoveries.{client_of, recovery_groups, recovery_plan, recovery_volume, admitted, begun, birth_of, cut_step, view_volume, Opens};
+    ghost use Rattle.recovery.specs.Recoveries.{client_of, recovery_groups, recovery_plan, recovery_volume, admitted, begun, birth_of, found_step, view_volume, Opens};
     ghost use Rattle.recovery.specs.Finds.{is_spent, IsFindOf};
 
     /// The View that makes a recovery, refused as [`Recovery::admits_birth`] says.
@@ -76,7 +73,7 @@ impl Recovery {
         plan: Arc<CheckedPlan>,
         message: &Message,
     ) -> Result<(Recovery, Vec<Message>), Fault>
-        ensures birth { Answers begun (birth_of (checked_model (arc_value plan)) (message_of message.now)) tt result tt }
+        ensures birth { AnswersNew begun (birth_of (checked_model (arc_value plan)) (message_of message.now)) result }
         ensures plan { IfOk result (λ made. recovery_plan made.0 ≡ checked_model (arc_value plan)) }
         ensures volume { IfOk result (λ made. recovery_volume made.0 ≡ view_volume (message_of message.now)) }
     {
@@ -152,7 +149,7 @@ impl Recovery {
     /// with records of that group, by a member. Takes no memory.
     pub fn admits_report(&self, report: &Report) -> Result<(), Fault>
         ensures refusal { result ≡ refusal_of (taken (recovery_plan self.now) (recovery_volume self.now) (client_of self.now) (message_of (Message.Report report.now))) }
-        ensures can { OnOk result (is_report_to report.now (recovery_volume self.now) (recovery_plan self.now).groups ≡ true) }
+        ensures can { OnOk result (is_for (recovery_volume self.now) (recovery_plan self.now).groups (message_of (Message.Report report.now)) ≡ true) }
         ensures own { IfErr result (λ fault. fault ≢ NoMemory) }
     {
         if !report.is_to(self.volume, self.groups()) {
@@ -183,7 +180,7 @@ impl Recovery {
     /// member. Takes no memory.
     pub fn admits_ack(&self, ack: &Ack) -> Result<(), Fault>
         ensures refusal { result ≡ refusal_of (taken (recovery_plan self.now) (recovery_volume self.now) (client_of self.now) (message_of (Message.Ack ack.now))) }
-        ensures can { OnOk result (is_ack_to ack.now (recovery_volume self.now) (recovery_plan self.now).groups ≡ true) }
+        ensures can { OnOk result (is_for (recovery_volume self.now) (recovery_plan self.now).groups (message_of (Message.Ack ack.now)) ≡ true) }
         ensures own { IfErr result (λ fault. fault ≢ NoMemory) }
     {
         if !ack.is_to(self.volume, self.groups()) {
@@ -209,7 +206,7 @@ impl Recovery {
 
     /// What a cut finds, refused as [`Recovery::admits_cut`] says.
     fn find_cut(&self, alloc: Global) -> Result<Found, Fault>
-        ensures { AnswersLate is_spent (cut_step (recovery_plan self.now) (recovery_volume self.now)) (cut_client (recovery_plan self.now) (recovery_volume self.now) (client_of self.now)) (recovery_groups self.now) result (recovery_groups self.now) }
+        ensures { AnswersLate is_spent (found_step (recovery_plan self.now) (recovery_volume self.now)) (cut_client (recovery_plan self.now) (recovery_volume self.now) (client_of self.now)) (recovery_groups self.now) result (recovery_groups self.now) }
     {
         if self.found.is_some() {
             return Err(Fault::AlreadyDone);

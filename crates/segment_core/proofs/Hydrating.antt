@@ -1,18 +1,16 @@
 -- The step by which a node becomes whole
-use Rattle.std.proofs.Common.{◌≡◌, ℕ, ◌<◌, ◌≤◌, Bool, true, false, not, ◌&&◌, nat_lt, List, [], max, length, Result, Ok, Err, refl, sym, ap, ap₂, ◌∙◌, inl, inr, true≢false}
+use Rattle.std.proofs.Common.{◌≡◌, ℕ, ◌<◌, ◌≤◌, Bool, true, false, ◌&&◌, nat_lt, List, [], max, length, Result, Ok, Err, refl, sym, ap, ap₂, ◌∙◌, inl, inr, true≢false}
 use Rattle.std.proofs.lemmas.Bool.{cases_Bool}
 use Rattle.std.proofs.lemmas.Bool.{lt-ltb, le-ltb}
-use Rattle.volume_model.specs.Answer.{◌>>=◌, Answers, AnswersLate, may_want_memory, never_late}
-use Rattle.volume_model.specs.Formula.{sat}
-use Rattle.volume_model.specs.Lineage.{last_epoch, newest, found_in}
+use Rattle.volume_model.specs.Answer.{◌>>=◌, AnswersLate, AnswersNew, may_want_memory, never_late}
 use Rattle.volume_model.specs.Plan as model
-use Rattle.volume_model.specs.Node.{Node, NodeAnswer, contents_of, has_configuration, hydrated, most_records, senders}
+use Rattle.volume_model.specs.Node.{Node, Hydrated, gathered, hydrated, most_records, whole_from, whole_node}
 use Rattle.volume_model.specs.Refusal.{refuse_if}
 use Rattle.volume_model.specs.declared.fault.Fault.{Fault}
-use Rattle.volume_model.specs.declared.fault.Fault.TheVariants.{Full, NoMemory, NotEnough}
-use Rattle.hydration.specs.Hydration.{Hydrated}
+use Rattle.volume_model.specs.declared.fault.Fault.TheVariants.{Full, NoMemory}
+use Rattle.hydration.specs.Hydration.{state_of}
 use Rattle.segment_core.specs.Prepared.{step_of}
-use Rattle.segment_core.specs.Segment.{gathered, gathered_state, hydration_of, is_full, node_of}
+use Rattle.segment_core.specs.Segment.{hydration_of, is_full, node_of}
 use Rattle.segment_core.specs.Records.{records_of}
 use Rattle.segment_core.specs.declared.segment.Segment.{Segment}
 use Rattle.segment_core.specs.declared.records.Records.{Records}
@@ -26,25 +24,9 @@ use Rattle.volume_model.specs.Redo.{Redo}
 use Rattle.std.specs.Prelude.{Vec}
 use Rattle.std.specs.Global.{Global}
 
--- the node that has become whole
-abbrev pub whole_node : Node → Hydrated → Node
-whole_node node h = record { volume = max node.volume h.volume; place = node.place; whole = true; contents = h.contents; copies = node.copies }
-
--- what comes of what the copies make of it
-abbrev pub whole_from : Node → Hydrated → NodeAnswer
-whole_from node h = refuse_if (nat_lt most_records (length h.contents.records)) Full (Ok (record { made = []; node = whole_node node h }))
-
-refused_first : {A B : Type 0} (test : Bool) (fault : Fault) (x : A) (f : A → Result B Fault) → refuse_if test fault (f x) ≡ (refuse_if test fault (Ok x) >>= f)
-refused_first true fault x f = refl
-refused_first false fault x f = refl
-
 -- a node that isn't whole becomes what its copies make of it
 pub gathers : (plan : model.Plan) (group member : ℕ) (node : Node) → node.whole ≡ false → hydrated plan group member node ≡ (gathered plan group member node >>= whole_from node)
-unfolding gathered
-gathers plan group member node un =
-    let lineage = newest (contents_of node.copies) in
-    rw un (refused_first (not (has_configuration plan group member node && sat (plan.configuration group node.place.configuration).read (senders node.copies))) NotEnough
-    (record { volume = last_epoch lineage; contents = record { lineage = lineage; records = found_in lineage (contents_of node.copies) } }) (whole_from node))
+gathers plan group member node un = rw un refl
 
 pub and_false : (b : Bool) → (b && false) ≡ false
 and_false true = refl
@@ -59,7 +41,7 @@ late_first node (Ok h) e = late_whole node h
 late_first node (Err fault) e = absurd (true≢false (sym e))
 
 -- a fault of what is gathered is one of the whole
-pub fails_first : (fault : Fault) (node : Node) (first : Result Hydrated Fault) → Answers gathered_state first node (Err fault) node → AnswersLate is_full step_of (first >>= whole_from node) node (Err fault) node
+pub fails_first : (fault : Fault) (node : Node) (first : Result Hydrated Fault) → AnswersNew state_of first (Err fault) → AnswersLate is_full step_of (first >>= whole_from node) node (Err fault) node
 fails_first NoMemory node first h = (late_first node first h.0, refl)
 fails_first fault node first h = (ap (λ (r : Result Hydrated Fault). r >>= whole_from node) h.0, refl)
 

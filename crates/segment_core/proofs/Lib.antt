@@ -6,4 +6,3 @@ pub mod Sets
 pub mod Offering
 pub mod Hydrating
 pub mod Ready
-pub mod Refusing

@@ -1,17 +1,13 @@
-use Rattle.std.specs.Prelude.{◌≡◌, ◌⊎◌, ℕ, Bool, true, false, not, ◌&&◌, ◌==◌, nat_lt, List, [], ◌∷◌, Option, Some, None, Result, Ok, Err, Vec}
+use Rattle.std.specs.Prelude.{◌≡◌, ◌⊎◌, ℕ, Bool, true, false, not, List, [], ◌∷◌, Option, Some, None, Result, Ok, Vec}
 use Rattle.std.specs.Arc.{arc_value}
 use Rattle.std.specs.Borrow.{Bor}
 use Rattle.std.specs.Global.{Global}
 use Rattle.volume_model.specs.Plan as model
-use Rattle.volume_model.specs.Formula.{sat}
-use Rattle.volume_model.specs.Lineage.{last_epoch, newest, found_in}
-use Rattle.volume_model.specs.Redo.{scl}
-use Rattle.volume_model.specs.Node.{Node, NodeAnswer, NodeStep, born_node, contents_of, has_configuration, hydrated, lineage_epoch, page_of, reaction, senders}
+use Rattle.volume_model.specs.Node.{Node, NodeAnswer, NodeStep, born_node, has_configuration, hydrated, page_checks, page_of, reaction}
 use Rattle.volume_model.specs.Message as model_message
-use Rattle.volume_model.specs.Message.{Label}
 use Rattle.volume_model.specs.Refusal.{refuse_if}
 use Rattle.volume_model.specs.declared.fault.Fault.{Fault}
-use Rattle.volume_model.specs.declared.fault.Fault.TheVariants.{Full, NoActor, NotEnough, NotInstalled, NotWhole, PointAhead, TailSegment}
+use Rattle.volume_model.specs.declared.fault.Fault.TheVariants.{Full, NoActor, NotWhole}
 use Rattle.quorum_expr.specs.declared.expression.Expr.{Expr}
 use Rattle.quorum_expr.specs.Expr.{formula_of}
 use Rattle.plan.specs.CheckedModel.{checked_model}
@@ -19,8 +15,7 @@ use Rattle.redo_record.specs.Packet.{packet_redo}
 use Rattle.lineage.specs.Lineage.{lineage_of}
 use Rattle.wire.specs.declared.message.Message.{Message}
 use Rattle.wire.specs.Message.{message_of, messages_of}
-use Rattle.hydration.specs.declared.copied.State.{State}
-use Rattle.hydration.specs.Hydration.{copies_of, state_of, CanKeep, Hydrated}
+use Rattle.hydration.specs.Hydration.{copies_of, CanKeep}
 use Rattle.segment_core.specs.declared.prepared.Effect.{Effect}
 use Rattle.segment_core.specs.declared.prepared.Effect.TheVariants.{Enter, Keep}
 use Rattle.segment_core.specs.declared.prepared.Prepared.{Prepared}
@@ -67,30 +62,10 @@ pub record IsSameActor (old new : Segment) : Type 0 where
 abbrev pub born : model.Plan → ℕ → ℕ → Result Node Fault
 born plan group member = refuse_if (not (model.is_named plan group member)) NoActor (Ok (born_node plan group member))
 
--- the node that a segment is born as
-abbrev pub born_as : Segment → Unit {0} → Node
-born_as segment u = node_of segment
-
--- what the copies have made of a node, which is still as it was
-abbrev pub gathered_state : State → Node → Hydrated
-gathered_state state node = state_of state
-
--- refused where the member keeps no whole pages, or the segment isn't complete up to the point
-unfoldable pub page_checks : {A : Type 0} → model.Plan → ℕ → ℕ → Node → ℕ → Result A Fault → Result A Fault
-page_checks plan group member node point rest =
-    refuse_if (not (has_configuration plan group member node && model.is_full (plan.configuration group node.place.configuration) member)) TailSegment (
-    refuse_if (nat_lt (scl node.contents.records) point) PointAhead rest)
-
 -- the page of a whole node
 abbrev pub paged : model.Plan → ℕ → ℕ → Node → ℕ → ℕ → Result (List ℕ) Fault
 paged plan group member node block point =
     refuse_if (not node.whole) NotWhole (page_checks plan group member node point (Ok (page_of node.contents.records block point)))
-
--- what a node answers to a question for a page whose label is right
-unfoldable pub page_answer : model.Plan → ℕ → ℕ → Node → Label → ℕ → ℕ → NodeAnswer
-page_answer plan group member node label block point =
-    refuse_if (not (lineage_epoch node == label.volume)) NotInstalled (page_checks plan group member node point (
-    Ok (record { made = model_message.Message.Page group label member block point (page_of node.contents.records block point) ∷ []; node = node })))
 
 -- the step of a node that makes this message and becomes this
 abbrev pub offered_step : Message → Node → NodeStep
@@ -101,13 +76,6 @@ abbrev pub IsReadExpression : Option (Bor (Expr Global)) → model.Plan → ℕ 
 IsReadExpression None plan group member node = has_configuration plan group member node ≡ false
 IsReadExpression (Some read) plan group member node =
     (has_configuration plan group member node ≡ true) × (formula_of read.now ≡ (plan.configuration group node.place.configuration).read)
-
--- what the copies make of a node, where they are those of a read set of the configuration that it took last
-unfoldable pub gathered : model.Plan → ℕ → ℕ → Node → Result Hydrated Fault
-gathered plan group member node =
-    let lineage = newest (contents_of node.copies) in
-    refuse_if (not (has_configuration plan group member node && sat (plan.configuration group node.place.configuration).read (senders node.copies))) NotEnough (
-    Ok (record { volume = last_epoch lineage; contents = record { lineage = lineage; records = found_in lineage (contents_of node.copies) } }))
 
 -- what a segment does with a message, as the node that it is
 abbrev pub reaction_of : Segment → model_message.Message → NodeAnswer

@@ -41,12 +41,12 @@ pub struct Segment {
 impl Segment {
     ghost use Rattle.std.specs.Prelude.{◌≡◌, ◌==◌, ℕ, not, List, [], ◌∷◌, Result, Ok, Err, IfErr, IfOk, MatchResult, ◌≢◌};
     ghost use Rattle.std.specs.Arc.{arc_value};
-    ghost use Rattle.volume_model.specs.Answer.{Answers, AnswersAlways, AnswersLate};
+    ghost use Rattle.volume_model.specs.Answer.{Answers, AnswersAlways, AnswersLate, AnswersNew};
     ghost use Rattle.volume_model.specs.Refusal.{refuse_if};
     ghost use Rattle.volume_model.specs.declared.fault.Fault.{Fault as FaultName};
     ghost use Rattle.volume_model.specs.declared.fault.Fault.TheVariants.{NoMemory, NotAddressed, NotInstalled};
     ghost use Rattle.volume_model.specs.Redo.{record_at, scl};
-    ghost use Rattle.volume_model.specs.Node.{NodeAnswer, gossip_of, has_configuration, label_checks, lineage_epoch, offered, restarted, take_record};
+    ghost use Rattle.volume_model.specs.Node.{NodeAnswer, gathered, gossip_of, has_configuration, label_checks, lineage_epoch, offered, page_answer, page_checks, restarted, take_record};
     ghost use Rattle.plan.specs.CheckedModel.{checked_model};
     ghost use Rattle.redo_record.specs.Packet.{packet_redo};
     ghost use Rattle.volume_model.specs.Message as model;
@@ -54,7 +54,7 @@ impl Segment {
     ghost use Rattle.wire.specs.Message.{label_of, message_of, messages_of};
     ghost use Rattle.hydration.specs.Hydration.{state_of};
     ghost use Rattle.segment_core.specs.Prepared.{answers_of, effected, step_of};
-    ghost use Rattle.segment_core.specs.Segment.{node_of, segment_plan, segment_group, segment_member, answered, became, born, born_as, gathered, gathered_state, hydration_of, is_full, offered_step, page_checks, paged, page_answer, reaction_of, CanTake, IsReadExpression, IsSegmentOf, IsSameActor, IsReady};
+    ghost use Rattle.segment_core.specs.Segment.{node_of, segment_plan, segment_group, segment_member, answered, became, born, hydration_of, is_full, offered_step, paged, reaction_of, CanTake, IsReadExpression, IsSegmentOf, IsSameActor, IsReady};
 
     /// The segment of a member of a group, as it is born. Refused 82 where the plan names no such member.
     pub fn new(
@@ -63,7 +63,7 @@ impl Segment {
         group: u8,
         member: u8,
     ) -> Result<Segment, Fault>
-        ensures born { Answers born_as (born (checked_model (arc_value plan)) group member) tt result tt }
+        ensures born { AnswersNew node_of (born (checked_model (arc_value plan)) group member) result }
         ensures actor { IfOk result (λ segment. IsSegmentOf (checked_model (arc_value plan)) group member segment) }
     {
         if !plan.names(group, member) {
@@ -351,7 +351,7 @@ impl Segment {
     }
 
     /// The tests of a question for a page: 60 where the member keeps no whole pages, 61 where the segment isn't complete up to the point.
-    #[tactic(auto, unfolding(crate::specs::Segment::page_checks))]
+    #[tactic(auto, unfolding(volume_model::specs::Node::page_checks))]
     fn check_page(&self, point: u64) -> Result<(), Fault>
         ensures own { IfErr result (λ fault. fault ≢ NoMemory) }
         ensures answers { MatchResult result (λ _. (rest : NodeAnswer) → page_checks (segment_plan self.now) (segment_group self.now) (segment_member self.now) (node_of self.now) point rest ≡ rest) (λ fault. (rest : NodeAnswer) → page_checks (segment_plan self.now) (segment_group self.now) (segment_member self.now) (node_of self.now) point rest ≡ Err fault) }
@@ -383,7 +383,7 @@ impl Segment {
     }
 
     /// The step that answers a question with a page.
-    #[tactic(auto, unfolding(crate::specs::Segment::page_answer))]
+    #[tactic(auto, unfolding(volume_model::specs::Node::page_answer))]
     fn answer_page(&self, alloc: Global, ask: &PageAsk) -> Result<Prepared, Fault>
         ensures step { Answers step_of (page_answer (segment_plan self.now) (segment_group self.now) (segment_member self.now) (node_of self.now) (label_of ask.now.label) ask.now.block ask.now.point) (node_of self.now) result (node_of self.now) }
         ensures ready { IfOk result (λ prepared. CanTake self.now prepared.effect) }
@@ -408,7 +408,7 @@ impl Segment {
 
     /// Makes ready to answer with a page.
     fn prepare_page(&self, alloc: Global, ask: &PageAsk) -> Result<Prepared, Fault>
-        ensures step { Answers step_of (refuse_if (not (ask.now.group == segment_group self.now)) NotAddressed (label_checks (node_of self.now) (label_of ask.now.label) (page_answer (segment_plan self.now) (segment_group self.now) (segment_member self.now) (node_of self.now) (label_of ask.now.label) ask.now.block ask.now.point))) (node_of self.now) result (node_of self.now) }
+        ensures step { Answers step_of (reaction_of self.now (message_of (Message.PageAsk ask.now))) (node_of self.now) result (node_of self.now) }
         ensures ready { IfOk result (λ prepared. CanTake self.now prepared.effect) }
     {
         if ask.group != self.group {
@@ -500,9 +500,9 @@ impl Segment {
     }
 
     /// What the copies make of it.
-    #[tactic(auto, unfolding(crate::specs::Segment::gathered))]
+    #[tactic(auto, unfolding(volume_model::specs::Node::gathered))]
     fn gathered(&self, alloc: Global) -> Result<State, Fault>
-        ensures { Answers gathered_state (gathered (segment_plan self.now) (segment_group self.now) (segment_member self.now) (node_of self.now)) (node_of self.now) result (node_of self.now) }
+        ensures { AnswersNew state_of (gathered (segment_plan self.now) (segment_group self.now) (segment_member self.now) (node_of self.now)) result }
     {
         let Some(read) = self.read_expression() else {
             return Err(Fault::NotEnough);

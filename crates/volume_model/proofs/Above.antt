@@ -1,5 +1,5 @@
 -- The configurations above one, step by step.
-use Rattle.std.proofs.Common.{◌≡◌, ℕ, zero, suc, ◌<◌, ap, ◌∙◌, sym, arith}
+use Rattle.std.proofs.Common.{◌≡◌, ℕ, zero, suc, ap, ◌∙◌, sym, arith}
 use Rattle.volume_model.specs.Plan.{Plan, parent_of, IsAbove}
 use Rattle.volume_model.specs.Plan.IsAbove.{by_parent, by_ancestor}
 

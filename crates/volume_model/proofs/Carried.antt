@@ -2,14 +2,13 @@
 use Rattle.std.proofs.Common.{◌≡◌, ℕ, ◌<◌, ◌≤◌, Bool, true, false, not, ◌&&◌, ◌==◌, nat_lt, nat_le, ◌⊎◌, List, [], ◌∷◌, Option, Some, None, Result, Ok, Err, length, refl, sym, ap, ◌∙◌, subst, inl, inr, arith}
 use Rattle.std.proofs.lemmas.Bool.{cases_Bool, cases_lt, and_parts, both_ways, true≢false, not-false, ltb-true}
 use Rattle.volume_model.specs.Lists.{numbered}
-use Rattle.volume_model.specs.Formula.{sat}
-use Rattle.volume_model.specs.Redo.{Redo, holds_record, record_at, scl}
-use Rattle.volume_model.specs.Lineage.{Lineage, birth, last_epoch, Contents, newest, found_in}
-use Rattle.volume_model.specs.Plan.{Plan, has_member, is_full, is_configuration, is_named, IsCertified}
+use Rattle.volume_model.specs.Redo.{Redo, holds_record, record_at}
+use Rattle.volume_model.specs.Lineage.{Lineage, birth, last_epoch, Contents}
+use Rattle.volume_model.specs.Plan.{Plan, has_member, is_configuration, is_named, IsCertified}
 use Rattle.volume_model.specs.Message.{Label, Message}
 use Rattle.volume_model.specs.Message.Message.{View, StepTo, Fence, Report, Install, Write, Gossip, Ack, CopyAsk, CopyReport, PageAsk, Page}
 use Rattle.volume_model.specs.Refusal.{refuse_if}
-use Rattle.volume_model.specs.Node.{Node, NodeStep, NodeAnswer, born_node, lineage_epoch, has_configuration, label_checks, most_records, senders, contents_of, take_record, in_group, reaction, hydrated, restarted, gossip_of, offered}
+use Rattle.volume_model.specs.Node.{Node, NodeStep, NodeAnswer, born_node, lineage_epoch, label_checks, most_records, take_record, in_group, reaction, hydrated, restarted, gossip_of, offered}
 use Rattle.volume_model.specs.Client.{has_cut}
 use Rattle.volume_model.specs.World.{World, Event, AuthorityStep, of_authority, of_client, of_node, after_step, after, run, opening, assigned, advanced, refreshed, deliver, if_named}
 use Rattle.volume_model.specs.Client.{ClientAnswer}
@@ -19,12 +18,12 @@ use Rattle.volume_model.specs.Finds.Carries.{by_node, by_client, by_report, by_i
 use Rattle.volume_model.proofs.Basics.{put_at-all}
 use Rattle.volume_model.proofs.Invariant.{lineage_of, HasCut, IsCopy}
 use Rattle.volume_model.proofs.Kept.{MessageKept, IsKept}
-use Rattle.volume_model.proofs.NodeSteps.{refuse_if-ok}
+use Rattle.volume_model.proofs.NodeSteps.{refuse_if-ok, page_answer-ok, hydrated-ok}
 use Rattle.volume_model.proofs.Run.{run_kept, opening_kept}
 use Rattle.volume_model.proofs.Sound.{facts, positive_of}
 use Rattle.volume_model.proofs.Finds.{run_keeps, run_tidy}
 use Rattle.volume_model.specs.declared.fault.Fault.{Fault}
-use Rattle.volume_model.specs.declared.fault.Fault.TheVariants.{NoActor, AheadMember, AlreadyWhole, Full, NotAddressed, NotEnough, NotInPlan, NotInstalled, NotWhole, PointAhead, StaleMember, StaleVolume, TailSegment}
+use Rattle.volume_model.specs.declared.fault.Fault.TheVariants.{NoActor, AheadMember, AlreadyWhole, Full, NotAddressed, NotInPlan, NotInstalled, NotWhole, StaleMember, StaleVolume}
 
 -- neither lineage nor records
 abbrev pub nothing : Contents
@@ -106,10 +105,8 @@ module _ (plan : Plan) (group x : ℕ) (node : Node) where
   reaction_bare (PageAsk to l block point) step h =
       let (a, h1) = refuse_if-ok (not (to == group)) NotAddressed _ step h in
       let (w, h2) = passed l _ step h1 in
-      let (b, h3) = refuse_if-ok (not (lineage_epoch node == l.volume)) NotInstalled _ step h2 in
-      let (c, h4) = refuse_if-ok (not (has_configuration plan group x node && is_full (plan.configuration group node.place.configuration) x)) TailSegment _ step h3 in
-      let (d, h5) = refuse_if-ok (nat_lt (scl node.contents.records) point) PointAhead _ step h4 in
-      subst IsBareStep (Ok-is _ step h5) (same_bare node)
+      let (v, d, is) = page_answer-ok plan group x node l block point step h2 in
+      subst IsBareStep (sym is) (same_bare node)
   reaction_bare (View v places) step h = cc
   reaction_bare (Report to l from c) step h = cc
   reaction_bare (Ack to l from s) step h = cc
@@ -121,10 +118,8 @@ module _ (plan : Plan) (group x : ℕ) (node : Node) where
 
   hydrate_bare : (step : NodeStep) → hydrated plan group x node ≡ Ok step → IsBareStep step
   hydrate_bare step h =
-      let (w, h1) = refuse_if-ok node.whole AlreadyWhole _ step h in
-      let (b, h2) = refuse_if-ok (not (has_configuration plan group x node && sat (plan.configuration group node.place.configuration).read (senders node.copies))) NotEnough _ step h1 in
-      let (c, h3) = refuse_if-ok (nat_lt most_records (length (found_in (newest (contents_of node.copies)) (contents_of node.copies)))) Full _ step h2 in
-      subst IsBareStep (Ok-is _ step h3) (was_whole _ refl)
+      let (w, own, reads, is) = hydrated-ok plan group x node step h in
+      subst IsBareStep (sym is) (was_whole _ refl)
 
   restart_bare : (step : NodeStep) → ◌≡◌ {A = NodeAnswer} (Ok (record { made = []; node = restarted node })) (Ok step) → IsBareStep step
   restart_bare step h = subst IsBareStep (Ok-is _ step h) (record { whole = λ w. w; contents = λ w. refl })

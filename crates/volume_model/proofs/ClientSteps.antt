@@ -27,7 +27,7 @@ use Rattle.volume_model.proofs.Added.{MessageNew, messages_added}
 use Rattle.volume_model.proofs.Changed.{ClientGrows, client_changed}
 use Rattle.volume_model.proofs.Records.{of_group-from, of_group-has, newest-most, newest-of, all_reports-from, all_reports-has, with_first-from}
 use Rattle.volume_model.proofs.Sound.{born_from_cut, is_sound}
-use Rattle.volume_model.proofs.NodeSteps.{refuse_if-ok}
+use Rattle.volume_model.proofs.NodeSteps.{refuse_if-ok, extension-ok}
 use Rattle.volume_model.proofs.Groups.{set-all, group_of-with_places, later_group-none, reread_group-none, group_of-new, group_of-raised}
 use Rattle.std.specs.Prelude.{map, slice_set}
 use Rattle.volume_model.specs.declared.fault.Fault.TheVariants.{AlreadyDone, BadTransaction, LimitReached, LsnSpent, NoActor, NoGroup, NotAddressed, NotInPlan, NotOpen, NotReady}
@@ -458,7 +458,7 @@ module _ (plan : Plan) (certified : IsCertified plan) (world : World) (kept : Is
       let (z, h0) = refuse_if-ok (not (is_born client.stage)) NoActor _ step h in
       let (a, h1) = refuse_if-ok (has_cut client.stage) AlreadyDone _ step h0 in
       let (b, h2) = refuse_if-ok (not (has_read plan client)) NotReady _ step h1 in
-      let (c, h3) = refuse_if-ok (nat_lt (2 ^ 62) (last_start lineage)) LsnSpent _ step h2 in
+      let h3 = extension-ok parent v (cut_of records) plan.lal _ step h2 in
       let born : IsBorn plan world v client = now.born (not-false _ z) in
       let reads : (group : ℕ) → group < plan.groups → sat (plan.configuration group (place_of client.groups group).configuration).read (senders (reports_of client.groups group)) ≡ true =
       λ group there. every_below-all plan.groups (λ group. sat (place_configuration plan group (place_of client.groups group)).read (senders (reports_of client.groups group))) (not-false _ b) group there in

@@ -1,19 +1,25 @@
 -- How many messages the step of a client makes at most.
-use Rattle.std.proofs.Common.{◌≡◌, ℕ, zero, suc, ◌≤◌, Bool, true, false, List, [], ◌∷◌, Option, Some, None, length, if◌then◌else◌, length-append, ap, refl, arith}
+use Rattle.std.proofs.Common.{◌≡◌, ℕ, zero, suc, ◌≤◌, Bool, true, false, List, [], ◌∷◌, Option, Some, None, Result, Ok, Err, length, if◌then◌else◌, length-append, ap, refl, arith}
 use Rattle.volume_model.specs.declared.fault.Fault.{Fault}
 use Rattle.volume_model.specs.Lists.{each_below}
 use Rattle.volume_model.specs.Refusal.{refuse_if}
 use Rattle.volume_model.specs.Redo.{Redo, cut_of, log_found, of_group, record_at}
-use Rattle.volume_model.specs.Lineage.{extended, found_in, last_start, newest}
+use Rattle.volume_model.specs.Lineage.{Lineage, extension, found_in, last_start, newest}
+use Rattle.volume_model.specs.Answer.{◌>>=◌}
 use Rattle.volume_model.specs.Plan.{Plan}
 use Rattle.volume_model.specs.Message.{Place, Message}
 use Rattle.volume_model.specs.Message.Message.{View, StepTo, Fence, Report, Install, Write, Gossip, Ack, CopyAsk, CopyReport, PageAsk, Page}
 use Rattle.volume_model.specs.Client.{Client, ClientAnswer, Stage, label_of, place_of, reports_of}
 use Rattle.volume_model.specs.ClientWriter.{Change, issued, issued_writes, page_asked, record_of, resent, write_of, is_last}
-use Rattle.volume_model.specs.ClientRecovery.{all_reports, cut_client}
+use Rattle.volume_model.specs.ClientRecovery.{all_reports, cut_step, cut_client}
 use Rattle.volume_model.specs.ClientMessages.{taken, viewed}
 use Rattle.volume_model.specs.Client.Stage.{Unborn, Reading, Installing, Writing}
 use Rattle.volume_model.specs.Few.{Few}
+
+-- what follows an answer
+few_then : {A : Type 0} (most : ℕ) (first : Result A Fault) (rest : A → ClientAnswer) → ((x : A) → Few most (rest x)) → Few most (first >>= rest)
+few_then most (Ok x) rest few = few x
+few_then most (Err fault) rest few = tt
 
 -- the rest of a refusal
 few_if : (most : ℕ) (b : Bool) (fault : Fault) (rest : ClientAnswer) → Few most rest → Few most (refuse_if b fault rest)
@@ -67,9 +73,10 @@ few_cut plan volume client =
     let reported = all_reports (reports_of client.groups) plan.groups in
     let parent = newest reported in
     let records = found_in parent reported in
-    let lineage = extended parent volume (cut_of records) plan.lal in
-    let few = few_below plan.groups (λ group. true) (λ group. Install group (label_of volume (place_of client.groups) group) (record { lineage = lineage; records = of_group group (log_found records) })) in
-    search (few_if plan.groups, few) depth 12
+    let few : (lineage : Lineage) → Few plan.groups (Ok (cut_step plan volume client (log_found records) lineage)) =
+    λ lineage. few_below plan.groups (λ group. true) (λ group. Install group (label_of volume (place_of client.groups) group) (record { lineage = lineage; records = of_group group (log_found records) })) in
+    let rest = few_then plan.groups (extension parent volume (cut_of records) plan.lal) (λ lineage. Ok (cut_step plan volume client (log_found records) lineage)) few in
+    search (few_if plan.groups, rest) depth 12
 
 few_write : (volume : ℕ) (client : Client) (found : Option Redo) → Few 1 (write_of volume client found)
 few_write volume client None = tt

@@ -2,23 +2,23 @@
 use Rattle.std.proofs.Common.{◌≡◌, ℕ, ◌+◌, ◌^◌, max, true, false, not, ◌&&◌, ◌==◌, nat_lt, nat_le, List, [], ◌∷◌, Option, Some, None, Result, Ok, Err, length, refl, sym, ap, ◌∙◌, subst, inl, inr}
 use Rattle.std.proofs.lemmas.Bool.{cases_Bool, both_ways, true≢false, not-false}
 use Rattle.volume_model.specs.Lists.{numbered, put}
-use Rattle.volume_model.specs.Redo.{Redo, last_lsn, record_at}
-use Rattle.volume_model.specs.Lineage.{last_start, last_epoch}
+use Rattle.volume_model.specs.Redo.{Redo, cut_of, last_lsn, record_at}
+use Rattle.volume_model.specs.Lineage.{last_start, last_epoch, newest, found_in}
 use Rattle.volume_model.specs.Plan.{Plan}
 use Rattle.volume_model.specs.Message.{Label, Place, Message}
 use Rattle.volume_model.specs.Message.Message.{View, StepTo, Fence, Report, Install, Write, Gossip, Ack, CopyAsk, CopyReport, PageAsk, Page}
 use Rattle.volume_model.specs.Node.{From, NodeAnswer, in_group}
-use Rattle.volume_model.specs.Client.{Client, Stage, ClientStep, ClientAnswer, ClientGroup, is_born, has_cut, is_open, place_of, first_writer, unborn}
+use Rattle.volume_model.specs.Client.{Client, Stage, ClientStep, ClientAnswer, ClientGroup, is_born, has_cut, is_open, place_of, reports_of, first_writer, unborn}
 use Rattle.volume_model.specs.ClientPoints.{durable_point}
 use Rattle.volume_model.specs.ClientWriter.{Change, is_transaction, issued, write_of, resent, page_asked}
-use Rattle.volume_model.specs.ClientRecovery.{report_taken, cut_client, opened}
+use Rattle.volume_model.specs.ClientRecovery.{report_taken, all_reports, has_read, cut_client, opened}
 use Rattle.volume_model.specs.ClientMessages.{viewed, ack_taken, are_places, taken}
 use Rattle.volume_model.specs.Client.Stage.{Unborn, Reading, Installing, Writing}
 use Rattle.volume_model.specs.World.{World, Event, AuthorityStep, of_authority, of_client, of_node, after_step, after, run, opening, assigned, advanced, refreshed, take}
 use Rattle.volume_model.specs.World.Event.{Assign, Advance, Refresh, Issue, Take, Cut, Open, Resend, Read, Deliver, Hydrate, Restart, Offer}
 use Rattle.volume_model.specs.Finds.{StaysFound, FindsLast}
 use Rattle.volume_model.proofs.Basics.{put-all}
-use Rattle.volume_model.proofs.NodeSteps.{refuse_if-ok}
+use Rattle.volume_model.proofs.NodeSteps.{refuse_if-ok, extension-ok}
 use Rattle.volume_model.specs.declared.fault.Fault.{Fault}
 use Rattle.volume_model.specs.declared.fault.Fault.TheVariants.{AlreadyDone, BadTransaction, LimitReached, LsnSpent, NoActor, NoGroup, NotAddressed, NotInPlan, NotOpen, NotReady}
 
@@ -74,10 +74,12 @@ module _ (plan : Plan) (v : ℕ) (client : Client) where
 
   cut_keeps : (step : ClientStep) → cut_client plan v client ≡ Ok step → IsKeeping step
   cut_keeps step h =
+      let reported = all_reports (reports_of client.groups) plan.groups in
+      let records = found_in (newest reported) reported in
       let (z, h0) = refuse_if-ok (not (is_born client.stage)) NoActor _ step h in
       let (a, h1) = refuse_if-ok (has_cut client.stage) AlreadyDone _ step h0 in
-      let (b, h2) = refuse_if-ok _ NotReady _ step h1 in
-      let (c, h3) = refuse_if-ok _ LsnSpent _ step h2 in
+      let (b, h2) = refuse_if-ok (not (has_read plan client)) NotReady _ step h1 in
+      let h3 = extension-ok (newest reported) v (cut_of records) plan.lal _ step h2 in
       subst IsKeeping (Ok-is _ step h3) (record {
         stays = λ h. absurd (both_ways _ a h);
         tidy = λ t. record { no_lineage = λ n. absurd (true≢false n); none_found = λ n. absurd (true≢false n); log_found = λ n. refl };

@@ -1,16 +1,17 @@
 -- Each step of a node keeps the invariant
-use Rattle.std.proofs.Common.{◌≡◌, ℕ, ◌<◌, ◌≤◌, max, Bool, true, false, not, ◌&&◌, ◌==◌, nat_lt, nat_le, eqb, ◌⊎◌, List, [], ◌∷◌, Option, Some, None, Result, Ok, Err, length, if◌then◌else◌, refl, sym, ap, ◌∙◌, subst, inl, inr, arith}
+use Rattle.std.proofs.Common.{◌≡◌, ℕ, ◌^◌, ◌<◌, ◌≤◌, max, Bool, true, false, not, ◌&&◌, ◌==◌, nat_lt, nat_le, eqb, ◌⊎◌, List, [], ◌∷◌, Option, Some, None, Result, Ok, Err, length, if◌then◌else◌, refl, sym, ap, ◌∙◌, subst, inl, inr, arith}
 use Rattle.std.proofs.lemmas.Bool.{cases_Bool, and_parts, both_ways, eqb-true, eqb-false, eq-eqb, ltb-true, ltb-false, leb-false, not-false}
 use Rattle.volume_model.specs.Lists.{IsIn, numbered, put_at}
+use Rattle.volume_model.specs.Answer.{◌>>=◌}
 use Rattle.volume_model.specs.Formula.{sat}
 use Rattle.volume_model.proofs.FormulaLaws.{sat-some}
 use Rattle.volume_model.specs.Redo.{Redo, with_record, holds_record, record_at, scl}
-use Rattle.volume_model.specs.Lineage.{Lineage, last_epoch, is_live, Contents, newest, found_in}
+use Rattle.volume_model.specs.Lineage.{Lineage, last_epoch, last_start, is_live, extended, extension, Contents, newest, found_in}
 use Rattle.volume_model.specs.Plan.{Plan, has_member, is_full, is_configuration, is_named, IsCertified}
 use Rattle.volume_model.specs.Message.{Label, Place, Message}
 use Rattle.volume_model.specs.Message.Message.{View, StepTo, Fence, Report, Install, Write, Gossip, Ack, CopyAsk, CopyReport, PageAsk, Page}
 use Rattle.volume_model.specs.Refusal.{refuse_if}
-use Rattle.volume_model.specs.Node.{From, Node, NodeStep, NodeAnswer, lineage_epoch, has_configuration, label_checks, most_records, senders, with_first, contents_of, take_record, installed, page_of, in_group, reaction, hydrated, restarted, gossip_of, offered}
+use Rattle.volume_model.specs.Node.{From, Node, NodeStep, NodeAnswer, lineage_epoch, has_configuration, label_checks, most_records, senders, with_first, contents_of, take_record, installed, page_of, page_checks, page_answer, in_group, reaction, Hydrated, or_not_enough, gathered, whole_node, whole_from, hydrated, restarted, gossip_of, offered}
 use Rattle.volume_model.specs.World.{World, of_node, after_step, deliver, if_named}
 use Rattle.volume_model.proofs.Basics.{any_passes, numbered-in}
 use Rattle.volume_model.proofs.Chains.{record_at-some}
@@ -23,11 +24,64 @@ use Rattle.volume_model.proofs.Changed.{node_changed}
 use Rattle.volume_model.proofs.Records.{with_record-keeps, with_record-from, newest-most, newest-of, found_in-from, found_in-has, contents_of-from, contents_of-has, with_first-from}
 use Rattle.volume_model.proofs.Sound.{Facts, facts, is_sound, found_in_log}
 use Rattle.volume_model.specs.declared.fault.Fault.{Fault}
-use Rattle.volume_model.specs.declared.fault.Fault.TheVariants.{NoActor, AheadMember, AlreadyWhole, Full, NotAddressed, NotEnough, NotInPlan, NotInstalled, NotWhole, PointAhead, StaleMember, StaleVolume, TailSegment}
+use Rattle.volume_model.specs.declared.fault.Fault.TheVariants.{NoActor, AheadMember, AlreadyWhole, Full, LsnSpent, NotAddressed, NotEnough, NotInPlan, NotInstalled, NotWhole, PointAhead, StaleMember, StaleVolume, TailSegment}
 
 pub refuse_if-ok : {A : Type 0} (test : Bool) (number : Fault) (rest : Result A Fault) (x : A) → refuse_if test number rest ≡ Ok x → (test ≡ false) × (rest ≡ Ok x)
 refuse_if-ok true number rest x h = cc
 refuse_if-ok false number rest x h = (refl, h)
+
+-- what follows an answer that is no refusal
+pub then-ok : {A B : Type 0} (first : Result A Fault) (rest : A → Result B Fault) (x : B) → (first >>= rest) ≡ Ok x → (y : A) × (first ≡ Ok y) × (rest y ≡ Ok x)
+then-ok (Ok y) rest x h = (y, refl, h)
+then-ok (Err fault) rest x h = cc
+
+-- a lineage with its own entry, and what follows it
+pub extension-ok : {A : Type 0} (parent : Lineage) (volume cut lal : ℕ) (rest : Lineage → Result A Fault) (x : A) → (extension parent volume cut lal >>= rest) ≡ Ok x → rest (extended parent volume cut lal) ≡ Ok x
+extension-ok parent volume cut lal rest x h =
+    let (own, is, h1) = then-ok (extension parent volume cut lal) rest x h in
+    let (a, same) = refuse_if-ok (nat_lt (2 ^ 62) (last_start (extended parent volume cut lal))) LsnSpent _ own is in
+    let e : own ≡ extended parent volume cut lal = cc in
+    subst (λ (l : Lineage). rest l ≡ Ok x) e h1
+
+-- a page whose tests have passed
+pub page_answer-ok : (plan : Plan) (group member : ℕ) (node : Node) (l : Label) (block point : ℕ) (step : NodeStep) → page_answer plan group member node l block point ≡ Ok step
+    → (lineage_epoch node ≡ l.volume) × (nat_lt (scl node.contents.records) point ≡ false) × (step ≡ record { made = Page group l member block point (page_of node.contents.records block point) ∷ []; node = node })
+unfolding page_answer page_checks
+page_answer-ok plan group member node l block point step h =
+    let (a, h1) = refuse_if-ok (not (lineage_epoch node == l.volume)) NotInstalled _ step h in
+    let (b, h2) = refuse_if-ok (not (has_configuration plan group member node && is_full (plan.configuration group node.place.configuration) member)) TailSegment _ step h1 in
+    let (c, h3) = refuse_if-ok (nat_lt (scl node.contents.records) point) PointAhead _ step h2 in
+    (eqb-true _ _ (not-false _ a), c, cc)
+
+-- what all copies come to
+abbrev pub all_of : List From → Hydrated
+all_of copies =
+    let lineage = newest (contents_of copies) in
+    record { volume = last_epoch lineage; contents = record { lineage = lineage; records = found_in lineage (contents_of copies) } }
+
+enough-ok : (enough : Bool) (all h : Hydrated) → or_not_enough (if enough then Some all else None) ≡ Ok h → (enough ≡ true) × (h ≡ all)
+enough-ok true all h got = (refl, cc)
+enough-ok false all h got = cc
+
+-- what was gathered of the copies of a read set
+pub gathered-ok : (plan : Plan) (group member : ℕ) (node : Node) (h : Hydrated) → gathered plan group member node ≡ Ok h
+    → (has_configuration plan group member node ≡ true) × (sat (plan.configuration group node.place.configuration).read (senders node.copies) ≡ true) × (h ≡ all_of node.copies)
+unfolding gathered
+gathered-ok plan group member node h got =
+    let (has, rest) = refuse_if-ok (not (has_configuration plan group member node)) NotEnough _ h got in
+    let (reads, same) = enough-ok (sat (plan.configuration group node.place.configuration).read (senders node.copies)) (all_of node.copies) h rest in
+    (not-false _ has, reads, same)
+
+-- what a node needs for becoming whole, and what it becomes
+pub hydrated-ok : (plan : Plan) (group member : ℕ) (node : Node) (step : NodeStep) → hydrated plan group member node ≡ Ok step
+    → (node.whole ≡ false) × (has_configuration plan group member node ≡ true) × (sat (plan.configuration group node.place.configuration).read (senders node.copies) ≡ true) × (step ≡ record { made = []; node = whole_node node (all_of node.copies) })
+hydrated-ok plan group member node step h =
+    let (un, h1) = refuse_if-ok node.whole AlreadyWhole _ step h in
+    let (all, got, h2) = then-ok (gathered plan group member node) (whole_from node) step h1 in
+    let (has, reads, same) = gathered-ok plan group member node all got in
+    let (few, h3) = refuse_if-ok (nat_lt most_records (length all.contents.records)) Full _ step h2 in
+    let is : step ≡ record { made = []; node = whole_node node all } = cc in
+    (un, has, reads, is ∙ ap (λ (x : Hydrated). record { made = []; node = whole_node node x }) same)
 
 -- what a node says, of itself as the step leaves it
 abbrev pub NodeSays : World → ℕ → ℕ → Node → Message → Type 0
@@ -311,11 +365,8 @@ module _ (plan : Plan) (certified : IsCertified plan) (world : World) (kept : Is
     reaction_good (PageAsk to l block point) made step h =
         let (a, h1) = refuse_if-ok (not (to == group)) NotAddressed _ step h in
         let (p, h2) = passed l _ step h1 in
-        let (b, h3) = refuse_if-ok (not (lineage_epoch node == l.volume)) NotInstalled _ step h2 in
-        let (c, h4) = refuse_if-ok (not (has_configuration plan group x node && is_full (plan.configuration group node.place.configuration) x)) TailSegment _ step h3 in
-        let (d, h5) = refuse_if-ok (nat_lt (scl node.contents.records) point) PointAhead _ step h4 in
+        let (v, d, is) = page_answer-ok plan group x node l block point step h2 in
         let w : IsWhole plan world group x node = now.whole p.whole in
-        let v : lineage_epoch node ≡ l.volume = eqb-true _ _ (not-false _ b) in
         let page : IsPage world group l block point (page_of node.contents.records block point) = record {
           cut = subst (λ u. HasCut world u) v w.copy.cut;
           kept = node.contents.records;
@@ -324,7 +375,7 @@ module _ (plan : Plan) (certified : IsCertified plan) (world : World) (kept : Is
           stands = λ r i. (subst (λ u. IsIn r (log_of world u)) v (w.copy.records r i).0, (w.copy.records r i).1);
           page = refl;
         } in
-        subst (λ z. IsGoodStep plan world group x z) (Ok-is _ step h5) (record {
+        subst (λ z. IsGoodStep plan world group x z) (sym is) (record {
           grows = NodeGrows-same node;
           node = now;
           says = λ m i. (let j : (m ≡ Page group l x block point (page_of node.contents.records block point)) ⊎ ⊥ = i in elim j [
@@ -340,15 +391,12 @@ module _ (plan : Plan) (certified : IsCertified plan) (world : World) (kept : Is
     -- becoming whole
     pub hydrated_good : (step : NodeStep) → hydrated plan group x node ≡ Ok step → IsGoodStep plan world group x step
     hydrated_good step h =
-        let (w, h1) = refuse_if-ok node.whole AlreadyWhole _ step h in
-        let (b, h2) = refuse_if-ok (not (has_configuration plan group x node && sat (plan.configuration group node.place.configuration).read (senders node.copies))) NotEnough _ step h1 in
-        let (c, h3) = refuse_if-ok (nat_lt most_records (length (found_in (newest (contents_of node.copies)) (contents_of node.copies)))) Full _ step h2 in
-        let both : (has_configuration plan group x node ≡ true) × (sat (plan.configuration group node.place.configuration).read (senders node.copies) ≡ true) = and_parts _ _ (not-false _ b) in
-        let has : (nat_lt 0 node.place.epoch ≡ true) × (has_member (plan.configuration group node.place.configuration) x ≡ true) = and_parts _ _ both.0 in
+        let (w, own, reads, is) = hydrated-ok plan group x node step h in
+        let has : (nat_lt 0 node.place.epoch ≡ true) × (has_member (plan.configuration group node.place.configuration) x ≡ true) = and_parts _ _ own in
         let positive : 0 < node.place.epoch = ltb-true _ _ has.0 in
         elim now.place [
           | inl z ↦ absurd (omega arith)
-          | inr place ↦ subst (λ z. IsGoodStep plan world group x z) (Ok-is _ step h3) (whole_good w place has.1 both.1)
+          | inr place ↦ subst (λ z. IsGoodStep plan world group x z) (sym is) (whole_good w place has.1 reads)
         ]
       where
         whole_good : node.whole ≡ false → IsPlace plan world group node.place → has_member (plan.configuration group node.place.configuration) x ≡ true → sat (plan.configuration group node.place.configuration).read (senders node.copies) ≡ true → IsGoodStep plan world group x (record { made = []; node = record { volume = max node.volume (last_epoch (newest (contents_of node.copies))); place = node.place; whole = true; contents = record { lineage = newest (contents_of node.copies); records = found_in (newest (contents_of node.copies)) (contents_of node.copies) }; copies = node.copies } })

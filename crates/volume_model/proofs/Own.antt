@@ -1,16 +1,18 @@
 -- What each actor refuses by itself.
-use Rattle.std.proofs.Common.{◌≡◌, ℕ, Bool, true, false, not, List, Option, Some, None, Result}
+use Rattle.std.proofs.Common.{◌≡◌, ℕ, ◌^◌, Bool, true, false, not, nat_lt, List, Option, Some, None, Result, Ok, Err}
 use Rattle.volume_model.specs.declared.fault.Fault.{Fault}
-use Rattle.volume_model.specs.declared.fault.Fault.TheVariants.{NoLogRecord}
+use Rattle.volume_model.specs.declared.fault.Fault.TheVariants.{LsnSpent, NoLogRecord}
+use Rattle.volume_model.specs.Lineage.{Lineage, last_start, extended, extension, newest, found_in}
+use Rattle.volume_model.specs.Answer.{◌>>=◌}
 use Rattle.volume_model.specs.Refusal.{refuse_if}
-use Rattle.volume_model.specs.Redo.{Redo, record_at}
+use Rattle.volume_model.specs.Redo.{Redo, cut_of, log_found, record_at}
 use Rattle.volume_model.specs.Plan.{Plan}
 use Rattle.volume_model.specs.Message.{Label, Place, Message}
 use Rattle.volume_model.specs.Message.Message.{View, StepTo, Fence, Report, Install, Write, Gossip, Ack, CopyAsk, CopyReport, PageAsk, Page}
-use Rattle.volume_model.specs.Node.{Node, NodeStep, NodeAnswer, label_checks, take_record, reaction, hydrated, offered, gossip_of}
-use Rattle.volume_model.specs.Client.{Client, ClientStep, is_born}
+use Rattle.volume_model.specs.Node.{Node, NodeStep, NodeAnswer, label_checks, take_record, page_checks, page_answer, reaction, Hydrated, finished, or_not_enough, gathered, whole_from, hydrated, offered, gossip_of}
+use Rattle.volume_model.specs.Client.{Client, ClientStep, is_born, reports_of}
 use Rattle.volume_model.specs.ClientWriter.{Change, issued, resent, write_of, page_asked}
-use Rattle.volume_model.specs.ClientRecovery.{cut_client, opened}
+use Rattle.volume_model.specs.ClientRecovery.{all_reports, cut_step, cut_client, opened}
 use Rattle.volume_model.specs.ClientMessages.{taken}
 use Rattle.volume_model.specs.World.{Authority, AuthorityStep, assigned, advanced, refreshed}
 use Rattle.volume_model.specs.Told.{Refuses, IsOwn, IsOwnOfClient}
@@ -25,6 +27,11 @@ module _ {A : Type 0} (P : Fault → Type 0) where
   pub refuses_not : (b : Bool) (fault : Fault) (rest : Result A Fault) → b ≡ true → Refuses P rest → Refuses P (refuse_if (not b) fault rest)
   refuses_not true fault rest is later = later
   refuses_not false fault rest is later = absurd (cc)
+
+  -- one answer after another
+  pub refuses_then : {B : Type 0} (first : Result B Fault) (rest : B → Result A Fault) → Refuses P first → ((x : B) → Refuses P (rest x)) → Refuses P (first >>= rest)
+  refuses_then (Ok x) rest here later = later x
+  refuses_then (Err fault) rest here later = here
 
 pub assigned_own : (plan : Plan) (a : Authority) → Refuses IsOwn (assigned plan a)
 assigned_own plan a = search (refuses_if {A = AuthorityStep} IsOwn) depth 12
@@ -42,6 +49,10 @@ label_own node label rest h = search (refuses_if {A = NodeStep} IsOwn, h) depth 
 take_record_own : (group member : ℕ) (node : Node) (label : Label) (r : Redo) → Refuses IsOwn (take_record group member node label r)
 take_record_own group member node label r = search (refuses_if {A = NodeStep} IsOwn) depth 12
 
+page_own : (plan : Plan) (group member : ℕ) (node : Node) (label : Label) (block point : ℕ) → Refuses IsOwn (page_answer plan group member node label block point)
+unfolding page_answer page_checks
+page_own plan group member node label block point = search (refuses_if {A = NodeStep} IsOwn) depth 12
+
 pub reaction_own : (plan : Plan) (group member : ℕ) (node : Node) (m : Message) → Refuses IsOwn (reaction plan group member node m)
 reaction_own plan group member node (Fence to label) = search (refuses_if {A = NodeStep} IsOwn) depth 12
 reaction_own plan group member node (Install to label contents) = search (refuses_if {A = NodeStep} IsOwn) depth 12
@@ -50,14 +61,28 @@ reaction_own plan group member node (Gossip to label r) = search (refuses_if {A 
 reaction_own plan group member node (StepTo to place) = search (refuses_if {A = NodeStep} IsOwn) depth 12
 reaction_own plan group member node (CopyAsk to epoch) = search (refuses_if {A = NodeStep} IsOwn) depth 12
 reaction_own plan group member node (CopyReport to epoch sender contents) = search (refuses_if {A = NodeStep} IsOwn) depth 12
-reaction_own plan group member node (PageAsk to label block point) = search (refuses_if {A = NodeStep} IsOwn) depth 12
+reaction_own plan group member node (PageAsk to label block point) = let page = page_own plan group member node label block point in search (refuses_if {A = NodeStep} IsOwn, page) depth 12
 reaction_own plan group member node (View volume places) = tt
 reaction_own plan group member node (Report to label sender contents) = tt
 reaction_own plan group member node (Ack to label sender reached) = tt
 reaction_own plan group member node (Page to label sender block point bytes) = tt
 
+enough_own : (o : Option Hydrated) → Refuses IsOwn (or_not_enough o)
+enough_own None = tt
+enough_own (Some h) = tt
+
+gathered_own : (plan : Plan) (group member : ℕ) (node : Node) → Refuses IsOwn (gathered plan group member node)
+unfolding gathered
+gathered_own plan group member node =
+    let enough = enough_own (finished (plan.configuration group node.place.configuration).read node.copies) in
+    search (refuses_if {A = Hydrated} IsOwn, enough) depth 12
+
 pub hydrated_own : (plan : Plan) (group member : ℕ) (node : Node) → Refuses IsOwn (hydrated plan group member node)
-hydrated_own plan group member node = search (refuses_if {A = NodeStep} IsOwn) depth 12
+hydrated_own plan group member node =
+    let got = gathered_own plan group member node in
+    let rest : (h : Hydrated) → Refuses IsOwn (whole_from node h) = λ h. search (refuses_if {A = NodeStep} IsOwn) depth 12 in
+    let then : Refuses IsOwn (gathered plan group member node >>= whole_from node) = refuses_then {A = NodeStep} IsOwn (gathered plan group member node) (whole_from node) got rest in
+    search (refuses_if {A = NodeStep} IsOwn, then) depth 12
 
 gossip_own : (group : ℕ) (node : Node) (o : Option Redo) → Refuses IsOwn (gossip_of group node o)
 gossip_own group node None = tt
@@ -78,12 +103,26 @@ issued_own plan volume client changes = search (refuses_if {A = ClientStep} IsOw
 pub issued_own_born : (plan : Plan) (volume : ℕ) (client : Client) (changes : List Change) → is_born client.stage ≡ true → Refuses IsOwn (issued plan volume client changes)
 issued_own_born plan volume client changes born = search (refuses_if {A = ClientStep} IsOwn, refuses_not {A = ClientStep} IsOwn, born) depth 12
 
+-- what is found refuses nothing but where no number is left
+found_own : (P : Fault → Type 0) → P LsnSpent → (plan : Plan) (volume : ℕ) (client : Client) (parent : Lineage) (records : List Redo)
+    → Refuses P (extension parent volume (cut_of records) plan.lal >>= λ lineage. Ok (cut_step plan volume client (log_found records) lineage))
+found_own P p plan volume client parent records =
+    let own = extended parent volume (cut_of records) plan.lal in
+    refuses_then {A = ClientStep} P (extension parent volume (cut_of records) plan.lal) (λ lineage. Ok (cut_step plan volume client (log_found records) lineage))
+    (refuses_if {A = Lineage} P (nat_lt (2 ^ 62) (last_start own)) LsnSpent (Ok own) p tt) (λ lineage. tt)
+
 pub cut_own : (plan : Plan) (volume : ℕ) (client : Client) → Refuses IsOwnOfClient (cut_client plan volume client)
-cut_own plan volume client = search (refuses_if {A = ClientStep} IsOwnOfClient) depth 12
+cut_own plan volume client =
+    let reported = all_reports (reports_of client.groups) plan.groups in
+    let rest = found_own IsOwnOfClient tt plan volume client (newest reported) (found_in (newest reported) reported) in
+    search (refuses_if {A = ClientStep} IsOwnOfClient, rest) depth 12
 
 -- of a client that is born
 pub cut_own_born : (plan : Plan) (volume : ℕ) (client : Client) → is_born client.stage ≡ true → Refuses IsOwn (cut_client plan volume client)
-cut_own_born plan volume client born = search (refuses_if {A = ClientStep} IsOwn, refuses_not {A = ClientStep} IsOwn, born) depth 12
+cut_own_born plan volume client born =
+    let reported = all_reports (reports_of client.groups) plan.groups in
+    let rest = found_own IsOwn tt plan volume client (newest reported) (found_in (newest reported) reported) in
+    search (refuses_if {A = ClientStep} IsOwn, refuses_not {A = ClientStep} IsOwn, born, rest) depth 12
 
 pub opened_own : (plan : Plan) (client : Client) → Refuses IsOwnOfClient (opened plan client)
 opened_own plan client = search (refuses_if {A = ClientStep} IsOwnOfClient) depth 12

@@ -12,6 +12,7 @@ use Rattle.volume_model.specs.Formula.{member}
 use Rattle.volume_model.specs.WorkedPlans.{six_root, six_copies, both_sixes}
 use Rattle.volume_model.specs.Redo.{Redo, cut_of}
 use Rattle.volume_model.specs.Plan.{Configuration, Plan, has_member, is_fresh}
+use Rattle.volume_model.specs.Node.{gathered}
 use Rattle.volume_model.specs.ClientPoints.{durable_point}
 use Rattle.volume_model.specs.ClientWriter.{Change}
 use Rattle.volume_model.specs.World.{Event, opening, run, results}
@@ -81,12 +82,15 @@ early =
     ++ Assign ∷ Take 2 12 ∷ [] ++ deliver_to (1 ∷ 2 ∷ 6 ∷ []) 13 ++ take_all 2 (14 ∷ 15 ∷ 16 ∷ []) ++ Cut 2 ∷ []
 
 early_results : results stepped (opening stepped) early ≡ Ok 1 ∷ Ok 1 ∷ Ok 0 ∷ Ok 0 ∷ Ok 0 ∷ Ok 1 ∷ Ok 1 ∷ Ok 1 ∷ Ok 1 ∷ Ok 0 ∷ Ok 0 ∷ Ok 0 ∷ Ok 0 ∷ Ok 1 ∷ Ok 1 ∷ Ok 1 ∷ Ok 0 ∷ Ok 1 ∷ Ok 1 ∷ Ok 0 ∷ Ok 0 ∷ Ok 0 ∷ Ok 0 ∷ Ok 1 ∷ Ok 1 ∷ Ok 1 ∷ Ok 1 ∷ Ok 1 ∷ Ok 0 ∷ Ok 0 ∷ Ok 0 ∷ Ok 1 ∷ []
+unfolding gathered
 early_results = refl
 
 early_durable : durable_point ((run stepped (opening stepped) early).clients 1) ≡ 0
+unfolding gathered
 early_durable = refl
 
 early_lineage : ((run stepped (opening stepped) early).clients 2).lineage ≡ record { volume = 2; cut = 0; start = 10 } ∷ record { volume = 1; cut = 0; start = 0 } ∷ []
+unfolding gathered
 early_lineage = refl
 
 -- refusals 40, 54 and 57
@@ -96,6 +100,7 @@ refused =
     ∷ Deliver 0 1 2 ∷ Deliver 0 2 2 ∷ Deliver 0 6 6 ∷ Deliver 0 6 7 ∷ Hydrate 0 6 ∷ Deliver 0 6 5 ∷ Hydrate 0 6 ∷ Deliver 0 6 4 ∷ []
 
 refused_results : results stepped (opening stepped) refused ≡ Ok 1 ∷ Ok 1 ∷ Ok 0 ∷ Ok 0 ∷ Ok 0 ∷ Ok 1 ∷ Err Superseded ∷ Ok 1 ∷ Err NotWhole ∷ Ok 1 ∷ Ok 0 ∷ Ok 0 ∷ Ok 1 ∷ Ok 1 ∷ Ok 0 ∷ Ok 0 ∷ Err NotEnough ∷ Ok 0 ∷ Ok 0 ∷ Ok 1 ∷ []
+unfolding gathered
 refused_results = refl
 
 -- two records of one number: the first in order of bytes says whether the number is a consistency point

@@ -41,6 +41,14 @@ AnswersLate late step defined old (Err fault) new = (defined ≡ Err fault) × (
 abbrev pub Answers : {R S T : Type 0} → (R → S → T) → Result T Fault → S → Result R Fault → S → Type 0
 Answers step defined old result new = AnswersLate never_late step defined old result new
 
+-- The same of a call that makes something new and changes nothing: what it made, seen by view, is what is defined.
+abbrev pub AnswersNewLate : {R T : Type 0} → (Fault → Bool) → (R → T) → Result T Fault → Result R Fault → Type 0
+AnswersNewLate late view defined result = AnswersLate {S = Unit {0}} late (λ made u. view made) defined tt result tt
+
+-- The same of such a call that finds every refusal before it makes any growth.
+abbrev pub AnswersNew : {R T : Type 0} → (R → T) → Result T Fault → Result R Fault → Type 0
+AnswersNew view defined result = AnswersNewLate never_late view defined result
+
 -- whether a call is refused, and why, without its step
 abbrev pub refusal_of : {T : Type 0} → Result T Fault → Result (Unit {0}) Fault
 refusal_of (Ok step) = Ok tt

@@ -1,5 +1,5 @@
 -- What a client does with a message.
-use Rattle.std.specs.Prelude.{ℕ, Bool, not, ◌&&◌, ◌==◌, nat_lt, nat_le, if◌then◌else◌, List, [], ◌∷◌, Ok, Err, length, slice_set}
+use Rattle.std.specs.Prelude.{ℕ, Bool, false, not, ◌&&◌, ◌==◌, nat_lt, nat_le, if◌then◌else◌, List, [], ◌∷◌, Ok, Err, length, slice_set}
 use Rattle.volume_model.specs.Lists.{every_below}
 use Rattle.volume_model.specs.Plan.{Plan, is_configuration}
 use Rattle.volume_model.specs.Message.{Label, Place, Message, place_in}
@@ -64,22 +64,38 @@ abbrev pub are_places : Plan → List Place → Bool
 are_places plan places =
     length places == plan.groups && every_below plan.groups (λ group. is_configuration plan group (place_in places group).configuration (place_in places group).epoch)
 
+-- The message is for the client of this volume epoch, over so many groups: it is a View of the volume epoch, or a report, an acknowledgement or
+-- a page of one of the groups, from a member, and a report's records are those of the group.
+abbrev pub is_for : ℕ → ℕ → Message → Bool
+is_for volume groups (View of places) = of == volume
+is_for volume groups (Report group label sender contents) = label.volume == volume && (nat_lt group groups && (in_group group contents && nat_lt sender 64))
+is_for volume groups (Ack group label sender reached) = label.volume == volume && (nat_lt group groups && nat_lt sender 64)
+is_for volume groups (Page group label sender block point bytes) = label.volume == volume && (nat_lt group groups && nat_lt sender 64)
+is_for volume groups (StepTo group place) = false
+is_for volume groups (Fence group label) = false
+is_for volume groups (Install group label contents) = false
+is_for volume groups (Write group label r) = false
+is_for volume groups (Gossip group label r) = false
+is_for volume groups (CopyAsk group epoch) = false
+is_for volume groups (CopyReport group epoch sender contents) = false
+is_for volume groups (PageAsk group label block point) = false
+
 -- what a client does with a message
 abbrev pub taken : Plan → ℕ → Client → Message → ClientAnswer
 taken plan volume client (View of places) =
-    refuse_if (not (of == volume)) NotAddressed (
+    refuse_if (not (is_for volume plan.groups (View of places))) NotAddressed (
     refuse_if (not (are_places plan places)) NotInPlan (
     Ok (viewed plan volume client places client.stage)))
 taken plan volume client (Report group label sender contents) =
-    refuse_if (not (label.volume == volume && (nat_lt group plan.groups && (in_group group contents && nat_lt sender 64)))) NotAddressed (
+    refuse_if (not (is_for volume plan.groups (Report group label sender contents))) NotAddressed (
     if_born client (
     Ok (stays (report_taken volume client group label (record { sender = sender; contents = contents })))))
 taken plan volume client (Ack group label sender reached) =
-    refuse_if (not (label.volume == volume && (nat_lt group plan.groups && nat_lt sender 64))) NotAddressed (
+    refuse_if (not (is_for volume plan.groups (Ack group label sender reached))) NotAddressed (
     if_born client (
     Ok (stays (ack_taken plan client group label sender reached))))
 taken plan volume client (Page group label sender block point bytes) =
-    refuse_if (not (label.volume == volume && (nat_lt group plan.groups && nat_lt sender 64))) NotAddressed (
+    refuse_if (not (is_for volume plan.groups (Page group label sender block point bytes))) NotAddressed (
     if_born client (Ok (stays client)))
 taken plan volume client (StepTo group place) = Err NotAddressed
 taken plan volume client (Fence group label) = Err NotAddressed

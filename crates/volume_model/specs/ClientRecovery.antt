@@ -1,15 +1,16 @@
 -- What a client does before it is open: it fences, takes reports, cuts, installs and opens.
-use Rattle.std.specs.Prelude.{ℕ, zero, suc, ◌+◌, ◌^◌, Bool, true, not, ◌&&◌, ◌==◌, nat_lt, if◌then◌else◌, List, [], ◌++◌, Ok, map, slice_set}
+use Rattle.std.specs.Prelude.{ℕ, zero, suc, Bool, true, not, ◌&&◌, ◌==◌, nat_lt, if◌then◌else◌, List, [], ◌++◌, Ok, map, slice_set}
+use Rattle.volume_model.specs.Answer.{◌>>=◌}
 use Rattle.volume_model.specs.Lists.{every_below, each_below}
 use Rattle.volume_model.specs.Formula.{sat}
 use Rattle.volume_model.specs.Redo.{Redo, of_group, cut_of, log_found}
-use Rattle.volume_model.specs.Lineage.{Lineage, last_epoch, last_start, extended, Contents, newest, found_in}
+use Rattle.volume_model.specs.Lineage.{Lineage, last_epoch, extension, Contents, newest, found_in}
 use Rattle.volume_model.specs.Plan.{Plan}
 use Rattle.volume_model.specs.Message.{Label, Place, Message, place_in}
 use Rattle.volume_model.specs.Message.Message.{Fence, Install}
 use Rattle.volume_model.specs.Node.{From, senders, with_first, contents_of}
 use Rattle.volume_model.specs.Refusal.{refuse_if}
-use Rattle.volume_model.specs.declared.fault.Fault.TheVariants.{AlreadyDone, LsnSpent, NoActor, NotReady}
+use Rattle.volume_model.specs.declared.fault.Fault.TheVariants.{AlreadyDone, NoActor, NotReady}
 use Rattle.volume_model.specs.Client.{is_born, has_cut, is_open, newly_at, group_of, place_of, reports_of, counts_of, Client, unborn, place_configuration, ClientStep, ClientAnswer, label_of}
 use Rattle.volume_model.specs.Client.Stage.{Reading, Installing, Writing}
 use Rattle.volume_model.specs.ClientPoints.{counted_by, raised}
@@ -52,22 +53,23 @@ has_read plan client = every_below plan.groups (λ group. sat (place_configurati
 abbrev pub has_installed : Plan → Client → Bool
 has_installed plan client = every_below plan.groups (λ group. sat (place_configuration plan group (place_of client.groups group)).write (counted_by (counts_of client.groups group)))
 
+-- the step of a cut that finds this log, under this lineage
+abbrev pub cut_step : Plan → ℕ → Client → List Redo → Lineage → ClientStep
+cut_step plan volume client found lineage = record {
+  made = installs plan volume (place_of client.groups) lineage found (λ group. true);
+  client = record client { stage = Installing; lineage = lineage; found = found; log = found };
+}
+
 -- what a cut leaves
 abbrev pub cut_client : Plan → ℕ → Client → ClientAnswer
 cut_client plan volume client =
     let reported = all_reports (reports_of client.groups) plan.groups in
     let parent = newest reported in
     let records = found_in parent reported in
-    let lineage = extended parent volume (cut_of records) plan.lal in
-    let found = log_found records in
     refuse_if (not (is_born client.stage)) NoActor (
     refuse_if (has_cut client.stage) AlreadyDone (
     refuse_if (not (has_read plan client)) NotReady (
-    refuse_if (nat_lt (2 ^ 62) (last_start lineage)) LsnSpent (
-    Ok (record {
-      made = installs plan volume (place_of client.groups) lineage found (λ group. true);
-      client = record client { stage = Installing; lineage = lineage; found = found; log = found };
-    })))))
+    extension parent volume (cut_of records) plan.lal >>= λ lineage. Ok (cut_step plan volume client (log_found records) lineage))))
 
 -- what an opening leaves
 abbrev pub opened : Plan → Client → ClientAnswer

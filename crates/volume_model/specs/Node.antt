@@ -1,6 +1,7 @@
 use Rattle.std.specs.Prelude.{ℕ, ◌+◌, Bool, true, false, not, ◌&&◌, ◌==◌, nat_lt, nat_le, if◌then◌else◌, List, [], ◌∷◌, ◌++◌, Option, Some, None, Result, Ok, Err, length, map, max, take, drop, replicate}
 use Rattle.volume_model.specs.Lists.{any, every}
-use Rattle.volume_model.specs.Formula.{Members, sat}
+use Rattle.volume_model.specs.Answer.{◌>>=◌}
+use Rattle.volume_model.specs.Formula.{Formula, Members, sat}
 use Rattle.volume_model.specs.Redo.{Redo, with_record, holds_record, record_at, scl}
 use Rattle.volume_model.specs.Lineage.{birth, last_epoch, Contents, newest, found_in}
 use Rattle.volume_model.specs.Plan.{Plan, has_member, is_full, is_configuration}
@@ -106,6 +107,22 @@ page_from page block point (r ∷ rest) =
 abbrev pub page_of : List Redo → ℕ → ℕ → List ℕ
 page_of records block point = page_from (replicate 512 0) block point records
 
+-- the tests of a page, in order: the member keeps whole pages, and the segment is complete up to the point
+unfoldable pub page_checks : {A : Type 0} → Plan → ℕ → ℕ → Node → ℕ → Result A Fault → Result A Fault
+page_checks plan group member node point rest =
+    refuse_if (not (has_configuration plan group member node && is_full (plan.configuration group node.place.configuration) member)) TailSegment (
+    refuse_if (nat_lt (scl node.contents.records) point) PointAhead rest)
+
+-- what a node answers to a question for a page whose label is right
+unfoldable pub page_answer : Plan → ℕ → ℕ → Node → Label → ℕ → ℕ → NodeAnswer
+page_answer plan group member node label block point =
+    refuse_if (not (lineage_epoch node == label.volume)) NotInstalled (
+    page_checks plan group member node point (
+    Ok (record {
+      made = Page group label member block point (page_of node.contents.records block point) ∷ [];
+      node = node;
+    })))
+
 -- each record is one of the group
 abbrev pub in_group : ℕ → Contents → Bool
 in_group group contents = every (λ r. r.group == group) contents.records
@@ -155,30 +172,47 @@ reaction plan group member node (CopyReport to epoch sender contents) =
 reaction plan group member node (PageAsk to label block point) =
     refuse_if (not (to == group)) NotAddressed (
     label_checks node label (
-    refuse_if (not (lineage_epoch node == label.volume)) NotInstalled (
-    refuse_if (not (has_configuration plan group member node && is_full (plan.configuration group node.place.configuration) member)) TailSegment (
-    refuse_if (nat_lt (scl node.contents.records) point) PointAhead (
-    Ok (record {
-      made = Page group label member block point (page_of node.contents.records block point) ∷ [];
-      node = node;
-    }))))))
+    page_answer plan group member node label block point))
 reaction plan group member node (View volume places) = Err NotAddressed
 reaction plan group member node (Report to label sender contents) = Err NotAddressed
 reaction plan group member node (Ack to label sender reached) = Err NotAddressed
 reaction plan group member node (Page to label sender block point bytes) = Err NotAddressed
 
+-- what a node becomes: its volume epoch, and what it holds
+pub record Hydrated : Type 0 where
+  pub volume : ℕ
+  pub contents : Contents
+
+-- From the copies of a read set a node gets the newest lineage, and all records that are live in it.
+abbrev pub finished : Formula → List From → Option Hydrated
+finished read copies =
+    let lineage = newest (contents_of copies) in
+    if sat read (senders copies)
+    then Some (record { volume = last_epoch lineage; contents = record { lineage = lineage; records = found_in lineage (contents_of copies) } })
+    else None
+
+-- what copies come to, refused where they are not enough
+abbrev pub or_not_enough : Option Hydrated → Result Hydrated Fault
+or_not_enough None = Err NotEnough
+or_not_enough (Some h) = Ok h
+
+-- what the copies make of a node, where they are those of a read set of the configuration that it took last
+unfoldable pub gathered : Plan → ℕ → ℕ → Node → Result Hydrated Fault
+gathered plan group member node =
+    refuse_if (not (has_configuration plan group member node)) NotEnough (
+    or_not_enough (finished (plan.configuration group node.place.configuration).read node.copies))
+
+-- the node that has become whole
+abbrev pub whole_node : Node → Hydrated → Node
+whole_node node h = record { volume = max node.volume h.volume; place = node.place; whole = true; contents = h.contents; copies = node.copies }
+
+-- a node becomes what its copies make of it, unless these are more records than it may hold
+abbrev pub whole_from : Node → Hydrated → NodeAnswer
+whole_from node h = refuse_if (nat_lt most_records (length h.contents.records)) Full (Ok (record { made = []; node = whole_node node h }))
+
 -- becoming whole, from copies of a read set of the node's own configuration
 abbrev pub hydrated : Plan → ℕ → ℕ → Node → NodeAnswer
-hydrated plan group member node =
-    let lineage = newest (contents_of node.copies) in
-    let found = found_in lineage (contents_of node.copies) in
-    refuse_if node.whole AlreadyWhole (
-    refuse_if (not (has_configuration plan group member node && sat (plan.configuration group node.place.configuration).read (senders node.copies))) NotEnough (
-    refuse_if (nat_lt most_records (length found)) Full (
-    Ok (record {
-      made = [];
-      node = record { volume = max node.volume (last_epoch lineage); place = node.place; whole = true; contents = record { lineage = lineage; records = found }; copies = node.copies };
-    }))))
+hydrated plan group member node = refuse_if node.whole AlreadyWhole (gathered plan group member node >>= whole_from node)
 
 -- what a restart leaves
 abbrev pub restarted : Node → Node

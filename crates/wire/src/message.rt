@@ -210,12 +210,13 @@ impl CopyReport {
 }
 
 impl Report {
-    ghost use Rattle.wire.specs.Addressed.{is_report_to};
+    ghost use Rattle.volume_model.specs.ClientMessages.{is_for};
+    ghost use Rattle.wire.specs.Message.{message_of};
 
     /// Whether it is for the client of this volume epoch, over so many groups: it speaks of one of them, its records are those of the
     /// group, and its sender is a member.
     pub fn is_to(&self, volume: u32, groups: u8) -> bool
-        ensures { result ≡ is_report_to self.now volume groups }
+        ensures { result ≡ is_for volume groups (message_of (Message.Report self.now)) }
     {
         self.label.volume == volume
             && self.group < groups
@@ -225,22 +226,24 @@ impl Report {
 }
 
 impl Ack {
-    ghost use Rattle.wire.specs.Addressed.{is_ack_to};
+    ghost use Rattle.volume_model.specs.ClientMessages.{is_for};
+    ghost use Rattle.wire.specs.Message.{message_of};
 
     /// Whether it is for the client of this volume epoch, over so many groups: it speaks of one of them, and its sender is a member.
     pub fn is_to(&self, volume: u32, groups: u8) -> bool
-        ensures { result ≡ is_ack_to self.now volume groups }
+        ensures { result ≡ is_for volume groups (message_of (Message.Ack self.now)) }
     {
         self.label.volume == volume && self.group < groups && self.from < 64
     }
 }
 
 impl Page {
-    ghost use Rattle.std.specs.Prelude.{nat_lt};
+    ghost use Rattle.volume_model.specs.ClientMessages.{is_for};
+    ghost use Rattle.wire.specs.Message.{message_of};
 
     /// Whether it is for the client of this volume epoch, over so many groups: it speaks of one of them, and its sender is a member.
     pub fn is_to(&self, volume: u32, groups: u8) -> bool
-        ensures { result ≡ (self.now.label.volume == volume && (nat_lt self.now.group groups && nat_lt self.now.from 64)) }
+        ensures { result ≡ is_for volume groups (message_of (Message.Page self.now)) }
     {
         self.from < 64 && self.group < groups && self.label.volume == volume
     }

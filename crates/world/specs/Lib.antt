@@ -1,5 +1,4 @@
 pub mod Acts
-pub mod Addressed
 pub mod Clients
 pub mod Events
 pub mod Slots

@@ -2,7 +2,7 @@
 
 ghost use Rattle.std.specs.Prelude.{◌≡◌, ◌≢◌, IfErr, IfOk};
 ghost use Rattle.std.specs.Arc.{arc_value};
-ghost use Rattle.volume_model.specs.Answer.{refusal_of, Answers, AnswersLate};
+ghost use Rattle.volume_model.specs.Answer.{refusal_of, AnswersLate, AnswersNew, AnswersNewLate};
 ghost use Rattle.volume_model.specs.Client.{unborn};
 ghost use Rattle.volume_model.specs.ClientMessages.{taken};
 ghost use Rattle.volume_model.specs.declared.fault.Fault.TheVariants.{NoMemory};
@@ -50,7 +50,7 @@ fn begin_by_view(
     plan: &Arc<CheckedPlan>,
     message: &Message,
 ) -> Result<(Recovery, Vec<Message>), Fault>
-    ensures step { Answers begun (birth_of (checked_model (arc_value plan.now)) (message_of message.now)) tt result tt }
+    ensures step { AnswersNew begun (birth_of (checked_model (arc_value plan.now)) (message_of message.now)) result }
     ensures plan { IfOk result (λ r. recovery_plan r.0 ≡ checked_model (arc_value plan.now)) }
     ensures volume { IfOk result (λ r. recovery_volume r.0 ≡ view_volume (message_of message.now)) }
 {
@@ -66,7 +66,7 @@ fn begin(
     volume: u32,
     message: &Message,
 ) -> Result<(Recovery, Vec<Message>), Fault>
-    ensures step { Answers begun (taken (checked_model (arc_value plan.now)) volume unborn (message_of message.now)) tt result tt }
+    ensures step { AnswersNew begun (taken (checked_model (arc_value plan.now)) volume unborn (message_of message.now)) result }
     ensures plan { IfOk result (λ r. recovery_plan r.0 ≡ checked_model (arc_value plan.now)) }
     ensures volume { IfOk result (λ r. recovery_volume r.0 ≡ volume) }
 {
@@ -84,7 +84,7 @@ pub fn act(
     volume: u32,
     act: ClientAct<'_>,
 ) -> Result<(Recovery, Vec<Message>), Fault>
-    ensures step { AnswersLate (client_late act.entry) begun (client_acted act.entry (checked_model (arc_value plan.now)) volume unborn) tt result tt }
+    ensures step { AnswersNewLate (client_late act.entry) begun (client_acted act.entry (checked_model (arc_value plan.now)) volume unborn) result }
     ensures plan { IfOk result (λ r. recovery_plan r.0 ≡ checked_model (arc_value plan.now)) }
     ensures volume { IfOk result (λ r. recovery_volume r.0 ≡ volume) }
 {

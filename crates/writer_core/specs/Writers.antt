@@ -28,10 +28,6 @@ writer_volume w = w.volume
 abbrev pub client_of : Writer → Client
 client_of w = record { stage = Writing; groups = groups_in w.standings; lineage = lineage_of w.lineage; found = log_of (take w.found w.log.items); log = log_of w.log.items }
 
--- the client that a writer is born as
-abbrev pub first_of : Writer → Unit {0} → Client
-first_of w u = client_of w
-
 -- the writer that a recovery becomes that keeps these of its groups, with its lineage and the log that it found
 abbrev pub opened_of : Plan → List ClientGroup → Lineage → List Redo → Client
 opened_of plan groups lineage log = record { stage = Writing; groups = raised plan groups; lineage = lineage; found = log; log = log }

@@ -49,23 +49,22 @@ impl Writer {
     ghost use Rattle.std.specs.Prelude.{◌<◌, ◌≢◌, map, Ok, OnOk, IfOk, IfErr, MatchResult};
     ghost use Rattle.std.specs.Arc.{arc_value};
     ghost use Rattle.plan.specs.CheckedModel.{checked_model};
-    ghost use Rattle.volume_model.specs.Answer.{Answers, AnswersAlways, refusal_of};
+    ghost use Rattle.volume_model.specs.Answer.{Answers, AnswersAlways, AnswersNew, refusal_of};
     ghost use Rattle.volume_model.specs.Client.{first_writer};
     ghost use Rattle.volume_model.specs.ClientPoints.{acknowledged, complete_point, durable_point};
     ghost use Rattle.volume_model.specs.ClientWriter.{issued, resent, page_asked};
-    ghost use Rattle.volume_model.specs.ClientMessages.{are_places, taken};
+    ghost use Rattle.volume_model.specs.ClientMessages.{are_places, is_for, taken};
     ghost use Rattle.volume_model.specs.declared.fault.Fault.TheVariants.{NoGroup, NoMemory};
     ghost use Rattle.wire.specs.Message.{message_of, place_of};
-    ghost use Rattle.wire.specs.Addressed.{is_ack_to};
     ghost use Rattle.volume_model.specs.Lineage.{last_start};
     ghost use Rattle.writer_core.specs.Changes.{changes_of};
-    ghost use Rattle.writer_core.specs.Writers.{client_of, writer_plan, writer_volume, issue_of, opened_of, CanIssue, acted, first_of, silent, asked};
+    ghost use Rattle.writer_core.specs.Writers.{client_of, writer_plan, writer_volume, issue_of, opened_of, CanIssue, acted, silent, asked};
     ghost use Rattle.writer_core.specs.Groups.{standings_plan};
     ghost use Rattle.lineage.specs.Lineage.{lineage_of};
 
     /// The writer that a volume is born with: volume epoch 1, each group at its root, no record.
     pub fn first(alloc: Global, plan: Arc<CheckedPlan>) -> Result<Writer, Fault>
-        ensures client { Answers first_of (Ok (first_writer (checked_model (arc_value plan)))) tt result tt }
+        ensures client { AnswersNew client_of (Ok (first_writer (checked_model (arc_value plan)))) result }
         ensures plan { IfOk result (λ w. writer_plan w ≡ checked_model (arc_value plan)) }
         ensures volume { IfOk result (λ w. writer_volume w ≡ 1) }
     {
@@ -167,7 +166,7 @@ impl Writer {
     /// member. Takes no memory.
     pub fn admits_ack(&self, ack: &Ack) -> Result<(), Fault>
         ensures refusal { result ≡ refusal_of (taken (writer_plan self.now) (writer_volume self.now) (client_of self.now) (message_of (Message.Ack ack.now))) }
-        ensures can { OnOk result (is_ack_to ack.now (writer_volume self.now) (writer_plan self.now).groups ≡ true) }
+        ensures can { OnOk result (is_for (writer_volume self.now) (writer_plan self.now).groups (message_of (Message.Ack ack.now)) ≡ true) }
         ensures own { IfErr result (λ fault. fault ≢ NoMemory) }
     {
         if !ack.is_to(self.volume, self.groups()) {

@@ -2,20 +2,18 @@ use Rattle.std.proofs.Common.{◌≡◌, ℕ, ◌<◌, List, Ok, Result, is_some
 use Rattle.volume_model.specs.declared.fault.Fault.{Fault}
 use Rattle.volume_model.specs.Answer.{Fails}
 use Rattle.volume_model.specs.Plan.{Plan}
-use Rattle.quorum_expr.proofs.Levels.{Fails-at}
-use Rattle.volume_model.specs.Redo.{record_at, chain_from, chain_or_none, cut_of, log_found}
-use Rattle.volume_model.specs.Lineage.{Lineage, last_epoch, newest, found_in}
+use Rattle.volume_model.specs.Redo.{record_at, chain_from, chain_or_none, cut_of}
+use Rattle.volume_model.specs.Lineage.{Lineage, extension, last_epoch, newest, found_in}
 use Rattle.volume_model.specs.Client.{ClientGroup}
-use Rattle.lineage.specs.Lineage.{lineage_of, extension}
+use Rattle.lineage.specs.Lineage.{lineage_of}
 use Rattle.redo_record.specs.declared.«record».Record.{Record}
 use Rattle.redo_record.specs.RecordSet.{records_of}
 use Rattle.writer_core.specs.Logs.{log_of}
-use Rattle.writer_core.specs.Standings.{groups_of}
 use Rattle.writer_core.specs.Groups.{groups_in, standings_plan}
 use Rattle.recovery.specs.Reported.{reports_in}
-use Rattle.recovery.specs.Finds.{live_records, found_by}
+use Rattle.recovery.specs.Finds.{live_records}
 use Rattle.recovery.proofs.Older.{older-newest}
-use Rattle.recovery.proofs.Leaves.{found-ok, found-err, cut-there, log-same, cut-same}
+use Rattle.recovery.proofs.Leaves.{found-lineage, fails-new, cut-there, log-same, cut-same}
 use Rattle.recovery.proofs.finding.find.Goals as goal
 
 abbrev okay : ℕ → Result ℕ Fault
@@ -37,37 +35,38 @@ chain_of-requires-clause-there c =
     subst (λ (xs : List Record). is_some (chain_from c.in-Ok.cut (log_of xs) c.in-Ok.cut) ≡ true) (sym c.as_slice-4.ensures.value)
     (ap (λ n. is_some (chain_from n (log_of items) n)) cut ∙ cut-there (log_of items))
 
-pub returns-in-Ok-extend : goal.returns-in-Ok-extend
-returns-in-Ok-extend c =
+pub returns-in-Ok-extend-clause-lineage : goal.returns-in-Ok-extend-clause-lineage
+returns-in-Ok-extend-clause-lineage c =
     let plan : Plan = standings_plan c.args.standings.now in
     let groups : List ClientGroup = groups_in c.args.standings.now in
-    let reported : reports_in (groups_of c.as_slice.result.now) ≡ reports_in groups = ap reports_in c.as_slice.ensures.groups in
-    let reported2 : reports_in (groups_of c.as_slice-2.result.now) ≡ reports_in groups = ap reports_in c.as_slice-2.ensures.groups in
-    let parent : lineage_of c.in_ok-parent.parent ≡ newest (reports_in groups) = c.in_ok-parent.ensures ∙ ap newest reported in
-    let records : records_of c.in_ok-records.records ≡ live_records groups = c.in_ok-records.ensures ∙ ap₂ found_in parent reported2 in
+    let parent : lineage_of c.in_ok-parent.parent ≡ newest (reports_in groups) = c.in_ok-parent.ensures ∙ ap (λ gs. newest (reports_in gs)) c.as_slice.ensures.groups in
+    let records : records_of c.in_ok-records.records ≡ live_records groups = c.in_ok-records.ensures ∙ ap₂ found_in parent (ap reports_in c.as_slice-2.ensures.groups) in
     let items : List Record = c.in_ok-records-2.records.items in
     let same : (n : ℕ) → record_at (log_of items) n ≡ record_at (live_records groups) n = λ n. c.in_ok-records-2.ensures.same n ∙ ap (λ l. record_at l n) records in
     let cut : c.in-Ok.cut ≡ cut_of (log_of items) = is_value (cut_of (log_of items)) c.in-Ok.cut (subst (λ (xs : List Record). okay (cut_of (log_of xs)) ≡ okay c.in-Ok.cut) c.as_slice-3.ensures.value c.in-Ok.ensures) in
-    let log : log_of c.in_ok-log.log.items ≡ log_found (live_records groups) =
-    c.in_ok-log.ensures.chain ∙ ap (λ (xs : List Record). chain_or_none (chain_from c.in-Ok.cut (log_of xs) c.in-Ok.cut)) c.as_slice-4.ensures.value ∙ ap (λ n. chain_or_none (chain_from n (log_of items) n)) cut ∙ log-same (log_of items) (live_records groups) same in
     let lal : c.lal.result ≡ plan.lal = c.lal.ensures ∙ ap (λ (p : Plan). p.lal) c.plan-2.ensures in
-    let own = ap (extension (lineage_of c.in_ok-parent.parent) c.args.volume c.in-Ok.cut) (sym lal) ∙ c.in-Ok-extend.ensures in
-    found-ok plan c.args.volume groups (lineage_of c.in_ok-parent.parent) (lineage_of c.in-Ok-extend.lineage) c.in-Ok.cut (log_of c.in_ok-log.log.items) parent (cut ∙ cut-same (log_of items) (live_records groups) same) log own
+    sym (found-lineage groups (lineage_of c.in_ok-parent.parent) c.args.volume c.in-Ok.cut c.lal.result plan.lal parent (cut ∙ cut-same (log_of items) (live_records groups) same) lal) ∙ c.in-Ok-extend.ensures
 
-pub returns : goal.returns
-returns c =
-    let plan : Plan = standings_plan c.args.standings.now in
+pub returns-in-Ok-extend-clause-log : goal.returns-in-Ok-extend-clause-log
+returns-in-Ok-extend-clause-log c =
     let groups : List ClientGroup = groups_in c.args.standings.now in
-    let reported : reports_in (groups_of c.as_slice.result.now) ≡ reports_in groups = ap reports_in c.as_slice.ensures.groups in
-    let reported2 : reports_in (groups_of c.as_slice-2.result.now) ≡ reports_in groups = ap reports_in c.as_slice-2.ensures.groups in
-    let parent : lineage_of c.in_ok-parent.parent ≡ newest (reports_in groups) = c.in_ok-parent.ensures ∙ ap newest reported in
-    let records : records_of c.in_ok-records.records ≡ live_records groups = c.in_ok-records.ensures ∙ ap₂ found_in parent reported2 in
+    let parent : lineage_of c.in_ok-parent.parent ≡ newest (reports_in groups) = c.in_ok-parent.ensures ∙ ap (λ gs. newest (reports_in gs)) c.as_slice.ensures.groups in
+    let records : records_of c.in_ok-records.records ≡ live_records groups = c.in_ok-records.ensures ∙ ap₂ found_in parent (ap reports_in c.as_slice-2.ensures.groups) in
     let items : List Record = c.in_ok-records-2.records.items in
     let same : (n : ℕ) → record_at (log_of items) n ≡ record_at (live_records groups) n = λ n. c.in_ok-records-2.ensures.same n ∙ ap (λ l. record_at l n) records in
     let cut : c.in-Ok.cut ≡ cut_of (log_of items) = is_value (cut_of (log_of items)) c.in-Ok.cut (subst (λ (xs : List Record). okay (cut_of (log_of xs)) ≡ okay c.in-Ok.cut) c.as_slice-3.ensures.value c.in-Ok.ensures) in
-    let log : log_of c.in_ok-log.log.items ≡ log_found (live_records groups) =
-    c.in_ok-log.ensures.chain ∙ ap (λ (xs : List Record). chain_or_none (chain_from c.in-Ok.cut (log_of xs) c.in-Ok.cut)) c.as_slice-4.ensures.value ∙ ap (λ n. chain_or_none (chain_from n (log_of items) n)) cut ∙ log-same (log_of items) (live_records groups) same in
+    c.in_ok-log.ensures.chain ∙ ap (λ (xs : List Record). chain_or_none (chain_from c.in-Ok.cut (log_of xs) c.in-Ok.cut)) c.as_slice-4.ensures.value ∙ ap (λ n. chain_or_none (chain_from n (log_of items) n)) cut ∙ log-same (log_of items) (live_records groups) same
+
+pub returns-clause-lineage : goal.returns-clause-lineage
+returns-clause-lineage c =
+    let plan : Plan = standings_plan c.args.standings.now in
+    let groups : List ClientGroup = groups_in c.args.standings.now in
+    let parent : lineage_of c.in_ok-parent.parent ≡ newest (reports_in groups) = c.in_ok-parent.ensures ∙ ap (λ gs. newest (reports_in gs)) c.as_slice.ensures.groups in
+    let records : records_of c.in_ok-records.records ≡ live_records groups = c.in_ok-records.ensures ∙ ap₂ found_in parent (ap reports_in c.as_slice-2.ensures.groups) in
+    let items : List Record = c.in_ok-records-2.records.items in
+    let same : (n : ℕ) → record_at (log_of items) n ≡ record_at (live_records groups) n = λ n. c.in_ok-records-2.ensures.same n ∙ ap (λ l. record_at l n) records in
+    let cut : c.in-Ok.cut ≡ cut_of (log_of items) = is_value (cut_of (log_of items)) c.in-Ok.cut (subst (λ (xs : List Record). okay (cut_of (log_of xs)) ≡ okay c.in-Ok.cut) c.as_slice-3.ensures.value c.in-Ok.ensures) in
     let lal : c.lal.result ≡ plan.lal = c.lal.ensures ∙ ap (λ (p : Plan). p.lal) c.plan-2.ensures in
-    let own = subst (λ n. Fails c.in-Err-extend.fault (extension (lineage_of c.in_ok-parent.parent) c.args.volume c.in-Ok.cut n)) lal c.in-Err-extend.ensures in
-    Fails-at c.in-Err-extend.fault (extension (lineage_of c.in_ok-parent.parent) c.args.volume c.in-Ok.cut plan.lal) (found_by plan c.args.volume groups)
-    (found-err plan c.args.volume groups (lineage_of c.in_ok-parent.parent) c.in-Ok.cut (log_of c.in_ok-log.log.items) c.in-Err-extend.fault parent (cut ∙ cut-same (log_of items) (live_records groups) same) log) own
+    subst (λ (defined : Result Lineage Fault). Fails c.in-Err-extend.fault defined)
+    (found-lineage groups (lineage_of c.in_ok-parent.parent) c.args.volume c.in-Ok.cut c.lal.result plan.lal parent (cut ∙ cut-same (log_of items) (live_records groups) same) lal)
+    (fails-new lineage_of c.in-Err-extend.fault (extension (lineage_of c.in_ok-parent.parent) c.args.volume c.in-Ok.cut c.lal.result) c.in-Err-extend.ensures)

@@ -19,4 +19,4 @@ returns c =
     let plan : Plan = standings_plan self.standings in
     let groups : List ClientGroup = groups_in self.standings in
     let many : length groups ≡ plan.groups = length-map self.standings.list.items group_at ∙ self.standings.each_group in
-    cut-found plan self.volume groups self.found c.find.result many (is-none self.found (sym c.is_some.ensures ∙ c.if-is_some.false)) (sym c.has_read.ensures ∙ c.if-not-has_read.false) c.find.ensures
+    cut-found plan self.volume groups self.found many (is-none self.found (sym c.is_some.ensures ∙ c.if-is_some.false)) (sym c.has_read.ensures ∙ c.if-not-has_read.false) c.find.result c.find.ensures.lineage c.find.ensures.log

@@ -1,12 +1,12 @@
 use Rattle.std.proofs.Common.{◌≤◌, ◌<◌, length, Err, refl, sym, subst, arith, inr}
 use Rattle.std.proofs.lemmas.Result.{err_from_is_err_and}
 use Rattle.volume_model.specs.Answer.{AnswersLate}
-use Rattle.volume_model.specs.Node.{Node, NodeAnswer, most_records, hydrated}
+use Rattle.volume_model.specs.Node.{Node, NodeAnswer, Hydrated, gathered, most_records, hydrated}
 use Rattle.volume_model.specs.declared.fault.Fault.{Fault}
-use Rattle.hydration.specs.Hydration.{Hydrated, state_of}
+use Rattle.hydration.specs.Hydration.{state_of}
 use Rattle.segment_core.specs.declared.segment.Segment.{Segment}
 use Rattle.segment_core.specs.Prepared.{step_of}
-use Rattle.segment_core.specs.Segment.{node_of, segment_plan, segment_group, segment_member, gathered, is_full}
+use Rattle.segment_core.specs.Segment.{node_of, segment_plan, segment_group, segment_member, is_full}
 use Rattle.segment_core.proofs.Hydrating.{gathers, fails_first, late, too_full, hydrates, whole_step}
 use Rattle.segment_core.proofs.segment.Segment.prepare_hydration.Goals as goal
 
