@@ -1,0 +1,30 @@
+use Rattle.std.proofs.Common.{◌≡◌, ◌+◌, ◌-◌, ◌/◌, ◌<◌, ◌≤◌, length, vec_len, take, sym, ap, ◌∙◌, arith, rules}
+use Rattle.volume_model.specs.Journal.{before, world_at}
+use Rattle.volume_model.proofs.Worlds.{take_rest}
+use Rattle.journal.specs.Entries.{entries_of}
+use Rattle.journal.specs.Tokens.{shown}
+use Rattle.journal.proofs.Entered.{before_at, length-entries}
+use Rattle.journal.proofs.Tokens.{length-shown}
+use Rattle.journal.proofs.log.Log.maker.Goals as goal
+
+pub loop-low-preserved-then-index-number : goal.loop-low-preserved-then-index-number
+loop-low-preserved-then-index-number g c =
+    let log = c.args.self.now in
+    let es = shown log.tokens.items in
+    let inv = c.loop-low.invariant in
+    let k = c.loop-low.low + (c.loop-low.high - c.loop-low.low) / 2 in
+    let long : length es ≡ vec_len log.tokens = length-shown log.tokens.items ∙ search rules in
+    let lt : k < length es = omega (arith, inv.within, long, c.loop-low-test.true) in
+    let b = before_at g.L.Site.plan es log.firsts.items k c.index.result.now log.run log.firsts_are lt c.index.ensures in
+    record { within = (omega (arith, inv.within, c.loop-low-test.true), inv.within.1); low = omega (arith, b, c.if-index-number.true); high = inv.high }
+
+pub loop-low-preserved : goal.loop-low-preserved
+loop-low-preserved g c =
+    let log = c.args.self.now in
+    let es = shown log.tokens.items in
+    let inv = c.loop-low.invariant in
+    let k = c.loop-low.low + (c.loop-low.high - c.loop-low.low) / 2 in
+    let long : length es ≡ vec_len log.tokens = length-shown log.tokens.items ∙ search rules in
+    let lt : k < length es = omega (arith, inv.within, long, c.loop-low-test.true) in
+    let b = before_at g.L.Site.plan es log.firsts.items k c.index.result.now log.run log.firsts_are lt c.index.ensures in
+    record { within = (omega (arith, inv.within, c.loop-low-test.true), omega (arith, inv.within, c.loop-low-test.true)); low = inv.low; high = omega (arith, b, c.if-index-number.false) }

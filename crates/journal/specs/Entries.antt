@@ -1,0 +1,20 @@
+-- The entries of the model that a program's entries are.
+use Rattle.std.specs.Prelude.{List, map}
+use Rattle.volume_model.specs.Journal as model
+use Rattle.volume_model.specs.Judging.{Refusal}
+use Rattle.wire.specs.Message.{messages_of}
+use Rattle.world.specs.Events.{event_of}
+use Rattle.journal.specs.declared.entry.Entry.{Entry}
+use Rattle.journal.specs.declared.entry.Note.{Note}
+
+-- the entry that a program's entry is
+abbrev pub entry_of : Entry → model.Entry
+entry_of e = record { event = event_of e.event; made = messages_of e.made.items; first = e.first }
+
+-- the entries that these are, in their order
+abbrev pub entries_of : List Entry → List model.Entry
+entries_of = map entry_of
+
+-- what is noted of a refusal
+abbrev pub note_of : Note → Refusal
+note_of n = record { event = event_of n.event; fault = n.fault; number = n.number }

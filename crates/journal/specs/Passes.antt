@@ -1,0 +1,111 @@
+-- What contracts see of a journal, of a pass, of an actor's mark and of a letter.
+use Rattle.std.specs.Prelude.{◌≡◌, ℕ, ◌+◌, ◌<◌, true, List, [], ◌∷◌, ◌++◌, length, map, Option, option_map, slice_get, All, IsSome, vec_capacity, vec_len}
+use Rattle.std.specs.declared.sync.ledger.Ledger.{Ghosts as LedgerGhosts}
+use Rattle.volume_model.specs.declared.fault.Fault.{Fault}
+use Rattle.volume_model.specs.Message.{Message}
+use Rattle.volume_model.specs.World.{World, Event}
+use Rattle.volume_model.specs.Actor.{Actor, actor_of, same_actor}
+use Rattle.volume_model.specs.Journal as model
+use Rattle.volume_model.specs.Journal.{world_at}
+use Rattle.volume_model.specs.Judging.{Refusal, IsNoted}
+use Rattle.wire.specs.Message.{message_of}
+use Rattle.board.specs.declared.BoardStep.{BoardStep}
+use Rattle.board.specs.Seats as board
+use Rattle.journal.specs.declared.row.Site.{Ghosts as SiteGhosts}
+use Rattle.journal.specs.declared.entry.Entry.{Entry}
+use Rattle.journal.specs.declared.entry.Receipt.{Receipt}
+use Rattle.journal.specs.declared.pass.Held.{Held}
+use Rattle.journal.specs.declared.pass.Pass.{Pass}
+use Rattle.journal.specs.declared.mark.Mark.{Mark}
+use Rattle.journal.specs.declared.letter.Letter.{Letter}
+use Rattle.journal.specs.declared.log.Log.{Log}
+use Rattle.journal.specs.Actors.{seen_who}
+use Rattle.journal.specs.Entries.{entry_of, entries_of, note_of}
+use Rattle.journal.specs.Lasts.{last_in}
+use Rattle.journal.specs.Standing.{Made, made}
+use Rattle.journal.specs.Tokens.{shown}
+
+-- a step that a pass holds
+abbrev pub made_of : {X : Type 0} → Held X → Made
+made_of h = made h.cell (entry_of h.token.value) h.durable
+
+module _ {X : Type 0} {s : SiteGhosts X} where
+  -- the steps of a pass
+  abbrev pub steps_of : Pass X s → List Made
+  steps_of pass = map made_of pass.steps.items
+
+  -- what it was refused
+  abbrev pub notes_of : Pass X s → List Refusal
+  notes_of pass = map note_of pass.notes.items
+
+  -- what its seat did on the board
+  abbrev pub seat_of : Pass X s → List BoardStep
+  seat_of pass = board.steps_of pass.seat
+
+  -- it has room for one step more
+  abbrev pub HasStepRoom : Pass X s → Type 0
+  HasStepRoom pass = vec_len pass.steps < vec_capacity pass.steps
+
+  -- it has room for one note more
+  abbrev pub HasNoteRoom : Pass X s → Type 0
+  HasNoteRoom pass = vec_len pass.notes < vec_capacity pass.notes
+
+module _ {X : Type 0} {s : SiteGhosts X} {l : LedgerGhosts X} where
+  -- the entries of the journal, in order, as the program keeps them
+  abbrev pub kept_in : Log X s l → List Entry
+  kept_in log = shown log.tokens.items
+
+  -- the entries of the journal, in order
+  abbrev pub journal_of : Log X s l → List model.Entry
+  journal_of log = entries_of (kept_in log)
+
+  -- the world after them
+  abbrev pub world_of : Log X s l → World
+  world_of log = world_at s.plan (journal_of log)
+
+  -- it has room for one entry more
+  abbrev pub HasRoom : Log X s l → Type 0
+  HasRoom log = (vec_len log.tokens < vec_capacity log.tokens) × (vec_len log.firsts < vec_capacity log.firsts)
+
+  -- it keeps a last number of the actor
+  abbrev pub HasPlace : Log X s l → Actor → Type 0
+  HasPlace log actor = IsSome (last_in log.lasts actor)
+
+  -- the pass has seen the whole journal
+  abbrev pub SeesAll : Pass X s → Log X s l → Type 0
+  SeesAll pass log = pass.seen.log ≡ kept_in log
+
+  -- the actor of a mark
+  abbrev pub marked : Mark X s l → Actor
+  marked mark = seen_who mark.who
+
+  -- the number of the actor's last entry, as its mark says
+  abbrev pub mark_number : Mark X s l → ℕ
+  mark_number mark = mark.number
+
+  -- the entries up to the actor's last one
+  abbrev pub seen_at : Mark X s l → List model.Entry
+  seen_at mark = entries_of mark.seen.log
+
+  -- the number of a letter's message
+  abbrev pub letter_number : Letter X s l → ℕ
+  letter_number letter = letter.number
+
+  -- the message that a letter is
+  abbrev pub letter_message : Letter X s l → Option Message
+  letter_message letter = option_map message_of (slice_get letter.entry.now.made.items letter.index)
+
+-- each of these steps of an actor has at most this number
+abbrev pub AtMost : Actor → ℕ → List Made → Type 0
+AtMost actor number = All (λ s. same_actor (actor_of s.entry.event) actor ≡ true → s.at < number)
+
+-- the pass has one step more, as its receipt says, and its number is above all others
+abbrev pub AddsStep : Event → Receipt → List Made → List Made → Type 0
+AddsStep event r before after =
+    (s : Made) × (after ≡ before ++ s ∷ []) × (s.at + 1 ≡ r.number) × (s.entry.event ≡ event) × (length s.entry.made ≡ r.made) × (s.entry.first + 1 ≡ r.first_message) × (s.durable ≡ r.durable)
+    × All (λ t. t.at + 1 < r.number) before
+
+-- the pass has one note more, whose number is not below the pass's own last step of the actor
+abbrev pub AddsRefusal : Event → Fault → List Made → List Refusal → List Refusal → Type 0
+AddsRefusal event fault steps before after =
+    (number : ℕ) × (after ≡ before ++ record { event = event; fault = fault; number = number } ∷ []) × AtMost (actor_of event) number steps

@@ -1,0 +1,42 @@
+-- A step that a pass holds, and where it stands in the journal.
+use Rattle.std.specs.Prelude.{◌≡◌, ℕ, suc, ◌+◌, ◌<◌, ◌≤◌, if◌then◌else◌, List, length, take, Some, slice_get}
+use Rattle.volume_model.specs.Plan.{Plan}
+use Rattle.volume_model.specs.Client.{Client, is_open}
+use Rattle.volume_model.specs.ClientPoints.{durable_point}
+use Rattle.volume_model.specs.World.{World, Event}
+use Rattle.volume_model.specs.World.Event.{Take, Open}
+use Rattle.volume_model.specs.Actor.{named_by}
+use Rattle.volume_model.specs.Journal.{Entry, world_at, before}
+
+-- the durable point of a client, 0 before its opening
+abbrev pub durable_of : Client → ℕ
+durable_of client = if is_open client.stage then durable_point client else 0
+
+-- the durable point of the client of an event that may move it, else 0
+abbrev pub durable_in : World → Event → ℕ
+durable_in w (Take volume number) = durable_of (w.clients volume)
+durable_in w (Open volume) = durable_of (w.clients volume)
+durable_in w event = 0
+
+-- a step that a pass holds: the place of its entry, the entry, and the durable point that it shows
+pub record Made : Type 0 where
+  pub at : ℕ
+  pub entry : Entry
+  pub durable : ℕ
+
+-- the step with this entry, at this place, that shows this durable point
+abbrev pub made : ℕ → Entry → ℕ → Made
+made at entry durable = record { at = at; entry = entry; durable = durable }
+
+-- the step stands in the journal at its place, and shows the durable point there
+pub record Stands (plan : Plan) (es : List Entry) (s : Made) : Type 0 where
+  pub stands : slice_get es s.at ≡ Some s.entry
+  pub durable : s.durable ≡ durable_in (world_at plan (take (suc s.at) es)) s.entry.event
+
+-- a message that an entry names was made before it
+abbrev pub NamesEarlier : Plan → List Entry → Type 0
+NamesEarlier plan es = (k : ℕ) (e : Entry) (n : ℕ) → slice_get es k ≡ Some e → named_by e.event ≡ Some n → n ≤ before plan es k
+
+-- the message with this number is none of those that the step made
+abbrev pub IsElse : ℕ → Made → Type 0
+IsElse number s = s.entry.first < number → number ≤ s.entry.first + length s.entry.made → ⊥

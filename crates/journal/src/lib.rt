@@ -1,0 +1,23 @@
+//! A journal of the steps of many actors, each under a lock of its own: whoever makes a step enters it by a pass. The
+//! journal is a run of the model.
+#![tactic(auto)]
+
+mod entry;
+mod history;
+mod lasts;
+mod letter;
+mod log;
+mod mark;
+mod pass;
+mod row;
+mod who;
+
+pub use entry::{Entry, Note, Receipt};
+pub use history::{Front, History, Opened};
+pub use lasts::Lasts;
+pub use letter::Letter;
+pub use log::Log;
+pub use mark::Mark;
+pub use pass::{Held, Pass};
+pub use row::{Row, Site};
+pub use who::Who;

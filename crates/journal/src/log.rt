@@ -1,0 +1,458 @@
+//! The journal, as it lies under its lock.
+
+ghost use Rattle.std.specs.Prelude.{◌≡◌, ◌+◌, ◌<◌, ◌≤◌, ℕ, length, map, Some, vec_len};
+ghost use Rattle.std.proofs.Props.{props};
+ghost use Rattle.std.specs.Coded.{Coded-set};
+ghost use Rattle.height.specs.Seats.{top_table, height_of};
+ghost use Rattle.atomic_table.specs.Seated.{table_id_coded};
+ghost use Rattle.volume_model.specs.Actor.{Actor};
+ghost use Rattle.volume_model.specs.Journal.{world_at, last_of, IsRun};
+ghost use Rattle.journal.specs.Entries.{entries_of};
+ghost use Rattle.journal.specs.Lasts.{last_in};
+ghost use Rattle.journal.specs.Tokens.{ids_of, shown, Shows};
+
+use crate::entry::{Entry, Receipt};
+use crate::history::{Front, History};
+use crate::lasts::Lasts;
+use crate::letter::Letter;
+use crate::mark::Mark;
+use crate::pass::{Held, Pass};
+use crate::row::{Row, Site};
+use crate::who::Who;
+use height::{Height, Top};
+use std::alloc::{AllocError, Global};
+use std::marker::PhantomData;
+use std::sync::ledger::Book;
+use std::sync::{OnceLock, OnceToken, Wait};
+use volume_model::Fault;
+use wire::Message;
+use world::Event;
+
+/// The entries so far, each with its token, how many messages were made before each, and the last entry of each actor.
+#[derive(Drop)]
+pub struct Log<'a, L: Site> {
+    row: &'a Vec<OnceLock<Entry>>,
+    tokens: Vec<OnceToken<'a, Entry>>,
+    firsts: Vec<u64>,
+    messages: u64,
+    lasts: Lasts,
+    book: Book<L>,
+    top: Top,
+    history: History<L>,
+    ghost same: { shown tokens.items ≡ history.seen.log } by { Prim.hlevel props },
+    ghost table: { top_table top ≡ L.table } by { Coded-set table_id_coded (top_table top) L.table },
+    ghost risen: { height_of top ≡ vec_len tokens },
+    ghost cells: { map (λ c. c.id) row.now.items ≡ L.cells },
+    ghost room: { vec_len tokens ≤ length L.cells },
+    ghost of: { Shows L.cells tokens.items } by { Prim.hlevel props },
+    ghost run: { IsRun L.plan (entries_of (shown tokens.items)) } by { Prim.hlevel props },
+    ghost firsts_are: { firsts.items ≡ map (λ e. e.first) (shown tokens.items) },
+    ghost messages_are: { messages ≡ length (world_at L.plan (entries_of (shown tokens.items))).messages },
+    ghost newest: { (actor : Actor) (n : ℕ) → last_in lasts actor ≡ Some n → n ≡ last_of actor (entries_of (shown tokens.items)) } by { Prim.hlevel props },
+    ghost counted: { book.total ≡ vec_len tokens },
+}
+
+// Writes a cell that nobody has written. Else it waits for good, which no step brings about.
+fn write<'a, R: Wait>(rt: &R, place: &'a OnceLock<Entry>, entry: Entry) -> OnceToken<'a, Entry>
+    ensures { (result.of ≡ place.now.id) × (result.value ≡ entry) }
+{
+    let mut entry = entry;
+    for _ in rt.forever() {
+        match place.try_set(entry) {
+            Ok(token) => return token,
+            Err(back) => entry = back,
+        }
+    }
+    unreachable!()
+}
+
+// The number after so many messages more. Past 2^64 it waits for good.
+fn total<R: Wait>(rt: &R, messages: u64, more: usize) -> u64
+    ensures { result ≡ messages + more }
+{
+    for _ in rt.forever() {
+        if let Some(all) = messages.checked_add(more as u64) {
+            return all;
+        }
+    }
+    unreachable!()
+}
+
+impl<'a, L: Site> Log<'a, L> {
+    ghost use Rattle.std.specs.Prelude.{◌++◌, [], ◌∷◌, ◌^◌, slice_get, None, All, IsSome, IfSome, IfNone, IfOk, MatchBool, sum_by, take};
+    ghost use Rattle.height.specs.Seats.{table_of};
+    ghost use Rattle.volume_model.specs.Lists.{numbered};
+    ghost use Rattle.volume_model.specs.World.{after, step};
+    ghost use Rattle.volume_model.specs.Actor.{actor_of, Agree};
+    ghost use Rattle.volume_model.specs.Told.{makes};
+    ghost use Rattle.volume_model.specs.Journal.{before, events};
+    ghost use Rattle.volume_model.specs.Judging.{Exact, IsNoted, IsRefused};
+    ghost use Rattle.wire.specs.Message.{messages_of};
+    ghost use Rattle.world.specs.Events.{event_of, events_of};
+    ghost use Rattle.journal.specs.Entries.{entry_of};
+    ghost use Rattle.journal.specs.Standing.{durable_in, made, IsElse, NamesEarlier, Stands};
+    ghost use Rattle.journal.specs.Passes.{journal_of, kept_in, letter_message, letter_number, mark_number, marked, notes_of, seat_of, seen_at, steps_of, world_of, AddsRefusal, AddsStep, HasNoteRoom, HasPlace, HasRoom, HasStepRoom, SeesAll};
+
+    /// An empty journal over a row of cells, for clients of the volume epochs up to that of the last slot and for the nodes of so many
+    /// groups.
+    pub fn new(
+        alloc: Global,
+        row: &'a Row,
+        slots: u32,
+        groups: u8,
+        book: Book<L>,
+        top: Top,
+        history: History<L>,
+    ) -> Result<Log<'a, L>, AllocError>
+        requires cells { ids_of row.now ≡ L.cells }
+        requires top { (top_table top ≡ L.table) × (height_of top ≡ 0) }
+        requires history { history.seen.log ≡ [] }
+        requires book { book.total ≡ 0 }
+        ensures { IfOk result (λ log. journal_of log ≡ []) }
+    {
+        let lasts = Lasts::new(alloc, slots, groups)?;
+        Ok(Log {
+            row: &row.cells,
+            tokens: Vec::new(alloc),
+            firsts: Vec::new(alloc),
+            messages: 0,
+            lasts,
+            book,
+            top,
+            history,
+        })
+    }
+
+    /// Whether the actor stands here as it stands under its own lock. Then it is in the state that the journal says.
+    pub fn compare(&self, mark: &Mark<L>) -> bool
+        ensures agree { MatchBool result (Agree (marked mark.now) (world_at L.plan (seen_at mark.now)) (world_of self.now)) (Unit {0}) }
+        ensures last { MatchBool result ((mark_number mark.now ≡ last_of (marked mark.now) (journal_of self.now)) × HasPlace self.now (marked mark.now)) (Unit {0}) }
+        ensures seen { MatchBool result (take (mark_number mark.now) (journal_of self.now) ≡ seen_at mark.now) (Unit {0}) }
+    {
+        if self.lasts.get(mark.who) != Some(mark.number) {
+            return false;
+        }
+        let mut both = self.history.seen.again();
+        both.learn(&mark.seen);
+        true
+    }
+
+    /// Shows that the journal has come past all that the pass has seen. From then on the pass has seen the whole of it.
+    pub fn settle(&mut self, height: &Height, pass: &mut Pass<'a, L>)
+        requires { table_of height.now ≡ L.table }
+        ensures log { (self.new.tokens ≡ self.old.tokens) × (self.new.firsts ≡ self.old.firsts) × (self.new.lasts ≡ self.old.lasts) }
+        ensures seen { SeesAll pass.new self.new }
+        ensures pass { (pass.new.steps ≡ pass.old.steps) × (pass.new.notes ≡ pass.old.notes) × (seat_of pass.new ≡ seat_of pass.old) }
+    {
+        height.meet(&mut self.top, &mut pass.floor);
+        let mut both = self.history.seen.again();
+        both.learn(&pass.seen);
+        pass.seen = self.history.seen.again();
+    }
+
+    /// Makes room for a step.
+    pub fn reserve(&mut self) -> Result<(), AllocError>
+        ensures same { (kept_in self.new ≡ kept_in self.old) × (self.new.lasts ≡ self.old.lasts) }
+        ensures room { IfOk result (λ _. HasRoom self.new) }
+    {
+        self.tokens.reserve(1)?;
+        self.firsts.reserve(1)
+    }
+
+    /// Whether every cell of the row is written.
+    pub fn is_full(&self) -> bool
+        ensures { MatchBool result (length (journal_of self.now) ≡ length L.cells) (length (journal_of self.now) < length L.cells) }
+    {
+        self.row.len() == self.tokens.len()
+    }
+
+    /// How many entries the journal has, which is the number of the last one.
+    pub fn len(&self) -> usize
+        ensures { result ≡ length (journal_of self.now) }
+    {
+        self.tokens.len()
+    }
+
+    // The history has one entry more.
+    fn add<R: Wait>(rt: &R, history: &mut History<L>, entry: &Entry, entries: usize)
+        requires { (length history.old.seen.log ≡ entries) × (entries + 1 < 2 ^ 64) }
+        ensures { history.new.seen.log ≡ history.old.seen.log ++ entry.now ∷ [] }
+    {
+        for _ in rt.forever() {
+            if history.add(entry, entries) {
+                return;
+            }
+        }
+        unreachable!()
+    }
+
+    // Enters the entry of a token.
+    fn append<R: Wait>(
+        &mut self,
+        rt: &R,
+        height: &Height,
+        token: &OnceToken<'a, Entry>,
+        entry: &Entry,
+        durable: u64,
+        pass: &mut Pass<'a, L>,
+    )
+        requires entry { entry.now ≡ token.now.value }
+        requires height { table_of height.now ≡ L.table }
+        requires cell { slice_get L.cells (vec_len self.old.tokens) ≡ Some token.now.of }
+        requires settled { SeesAll pass.old self.old }
+        requires who { IsSome (last_in self.old.lasts (actor_of (event_of token.now.value.event))) }
+        requires goes { makes (step L.plan (world_of self.old) (event_of token.now.value.event)) ≡ Some (messages_of token.now.value.made.items) }
+        requires first { token.now.value.first ≡ self.old.messages }
+        requires durable { durable ≡ durable_in (after L.plan (world_of self.old) (event_of token.now.value.event)) (event_of token.now.value.event) }
+        requires room { HasRoom self.old × HasStepRoom pass.old }
+        ensures entries { kept_in self.new ≡ kept_in self.old ++ token.now.value ∷ [] }
+        ensures seen { SeesAll pass.new self.new }
+        ensures steps { steps_of pass.new ≡ steps_of pass.old ++ made (length (kept_in self.old)) (entry_of token.now.value) durable ∷ [] }
+        ensures notes { (notes_of pass.new ≡ notes_of pass.old) × (seat_of pass.new ≡ seat_of pass.old) }
+    {
+        let Log {
+            row: _,
+            tokens,
+            firsts,
+            messages,
+            lasts,
+            book,
+            top,
+            history,
+        } = self;
+        let Pass {
+            share,
+            steps,
+            notes: _,
+            floor,
+            seen,
+            seat: _,
+        } = pass;
+        let cell = tokens.len();
+        Self::add(rt, history, entry, cell);
+        height.rise(top);
+        *floor = height.floor(top);
+        *seen = history.seen.again();
+        book.add(share, 1);
+        steps.push_reserved(Held {
+            cell,
+            durable,
+            token: token.again(),
+            site: PhantomData,
+        });
+        lasts.set(Who::of(&entry.event), cell + 1);
+        firsts.push_reserved(*messages);
+        *messages = total(rt, *messages, entry.made.len());
+        tokens.push_reserved(token.again());
+    }
+
+    // All that was seen.
+    fn front(&self) -> Front
+        ensures { (result.log ≡ kept_in self.now) × (result.book ≡ L.history) }
+    {
+        self.history.seen.again()
+    }
+
+    /// Enters a step of an actor, whose lock the caller holds, and answers what is told of it.
+    pub fn enter<R: Wait>(
+        &mut self,
+        rt: &R,
+        height: &Height,
+        mark: &mut Mark<L>,
+        pass: &mut Pass<'a, L>,
+        event: Event,
+        made: Vec<Message>,
+        durable: u64,
+    ) -> Receipt
+        requires height { table_of height.now ≡ L.table }
+        requires settled { SeesAll pass.old self.old }
+        requires who { actor_of (event_of event) ≡ marked mark.old }
+        requires there { HasPlace self.old (marked mark.old) }
+        requires goes { makes (step L.plan (world_of self.old) (event_of event)) ≡ Some (messages_of made.items) }
+        requires durable { durable ≡ durable_in (after L.plan (world_of self.old) (event_of event)) (event_of event) }
+        requires cell { length (journal_of self.old) < length L.cells }
+        requires room { HasRoom self.old × HasStepRoom pass.old }
+        ensures step { AddsStep (event_of event) result (steps_of pass.old) (steps_of pass.new) }
+        ensures notes { (notes_of pass.new ≡ notes_of pass.old) × (seat_of pass.new ≡ seat_of pass.old) }
+        ensures durable { result.durable ≡ durable }
+        ensures entry { journal_of self.new ≡ journal_of self.old ++ record { event = event_of event; made = messages_of made.items; first = self.old.messages } ∷ [] }
+        ensures world { world_of self.new ≡ after L.plan (world_of self.old) (event_of event) }
+        ensures mark { (marked mark.new ≡ marked mark.old) × (seen_at mark.new ≡ journal_of self.new) }
+        ensures seen { SeesAll pass.new self.new }
+    {
+        let row = self.row;
+        let cell = self.tokens.len();
+        let place = &row[cell];
+        let first = self.messages;
+        let count = made.len();
+        let entry = Entry { event, made, first };
+        let token = write(rt, place, entry);
+        self.append(rt, height, &token, place.value(&token), durable, pass);
+        mark.advance(self.front(), self.tokens.len());
+        Receipt {
+            number: cell + 1,
+            first_message: total(rt, first, 1),
+            made: count,
+            durable,
+        }
+    }
+
+    // The entry at a place.
+    fn entry(&self, cell: usize) -> &'a Entry
+        requires { cell < vec_len self.now.tokens }
+        ensures { slice_get (kept_in self.now) cell ≡ Some result.now }
+    {
+        let row = self.row;
+        row[cell].value(&self.tokens[cell])
+    }
+
+    /// A copy of what happened, in order.
+    pub fn events(&self, alloc: Global) -> Result<Vec<Event>, AllocError>
+        ensures { IfOk result (λ made. events_of made.items ≡ events (journal_of self.now)) }
+    {
+        let mut made = Vec::with_capacity(alloc, self.tokens.len())?;
+        for cell in 0..self.tokens.len() {
+            made.push(self.entry(cell).event.clone()?)?;
+        }
+        Ok(made)
+    }
+
+    // The place of the step that made a message.
+    fn maker(&self, number: u64) -> usize
+        requires { (0 < number) × (number ≤ self.now.messages) }
+        ensures { (result < vec_len self.now.tokens) × (before L.plan (journal_of self.now) result < number) × (number ≤ before L.plan (journal_of self.now) (result + 1)) }
+    {
+        let mut low = 0;
+        let mut high = self.firsts.len();
+        while low + 1 < high {
+            let middle = low + (high - low) / 2;
+            if self.firsts[middle] < number {
+                low = middle;
+            } else {
+                high = middle;
+            }
+        }
+        low
+    }
+
+    /// Looks a message up by its number. None where no step has made it.
+    pub fn find(&self, number: u64) -> Option<Letter<'a, L>>
+        ensures some { IfSome result (λ l. letter_number l ≡ number) }
+        ensures none { IfNone result (numbered (world_of self.now).messages number ≡ None) }
+    {
+        if number == 0 || number > self.messages {
+            return None;
+        }
+        let cell = self.maker(number);
+        let entry = self.entry(cell);
+        Some(Letter {
+            number,
+            cell,
+            index: (number - 1 - entry.first) as usize,
+            entry,
+            token: self.tokens[cell].again(),
+            site: PhantomData,
+        })
+    }
+
+    /// Whether the journal has a letter that was found before, as it always has: then its message has the letter's number.
+    pub fn has(&self, letter: &Letter<'a, L>) -> bool
+        ensures { MatchBool result (numbered (world_of self.now).messages (letter_number letter.now) ≡ letter_message letter.now) (Unit {0}) }
+    {
+        if letter.cell >= self.tokens.len() {
+            return false;
+        }
+        self.tokens[letter.cell].agrees(&letter.token);
+        true
+    }
+
+    /// Looks a message up for a pass, which from then on has seen the whole journal. None where no step has made it; then no step of the
+    /// pass did.
+    pub fn seek(
+        &mut self,
+        height: &Height,
+        pass: &mut Pass<'a, L>,
+        number: u64,
+    ) -> Option<Letter<'a, L>>
+        requires { table_of height.now ≡ L.table }
+        ensures log { (self.new.tokens ≡ self.old.tokens) × (self.new.firsts ≡ self.old.firsts) × (self.new.lasts ≡ self.old.lasts) }
+        ensures seen { SeesAll pass.new self.new }
+        ensures pass { (pass.new.steps ≡ pass.old.steps) × (pass.new.notes ≡ pass.old.notes) × (seat_of pass.new ≡ seat_of pass.old) }
+        ensures some { IfSome result (λ l. letter_number l ≡ number) }
+        ensures none { IfNone result (numbered (world_of self.old).messages number ≡ None) }
+        ensures own { IfNone result (All (IsElse number) (steps_of pass.old)) }
+    {
+        self.settle(height, pass);
+        self.find(number)
+    }
+
+    /// Notes a refusal of an actor, whose lock the caller holds: it is the model's.
+    pub fn refuse(&self, mark: &Mark<L>, pass: &mut Pass<'a, L>, event: Event, fault: Fault)
+        requires settled { SeesAll pass.old self.now }
+        requires who { actor_of (event_of event) ≡ marked mark.now }
+        requires last { mark_number mark.now ≡ last_of (marked mark.now) (journal_of self.now) }
+        requires noted { IsNoted fault }
+        requires exact { Exact L.plan L.slots (length L.cells) (journal_of self.now) (event_of event) fault }
+        requires room { HasNoteRoom pass.old }
+        ensures same { (steps_of pass.new ≡ steps_of pass.old) × (seat_of pass.new ≡ seat_of pass.old) }
+        ensures note { AddsRefusal (event_of event) fault (steps_of pass.old) (notes_of pass.old) (notes_of pass.new) }
+    {
+        pass.note(event, fault, mark.number);
+    }
+
+    /// Notes a refusal for which no actor is kept, as of a node that the plan doesn't name: it is the model's.
+    pub fn refuse_absent(&self, pass: &mut Pass<'a, L>, event: Event, fault: Fault)
+        requires settled { SeesAll pass.old self.now }
+        requires noted { IsNoted fault }
+        requires exact { Exact L.plan L.slots (length L.cells) (journal_of self.now) (event_of event) fault }
+        requires room { HasNoteRoom pass.old }
+        ensures same { (steps_of pass.new ≡ steps_of pass.old) × (seat_of pass.new ≡ seat_of pass.old) }
+        ensures note { AddsRefusal (event_of event) fault (steps_of pass.old) (notes_of pass.old) (notes_of pass.new) }
+    {
+        pass.note(event, fault, self.tokens.len());
+    }
+
+    // Each step and each note of the pass is told by the journal.
+    fn check(&mut self, height: &Height, pass: &mut Pass<'a, L>)
+        requires { table_of height.now ≡ L.table }
+        ensures log { self.new.tokens ≡ self.old.tokens }
+        ensures stands { All (Stands L.plan (journal_of self.old)) (steps_of pass.old) }
+        ensures refused { All (IsRefused L.plan L.slots (length L.cells) (journal_of self.old)) (notes_of pass.old) }
+        ensures count { length (steps_of pass.old) ≡ pass.new.share.amount }
+        ensures part { pass.new.share.parts ≡ 1 }
+    {
+        self.settle(height, pass);
+    }
+
+    /// Shows that each step and each note of each pass is told by the journal, which has no other steps.
+    pub fn audit(&mut self, height: &Height, mut passes: Vec<Pass<'a, L>>)
+        requires { (table_of height.now ≡ L.table) × (vec_len passes ≡ L.parts) × (0 < vec_len passes) }
+        ensures log { self.new.tokens ≡ self.old.tokens }
+        ensures stands { All (λ p. All (Stands L.plan (journal_of self.old)) (steps_of p)) passes.entry.items }
+        ensures refused { All (λ p. All (IsRefused L.plan L.slots (length L.cells) (journal_of self.old)) (notes_of p)) passes.entry.items }
+        ensures count { sum_by (λ p. length (steps_of p)) passes.entry.items ≡ length (journal_of self.old) }
+    {
+        let Some(mut last) = passes.pop() else {
+            unreachable!()
+        };
+        self.check(height, &mut last);
+        let Pass {
+            share: mut whole,
+            ..
+        } = last;
+        while let Some(mut pass) = passes.pop() {
+            self.check(height, &mut pass);
+            let Pass { share, .. } = pass;
+            whole.merge(share);
+        }
+        self.book.audit(&mut whole);
+    }
+
+    /// Shows that the journal is a run of the model, and that a message that a step names was made before it.
+    pub fn replays(&self)
+        ensures run { IsRun L.plan (journal_of self.now) }
+        ensures before { NamesEarlier L.plan (journal_of self.now) }
+    {
+        let _ = &self.tokens;
+    }
+}

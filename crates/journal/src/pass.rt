@@ -1,0 +1,130 @@
+//! What one caller did.
+
+ghost use Rattle.std.specs.Prelude.{◌≡◌, ◌<◌, ◌≤◌, ℕ, length, All, vec_len, []};
+ghost use Rattle.std.proofs.Props.{props};
+ghost use Rattle.height.specs.Seats.{floor_table, floor_of};
+ghost use Rattle.atomic_table.specs.Seated.{table_id_coded};
+ghost use Rattle.std.specs.Coded.{Coded-set};
+ghost use Rattle.logbook.specs.Pages.{book_coded};
+ghost use Rattle.board.specs.Seats.{seat_table};
+ghost use Rattle.volume_model.specs.Judging.{IsRefused};
+ghost use Rattle.journal.specs.Entries.{entry_of, entries_of, note_of};
+ghost use Rattle.journal.specs.Standing.{made, Stands};
+
+use crate::entry::{Entry, Note};
+use crate::history::{Front, History};
+use crate::row::Site;
+use board::{Board, BoardSeat, BoardStep};
+use height::Floor;
+use std::alloc::{AllocError, Global};
+use std::marker::PhantomData;
+use std::sync::OnceToken;
+use std::sync::ledger::Share;
+use volume_model::Fault;
+use world::Event;
+
+/// A step that a pass made: the token of its cell, and the durable point that it showed.
+#[derive(Drop)]
+pub struct Held<'a, L: Site> {
+    pub(crate) cell: usize,
+    pub(crate) durable: u64,
+    pub(crate) token: OnceToken<'a, Entry>,
+    pub(crate) site: PhantomData<L>,
+}
+
+/// What one caller did, and was refused. All of it is told by a beginning of the history, as long as the floor is high.
+#[derive(Drop)]
+pub struct Pass<'a, L: Site> {
+    pub(crate) share: Share<L>,
+    pub(crate) steps: Vec<Held<'a, L>>,
+    pub(crate) notes: Vec<Note>,
+    pub(crate) floor: Floor,
+    pub(crate) seen: Front,
+    pub(crate) seat: BoardSeat,
+    ghost table: { floor_table floor ≡ L.table } by { Coded-set table_id_coded (floor_table floor) L.table },
+    ghost board: { seat_table seat ≡ L.board } by { Coded-set table_id_coded (seat_table seat) L.board },
+    ghost no_slot: { seat.seat.me.1 ≡ [] },
+    ghost history: { seen.book ≡ L.history } by { Coded-set book_coded seen.book L.history },
+    ghost long: { length seen.log ≡ floor_of floor },
+    ghost room: { length seen.log ≤ length L.cells },
+    ghost stand: { All (λ h. Stands L.plan (entries_of seen.log) (made h.cell (entry_of h.token.value) h.durable)) steps.items } by { Prim.hlevel props },
+    ghost refused: { All (λ n. IsRefused L.plan L.slots (length L.cells) (entries_of seen.log) (note_of n)) notes.items } by { Prim.hlevel props },
+    ghost part: { share.parts ≡ 1 },
+    ghost counted: { share.amount ≡ vec_len steps },
+}
+
+impl<'a, L: Site> Pass<'a, L> {
+    ghost use Rattle.std.specs.Prelude.{◌++◌, ◌∷◌, IfOk};
+    ghost use Rattle.world.specs.Events.{event_of};
+    ghost use Rattle.board.specs.Board.{number_of};
+    ghost use Rattle.board.specs.Seats as board;
+    ghost use Rattle.board.specs.Seats.{board_table, IsSeatIn};
+    ghost use Rattle.journal.specs.Passes.{steps_of, notes_of, seat_of, HasNoteRoom, HasStepRoom};
+
+    /// A pass that has made no step, of an empty journal.
+    pub fn new(
+        alloc: Global,
+        share: Share<L>,
+        floor: Floor,
+        history: &History<L>,
+        seat: BoardSeat,
+    ) -> Pass<'a, L>
+        requires share { (share.parts ≡ 1) × (share.amount ≡ 0) }
+        requires floor { (floor_table floor ≡ L.table) × (floor_of floor ≡ 0) }
+        requires history { history.now.seen.log ≡ [] }
+        requires seat { IsSeatIn L.board seat }
+        ensures empty { (steps_of result ≡ []) × (notes_of result ≡ []) }
+        ensures seat { seat_of result ≡ board.steps_of seat }
+    {
+        Pass {
+            share,
+            steps: Vec::new(alloc),
+            notes: Vec::new(alloc),
+            floor,
+            seen: history.seen.again(),
+            seat,
+        }
+    }
+
+    /// Makes room for a step and for a note.
+    pub fn reserve(&mut self) -> Result<(), AllocError>
+        ensures same { (steps_of self.new ≡ steps_of self.old) × (notes_of self.new ≡ notes_of self.old) × (seat_of self.new ≡ seat_of self.old) × (self.new.seen.log ≡ self.old.seen.log) }
+        ensures room { IfOk result (λ _. HasStepRoom self.new × HasNoteRoom self.new) }
+    {
+        self.steps.reserve(1)?;
+        self.notes.reserve(1)
+    }
+
+    // Notes a refusal.
+    pub(crate) fn note(&mut self, event: Event, fault: Fault, number: usize)
+        requires room { HasNoteRoom self.old }
+        requires refused { IsRefused L.plan L.slots (length L.cells) (entries_of self.old.seen.log) (record { event = event_of event; fault = fault; number = number }) }
+        ensures same { (steps_of self.new ≡ steps_of self.old) × (seat_of self.new ≡ seat_of self.old) × (self.new.seen.log ≡ self.old.seen.log) }
+        ensures note { notes_of self.new ≡ notes_of self.old ++ record { event = event_of event; fault = fault; number = number } ∷ [] }
+    {
+        self.notes.push_reserved(Note {
+            event,
+            fault,
+            number,
+        });
+    }
+
+    /// Raises the board's number by the seat of the pass.
+    pub fn raise(&mut self, board: &Board, durable: u64)
+        requires { board_table board.now ≡ L.board }
+        ensures same { (steps_of self.new ≡ steps_of self.old) × (notes_of self.new ≡ notes_of self.old) }
+        ensures raised { seat_of self.new ≡ seat_of self.old ++ BoardStep.Raised durable ∷ [] }
+    {
+        board.raise(&mut self.seat, durable);
+    }
+
+    /// The board's number, which is at least all that the pass has raised or read.
+    pub fn durable(&mut self, board: &Board) -> u64
+        requires { board_table board.now ≡ L.board }
+        ensures same { (steps_of self.new ≡ steps_of self.old) × (notes_of self.new ≡ notes_of self.old) }
+        ensures read { seat_of self.new ≡ seat_of self.old ++ BoardStep.Read result ∷ [] }
+        ensures at_least { All (λ s. number_of s ≤ result) (seat_of self.old) }
+    {
+        board.durable(&mut self.seat)
+    }
+}

@@ -1,0 +1,81 @@
+//! The cells in which the entries of a journal stand, each written once.
+
+use crate::entry::Entry;
+use std::alloc::{AllocError, Global};
+use std::marker::Brand;
+use std::sync::OnceLock;
+use std::sync::ledger::Ledger;
+
+/// Names a journal: its row of cells, the ledger of its steps, and the plan over which it runs. Each call of a program
+/// picks it.
+pub trait Site: Ledger {
+    ghost use Rattle.std.specs.Prelude.{ℕ, List};
+    ghost use Rattle.atomic_table.specs.Seated.{TableId};
+    ghost use Rattle.logbook.specs.Pages.{Book};
+    ghost use Rattle.volume_model.specs.Plan.{Plan};
+
+    // The plan of the volume.
+    ghost plan: { Plan };
+
+    // The row's cells.
+    ghost cells: { List ℕ };
+
+    // The table of the journal's height.
+    ghost table: { TableId };
+
+    // The table of the board.
+    ghost board: { TableId };
+
+    // The book of the journal's history.
+    ghost history: { Book };
+
+    // How many client slots there are.
+    ghost slots: { ℕ };
+}
+
+impl Site for Brand {
+    ghost use Rattle.std.specs.Prelude.{[]};
+    ghost use Rattle.journal.specs.Named.{no_book, no_plan, no_table};
+
+    ghost plan = { no_plan };
+
+    ghost cells = { [] };
+
+    ghost table = { no_table };
+
+    ghost board = { no_table };
+
+    ghost history = { no_book };
+
+    ghost slots = { 0 };
+}
+
+/// Cells for the entries of a journal.
+#[derive(Drop)]
+pub struct Row {
+    pub(crate) cells: Vec<OnceLock<Entry>>,
+}
+
+impl Row {
+    ghost use Rattle.std.specs.Prelude.{◌≡◌, IfOk, vec_len};
+
+    /// So many cells, none of them written.
+    pub fn new(alloc: Global, cells: usize) -> Result<Row, AllocError>
+        ensures { IfOk result (λ row. vec_len row.cells ≡ cells) }
+    {
+        let mut made = Vec::with_capacity(alloc, cells)?;
+        for _ in 0..cells {
+            made.push(OnceLock::new())?;
+        }
+        Ok(Row { cells: made })
+    }
+
+    /// Makes all cells anew, none of them written.
+    pub fn renew(&mut self)
+        ensures { vec_len self.new.cells ≡ vec_len self.old.cells }
+    {
+        for cell in &mut self.cells {
+            *cell = OnceLock::new();
+        }
+    }
+}
