@@ -1,16 +1,11 @@
 -- Lists of JSON values that are written entry by entry.
-use Rattle.std.proofs.Common.{◌≡◌, ℕ, List, [], ◌∷◌, ◌++◌, map, drop, length, ◌≤◌, refl, ap, ◌∙◌, sym}
-use Rattle.std.proofs.lemmas.List.{drop_all, append-nil}
+use Rattle.std.proofs.Common.{◌≡◌, ℕ, List, [], ◌∷◌, map, refl, ap}
 use Rattle.serde_json.specs.Data.{item}
 use Rattle.serde_json.specs.View.{items_of}
 use Rattle.refutation.specs.declared.Refutation.{Refutation}
 use Rattle.refutation.specs.Rule.{branches_of}
 use Rattle.refutation.specs.Refutation.{rule_of}
 use Rattle.refutation.specs.Writing.{number_data, numbers_data, pair_data, pairs_data, certificate_data, branches_data}
-
--- nothing is left
-pub finish : {P Q : Type 0} (f : P → Q) (xs : List P) (i : ℕ) (done all : List Q) → length xs ≤ i → done ++ map f (drop i xs) ≡ all → done ≡ all
-finish f xs i done all h so_far = sym (append-nil done) ∙ ap (λ ys. done ++ map f ys) (sym (drop_all i xs h)) ∙ so_far
 
 pub numbers-are : (ns : List ℕ) → items_of (map number_data ns) ≡ numbers_data ns
 numbers-are [] = refl

@@ -1,12 +1,12 @@
 use Rattle.std.proofs.Common.{◌≡◌, ◌∙◌, ap, sym, subst, map, IfOk}
 use Rattle.serde_json.specs.View.{view, items_of}
-use Rattle.quorum_expr.proofs.Rebuilt.{pushed}
+use Rattle.quorum_expr.proofs.Rebuilt.{pushed, finish}
 use Rattle.refutation.specs.Rule.{branches_of, branch_depth}
 use Rattle.refutation.specs.Refutation.{rule_of}
 use Rattle.refutation.specs.Writing.{certificate_data, numbers_data, pairs_data, branches_data, pick_data, match_data}
 use Rattle.refutation.proofs.Rules.{rule_of-Pick, rule_of-Match, depth_step}
 use Rattle.refutation.proofs.InRange.{on_ok, ranges_step, pick_in_range, match_in_range}
-use Rattle.refutation.proofs.Written.{finish, branches-are}
+use Rattle.refutation.proofs.Written.{branches-are}
 use Rattle.refutation.proofs.writing.+write.Goals as goal
 
 pub branches_json-loop-branch-preserved : goal.branches_json-loop-branch-preserved

@@ -3,8 +3,9 @@ use Rattle.std.proofs.lemmas.Grind.{common_steps, elements}
 use Rattle.std.proofs.lemmas.List.{take_all}
 use Rattle.std.proofs.lemmas.List.Elements.{All-same}
 use Rattle.serde_json.specs.View.{items_of}
+use Rattle.quorum_expr.proofs.Rebuilt.{finish}
 use Rattle.refutation.specs.Writing.{number_data}
-use Rattle.refutation.proofs.Written.{finish, numbers-are}
+use Rattle.refutation.proofs.Written.{numbers-are}
 use Rattle.refutation.proofs.writing.numbers_json.Goals as goal
 
 pub loop-number-preserved : goal.loop-number-preserved

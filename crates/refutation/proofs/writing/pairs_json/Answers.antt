@@ -3,9 +3,10 @@ use Rattle.std.proofs.lemmas.Grind.{common_steps}
 use Rattle.std.proofs.lemmas.List.{take_all}
 use Rattle.std.proofs.lemmas.List.Elements.{All-more, All-same}
 use Rattle.serde_json.specs.View.{items_of}
+use Rattle.quorum_expr.proofs.Rebuilt.{finish}
 use Rattle.refutation.specs.Ranges.{IsPairInRange}
 use Rattle.refutation.specs.Writing.{pair_data}
-use Rattle.refutation.proofs.Written.{finish, pairs-are}
+use Rattle.refutation.proofs.Written.{pairs-are}
 use Rattle.refutation.proofs.writing.pairs_json.Goals as goal
 
 pub loop-pair-preserved : goal.loop-pair-preserved
