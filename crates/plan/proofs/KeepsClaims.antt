@@ -1,7 +1,7 @@
 -- A plan without a fault is certified.
 use Rattle.std.proofs.Common.{◌≡◌, ℕ, zero, suc, ◌<◌, ◌≤◌, List, [], ◌∷◌, length, get_or, map, arith, refl, ap, ◌∙◌, sym, subst, inl, inr}
 use Rattle.std.specs.Prelude.{Bool, true, false, not, ◌&&◌, ◌==◌, nat_lt, if◌then◌else◌, Option, Some, None, slice_get}
-use Rattle.std.proofs.lemmas.Bool.{cases_lt, and_parts, and_from, ltb-true, lt-ltb}
+use Rattle.std.proofs.lemmas.Bool.{cases_lt, and_parts, and_from, ltb-true, lt-ltb, false_from_ne_true}
 use Rattle.std.proofs.lemmas.List.{length-map}
 use Rattle.std.specs.Ordering.{nat_cmp}
 use Rattle.std.specs.Cmp.{nat_cmp_total}
@@ -11,7 +11,7 @@ use Rattle.volume_model.specs.Lists.{any}
 use Rattle.volume_model.specs.Sets.{listed}
 use Rattle.volume_model.specs.Meets.{Meets}
 use Rattle.volume_model.specs.Plan.{has_member, is_fresh, IsAbove, IsCertified}
-use Rattle.volume_model.proofs.Above.{ancestor, steps_above}
+use Rattle.volume_model.specs.Plan.IsAbove.{by_parent as by_model_parent, by_ancestor}
 use Rattle.volume_model.specs.Claims.{KeepsClaim, KeepsStepClaim, ClaimsCertify}
 use Rattle.quorum_expr.specs.MemberSet.{all_members}
 use Rattle.quorum_expr.proofs.MemberSetLaws.{contains-all_members}
@@ -32,7 +32,10 @@ use Rattle.plan.specs.PlanFaults.{or_then, first_below, is_good_parent, parent_f
 use Rattle.plan.proofs.Lookups.{any-listed}
 use Rattle.plan.proofs.Named.{root-of}
 use Rattle.plan.proofs.Epochs.{epoch-next}
-use Rattle.plan.proofs.FreshMembers.{above, GoodParents, parent-there, parent_at-is, unused-start, none-reused}
+use Rattle.plan.specs.Reused.{StandsAbove}
+use Rattle.plan.specs.Reused.StandsAbove.{is_parent, is_ancestor}
+use Rattle.plan.proofs.FreshMembers.{GoodParents, in-difference, parent-there, parent_at-is}
+use Rattle.plan.proofs.Reused.{reuse_is_found}
 
 -- ---- no fault in any part
 
@@ -104,6 +107,21 @@ mutual
   each_own (child w f fs) s h below =
       let parts = and_parts (names_only f s) (each_names_only fs s) h in (own f s parts.0 below.0, each_own fs s parts.1 below.1)
 
+-- ---- what stands above
+
+same-some : (m n : ℕ) → ◌≡◌ {A = Option ℕ} (Some m) (Some n) → m ≡ n
+same-some m n h = cc
+
+-- what stands above a configuration in the model stands above it in the plan
+stands-above : (plan : PlanData) (g a c : ℕ) → GoodParents (group_at plan g) c → IsAbove (model_of plan) g a c → StandsAbove (group_at plan g) a c
+stands-above plan g a c good (by_model_parent b d low is) =
+    let (p, there, before) = parent-there d (configuration_at (group_at plan g) d).parent low (good d (omega arith)) in
+    is_parent b d (parent_at-is (group_at plan g) d p there before ∙ ap Some (sym (is ∙ ap or_zero there)))
+stands-above plan g a c good (by_ancestor b q d low is up) =
+    let (p, there, before) = parent-there d (configuration_at (group_at plan g) d).parent low (good d (omega arith)) in
+    let same : q ≡ p = is ∙ ap or_zero there in
+    is_ancestor b q d (parent_at-is (group_at plan g) d p there before ∙ ap Some (sym same)) (stands-above plan g b q (λ k le. good k (omega (arith, same, before, le))) up)
+
 module _ (certify : ClaimsCertify) (refutes : (rule : Rule) (state : State) → first_fault rule state ≡ None → Refutes rule state)
     (meet : (rule : Rule) (left right : Formula) (clear : FinSet nat_cmp) → Refutes rule (claim_state left right clear) → Meets left right clear)
     (plan : Plan) (checked : plan_fault (plan_data plan) ≡ None) where
@@ -170,33 +188,24 @@ module _ (certify : ClaimsCertify) (refutes : (rule : Rule) (state : State) → 
         ∙ (λ i. sym (any-listed x.members y) i && not (sym (any-listed (configuration_at group parent.0).members y) i))
         ∙ ap (λ q. any (λ z. z == y) (listed x.members) && not (any (λ z. z == y) (listed (configuration_at group q).members))) (sym parent-is)
 
-    in-fresh : (y : ℕ) → is_fresh (model_of (plan_data plan)) g c y ≡ true → (y < 64) × (contains (fresh_at group c) y ≡ true)
+    in-fresh : (y : ℕ) → is_fresh (model_of (plan_data plan)) g c y ≡ true → (y < 64) × (contains x.members y ≡ true) × (contains (configuration_at group parent.0).members y ≡ false)
     in-fresh y h =
         let both = and_parts (contains fresh y) (contains all_members y) (sym (contains-intersection nat_cmp_total fresh all_members y) ∙ fresh-shown y ∙ h) in
-        (ltb-true y 64 (sym (contains-all_members y) ∙ both.1), ap (λ s. contains s y) fresh-is ∙ both.0)
+        let parts = in-difference x.members (configuration_at group parent.0).members y both.0 in
+        (ltb-true y 64 (sym (contains-all_members y) ∙ both.1), parts.0, parts.1)
 
-    ancestor-is : (k d : ℕ) → ancestor (model_of (plan_data plan)) g k d ≡ above group k d
-    ancestor-is zero d = refl
-    ancestor-is (suc k) d = ancestor-is k (or_zero (configuration_at group d).parent)
-
-    never : (b : Bool) → (b && false) ≡ false
-    never true = refl
-    never false = refl
-
-    -- so many steps above the parent
-    unused-at : (y steps : ℕ) → is_fresh (model_of (plan_data plan)) g c y ≡ true → has_member ((model_of (plan_data plan)).configuration g (ancestor (model_of (plan_data plan)) g (suc steps) c)) y ≡ false
-    unused-at y steps h =
-        let inside = in-fresh y h in
-        let none = no-reuse g c (slice_get (listed (reused_at group c)) 0) (neither (parent_fault g group c) (reuse_fault g group c) (shapes c (omega arith))).1 in
-        let left : contains (unused_within c group c (fresh_at group c)) y ≡ true = none-reused (fresh_at group c) (unused_within c group c (fresh_at group c)) y none inside.0 inside.1 in
-        let out : contains (configuration_at group (above group steps (or_zero x.parent))).members y ≡ false = unused-start group c parent.0 (fresh_at group c) y parent.1 parent.2 good left steps in
-        ap (λ k. any (λ z. z == y) (listed (configuration_at group k).members)) (ancestor-is steps (or_zero x.parent))
-        ∙ any-listed (configuration_at group (above group steps (or_zero x.parent))).members y ∙ ap (λ b. nat_lt y 64 && b) out ∙ never (nat_lt y 64)
+    no-reuse-here : reuse_fault g group c ≡ None
+    no-reuse-here = (neither (parent_fault g group c) (reuse_fault g group c) (shapes c (omega arith))).1
 
     fresh-unused : (y a : ℕ) → is_fresh (model_of (plan_data plan)) g c y ≡ true → IsAbove (model_of (plan_data plan)) g a c → has_member ((model_of (plan_data plan)).configuration g a) y ≡ false
     fresh-unused y a fresh up =
-        let (steps, at) = steps_above (model_of (plan_data plan)) g a c up in
-        subst (λ k. has_member ((model_of (plan_data plan)).configuration g k) y ≡ false) at (unused-at y steps fresh)
+        let (below, has, lacks) = in-fresh y fresh in
+        false_from_ne_true _ (λ there. (reuse_is_found.none g c group).0 no-reuse-here y (record {
+          member = below;
+          has = has;
+          lacked = λ p is. (let same : parent.0 ≡ p = same-some parent.0 p (sym parent.1 ∙ is) in ap (λ k. contains (configuration_at group k).members y) (sym same) ∙ lacks);
+          above = (a, stands-above (plan_data plan) g a c good up, (member-of y (configuration_at group a).members there).1);
+        }))
 
     step-meets : Meets x.read (dual_of (configuration_at group parent.0).read) fresh
     step-meets =

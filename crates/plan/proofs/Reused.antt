@@ -1,30 +1,22 @@
 -- A fresh member is used again exactly where one stands in a configuration above.
-use Rattle.std.proofs.Common.{◌≡◌, ℕ, zero, suc, ◌<◌, ◌≤◌, List, [], ◌∷◌, arith, refl, ap, ◌∙◌, sym, subst, ◌++◌}
+use Rattle.std.proofs.Common.{◌≡◌, ℕ, zero, suc, ◌<◌, ◌≤◌, List, [], ◌∷◌, arith, refl, ap, ◌∙◌, sym, ◌++◌, inl, inr}
 use Rattle.std.specs.Prelude.{Bool, true, false, not, nat_lt, if◌then◌else◌, Option, Some, None, slice_get}
-use Rattle.std.proofs.lemmas.Bool.{and_parts, and_from, not-true, both_ways}
-use Rattle.std.proofs.lemmas.Bool.Decides.{nat_tests}
+use Rattle.std.proofs.lemmas.Bool.{and_from, both_ways, cases_lt, false_from_ne_true}
 use Rattle.std.specs.Ordering.{nat_cmp}
 use Rattle.std.specs.Cmp.{nat_cmp_total}
-use Rattle.std.specs.FinSet.{FinSet, contains, difference, contains-difference}
+use Rattle.std.specs.FinSet.{FinSet, empty, contains, difference, contains-empty, contains-difference}
 use Rattle.volume_model.specs.Lists.{each_below}
 use Rattle.volume_model.specs.Sets.{listed}
+use Rattle.quorum_expr.proofs.MemberLists.{first_listed}
 use Rattle.plan.specs.declared.fault.PlanFault.TheVariants.{MemberReused}
 use Rattle.plan.specs.PlanData.{ConfigurationData, configuration_at, earlier, parent_at, by_parent}
 use Rattle.plan.specs.PlanFaults.{fresh_at, unused_within, reused_at, reused_member, reuse_fault}
 use Rattle.plan.specs.Reused.{StandsAbove, IsReused, IsLeastReused, ReuseIsFound}
 use Rattle.plan.specs.Reused.StandsAbove.{is_parent, is_ancestor}
+use Rattle.plan.proofs.Epochs.{earlier-below}
 use Rattle.plan.proofs.FreshMembers.{in-difference, unused-within, nobody, nobody_below}
 
 -- ---- what is left of a set
-
--- a parent stands before
-parent_before : (c p : ℕ) (q : Option ℕ) → earlier c q ≡ Some p → p < c
-parent_before c p None h = absurd cc
-parent_before c p (Some r) h =
-    elim (nat_lt r c) as (λ b. nat_lt r c ≡ b → (if b then Some r else None) ≡ Some p → p < c) [
-      | true ↦ λ e i. (let same : r ≡ p = cc in let lt : r < c = grind (arith, nat_tests, e) in omega arith)
-      | false ↦ λ e i. absurd cc
-    ] refl h
 
 -- who is left out of a set stands in a configuration above
 left_out : (n : ℕ) (group : List ConfigurationData) (c : ℕ) (s : FinSet nat_cmp) (x : ℕ) → contains s x ≡ true → contains (unused_within n group c s) x ≡ false
@@ -45,35 +37,60 @@ left_out (suc n) group c s x there out =
           ] refl
     ] refl out
 
-is_false : (b : Bool) → (b ≡ true → ⊥) → b ≡ false
-is_false true h = absurd (h refl)
-is_false false h = refl
-
 -- and who stands in a configuration above is left out
 taken_out : (n : ℕ) (group : List ConfigurationData) (s : FinSet nat_cmp) (x a c : ℕ) → c ≤ n → StandsAbove group a c → contains (configuration_at group a).members x ≡ true → contains (unused_within n group c s) x ≡ false
-taken_out zero group s x a c within (is_parent b d is) has = absurd (let lt : b < d = parent_before d b (configuration_at group d).parent is in omega arith)
-taken_out zero group s x a c within (is_ancestor b p d is up) has = absurd (let lt : p < d = parent_before d p (configuration_at group d).parent is in omega arith)
+taken_out zero group s x a c within (is_parent b d is) has = absurd (let lt : b < d = earlier-below d (configuration_at group d).parent b is in omega arith)
+taken_out zero group s x a c within (is_ancestor b p d is up) has = absurd (let lt : p < d = earlier-below d (configuration_at group d).parent p is in omega arith)
 taken_out (suc n) group s x a c within (is_parent b d is) has =
     ap (λ q. contains (by_parent q s (λ p. unused_within n group p (difference s (configuration_at group p).members))) x) is
-    ∙ is_false _ (λ left. both_ways (contains (configuration_at group b).members x)
+    ∙ false_from_ne_true _ (λ left. both_ways (contains (configuration_at group b).members x)
     (in-difference s (configuration_at group b).members x (unused-within n group b (difference s (configuration_at group b).members) x left)).1 has)
 taken_out (suc n) group s x a c within (is_ancestor b p d is up) has =
-    let lt : p < d = parent_before d p (configuration_at group d).parent is in
+    let lt : p < d = earlier-below d (configuration_at group d).parent p is in
     ap (λ q. contains (by_parent q s (λ r. unused_within n group r (difference s (configuration_at group r).members))) x) is
     ∙ taken_out n group (difference s (configuration_at group p).members) x b p (omega arith) up has
 
 -- ---- the members that are used again
 
+earlier-is : (c : ℕ) (q : Option ℕ) (p : ℕ) → earlier c q ≡ Some p → q ≡ Some p
+earlier-is c None p h = absurd cc
+earlier-is c (Some r) p h =
+    elim (nat_lt r c) as (λ b. (if b then Some r else None) ≡ Some p → Some r ≡ Some p) [ true ↦ λ is. is | false ↦ λ is. absurd cc ] h
+
+-- what has a configuration above has a parent
+parent-under : (group : List ConfigurationData) (a c : ℕ) → StandsAbove group a c → (p : ℕ) × ((configuration_at group c).parent ≡ Some p)
+parent-under group a c (is_parent b d is) = (b, earlier-is d (configuration_at group d).parent b is)
+parent-under group a c (is_ancestor b p d is up) = (p, earlier-is d (configuration_at group d).parent p is)
+
+fresh-from : (group : List ConfigurationData) (c x : ℕ) → IsReused group c x → contains (fresh_at group c) x ≡ true
+fresh-from group c x h =
+    let (p, is) = parent-under group h.above.0 c h.above.1 in
+    ap (λ q. contains (by_parent q empty (λ r. difference (configuration_at group c).members (configuration_at group r).members)) x) is
+    ∙ contains-difference nat_cmp_total (configuration_at group c).members (configuration_at group p).members x
+    ∙ and_from (contains (configuration_at group c).members x) (not (contains (configuration_at group p).members x)) h.has (ap not (h.lacked p is))
+
+fresh-to : (group : List ConfigurationData) (c x : ℕ) → contains (fresh_at group c) x ≡ true
+    → (contains (configuration_at group c).members x ≡ true) × ((p : ℕ) → (configuration_at group c).parent ≡ Some p → contains (configuration_at group p).members x ≡ false)
+fresh-to group c x h =
+    elim (configuration_at group c).parent as (λ q. contains (by_parent q empty (λ r. difference (configuration_at group c).members (configuration_at group r).members)) x ≡ true
+    → (contains (configuration_at group c).members x ≡ true) × ((p : ℕ) → q ≡ Some p → contains (configuration_at group p).members x ≡ false)) [
+      | None ↦ λ e. absurd (both_ways (contains {R = nat_cmp} empty x) (contains-empty nat_cmp x) e)
+      | Some r ↦ λ e. (
+          let parts = in-difference (configuration_at group c).members (configuration_at group r).members x e in
+          (parts.0, λ p is. (let same : r ≡ p = cc in ap (λ k. contains (configuration_at group k).members x) (sym same) ∙ parts.1)))
+    ] h
+
 reused-from : (group : List ConfigurationData) (c x : ℕ) → IsReused group c x → contains (reused_at group c) x ≡ true
 reused-from group c x h =
     contains-difference nat_cmp_total (fresh_at group c) (unused_within c group c (fresh_at group c)) x
-    ∙ and_from (contains (fresh_at group c) x) (not (contains (unused_within c group c (fresh_at group c)) x)) h.fresh
+    ∙ and_from (contains (fresh_at group c) x) (not (contains (unused_within c group c (fresh_at group c)) x)) (fresh-from group c x h)
     (ap not (taken_out c group (fresh_at group c) x h.above.0 c (omega arith) h.above.1 h.above.2))
 
 reused-to : (group : List ConfigurationData) (c x : ℕ) → x < 64 → contains (reused_at group c) x ≡ true → IsReused group c x
 reused-to group c x low h =
     let parts : (contains (fresh_at group c) x ≡ true) × (contains (unused_within c group c (fresh_at group c)) x ≡ false) = in-difference (fresh_at group c) (unused_within c group c (fresh_at group c)) x h in
-    record { member = low; fresh = parts.0; above = left_out c group c (fresh_at group c) x parts.0 parts.1 }
+    let fresh = fresh-to group c x parts.0 in
+    record { member = low; has = fresh.0; lacked = fresh.1; above = left_out c group c (fresh_at group c) x parts.0 parts.1 }
 
 -- ---- the least member of a set
 
@@ -116,23 +133,17 @@ nobody_reused g c group nobody None is = refl
 nobody_reused g c group nobody (Some x) is =
     absurd (let (low, there, before) = first_of 64 (contains (reused_at group c)) x is in nobody x (reused-to group c x low there))
 
-least_named : (g c x : ℕ) (group : List ConfigurationData) → IsLeastReused group c x → (found : Option ℕ) → found_at group c ≡ found → reused_member g c found ≡ Some (MemberReused g c x)
-least_named g c x group h None is = absurd (both_ways (contains (reused_at group c) x) (nobody (reused_at group c) x is h.reused.member) (reused-from group c x h.reused))
-least_named g c x group h (Some y) is =
-    let (low, there, before) = first_of 64 (contains (reused_at group c)) y is in
-    let up : x ≤ y = h.least y (reused-to group c y low there) in
-    let same : y ≡ x = elim (nat_lt x y) as (λ b. nat_lt x y ≡ b → y ≡ x) [
-      | true ↦ λ e. absurd (let l : x < y = grind (arith, nat_tests, e) in both_ways (contains (reused_at group c) x) (before x l) (reused-from group c x h.reused))
-      | false ↦ λ e. (let l : y ≤ x = grind (arith, nat_tests, e) in omega arith)
-    ] refl in
-    ap (λ z. Some (MemberReused g c z)) same
+least_named : (g c x : ℕ) (group : List ConfigurationData) → IsLeastReused group c x → reuse_fault g group c ≡ Some (MemberReused g c x)
+least_named g c x group h =
+    ap (reused_member g c) (first_listed 64 x (contains (reused_at group c)) (λ y. y) h.reused.member (reused-from group c x h.reused)
+    (λ y before. false_from_ne_true _ (λ there. absurd (let least : x ≤ y = h.least y (reused-to group c y (omega (arith, before, h.reused.member)) there) in omega (arith, before)))))
 
 at_least_first : (group : List ConfigurationData) (c x y : ℕ) → ((z : ℕ) → z < x → contains (reused_at group c) z ≡ false) → IsReused group c y → x ≤ y
 at_least_first group c x y before h =
-    elim (nat_lt y x) as (λ b. nat_lt y x ≡ b → x ≤ y) [
-      | true ↦ λ e. absurd (let l : y < x = grind (arith, nat_tests, e) in both_ways (contains (reused_at group c) y) (before y l) (reused-from group c y h))
-      | false ↦ λ e. grind (arith, nat_tests, e)
-    ] refl
+    elim (cases_lt y x) [
+      | inl below ↦ absurd (both_ways (contains (reused_at group c) y) (before y below) (reused-from group c y h))
+      | inr past ↦ past
+    ]
 
 named_least : (g c x : ℕ) (group : List ConfigurationData) → reuse_fault g group c ≡ Some (MemberReused g c x) → IsLeastReused group c x
 named_least g c x group h =
@@ -145,5 +156,5 @@ reuse_is_found = record {
     λ h x r. both_ways (contains (reused_at group c) x) (nobody (reused_at group c) x (unnamed g c (found_at group c) h) r.member) (reused-from group c x r),
     λ nobody. nobody_reused g c group nobody (found_at group c) refl,
   );
-  some = λ g c x group. (named_least g c x group, λ h. least_named g c x group h (found_at group c) refl);
+  some = λ g c x group. (named_least g c x group, least_named g c x group);
 }

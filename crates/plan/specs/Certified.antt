@@ -1,10 +1,10 @@
 -- Which plans are certified, whatever finds their faults.
-use Rattle.std.specs.Prelude.{◌≡◌, ℕ, ◌<◌, true, List, [], Option, Some, None, length}
-use Rattle.volume_model.specs.Sets.{listed}
+use Rattle.std.specs.Prelude.{◌≡◌, ℕ, ◌<◌, true, List, Option, Some, None, length}
 use Rattle.refutation.specs.Rule.{Rule}
 use Rattle.quorum_checker.specs.Refutes.{State, Refutes}
 use Rattle.plan.specs.PlanData.{ConfigurationData, PlanData, group_at, configuration_at}
-use Rattle.plan.specs.PlanFaults.{is_good_parent, reused_at, meets_claim, step_claim}
+use Rattle.plan.specs.PlanFaults.{is_good_parent, meets_claim, step_claim}
+use Rattle.plan.specs.Reused.{IsReused}
 
 -- there is a certificate, and it refutes the claim
 abbrev pub IsShown : Option Rule → State → Type 0
@@ -16,11 +16,11 @@ abbrev pub IsStepShown : Option ℕ → List ConfigurationData → ℕ → Type 
 IsStepShown None group c = Unit {0}
 IsStepShown (Some p) group c = IsShown (configuration_at group c).step (step_claim group c p)
 
--- Configuration 0 has no parent, and each other one has one that stands before it; none of its fresh members is one of a
--- configuration above; its certificates refute the claims that its reads meet its writes, and that its step keeps what was read.
+-- Configuration 0 has no parent, and each other one has one that stands before it; no member of the configuration that the
+-- parent lacks is one of a configuration above; its certificates refute the claims that its reads meet its writes, and that its step keeps what was read.
 pub record IsCertifiedAt (group : List ConfigurationData) (c : ℕ) : Type 0 where
   pub parent : is_good_parent c (configuration_at group c).parent ≡ true
-  pub unused : listed (reused_at group c) ≡ []
+  pub unused : (x : ℕ) → IsReused group c x → ⊥
   pub meets : IsShown (configuration_at group c).meets (meets_claim (configuration_at group c))
   pub step : IsStepShown (configuration_at group c).parent group c
 

@@ -1,19 +1,20 @@
 -- When a fresh member is used again, in the words of the configurations above.
-use Rattle.std.specs.Prelude.{◌≡◌, ◌↔◌, ℕ, ◌<◌, ◌≤◌, true, List, Some, None}
+use Rattle.std.specs.Prelude.{◌≡◌, ◌↔◌, ℕ, ◌<◌, ◌≤◌, true, false, List, Some, None}
 use Rattle.std.specs.FinSet.{contains}
 use Rattle.plan.specs.declared.fault.PlanFault.TheVariants.{MemberReused}
 use Rattle.plan.specs.PlanData.{ConfigurationData, configuration_at, parent_at}
-use Rattle.plan.specs.PlanFaults.{fresh_at, reuse_fault}
+use Rattle.plan.specs.PlanFaults.{reuse_fault}
 
 -- The configuration a stands above c: it is the parent of c, or stands above the parent. A parent stands before its children.
 pub data StandsAbove (group : List ConfigurationData) : ℕ → ℕ → Type 0 where
   is_parent : (a c : ℕ) → parent_at group c ≡ Some a → StandsAbove group a c
   is_ancestor : (a p c : ℕ) → parent_at group c ≡ Some p → StandsAbove group a p → StandsAbove group a c
 
--- the parent of the configuration lacks the member, and a configuration above has it
+-- the configuration has the member, its parent lacks it, and a configuration above has it
 pub record IsReused (group : List ConfigurationData) (c x : ℕ) : Type 0 where
   pub member : x < 64
-  pub fresh : contains (fresh_at group c) x ≡ true
+  pub has : contains (configuration_at group c).members x ≡ true
+  pub lacked : (p : ℕ) → (configuration_at group c).parent ≡ Some p → contains (configuration_at group p).members x ≡ false
   pub above : (a : ℕ) × StandsAbove group a c × (contains (configuration_at group a).members x ≡ true)
 
 -- the least such member
@@ -21,7 +22,7 @@ pub record IsLeastReused (group : List ConfigurationData) (c x : ℕ) : Type 0 w
   pub reused : IsReused group c x
   pub least : (y : ℕ) → IsReused group c y → x ≤ y
 
--- The fault of a member that is used again comes exactly where a fresh member stands in a configuration above, and names the least.
+-- The fault of a member that is used again comes exactly where there is one, and names the least.
 pub record ReuseIsFound : Type 0 where
   pub none : (g c : ℕ) (group : List ConfigurationData) → (reuse_fault g group c ≡ None) ↔ ((x : ℕ) → IsReused group c x → ⊥)
   pub some : (g c x : ℕ) (group : List ConfigurationData) → (reuse_fault g group c ≡ Some (MemberReused g c x)) ↔ IsLeastReused group c x

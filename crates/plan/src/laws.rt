@@ -8,8 +8,8 @@ ghost use Rattle.plan.specs.Reused.{ReuseIsFound};
 
 use quorum_checker::no_fault_refutes;
 
-/// A plan has no fault exactly where it is certified: its parents stand before their children, no fresh member is one of a
-/// configuration above, and its certificates refute its claims.
+/// A plan has no fault exactly where it is certified: its parents stand before their children, no member of a
+/// configuration that the parent lacks is one of a configuration above, and its certificates refute its claims.
 pub fn no_fault_is_certified()
     ensures certified { (plan : PlanData) → plan_fault plan ≡ None → IsCertifiedPlan plan }
     ensures fault_free { (plan : PlanData) → IsCertifiedPlan plan → plan_fault plan ≡ None }
@@ -17,8 +17,8 @@ pub fn no_fault_is_certified()
     no_fault_refutes();
 }
 
-/// A member is said to be used again exactly where one that the parent lacks stands in a configuration above, and the least such
-/// member is named.
+/// A member is said to be used again exactly where one of the configuration that the parent lacks is one of a
+/// configuration above, and the least such member is named.
 pub fn reuse_is_found()
     ensures { ReuseIsFound }
 {}
