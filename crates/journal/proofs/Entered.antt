@@ -1,12 +1,15 @@
 -- Entries of a program, as the model has them, and one more of them.
-use Rattle.std.proofs.Common.{◌≡◌, ℕ, zero, suc, ◌+◌, ◌<◌, ◌≤◌, List, [], ◌∷◌, ◌++◌, length, get_or, map, Some, refl, sym, ap, ◌∙◌, subst, arith}
+use Rattle.std.proofs.Common.{◌≡◌, ℕ, zero, suc, ◌+◌, ◌<◌, ◌≤◌, List, [], ◌∷◌, ◌++◌, length, get_or, map, option_map, Some, refl, sym, ap, ◌∙◌, subst, arith}
 use Rattle.std.specs.Prelude.{slice_get}
 use mathlib.Core.List.{IsPrefix}
 use Rattle.volume_model.specs.Plan.{Plan}
 use Rattle.volume_model.specs.World.{after}
 use Rattle.volume_model.specs.Journal as model
 use Rattle.volume_model.specs.Journal.{world_at, before, IsRun, Goes}
-use Rattle.volume_model.proofs.Worlds.{runs_push, world_at-push, messages_push}
+use Rattle.volume_model.specs.Lists.{numbered}
+use Rattle.volume_model.proofs.ListFacts.{get_there}
+use Rattle.volume_model.proofs.FoundMessages.{made_numbered}
+use Rattle.volume_model.proofs.Worlds.{before_more, runs_push, world_at-push, messages_push}
 use Rattle.wire.specs.Message.{message_of}
 use Rattle.journal.specs.declared.entry.Entry.{Entry}
 use Rattle.journal.specs.Entries.{entry_of, entries_of}
@@ -43,6 +46,26 @@ module _ (plan : Plan) where
   pub before_at : (es : List Entry) (firsts : List ℕ) (k x : ℕ) → IsRun plan (entries_of es) → firsts ≡ map (λ e. e.first) es → k < length es → x ≡ get_or firsts k x → before plan (entries_of es) k ≡ x
   before_at es firsts k x run are lt is =
       let f = first_at es k x lt (is ∙ ap (λ l. get_or l k x) are) in sym (run k (entry_of f.0) (entry_there es k f.0 f.1)).1 ∙ f.2
+
+  -- the numbers of the messages that the entry at a place made
+  pub made_within : (es : List Entry) (cell number : ℕ) (e : Entry) → IsRun plan (entries_of es) → slice_get es cell ≡ Some e → before plan (entries_of es) cell < number → number ≤ before plan (entries_of es) (cell + 1)
+      → (e.first < number) × (number ≤ e.first + length e.made.items)
+  made_within es cell number e run at low high =
+      let there = entry_there es cell e at in
+      let first = (run cell (entry_of e) there).1 in
+      let more = before_more plan (entries_of es) cell (entry_of e) run there in
+      let next : before plan (entries_of es) (cell + 1) ≡ before plan (entries_of es) (suc cell) = ap (before plan (entries_of es)) (let n : cell + 1 ≡ suc cell = omega arith in n) in
+      (omega (arith, first, low), omega (arith, first, high, next, more, map-length message_of e.made.items))
+
+  -- the message at a place of the entry at a place has this number
+  pub letter_numbered : (es : List Entry) (cell index number : ℕ) (e : Entry) → IsRun plan (entries_of es) → slice_get es cell ≡ Some e → index < length e.made.items → number ≡ e.first + index + 1
+      → numbered (world_at plan (entries_of es)).messages number ≡ option_map message_of (slice_get e.made.items index)
+  letter_numbered es cell index number e run at inside is =
+      let x = get_there e.made.items index inside in
+      let here = map-there message_of e.made.items index x.0 x.1 in
+      ap (numbered (world_at plan (entries_of es)).messages) is
+      ∙ made_numbered plan (entries_of es) cell index (message_of x.0) (entry_of e) run (entry_there es cell e at) here
+      ∙ sym (ap (option_map message_of) x.1)
 
   -- a run and one entry more
   pub entries_run : (es now : List Entry) (e : Entry) → now ≡ es ++ e ∷ [] → IsRun plan (entries_of es) → Goes plan (world_at plan (entries_of es)) (entry_of e) → IsRun plan (entries_of now)

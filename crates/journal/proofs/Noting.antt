@@ -1,5 +1,5 @@
 -- What a note adds to a pass.
-use Rattle.std.proofs.Common.{◌≡◌, ℕ, ◌+◌, ◌<◌, ◌≤◌, true, List, [], ◌∷◌, ◌++◌, length, map, All, get_or, sym, ap, ◌∙◌, arith}
+use Rattle.std.proofs.Common.{◌≡◌, ℕ, ◌<◌, true, List, length, map, All, get_or, arith}
 use Rattle.volume_model.specs.Plan.{Plan}
 use Rattle.volume_model.specs.Actor.{Actor, actor_of, same_actor}
 use Rattle.volume_model.specs.Journal.{Entry, last_of}

@@ -1,5 +1,5 @@
 -- Steps that stand in a journal, and the last number of each actor.
-use Rattle.std.proofs.Common.{◌≡◌, ℕ, suc, ◌+◌, ◌<◌, ◌≤◌, Bool, true, false, List, [], ◌∷◌, ◌++◌, length, take, None, sym, ap, ◌∙◌, subst, length-append, arith, MatchBool}
+use Rattle.std.proofs.Common.{◌≡◌, ℕ, suc, ◌+◌, ◌<◌, Bool, true, false, List, [], ◌∷◌, ◌++◌, length, take, None, sym, ap, ◌∙◌, subst, length-append, arith, MatchBool}
 use Rattle.std.specs.Prelude.{if◌then◌else◌}
 use mathlib.Core.List.{IsPrefix}
 use Rattle.volume_model.specs.Lists.{numbered}

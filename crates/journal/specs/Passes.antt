@@ -7,7 +7,7 @@ use Rattle.volume_model.specs.World.{World, Event}
 use Rattle.volume_model.specs.Actor.{Actor, actor_of, same_actor}
 use Rattle.volume_model.specs.Journal as model
 use Rattle.volume_model.specs.Journal.{world_at}
-use Rattle.volume_model.specs.Judging.{Refusal, IsNoted}
+use Rattle.volume_model.specs.Judging.{Refusal}
 use Rattle.wire.specs.Message.{message_of}
 use Rattle.board.specs.declared.BoardStep.{BoardStep}
 use Rattle.board.specs.Seats as board

@@ -44,8 +44,9 @@ impl Lasts {
     ghost use Rattle.journal.specs.Actors.{seen_who};
     ghost use Rattle.journal.specs.Lasts.{last_in};
 
-    /// Of the clients of the volume epochs up to that of the last slot, and the nodes of so many groups. None has made a step.
-    pub fn new(alloc: Global, slots: u32, groups: u8) -> Result<Lasts, AllocError>
+    /// Of the clients of the volume epochs up to that of the last slot, and the nodes of so many groups. None has made a
+    /// step.
+    pub(crate) fn new(alloc: Global, slots: u32, groups: u8) -> Result<Lasts, AllocError>
         ensures { IfOk result (λ l. (actor : Actor) (n : ℕ) → last_in l actor ≡ Some n → n ≡ 0) }
     {
         Ok(Lasts {
@@ -56,7 +57,7 @@ impl Lasts {
     }
 
     /// The last number of an actor, if there is such an actor.
-    pub fn get(&self, who: Who) -> Option<usize>
+    pub(crate) fn get(&self, who: Who) -> Option<usize>
         ensures { result ≡ last_in self.now (seen_who who) }
     {
         match who {
@@ -72,7 +73,7 @@ impl Lasts {
     }
 
     /// The actor has made a step, of this number.
-    pub fn set(&mut self, who: Who, number: usize)
+    pub(crate) fn set(&mut self, who: Who, number: usize)
         requires { IsSome (last_in self.old (seen_who who)) }
         ensures { (other : Actor) (n : ℕ) → last_in self.new other ≡ Some n → MatchBool (same_actor (seen_who who) other) (n ≡ number) (last_in self.old other ≡ Some n) }
     {

@@ -12,12 +12,11 @@ mod pass;
 mod row;
 mod who;
 
-pub use entry::{Entry, Note, Receipt};
-pub use history::{Front, History, Opened};
-pub use lasts::Lasts;
+pub use entry::{Entry, Receipt};
+pub use history::{History, Opened};
 pub use letter::Letter;
 pub use log::Log;
 pub use mark::Mark;
-pub use pass::{Held, Pass};
+pub use pass::Pass;
 pub use row::{Row, Site};
 pub use who::Who;

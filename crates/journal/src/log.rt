@@ -93,8 +93,8 @@ impl<'a, L: Site> Log<'a, L> {
     ghost use Rattle.journal.specs.Standing.{durable_in, made, IsElse, NamesEarlier, Stands};
     ghost use Rattle.journal.specs.Passes.{journal_of, kept_in, letter_message, letter_number, mark_number, marked, notes_of, seat_of, seen_at, steps_of, world_of, AddsRefusal, AddsStep, HasNoteRoom, HasPlace, HasRoom, HasStepRoom, SeesAll};
 
-    /// An empty journal over a row of cells, for clients of the volume epochs up to that of the last slot and for the nodes of so many
-    /// groups.
+    /// An empty journal over a row of cells, for the clients of the volume epochs up to that of the last slot and the
+    /// nodes of so many groups.
     pub fn new(
         alloc: Global,
         row: &'a Row,
@@ -338,6 +338,7 @@ impl<'a, L: Site> Log<'a, L> {
     /// Looks a message up by its number. None where no step has made it.
     pub fn find(&self, number: u64) -> Option<Letter<'a, L>>
         ensures some { IfSome result (λ l. letter_number l ≡ number) }
+        ensures is { IfSome result (λ l. numbered (world_of self.now).messages number ≡ letter_message l) }
         ensures none { IfNone result (numbered (world_of self.now).messages number ≡ None) }
     {
         if number == 0 || number > self.messages {
@@ -355,7 +356,8 @@ impl<'a, L: Site> Log<'a, L> {
         })
     }
 
-    /// Whether the journal has a letter that was found before, as it always has: then its message has the letter's number.
+    /// Whether the journal has a letter that was found before, as it always has: then its message has the letter's
+    /// number.
     pub fn has(&self, letter: &Letter<'a, L>) -> bool
         ensures { MatchBool result (numbered (world_of self.now).messages (letter_number letter.now) ≡ letter_message letter.now) (Unit {0}) }
     {
@@ -366,8 +368,8 @@ impl<'a, L: Site> Log<'a, L> {
         true
     }
 
-    /// Looks a message up for a pass, which from then on has seen the whole journal. None where no step has made it; then no step of the
-    /// pass did.
+    /// Looks a message up for a pass, which from then on has seen the whole journal. None where no step has made it; then
+    /// no step of the pass did.
     pub fn seek(
         &mut self,
         height: &Height,
@@ -379,6 +381,7 @@ impl<'a, L: Site> Log<'a, L> {
         ensures seen { SeesAll pass.new self.new }
         ensures pass { (pass.new.steps ≡ pass.old.steps) × (pass.new.notes ≡ pass.old.notes) × (seat_of pass.new ≡ seat_of pass.old) }
         ensures some { IfSome result (λ l. letter_number l ≡ number) }
+        ensures is { IfSome result (λ l. numbered (world_of self.old).messages number ≡ letter_message l) }
         ensures none { IfNone result (numbered (world_of self.old).messages number ≡ None) }
         ensures own { IfNone result (All (IsElse number) (steps_of pass.old)) }
     {

@@ -9,8 +9,8 @@ use crate::row::Site;
 use crate::who::Who;
 use std::marker::PhantomData;
 
-/// An actor's place in the history: the beginning of it up to the actor's last entry, which is `number` entries long. It
-/// lies under the actor's lock, beside the actor.
+/// An actor's place in the history: the beginning of it up to the actor's last entry, which is `number` entries long.
+/// It lies under the actor's lock, beside the actor.
 #[derive(Drop)]
 pub struct Mark<L: Site> {
     pub(crate) who: Who,

@@ -1,7 +1,6 @@
-use Rattle.std.proofs.Common.{◌≡◌, ℕ, ◌+◌, ◌<◌, ◌≤◌, List, length, length-append, vec_len, map, All, [], ◌∷◌, ◌++◌, Some, Bool, true, false, MatchBool, refl, sym, ap, ◌∙◌, subst, arith, rules, get_or}
+use Rattle.std.proofs.Common.{◌≡◌, ◌+◌, ◌≤◌, List, length, length-append, vec_len, map, All, [], ◌∷◌, ◌++◌, Some, Bool, true, false, MatchBool, refl, sym, ap, ◌∙◌, subst, arith, rules, get_or}
 use Rattle.std.specs.Prelude.{slice_get}
 use mathlib.Core.List.{IsPrefix}
-use Rattle.std.specs.declared.sync.OnceToken.{OnceToken}
 use Rattle.volume_model.specs.Actor.{actor_of, same_actor}
 use Rattle.volume_model.specs.Journal.{Goes, last_of, world_at}
 use Rattle.volume_model.proofs.ListFacts.{get_within}

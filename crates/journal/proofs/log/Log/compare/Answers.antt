@@ -1,4 +1,4 @@
-use Rattle.std.proofs.Common.{◌≡◌, ℕ, List, Some, sym, ap, ◌∙◌, subst, rules}
+use Rattle.std.proofs.Common.{◌≡◌, List, Some, sym, ap, ◌∙◌, subst, rules}
 use mathlib.Core.List.{IsPrefix}
 use Rattle.volume_model.proofs.Worlds.{known}
 use Rattle.journal.specs.declared.entry.Entry.{Entry}

@@ -1,9 +1,8 @@
-use Rattle.std.proofs.Common.{◌≡◌, ℕ, ◌+◌, ◌<◌, List, [], ◌∷◌, ◌++◌, length, vec_len, All, map, get_or, refl, sym, ap, ◌∙◌, subst, arith, rules}
+use Rattle.std.proofs.Common.{◌≡◌, ◌+◌, ◌<◌, [], ◌∷◌, ◌++◌, length, vec_len, All, get_or, refl, sym, ap, ◌∙◌, arith, rules}
 use Rattle.volume_model.specs.World.{after}
-use Rattle.volume_model.specs.Journal as model
 use Rattle.volume_model.specs.Journal.{world_at}
 use Rattle.volume_model.proofs.ListFacts.{get_within}
-use Rattle.wire.specs.Message.{message_of, messages_of}
+use Rattle.wire.specs.Message.{message_of}
 use Rattle.world.specs.Events.{event_of}
 use Rattle.journal.specs.declared.entry.Entry.{Entry}
 use Rattle.journal.specs.declared.pass.Held.{Held}

@@ -1,9 +1,6 @@
-use Rattle.std.proofs.Common.{◌≡◌, ◌+◌, ◌-◌, ◌/◌, ◌<◌, ◌≤◌, length, vec_len, take, sym, ap, ◌∙◌, arith, rules}
-use Rattle.volume_model.specs.Journal.{before, world_at}
-use Rattle.volume_model.proofs.Worlds.{take_rest}
-use Rattle.journal.specs.Entries.{entries_of}
+use Rattle.std.proofs.Common.{◌≡◌, ◌+◌, ◌-◌, ◌/◌, ◌<◌, length, vec_len, ◌∙◌, arith, rules}
 use Rattle.journal.specs.Tokens.{shown}
-use Rattle.journal.proofs.Entered.{before_at, length-entries}
+use Rattle.journal.proofs.Entered.{before_at}
 use Rattle.journal.proofs.Tokens.{length-shown}
 use Rattle.journal.proofs.log.Log.maker.Goals as goal
 

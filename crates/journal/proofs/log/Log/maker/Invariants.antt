@@ -1,4 +1,4 @@
-use Rattle.std.proofs.Common.{◌≡◌, ◌+◌, ◌-◌, ◌<◌, ◌≤◌, vec_len}
+use Rattle.std.proofs.Common.{◌-◌, ◌<◌, ◌≤◌, vec_len}
 use Rattle.volume_model.specs.Journal.{before}
 use Rattle.journal.specs.Passes.{journal_of}
 use Rattle.journal.proofs.log.Log.maker.Given as goal

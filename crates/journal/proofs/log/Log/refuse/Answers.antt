@@ -1,4 +1,4 @@
-use Rattle.std.proofs.Common.{◌≡◌, ◌≤◌, List, length, All, sym, ap, ◌∙◌, subst, arith}
+use Rattle.std.proofs.Common.{List, length, All, sym, ap, ◌∙◌, subst, arith}
 use Rattle.volume_model.specs.Actor.{actor_of}
 use Rattle.volume_model.specs.Journal.{last_of}
 use Rattle.volume_model.specs.Judging.{IsRefused}

@@ -1,4 +1,4 @@
-use Rattle.std.proofs.Common.{◌≡◌, ◌≤◌, List, length, All, sym, ◌∙◌, subst, arith, rules}
+use Rattle.std.proofs.Common.{◌≡◌, List, length, All, sym, ◌∙◌, subst, arith, rules}
 use Rattle.volume_model.specs.Actor.{actor_of}
 use Rattle.volume_model.specs.Judging.{IsRefused}
 use Rattle.volume_model.proofs.Judges.{noted_at_last}

@@ -1,5 +1,4 @@
 use Rattle.std.proofs.Common.{◌≡◌, List, Option, None, Some, IfNone, All, map, get_or, sym, ap, ◌∙◌, subst}
-use Rattle.std.specs.declared.sync.OnceToken.{OnceToken}
 use Rattle.volume_model.specs.Lists.{numbered}
 use Rattle.volume_model.specs.Journal.{world_at}
 use Rattle.journal.specs.declared.entry.Entry.{Entry}
