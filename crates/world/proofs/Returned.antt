@@ -1,6 +1,7 @@
 -- What a run promises, said of the values that it returns.
 use Rattle.std.proofs.Common.{◌≡◌, ℕ, zero, suc, ◌<◌, Bool, true, false, ◌&&◌, nat_lt, nat_le, if◌then◌else◌, ◌⊎◌, inl, inr, List, [], ◌∷◌, ◌++◌, map, Result, Ok, Err, refl, sym, ap, ap₂, ◌∙◌, subst}
-use Rattle.std.specs.Prelude.{IfOk, OnOk}
+use Rattle.std.specs.Prelude.{IfOk}
+use Rattle.std.proofs.lemmas.Bool.{and_parts}
 use borrow.Author.Tests.{ltb-true}
 use Rattle.volume_model.specs.declared.fault.Fault.{Fault}
 use Rattle.volume_model.specs.Lists.{IsIn, IsBeginningOf, each_below}
@@ -12,16 +13,12 @@ use Rattle.volume_model.specs.World.{World, Event, opening, run}
 use Rattle.volume_model.specs.Headline.{Acknowledges, HasFound, KeepsCommits}
 use Rattle.volume_model.specs.Outcome as model
 use Rattle.volume_model.specs.Outcome.{writers_in, finds_in}
+use Rattle.volume_model.proofs.Basics.{IsIn-append}
 use Rattle.writer_core.specs.Logs.{log_of}
 use Rattle.world.specs.declared.outcome.FindEnd.{FindEnd}
 use Rattle.world.specs.declared.outcome.WriterEnd.{WriterEnd}
 use Rattle.world.specs.declared.outcome.Outcome.{Outcome}
-use Rattle.world.specs.Outcomes.{opened_client, opened_of, found_client, find_of, covered_by, HasAcknowledged, KeepsPromises, KeepsReturned, PromisesRuns, TellsRun}
-
-is_in-append : {A : Type 0} (x : A) (xs ys : List A) → IsIn x (xs ++ ys) → IsIn x xs ⊎ IsIn x ys
-is_in-append x [] ys h = inr h
-is_in-append x (y ∷ xs) ys (inl e) = inl (inl e)
-is_in-append x (y ∷ xs) ys (inr h) = elim (is_in-append x xs ys h) [ inl a ↦ inl (inr a) | inr b ↦ inr b ]
+use Rattle.world.specs.Outcomes.{opened_client, opened_of, found_client, find_of, covered_by, HasAcknowledged, KeepsReturned, PromisesRuns, TellsRun}
 
 is_in-map : {A B : Type 0} (f : A → B) (x : A) (xs : List A) → IsIn x xs → IsIn (f x) (map f xs)
 is_in-map f x (y ∷ xs) (inl e) = inl (ap f e)
@@ -32,7 +29,7 @@ is_in-map f x [] h = absurd h
 in_each_below : {A : Type 0} (x : A) (n : ℕ) (test : ℕ → Bool) (f : ℕ → A) → IsIn x (each_below n test f) → (v : ℕ) × ((test v ≡ true) × (x ≡ f v))
 in_each_below x zero test f h = absurd h
 in_each_below x (suc n) test f h =
-    elim (is_in-append x (each_below n test f) (if test n then f n ∷ [] else []) h) [
+    elim (IsIn-append (each_below n test f) (if test n then f n ∷ [] else []) x h) [
       | inl before ↦ in_each_below x n test f before
       | inr last ↦ here (test n) refl last
     ]
@@ -41,11 +38,6 @@ in_each_below x (suc n) test f h =
     here true passed (inl e) = (n, (passed, e))
     here true passed (inr none) = absurd none
     here false passed none = absurd none
-
-both : (p q : Bool) → (p && q) ≡ true → (p ≡ true) × (q ≡ true)
-both true true h = (refl, refl)
-both true false h = absurd cc
-both false q h = absurd cc
 
 -- what is told of a writer of the world, and of a recovery that has cut
 abbrev told_writer : World → ℕ → model.Opened
@@ -79,7 +71,7 @@ finder_of : (world : World) (f : FindEnd) (fs : List FindEnd) → map find_of fs
 finder_of world f fs are within =
     let found = in_each_below (find_of f) (suc world.authority.last_volume) (λ (v : ℕ). nat_lt 1 v && has_cut (world.clients v).stage) (told_find world) (subst (IsIn (find_of f)) are (is_in-map find_of f fs within)) in
     let v : f.volume ≡ found.0 = ap (λ (o : model.Find). o.volume) found.1.1 in
-    let tests = both (nat_lt 1 found.0) (has_cut (world.clients found.0).stage) found.1.0 in
+    let tests = and_parts (nat_lt 1 found.0) (has_cut (world.clients found.0).stage) found.1.0 in
     let later : 1 < found.0 = ltb-true 1 found.0 tests.0 in
     let cut : has_cut (world.clients found.0).stage ≡ true = tests.1 in
     let has : HasFound world found.0 = (later, cut) in
@@ -115,7 +107,3 @@ module _ (world : World) (keeps : KeepsCommits world) where
 pub returned_of : (plan : Plan) (events : List Event) → PromisesRuns plan → (result : Result Outcome Fault) → IfOk result (TellsRun plan events) → IfOk result KeepsReturned
 returned_of plan events promises (Ok outcome) tells = kept_returned (run plan (opening plan) events) (promises events).commits outcome tells.writers_are tells.finds_are
 returned_of plan events promises (Err fault) tells = tells
-
-pub promised_of : (plan : Plan) (events : List Event) → PromisesRuns plan → (result : Result Outcome Fault) → OnOk result (KeepsPromises plan events)
-promised_of plan events promises (Ok outcome) = promises events
-promised_of plan events promises (Err fault) = tt

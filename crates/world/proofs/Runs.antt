@@ -70,4 +70,4 @@ lasting plan certified last events earlier later is = subst (StaysSo (run plan (
 
 pub finds_lasting : (plan : Plan) → FindsLast → (events : List Event) → KeepsFinds plan events
 finds_lasting plan last events earlier later volume is found =
-    subst (λ (w : World). StaysFound ((run plan (opening plan) earlier).clients volume) (w.clients volume)) (whole_run plan events earlier later is) (last plan (run plan (opening plan) earlier) later volume found.1)
+    subst (λ (w : World). StaysFound ((run plan (opening plan) earlier).clients volume) (w.clients volume)) (whole_run plan events earlier later is) (last plan (run plan (opening plan) earlier) later volume found)

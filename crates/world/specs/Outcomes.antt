@@ -4,11 +4,11 @@ use Rattle.volume_model.specs.Plan.{Plan}
 use Rattle.volume_model.specs.Lineage.{last_cut, last_start}
 use Rattle.volume_model.specs.Lists.{IsIn, IsBeginningOf}
 use Rattle.volume_model.specs.Redo.{Redo, up_to}
-use Rattle.volume_model.specs.Client.{Client}
+use Rattle.volume_model.specs.Client.{Client, has_cut}
 use Rattle.volume_model.specs.ClientPoints.{durable_point, is_consistency_point}
 use Rattle.volume_model.specs.World.{Event, Step, opening, run, results, step}
 use Rattle.volume_model.specs.World.Event.{Open}
-use Rattle.volume_model.specs.Headline.{HasFound, KeepsCommits, SaysTruePages, StaysSo}
+use Rattle.volume_model.specs.Headline.{KeepsCommits, SaysTruePages, StaysSo}
 use Rattle.volume_model.specs.Finds.{HasOneLineageAnEpoch, StaysFound}
 use Rattle.volume_model.specs.Opens.{IsAtItsCut}
 use Rattle.volume_model.specs.Orderly.{IsOrderly}
@@ -41,10 +41,10 @@ find_of f = record { volume = f.volume; found = log_of f.found.log.items; cut = 
 abbrev pub KeepsAcknowledgements : Plan → List Event → Type 0
 KeepsAcknowledgements plan events = (earlier later : List Event) → earlier ++ later ≡ events → StaysSo (run plan (opening plan) earlier) (run plan (opening plan) events)
 
--- What was found after some of the events stays so to their end, with the same lineage.
+-- A client that has cut after some of the events stays so to their end, with the same lineage and the same log found.
 abbrev pub KeepsFinds : Plan → List Event → Type 0
 KeepsFinds plan events =
-    (earlier later : List Event) (volume : ℕ) → earlier ++ later ≡ events → HasFound (run plan (opening plan) earlier) volume → StaysFound ((run plan (opening plan) earlier).clients volume) ((run plan (opening plan) events).clients volume)
+    (earlier later : List Event) (volume : ℕ) → earlier ++ later ≡ events → has_cut ((run plan (opening plan) earlier).clients volume).stage ≡ true → StaysFound ((run plan (opening plan) earlier).clients volume) ((run plan (opening plan) events).clients volume)
 
 -- Each client that opens among the events, and isn't refused, has its cut as its durable point then.
 abbrev pub OpenAtTheirCuts : Plan → List Event → Type 0

@@ -8,9 +8,9 @@ use writer_core::Change;
 pub enum AuthorityAct {
     /// It assigns the next volume epoch.
     Assign,
-    /// It leads a group to a child of its configuration.
+    /// It leads a group to a child of its configuration, which is named by its place in the group's list.
     Advance { group: u8, configuration: u32 },
-    /// It tells the client of a volume epoch where the groups stand.
+    /// It tells the client of the last volume epoch where the groups stand; `volume` is that of the client that asks.
     Refresh { volume: u32 },
 }
 
@@ -30,7 +30,7 @@ pub enum NodeAct {
 /// What a client does, but for becoming a writer.
 #[derive(Clone, Copy)]
 pub enum ClientAct<'a> {
-    /// It gives a transaction's changes their records.
+    /// It gives a transaction's changes, 1 to 32 of them, their records.
     Issue(&'a [Change]),
     /// It takes a message.
     Take(&'a Message),
@@ -38,7 +38,7 @@ pub enum ClientAct<'a> {
     Cut,
     /// It sends the record with this LSN once more.
     Resend { lsn: u64 },
-    /// It asks for a block's bytes.
+    /// It asks for a block's bytes, as of its durable point.
     Read { group: u8, block: u32 },
 }
 

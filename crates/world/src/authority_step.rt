@@ -16,6 +16,10 @@ use wire::Message;
 
 impl AuthorityAct {
     /// Whether the authority would do it: exactly the refusal of [`AuthorityAct::done_by`], without acting. Takes no memory.
+    ///
+    /// # Errors
+    /// `EpochsSpent` where no volume epoch is left to assign; `NoGroup` where there is no such group, and `NotInPlan` where the
+    /// configuration isn't a child of the group's own; `Superseded` where the client's volume epoch isn't the last one assigned.
     pub fn admitted_by(self, authority: &Authority) -> Result<(), Fault>
         ensures { result ≡ refusal_of (authority_acted (authority_plan authority.now) (authority_of authority.now) self) }
     {
@@ -30,6 +34,9 @@ impl AuthorityAct {
     }
 
     /// Lets the authority do it, and answers the message that it makes. Where it refuses, or memory runs out, it is what it was.
+    ///
+    /// # Errors
+    /// As [`AuthorityAct::admitted_by`] says, and `NoMemory` where a growth was refused.
     pub fn done_by(self, alloc: Global, authority: &mut Authority) -> Result<Message, Fault>
         ensures answers { Answers told (authority_acted (authority_plan authority.old) (authority_of authority.old) self) (authority_of authority.old) result (authority_of authority.new) }
         ensures plan { authority_plan authority.new ≡ authority_plan authority.old }

@@ -100,6 +100,12 @@ impl Client {
 
     /// Whether it would do what it is asked to: exactly the refusal of [`Client::act`], without acting. A cut is judged by finding the
     /// log, which takes memory; nothing else does.
+    ///
+    /// # Errors
+    /// Where no View has reached it: `NotAddressed` for a message that isn't for it, `NotInPlan` for a View of places that the plan
+    /// doesn't have, and `NoActor` for all but a View. Else `NotAddressed` and `NotInPlan` of messages, and: of a recovery `NotOpen` for what
+    /// a writer alone does, and for a cut `AlreadyDone`, `NotReady` until the reports are a read set of each group, or `LsnSpent`; of a
+    /// writer `AlreadyDone` for a cut, and what [`Writer`] answers to an issue, a resend or a read.
     pub fn admits(&self, alloc: Global, act: ClientAct<'_>) -> Result<(), Fault>
         ensures { AnswersLate (client_late act.entry) admitted (refusal_of (client_acted act.entry (client_plan self.now) (client_volume self.now) (seen_client self.now))) tt result tt }
     {
@@ -111,6 +117,9 @@ impl Client {
     }
 
     /// Does what it is asked to, and answers the messages that it makes. Where it refuses, or memory runs out, it is what it was.
+    ///
+    /// # Errors
+    /// As [`Client::admits`] says, and `NoMemory` where a growth was refused.
     pub fn act(&mut self, alloc: Global, act: ClientAct<'_>) -> Result<Vec<Message>, Fault>
         ensures answers { AnswersLate (client_late act.entry) acted (client_acted act.entry (client_plan self.old) (client_volume self.old) (seen_client self.old)) (seen_client self.old) result (seen_client self.new) }
         ensures same { IsSameClient self.old self.new }

@@ -32,9 +32,9 @@ pub fn admits(alloc: Global, recovery: &Recovery, act: ClientAct<'_>) -> Result<
     match act {
         ClientAct::Take(message) => admits_message(recovery, message),
         ClientAct::Cut => recovery.admits_cut(alloc),
-        ClientAct::Issue(_) => Err(Fault::NotOpen),
-        ClientAct::Resend { .. } => Err(Fault::NotOpen),
-        ClientAct::Read { .. } => Err(Fault::NotOpen),
+        ClientAct::Issue(_) | ClientAct::Resend { .. } | ClientAct::Read { .. } => {
+            Err(Fault::NotOpen)
+        }
     }
 }
 

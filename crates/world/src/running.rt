@@ -1,6 +1,6 @@
 //! Whole runs.
 
-ghost use Rattle.std.specs.Prelude.{◌≡◌, ◌≢◌, IfOk, IfErr, OnOk};
+ghost use Rattle.std.specs.Prelude.{◌≡◌, ◌≢◌, IfOk, IfErr};
 ghost use Rattle.std.specs.Arc.{arc_value};
 ghost use Rattle.volume_model.specs.declared.fault.Fault.TheVariants.{NoMemory};
 ghost use Rattle.plan.specs.CheckedModel.{checked_model};
@@ -110,7 +110,7 @@ pub fn run(alloc: Global, plan: &Arc<CheckedPlan>, events: &[Event]) -> Result<O
     ensures returned { IfOk result KeepsReturned }
 
     // The same holds of all clients in the world of the run, with all else that the volume promises of a run.
-    ensures promises { OnOk result (KeepsPromises (checked_model (arc_value plan.now)) (events_of events.now)) }
+    ensures promises { KeepsPromises (checked_model (arc_value plan.now)) (events_of events.now) }
     ensures memory { IfErr result (λ e. e ≡ NoMemory) }
 {
     promised(plan);
@@ -125,7 +125,7 @@ pub fn run_orders(
 ) -> Result<Outcome, Fault>
     ensures tells { IfOk result (TellsRun (checked_model (arc_value plan.now)) (ordered_events (checked_model (arc_value plan.now)) orders.now)) }
     ensures returned { IfOk result KeepsReturned }
-    ensures promises { OnOk result (KeepsPromises (checked_model (arc_value plan.now)) (ordered_events (checked_model (arc_value plan.now)) orders.now)) }
+    ensures promises { KeepsPromises (checked_model (arc_value plan.now)) (ordered_events (checked_model (arc_value plan.now)) orders.now) }
     ensures memory { IfErr result (λ e. e ≡ NoMemory) }
 {
     promised(plan);

@@ -4,12 +4,12 @@ use Rattle.plan.specs.declared.checked.CheckedPlan.{CheckedPlan}
 use Rattle.plan.specs.CheckedModel.{checked_model}
 use Rattle.world.specs.Events.{events_of}
 use Rattle.world.specs.Outcomes.{PromisesRuns}
-use Rattle.world.proofs.Returned.{returned_of, promised_of}
+use Rattle.world.proofs.Returned.{returned_of}
 use Rattle.world.proofs.running.run.Goals as goal
 
 pub returns-clause-promises : goal.returns-clause-promises
 returns-clause-promises c =
-    promised_of (checked_model (arc_value c.args.plan.now)) (events_of c.args.events.now) (subst (λ (p : CheckedPlan). PromisesRuns (checked_model p)) c.deref.ensures c.promised.ensures) c.outcome_of.result
+    subst (λ (p : CheckedPlan). PromisesRuns (checked_model p)) c.deref.ensures c.promised.ensures (events_of c.args.events.now)
 
 pub returns-clause-returned : goal.returns-clause-returned
 returns-clause-returned c =

@@ -4,12 +4,12 @@ use Rattle.plan.specs.declared.checked.CheckedPlan.{CheckedPlan}
 use Rattle.plan.specs.CheckedModel.{checked_model}
 use Rattle.world.specs.Events.{ordered_events}
 use Rattle.world.specs.Outcomes.{PromisesRuns}
-use Rattle.world.proofs.Returned.{returned_of, promised_of}
+use Rattle.world.proofs.Returned.{returned_of}
 use Rattle.world.proofs.running.run_orders.Goals as goal
 
 pub returns-clause-promises : goal.returns-clause-promises
 returns-clause-promises c =
-    promised_of (checked_model (arc_value c.args.plan.now)) (ordered_events (checked_model (arc_value c.args.plan.now)) c.args.orders.now) (subst (λ (p : CheckedPlan). PromisesRuns (checked_model p)) c.deref.ensures c.promised.ensures) c.outcome_of_orders.result
+    subst (λ (p : CheckedPlan). PromisesRuns (checked_model p)) c.deref.ensures c.promised.ensures (ordered_events (checked_model (arc_value c.args.plan.now)) c.args.orders.now)
 
 pub returns-clause-returned : goal.returns-clause-returned
 returns-clause-returned c =
