@@ -9,8 +9,8 @@ use Rattle.std.specs.declared.alloc.Global.{Global}
 use Rattle.refutation.specs.declared.certificate.Certificate.{Certificate}
 use Rattle.refutation.specs.Certificate.{certificate_rule}
 use Rattle.refutation.specs.Rule.{Rule}
-use Rattle.plan.specs.declared.placed.NamedClaim.{NamedClaim}
-use Rattle.plan.specs.NamedClaims.{all_placed, placed}
+use Rattle.plan.specs.declared.lent.LentClaim.{LentClaim}
+use Rattle.plan.specs.LentClaims.{all_lent, lent_placed}
 use Rattle.plan.specs.PlanClaims.{PlacedClaim}
 use Rattle.jobs.specs.Searched.{TellsSearch}
 use Rattle.jobs.specs.Unfound.{found_status, unfound_line, unfound_lines}
@@ -51,14 +51,14 @@ pub no_gap : (rules : List (Option Rule)) → found_status rules ≡ 0 → list_
 no_gap rules e = no_one (list_any (λ rule. is_none rule) rules) e
 
 -- one claim more
-pub unfound_more : (claims : List NamedClaim) (left later : List (Option (Certificate Global))) (i : ℕ) (claim : NamedClaim) (certificate : Option (Certificate Global)) (all old new : List ℕ)
-    → all ≡ old ++ unfound_lines (all_placed (drop i claims)) (map rule_in left) → i < length claims → claim ≡ get_or claims i claim → left ≡ certificate ∷ later
-    → new ≡ old ++ unfound_line (placed claim) (rule_in certificate) → all ≡ new ++ unfound_lines (all_placed (drop (i + 1) claims)) (map rule_in later)
+pub unfound_more : (claims : List LentClaim) (left later : List (Option (Certificate Global))) (i : ℕ) (claim : LentClaim) (certificate : Option (Certificate Global)) (all old new : List ℕ)
+    → all ≡ old ++ unfound_lines (all_lent (drop i claims)) (map rule_in left) → i < length claims → claim ≡ get_or claims i claim → left ≡ certificate ∷ later
+    → new ≡ old ++ unfound_line (lent_placed claim) (rule_in certificate) → all ≡ new ++ unfound_lines (all_lent (drop (i + 1) claims)) (map rule_in later)
 unfound_more claims left later i claim certificate all old new so_far within item split is_new =
     let front : drop i claims ≡ claim ∷ drop (i + 1) claims = drop-cons claims i claim within ∙ rw (← item, add-one) refl in
-    let line = unfound_line (placed claim) (rule_in certificate) in
-    let rest = unfound_lines (all_placed (drop (i + 1) claims)) (map rule_in later) in
-    let both : unfound_lines (all_placed (drop i claims)) (map rule_in left) ≡ line ++ rest = rw (front, split) refl in
+    let line = unfound_line (lent_placed claim) (rule_in certificate) in
+    let rest = unfound_lines (all_lent (drop (i + 1) claims)) (map rule_in later) in
+    let both : unfound_lines (all_lent (drop i claims)) (map rule_in left) ≡ line ++ rest = rw (front, split) refl in
     so_far ∙ (ap (λ t. old ++ t) both ∙ (sym (append_assoc old line rest) ∙ ap (λ t. t ++ rest) (sym is_new)))
 
 no_lines : (claims : List PlacedClaim) → unfound_lines claims [] ≡ []
@@ -72,10 +72,10 @@ unfound_out claims left all old so_far empty =
     sym (so_far ∙ (ap (λ t. old ++ t) nothing ∙ append-nil old))
 
 -- no claim is left
-pub unfound_all : (claims : List NamedClaim) (left : List (Option (Certificate Global))) (i : ℕ) (all old : List ℕ) → all ≡ old ++ unfound_lines (all_placed (drop i claims)) (map rule_in left) → i ≡ length claims → old ≡ all
+pub unfound_all : (claims : List LentClaim) (left : List (Option (Certificate Global))) (i : ℕ) (all old : List ℕ) → all ≡ old ++ unfound_lines (all_lent (drop i claims)) (map rule_in left) → i ≡ length claims → old ≡ all
 unfound_all claims left i all old so_far end =
     let nothing : drop i claims ≡ [] = rw end (drop-length claims) in
-    sym (so_far ∙ (ap (λ cs. old ++ unfound_lines (all_placed cs) (map rule_in left)) nothing ∙ append-nil old))
+    sym (so_far ∙ (ap (λ cs. old ++ unfound_lines (all_lent cs) (map rule_in left)) nothing ∙ append-nil old))
 
 -- where each claim has a certificate, there is no line
 pub all_found : (claims : List PlacedClaim) (rules : List (Option Rule)) → list_any (λ r. is_none r) rules ≡ false → unfound_lines claims rules ≡ []

@@ -4,7 +4,7 @@ ghost use Rattle.std.specs.Prelude.{◌≡◌, ◌<◌, ◌≤◌, ◌++◌, Err
 ghost use Rattle.std.specs.List.{list_any};
 ghost use Rattle.refutation.specs.Certificate.{certificate_rule};
 ghost use Rattle.plan.specs.FaultText.{claim_text};
-ghost use Rattle.plan.specs.NamedClaims.{all_placed, placed};
+ghost use Rattle.plan.specs.LentClaims.{all_lent, lent_placed};
 ghost use Rattle.plan.specs.Plan.{plan_data};
 ghost use Rattle.plan.specs.PlanClaims.{claims_in};
 ghost use Rattle.plan.specs.PlanData.{PlanData};
@@ -21,7 +21,7 @@ use crate::inputs::{contents, plan_in};
 use crate::reply::{Found, Stop};
 use cert_search::{Gate, search_all};
 use command_line::Job;
-use plan::{NamedClaim, Plan, claims, no_fault_is_certified, write_plan};
+use plan::{LentClaim, Plan, lent_claims, no_fault_is_certified, write_plan};
 use refutation::Certificate;
 use std::alloc::{AllocError, Global};
 use std::io::Read;
@@ -41,11 +41,11 @@ impl Gate for NoGate {
 }
 
 /// The claims of a plan.
-fn claims_of(alloc: Global, plan: &Plan) -> Result<Vec<NamedClaim>, Stop<'static>>
-    ensures claims { IfOk result (λ v. claims_in (plan_data plan.now) ≡ Ok (all_placed v.items)) }
-    ensures stop { IfErr result (StopsBy (λ fault. claims_in (plan_data plan.now) ≡ Err fault)) }
+fn claims_of<'p>(alloc: Global, plan: &'p Plan) -> Result<Vec<LentClaim<'p>>, Stop<'static>>
+    ensures claims { IfOk result (λ v. claims_in (plan_data plan.entry.now) ≡ Ok (all_lent v.items)) }
+    ensures stop { IfErr result (StopsBy (λ fault. claims_in (plan_data plan.entry.now) ≡ Err fault)) }
 {
-    match claims(alloc, plan) {
+    match lent_claims(alloc, plan) {
         Ok(claims) => Ok(claims),
         Err(fault) => Err(Stop::of_plan(fault)),
     }
@@ -95,12 +95,12 @@ fn claim_name(step: bool) -> &'static str
 }
 
 /// Adds the line of a claim without a certificate.
-fn add_claim(text: &mut String, claim: &NamedClaim) -> Result<(), AllocError>
-    ensures { OnOk result (string_bytes text.new ≡ string_bytes text.old ++ claim_line (placed claim.now)) }
+fn add_claim(text: &mut String, claim: &LentClaim<'_>) -> Result<(), AllocError>
+    ensures { OnOk result (string_bytes text.new ≡ string_bytes text.old ++ claim_line (lent_placed claim.now)) }
 {
     let group = claim.group;
     let configuration = claim.configuration;
-    let name = claim_name(claim.step);
+    let name = claim_name(claim.parent.is_some());
     write!(
         text,
         "unfound: group {group} configuration {configuration} {name}\n"
@@ -110,10 +110,10 @@ fn add_claim(text: &mut String, claim: &NamedClaim) -> Result<(), AllocError>
 /// Adds the line of a claim, where it has no certificate.
 fn add_unfound(
     text: &mut String,
-    claim: &NamedClaim,
+    claim: &LentClaim<'_>,
     certificate: &Option<Certificate<Global>>,
 ) -> Result<(), AllocError>
-    ensures { OnOk result (string_bytes text.new ≡ string_bytes text.old ++ unfound_line (placed claim.now) (option_map certificate_rule certificate.now)) }
+    ensures { OnOk result (string_bytes text.new ≡ string_bytes text.old ++ unfound_line (lent_placed claim.now) (option_map certificate_rule certificate.now)) }
 {
     match certificate {
         None => add_claim(text, claim),
@@ -124,10 +124,10 @@ fn add_unfound(
 /// A line for each claim without a certificate.
 fn unfound(
     alloc: Global,
-    claims: &[NamedClaim],
+    claims: &[LentClaim<'_>],
     certificates: &[Option<Certificate<Global>>],
 ) -> Result<String, AllocError>
-    ensures { IfOk result (λ text. string_bytes text ≡ unfound_lines (all_placed claims.now) (map (option_map certificate_rule) certificates.now)) }
+    ensures { IfOk result (λ text. string_bytes text ≡ unfound_lines (all_lent claims.now) (map (option_map certificate_rule) certificates.now)) }
 {
     let mut text = String::new(alloc);
     let mut left = certificates;

@@ -4,4 +4,4 @@ use Rattle.std.proofs.lemmas.Result.{on_ok_weaker}
 use Rattle.jobs.proofs.search.add_claim.Goals as goal
 
 pub returns : goal.returns
-returns c = on_ok_weaker c.write.result (λ h. h ∙ rw c.claim_name-name.ensures (simp append_assoc)) c.write.ensures.bytes
+returns c = on_ok_weaker c.write.result (λ h. h ∙ rw (c.claim_name-name.ensures, c.is_some.ensures) (simp append_assoc)) c.write.ensures.bytes

@@ -7,7 +7,7 @@ use Rattle.plan.specs.declared.fault.PlanFault.{PlanFault}
 use Rattle.plan.specs.Plan.{plan_data}
 use Rattle.plan.specs.PlanClaims.{PlacedClaim}
 use Rattle.plan.specs.PlanData.{PlanData}
-use Rattle.plan.specs.NamedClaims.{all_placed}
+use Rattle.plan.specs.LentClaims.{all_lent}
 use Rattle.plan.specs.WithCertificates.{with_certificates}
 use Rattle.plan.specs.Written.{rewritten}
 use Rattle.plan.proofs.Reread.{ok_is}
@@ -23,7 +23,7 @@ pub returns-clause-told : goal.returns-clause-told
 returns-clause-told g c =
     let text = c.args.text.now in
     let plan = plan_data c.in_ok-plan.plan in
-    let claims = all_placed c.in_ok-claims.claims.items in
+    let claims = all_lent c.in_ok-claims.claims.items in
     let answers = c.in_ok-certificates.certificates.items in
     let rules_of = λ (xs : List (Option (Certificate Global))). map rule_in xs in
     let rules = rules_of answers in
@@ -44,7 +44,7 @@ returns-clause-told g c =
       rules = rules;
       found = found;
       line = subst (λ (p : PlanData). IsPlanLine p c.in_ok-line.line.items) is line.2;
-      notes_are = c.in_ok-unfound.ensures ∙ ap₂ (λ xs ys. unfound_lines (all_placed xs) (rules_of ys)) c.deref-2.ensures.value c.deref-3.ensures.value;
+      notes_are = c.in_ok-unfound.ensures ∙ ap₂ (λ xs ys. unfound_lines (all_lent xs) (rules_of ys)) c.deref-2.ensures.value c.deref-3.ensures.value;
       status_is = status;
       faultless = λ zero. c.no_fault_is_certified.ensures.fault_free (with_certificates plan rules) (certifies plan claims rules listed (all_shown claims rules found (no_gap rules (sym status ∙ zero))));
     }
