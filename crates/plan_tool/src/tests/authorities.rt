@@ -1,6 +1,5 @@
+use super::texts::checked;
 use epochs::Authority;
-use plan::{check_plan, read_plan};
-use std::sync::Arc;
 use std::test::*;
 use volume_model::Fault;
 use wire::{Message, Place, StepTo};
@@ -38,9 +37,7 @@ fn view_of(message: Result<Message, Fault>) -> Result<(u32, Place), Fault> {
 #[test]
 fn steps_and_views(rt: HostRuntime) -> Result<(), Fail> {
     let alloc = rt.alloc();
-    let plan = read_plan(alloc, PLAN).ok().ok_or("the text is a plan")?;
-    let checked = check_plan(alloc, plan).ok().ok_or("the plan is certified")?;
-    let mut authority = Authority::new(alloc, Arc::new(alloc, checked)?)?;
+    let mut authority = Authority::new(alloc, checked(alloc, PLAN)?)?;
 
     assert_eq!(rt; authority.admits_advance(1, 0), Err(Fault::NoGroup));
     assert_eq!(rt; authority.admits_advance(0, 1), Ok(()));

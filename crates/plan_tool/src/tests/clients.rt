@@ -1,10 +1,8 @@
-use super::texts::SIX;
+use super::texts::{SIX, checked};
 use epochs::Authority;
 use lineage::Lineage;
-use plan::{check_plan, read_plan};
 use redo_record::RecordSet;
 use std::alloc::Global;
-use std::sync::Arc;
 use std::test::*;
 use volume_model::Fault;
 use wire::{Ack, Contents, Label, Message, Place, Report, View};
@@ -19,16 +17,12 @@ const LABEL: Label = Label {
 
 /// The client of volume epoch 2, before any View.
 fn unborn(alloc: Global) -> Result<Client, Fail> {
-    let plan = read_plan(alloc, SIX).ok().ok_or("the text is a plan")?;
-    let checked = check_plan(alloc, plan).ok().ok_or("the plan is certified")?;
-    Ok(Client::unborn(Arc::new(alloc, checked)?, 2))
+    Ok(Client::unborn(checked(alloc, SIX)?, 2))
 }
 
 /// The writer that a volume is born with.
 fn first(alloc: Global) -> Result<Client, Fail> {
-    let plan = read_plan(alloc, SIX).ok().ok_or("the text is a plan")?;
-    let checked = check_plan(alloc, plan).ok().ok_or("the plan is certified")?;
-    Ok(Client::first(alloc, Arc::new(alloc, checked)?)?)
+    Ok(Client::first(alloc, checked(alloc, SIX)?)?)
 }
 
 /// A View of volume epoch 2 that has the group at its root.
@@ -221,9 +215,7 @@ fn events_are_copied(rt: HostRuntime) -> Result<(), Fail> {
 #[test]
 fn the_authority_acts(rt: HostRuntime) -> Result<(), Fail> {
     let alloc = rt.alloc();
-    let plan = read_plan(alloc, SIX).ok().ok_or("the text is a plan")?;
-    let checked = check_plan(alloc, plan).ok().ok_or("the plan is certified")?;
-    let mut authority = Authority::new(alloc, Arc::new(alloc, checked)?)?;
+    let mut authority = Authority::new(alloc, checked(alloc, SIX)?)?;
     let assign = AuthorityAct::Assign;
     assert_eq!(rt; assign.admitted_by(&authority), Ok(()));
     assert!(rt; assign.done_by(alloc, &mut authority).is_ok());

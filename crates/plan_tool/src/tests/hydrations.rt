@@ -33,11 +33,17 @@ fn report(alloc: Global, from: u8, lineage: Lineage, last: u64) -> Result<CopyRe
     })
 }
 
-/// The lineage of a volume's first recovery, of epoch 2, with the cut 3 and an allowance of 10.
-fn recovered(alloc: Global) -> Result<Lineage, Fail> {
+/// What a member's copy holds, as [`report`] has it.
+fn copied(alloc: Global, from: u8, lineage: Lineage, last: u64) -> Result<Copied, Fail> {
+    let contents = report(alloc, from, lineage, last)?.contents;
+    Ok(Copied { from, contents })
+}
+
+/// The lineage of a volume's first recovery, of epoch 2, with this cut and an allowance of 10.
+fn recovered(alloc: Global, cut: u64) -> Result<Lineage, Fail> {
     let birth = Lineage::birth(alloc)?;
     prove!(birth.last_epoch() < 2);
-    Ok(birth.extend(2, 3, 10)?)
+    Ok(birth.extend(2, cut, 10)?)
 }
 
 #[test]
@@ -55,7 +61,7 @@ fn copies_of_a_read_set(rt: HostRuntime) -> Result<(), Fail> {
     );
     assert!(rt; hydration.finish(alloc, &Expr::Member(0))?.is_none());
     assert_eq!(rt;
-        hydration.take(&report(alloc, 0, recovered(alloc)?, 2)?),
+        hydration.take(&report(alloc, 0, recovered(alloc, 3)?, 2)?),
         Ok(())
     );
     assert_eq!(rt; hydration.take(&report(alloc, 0, birth, 9)?), Ok(()));
@@ -89,16 +95,10 @@ fn copies_in_two_steps(rt: HostRuntime) -> Result<(), Fail> {
 #[test]
 fn what_copies_hold(rt: HostRuntime) -> Result<(), Fail> {
     let alloc = rt.alloc();
-    let lineage = recovered(alloc)?;
+    let lineage = recovered(alloc, 3)?;
     let copies = [
-        Copied {
-            from: 0,
-            contents: report(alloc, 0, lineage.clone()?, 2)?.contents,
-        },
-        Copied {
-            from: 2,
-            contents: report(alloc, 2, Lineage::birth(alloc)?, 5)?.contents,
-        },
+        copied(alloc, 0, lineage.clone()?, 2)?,
+        copied(alloc, 2, Lineage::birth(alloc)?, 5)?,
     ];
     assert_eq!(rt; senders(&copies).len(), 2);
     let none = Lineage::empty(alloc);
@@ -106,5 +106,21 @@ fn what_copies_hold(rt: HostRuntime) -> Result<(), Fail> {
     assert_eq!(rt; newest_with(&[], &lineage).last_epoch(), 2);
     let found = with_found(alloc, &lineage, &copies, RecordSet::new(alloc))?;
     assert_eq!(rt; found.len(), 3);
+    Ok(())
+}
+
+/// Of three copies, two of which know the same last volume epoch, the first of the two has the newest lineage.
+#[test]
+fn newest_of_three(rt: HostRuntime) -> Result<(), Fail> {
+    let alloc = rt.alloc();
+    let copies = [
+        copied(alloc, 4, Lineage::birth(alloc)?, 1)?,
+        copied(alloc, 5, recovered(alloc, 3)?, 1)?,
+        copied(alloc, 1, recovered(alloc, 5)?, 1)?,
+    ];
+    let none = Lineage::empty(alloc);
+    assert_eq!(rt; newest_with(&copies, &none).last_cut(), 3);
+    let kept = recovered(alloc, 7)?;
+    assert_eq!(rt; newest_with(&copies, &kept).last_cut(), 3);
     Ok(())
 }

@@ -1,10 +1,8 @@
-use super::texts::SIX;
+use super::texts::{SIX, checked};
 use lineage::Lineage;
-use plan::{check_plan, read_plan};
 use recovery::{Recovery, cut_of, is_growing};
 use redo_record::{Packet, Payload, Record, RecordSet};
 use std::alloc::Global;
-use std::sync::Arc;
 use std::test::*;
 use volume_model::Fault;
 use wire::{Ack, Contents, Label, Message, Place, Report, View};
@@ -62,13 +60,8 @@ fn view(alloc: Global) -> Result<View, Fail> {
 
 /// A recovery of volume epoch 2, and how many messages its birth made.
 fn born(alloc: Global) -> Result<(Recovery, usize), Fail> {
-    let plan = read_plan(alloc, SIX).ok().ok_or("the text is a plan")?;
-    let checked = check_plan(alloc, plan).ok().ok_or("the plan is certified")?;
-    let (recovery, fences) = Recovery::new(
-        alloc,
-        Arc::new(alloc, checked)?,
-        &Message::View(view(alloc)?),
-    )?;
+    let first = Message::View(view(alloc)?);
+    let (recovery, fences) = Recovery::new(alloc, checked(alloc, SIX)?, &first)?;
     Ok((recovery, fences.len()))
 }
 
@@ -144,8 +137,7 @@ fn judges(rt: HostRuntime) -> Result<(), Fail> {
     assert_eq!(rt; recovery.admits_ack(&ack(0)), Ok(()));
     assert_eq!(rt; recovery.admits_ack(&ack(64)), Err(Fault::NotAddressed));
     assert_eq!(rt; recovery.admits_open(), Err(Fault::NotReady));
-    let plan = read_plan(alloc, SIX).ok().ok_or("the text is a plan")?;
-    let checked = check_plan(alloc, plan).ok().ok_or("the plan is certified")?;
+    let checked = checked(alloc, SIX)?;
     let first = Message::View(view(alloc)?);
     assert_eq!(rt; Recovery::admits_birth(&checked, &first), Ok(()));
     let told = Message::Ack(ack(0));

@@ -1,7 +1,5 @@
-use super::texts::SIX;
-use plan::{check_plan, read_plan};
+use super::texts::{SIX, checked};
 use std::alloc::Global;
-use std::sync::Arc;
 use std::test::*;
 use volume_model::Fault;
 use wire::{Ack, Label, Message, Place, View};
@@ -62,9 +60,7 @@ atch\",\"left\":0,\"right\":0,\"pairs\":[[0,0],[1,1],[2,2],[3,3],[4,4],[5,5]],\"
 
 /// The writer of a new volume over the plan that a text spells.
 fn writer(alloc: Global, text: &[u8]) -> Result<Writer, Fail> {
-    let plan = read_plan(alloc, text).ok().ok_or("the text is a plan")?;
-    let checked = check_plan(alloc, plan).ok().ok_or("the plan is certified")?;
-    Ok(Writer::first(alloc, Arc::new(alloc, checked)?)?)
+    Ok(Writer::first(alloc, checked(alloc, text)?)?)
 }
 
 /// A member's acknowledgement under membership epoch 1.

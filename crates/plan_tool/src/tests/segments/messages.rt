@@ -13,6 +13,7 @@ pub const LABEL: Label = Label {
     member: 1,
 };
 
+/// The label of a volume epoch and a membership epoch.
 pub fn label(volume: u32, member: u32) -> Label {
     Label { volume, member }
 }
@@ -53,10 +54,12 @@ pub fn nothing(alloc: Global) -> Contents {
     }
 }
 
+/// A fence of a group.
 pub fn fence(group: u8, label: Label) -> Message {
     Message::Fence(Fence { group, label })
 }
 
+/// A writer's record of a group.
 pub fn write(group: u8, label: Label, packet: Packet) -> Message {
     Message::Write(Write {
         group,
@@ -65,6 +68,7 @@ pub fn write(group: u8, label: Label, packet: Packet) -> Message {
     })
 }
 
+/// A peer's record of a group.
 pub fn gossip(group: u8, label: Label, packet: Packet) -> Message {
     Message::Gossip(Gossip {
         group,
@@ -73,6 +77,7 @@ pub fn gossip(group: u8, label: Label, packet: Packet) -> Message {
     })
 }
 
+/// What a recovery installs in a group.
 pub fn install(group: u8, label: Label, contents: Contents) -> Message {
     Message::Install(Install {
         group,
@@ -81,6 +86,7 @@ pub fn install(group: u8, label: Label, contents: Contents) -> Message {
     })
 }
 
+/// A step of a group to a configuration, at a membership epoch.
 pub fn step(group: u8, configuration: u8, epoch: u32) -> Message {
     Message::StepTo(StepTo {
         group,
@@ -91,10 +97,12 @@ pub fn step(group: u8, configuration: u8, epoch: u32) -> Message {
     })
 }
 
+/// A question of a fresh member for copies, at a membership epoch.
 pub fn copy_ask(group: u8, epoch: u32) -> Message {
     Message::CopyAsk(CopyAsk { group, epoch })
 }
 
+/// A member's copy, at a membership epoch.
 pub fn copy_report(group: u8, epoch: u32, from: u8, contents: Contents) -> Message {
     Message::CopyReport(CopyReport {
         group,

@@ -1,16 +1,9 @@
 use super::messages::{fence, label, step};
 use super::plans::SMALL;
-use plan::{CheckedPlan, check_plan, read_plan};
+use crate::tests::texts::checked;
 use segment_core::Segment;
 use std::alloc::Global;
-use std::sync::Arc;
 use std::test::Fail;
-
-pub fn checked(alloc: Global, text: &[u8]) -> Result<Arc<CheckedPlan>, Fail> {
-    let plan = read_plan(alloc, text).ok().ok_or("the text is a plan")?;
-    let checked = check_plan(alloc, plan).ok().ok_or("the plan is certified")?;
-    Ok(Arc::new(alloc, checked)?)
-}
 
 /// A member of the plan's only group, as it is born.
 pub fn segment(alloc: Global, text: &[u8], member: u8) -> Result<Segment, Fail> {
@@ -30,6 +23,7 @@ pub enum At {
     Fresh,
 }
 
+/// That node.
 pub fn node(alloc: Global, at: At) -> Result<Segment, Fail> {
     let (member, told) = match at {
         At::Whole => (0, None),
