@@ -1,6 +1,10 @@
 //! Checks plans of a quorum log volume, certifies them, and runs scripts over them.
 #![tactic(auto)]
 
+ghost use Rattle.std.specs.Prelude.{◌≡◌, ◌≤◌, None, false};
+ghost use Rattle.jobs.specs.Streams.{Ends, is_unread, left_of};
+ghost use Rattle.plan_tool.specs.Explained.{Explains};
+
 #[cfg(test)]
 mod tests;
 
@@ -29,12 +33,16 @@ fn words(rt: &HostRuntime, alloc: Global) -> Result<Vec<String>, &'static str> {
     words.collect(alloc).map_err(|_| NO_MEMORY)
 }
 
+/// The texts of words.
 fn texts<'a>(alloc: Global, words: &'a [String]) -> Result<Vec<&'a str>, AllocError> {
     words.iter().map(|word| word.as_str()).collect(alloc)
 }
 
-/// The file with a name, where the job has one.
-fn source<R: Files>(rt: &R, name: Option<&str>) -> Source<R::File> {
+/// The file with a name, of which nothing was read; where the job has no such file, it is one that can't be opened.
+fn source<R: Files>(rt: &R, name: Option<&str>) -> Source<R::File>
+    ensures whole { is_unread result ≡ false }
+    ensures absent { name.entry ≡ None → left_of R.File.remaining result ≡ None }
+{
     Source::new(match name {
         Some(name) => fs::open(rt, name),
         None => Err(io::Error::from(ErrorKind::NotFound)),
@@ -47,7 +55,10 @@ fn explain<O: Write, E: Write>(
     usage: &Usage,
     out: &mut Output<O>,
     err: &mut Output<E>,
-) -> u8 {
+) -> u8
+    ensures status { result ≤ 2 }
+    ensures given { Ends O.contents E.contents (Explains usage.now) result out.old out.new err.old err.new }
+{
     match format!(in alloc; "{usage}") {
         Ok(text) if usage.is_asked_for() => deliver(0, text.as_bytes(), b"", out, err),
         Ok(text) => deliver(2, b"", text.as_bytes(), out, err),
@@ -56,7 +67,9 @@ fn explain<O: Write, E: Write>(
 }
 
 /// Reads the words of the command line, and does what they ask for; a search starts its threads by the second handle.
-fn run<H: Threads + Wait + Sync>(rt: &HostRuntime, threads: &H) -> u8 {
+fn run<H: Threads + Wait + Sync>(rt: &HostRuntime, threads: &H) -> u8
+    ensures { result ≤ 2 }
+{
     let alloc = rt.alloc();
     let mut out = Output::new(io::writer(rt));
     let mut err = Output::new(rt.stderr());
