@@ -13,12 +13,12 @@ use Rattle.quorum_checker.specs.Refutes.{State, claim_state}
 use Rattle.plan.specs.declared.fault.PlanFault.{PlanFault}
 use Rattle.plan.specs.declared.fault.PlanFault.TheVariants.{BadParent}
 use Rattle.plan.specs.PlanData.{ConfigurationData, PlanData, configuration_at, earlier, by_parent}
-use Rattle.plan.specs.PlanFaults.{is_good_parent, reuse_fault, shape_fault, fresh_at, unused_within, reused_at, meets_claim, step_claim}
+use Rattle.plan.specs.PlanFaults.{is_good_parent, reuse_fault, shape_fault, fresh_at, unused_within, reused_at, reused_member, meets_claim, step_claim}
 use Rattle.plan.specs.PlanText.{◌>=>◌}
 use Rattle.plan.specs.PlanClaims.{PlacedClaim, claims_at, unless, configuration_claims, claims_below, group_claims, claims_in}
 use Rattle.plan.specs.WithCertificates.{certificate_at, claim_count, claim_counts, configuration_with, configurations_with, groups_with, with_certificates}
 use Rattle.plan.specs.Certified.{IsShown, IsStepShown, IsCertifiedAt, IsCertifiedPlan}
-use Rattle.plan.proofs.KeepsClaims.{no-reuse}
+use Rattle.plan.proofs.Reused.{reuse_is_found}
 use Rattle.plan.proofs.Found.{passes}
 use Rattle.plan.proofs.Reread.{then_ok, ok_is}
 use Rattle.jobs.specs.Searched.{IsFinding, AreFindings}
@@ -193,10 +193,6 @@ configuration-counted g xs c ys h = ap length (sym (unless_ok (shape_fault g xs 
 group-counted : (g : ℕ) (xs : List ConfigurationData) (ys : List PlacedClaim) → group_claims g xs ≡ Ok ys → length ys ≡ claim_counts xs
 group-counted g xs ys h = below_counted (configuration_claims g xs) (λ c. claim_count (configuration_at xs c)) (configuration-counted g xs) (length xs) ys h ∙ all-before xs
 
-none-first : (xs : List ℕ) → slice_get xs 0 ≡ None → xs ≡ []
-none-first [] h = refl
-none-first (x ∷ xs) h = absurd cc
-
 first-shown : (claim : PlacedClaim) (rest : List PlacedClaim) (rules : List (Option Rule)) → AllShown (claim ∷ rest) rules → IsShown (certificate_at rules 0) claim.claim
 first-shown claim rest [] h = absurd h
 first-shown claim rest (rule ∷ rules) h = h.0
@@ -230,7 +226,7 @@ certified-at g c xs rules ys below has shown =
     let step : IsStepShown (configuration_at xs c).parent group c = step-shown g c xs rules here (configuration_at xs c).parent claims (ap (λ (x : ConfigurationData). x.step) is) in
     record {
       parent = subst (λ (q : Option ℕ). is_good_parent c q ≡ true) (sym (parent-same xs rules c)) shape.0;
-      unused = ap listed (reused-same xs rules c) ∙ none-first (listed (reused_at xs c)) (no-reuse g c (slice_get (listed (reused_at xs c)) 0) shape.1);
+      unused = (reuse_is_found.none g c group).0 (ap (λ s. reused_member g c (slice_get (listed s) 0)) (reused-same xs rules c) ∙ shape.1);
       meets = subst (λ (x : ConfigurationData). IsShown x.meets (meets_claim x)) (sym is) meets;
       step = subst (λ (q : Option ℕ). IsStepShown q group c) (sym (parent-same xs rules c)) step;
     }
