@@ -1,6 +1,7 @@
 -- The ranges of rules, branch by branch.
 use Rattle.std.proofs.Common.{◌≡◌, ℕ, ◌+◌, ◌<◌, ◌≤◌, ◌∙◌, length, get_or, drop, List, map, ap, subst, sym, Result, Ok, Err}
-use Rattle.std.specs.Prelude.{All, OnOk, Vec}
+use Rattle.std.specs.Prelude.{All, IfOk, OnOk, Vec}
+use Rattle.std.specs.Result.{IsErrAnd}
 use Rattle.refutation.specs.declared.Side.{Side}
 use Rattle.refutation.specs.declared.Refutation.{Refutation}
 use Rattle.refutation.specs.declared.Refutation.TheVariants.{Pick, Match}
@@ -14,6 +15,15 @@ pub ranges_step : {A : Type 0} (then : List (Refutation A)) (i : ℕ) (x : Refut
     → EachHasRanges (branches_of (map rule_of (drop (i + 1) then))) → EachHasRanges (branches_of (map rule_of (drop i then)))
 ranges_step {A} then i x h is here after =
     subst (λ (rs : List Rule). EachHasRanges (branches_of rs)) (sym (branches_step then i x h is)) (here, after)
+
+-- an error says nothing of a value
+pub none_written : {T E : Type 0} (P : T → Type 0) (R : E → Type 0) (r : Result T E) → IsErrAnd r R → IfOk r P
+none_written P R (Ok x) h = absurd h
+none_written P R (Err e) h = tt
+
+pub none_ranges : {T E : Type 0} (P : Type 0) (R : E → Type 0) (r : Result T E) → IsErrAnd r R → OnOk r P
+none_ranges P R (Ok x) h = absurd h
+none_ranges P R (Err e) h = tt
 
 -- a fact that holds whatever the result is
 pub on_ok : {T E : Type 0} (P : Type 0) (r : Result T E) → P → OnOk r P
