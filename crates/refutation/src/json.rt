@@ -1,6 +1,6 @@
 //! JSON values, one level at a time.
 
-ghost use Rattle.std.specs.Prelude.{◌≡◌, ◌≤◌, IfOk};
+ghost use Rattle.std.specs.Prelude.{◌≡◌, ◌≢◌, ◌≤◌, IfOk, IfErr};
 ghost use Rattle.serde_json.specs.View.{view, items_view};
 ghost use Rattle.serde_json.specs.Events.{items_len};
 ghost use Rattle.volume_model.specs.Answer.{Gives};
@@ -19,14 +19,16 @@ pub fn value_at<'v>(value: &'v Value, key: &str) -> Result<&'v Value, Fault>
 
 /// The entry at a place of a list. `Malformed` where there is none.
 pub fn entry<'v>(value: &'v Value, place: usize) -> Result<&'v Value, Fault>
-    ensures { Gives (λ v. view v.now) result (entry_at place (view value.now)) }
+    ensures given { Gives (λ v. view v.now) result (entry_at place (view value.now)) }
+    ensures own { IfErr result (λ fault. fault ≢ Fault.NoMemory) }
 {
     value.get(place).ok_or(Fault::Malformed)
 }
 
 /// A whole number from 0. `Malformed` for another value.
 pub fn whole(value: &Value) -> Result<u64, Fault>
-    ensures { Gives (λ n. n) result (whole_of (view value.now)) }
+    ensures given { Gives (λ n. n) result (whole_of (view value.now)) }
+    ensures own { IfErr result (λ fault. fault ≢ Fault.NoMemory) }
 {
     value.as_u64().ok_or(Fault::Malformed)
 }
@@ -48,7 +50,8 @@ pub fn has_keys(value: &Value, keys: usize) -> Result<(), Fault>
 
 /// The entries of a list. `Malformed` for another value.
 pub fn array(value: &Value) -> Result<&Vec<Value>, Fault>
-    ensures { Gives (λ v. items_view v.now.items) result (array_of (view value.now)) }
+    ensures given { Gives (λ v. items_view v.now.items) result (array_of (view value.now)) }
+    ensures own { IfErr result (λ fault. fault ≢ Fault.NoMemory) }
 {
     match value {
         Value::Array(list) => Ok(list),
@@ -67,6 +70,7 @@ pub fn count(values: &Vec<Value>) -> usize
 #[tactic(auto, unfolding(crate::specs::Reading::number_to))]
 pub fn number_to(value: &Value, most: u64) -> Result<u64, Fault>
     ensures given { Gives (λ n. n) result (number_to most (view value.now)) }
+    ensures own { IfErr result (λ fault. fault ≢ Fault.NoMemory) }
     ensures within { IfOk result (λ n. n ≤ most) }
 {
     let n = whole(value)?;

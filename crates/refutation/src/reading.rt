@@ -1,6 +1,6 @@
 //! From JSON to certificates.
 
-ghost use Rattle.std.specs.Prelude.{◌≡◌};
+ghost use Rattle.std.specs.Prelude.{◌≡◌, ◌≢◌, IfErr};
 ghost use Rattle.serde_json.specs.View.{view, items_view};
 ghost use Rattle.volume_model.specs.Answer.{Gives};
 ghost use Rattle.refutation.specs.Refutation.{rule_of};
@@ -76,7 +76,8 @@ fn numbers(alloc: Global, values: &[Value]) -> Result<Vec<u8>, Fault>
 /// A list of two numbers of children.
 #[tactic(auto, unfolding(crate::specs::Reading::pair_of))]
 fn pair(value: &Value) -> Result<(u8, u8), Fault>
-    ensures { Gives (λ p. p) result (pair_of (view value.now)) }
+    ensures given { Gives (λ p. p) result (pair_of (view value.now)) }
+    ensures own { IfErr result (λ fault. fault ≢ Fault.NoMemory) }
 {
     let list = array(value)?;
     if count(list) != 2 {
