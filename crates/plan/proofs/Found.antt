@@ -1,7 +1,8 @@
 -- The first fault, found step by step.
 use Rattle.std.proofs.Common.{◌≡◌, ℕ, zero, suc, ◌+◌, ◌<◌, List, arith, refl, ap, ◌∙◌, sym, subst, add-one, inl, inr}
 use Rattle.std.proofs.lemmas.Bool.Decides.{nat_tests}
-use Rattle.std.specs.Prelude.{Bool, true, false, nat_lt, if◌then◌else◌, Option, Some, None, Result, Err}
+use Rattle.std.specs.Prelude.{Bool, true, false, nat_lt, if◌then◌else◌, Option, Some, None, Result, Ok, Err}
+use Rattle.std.specs.Result.{IsErrAnd}
 use Rattle.std.proofs.lemmas.Bool.{cases_lt}
 use Rattle.std.specs.FinSet.{empty, difference}
 use Rattle.volume_model.specs.Formula.{dual_of}
@@ -17,6 +18,10 @@ claims g group c x q =
     or_then (claim_fault g c false x.meets (meets_claim x))
     (by_parent q None (λ p. claim_fault g c true x.step (claim_state x.read (dual_of (configuration_at group p).read) (by_parent q empty (λ m. difference x.members (configuration_at group m).members)))))
 
+-- the fault of the step of x
+abbrev step-of : ℕ → List ConfigurationData → ℕ → ConfigurationData → Option PlanFault
+step-of g group c x = by_parent x.parent None (λ p. claim_fault g c true x.step (claim_state x.read (dual_of (configuration_at group p).read) (by_parent x.parent empty (λ m. difference x.members (configuration_at group m).members))))
+
 pub step-found : (g c : ℕ) (group : List ConfigurationData) (x y : ConfigurationData) (p : ℕ) (r : Result (Unit {0}) PlanFault) → configuration_at group c ≡ x → configuration_at group p ≡ y → x.parent ≡ Some p
     → shape_fault g group c ≡ None → claim_fault g c false x.meets (meets_claim x) ≡ None
     → Finds r (claim_fault g c true x.step (claim_state x.read (dual_of y.read) (difference x.members y.members)))
@@ -26,6 +31,23 @@ step-found g c group x y p r here there parent shape meets found =
     (λ i. or_then (shape i) (claims g group c (here i) (here i).parent)) ∙ (λ i. claims g group c x (parent i))
     ∙ (λ i. or_then (meets i) (claim_fault g c true x.step (claim_state x.read (dual_of (there i).read) (difference x.members (there i).members)))) in
     subst (Finds r) (sym same) found
+
+-- a fault of the configuration's shape is its fault
+pub shape-found : (g c : ℕ) (group : List ConfigurationData) (r : Result (Unit {0}) PlanFault) (fault : PlanFault) → Finds (Err fault) (shape_fault g group c) → IsErrAnd r (λ f. f ≡ fault) → Finds r (configuration_fault g group c)
+shape-found g c group (Ok u) fault found h = absurd h
+shape-found g c group (Err f) fault found h = λ other. ap (λ o. or_then o (claims g group c (configuration_at group c) (configuration_at group c).parent)) (found (λ out. other (h ∙ out))) ∙ ap Some (sym h)
+
+-- and so is one of its claim, where its shape has none
+pub meets-found : (g c : ℕ) (group : List ConfigurationData) (x : ConfigurationData) (r : Result (Unit {0}) PlanFault) (fault : PlanFault) → configuration_at group c ≡ x → shape_fault g group c ≡ None
+    → Finds (Err fault) (claim_fault g c false x.meets (meets_claim x)) → IsErrAnd r (λ f. f ≡ fault) → Finds r (configuration_fault g group c)
+meets-found g c group x (Ok u) fault here shape found h = absurd h
+meets-found g c group x (Err f) fault here shape found h = λ other.
+    (λ i. or_then (shape i) (claims g group c (here i) (here i).parent)) ∙ ap (λ o. or_then o (step-of g group c x)) (found (λ out. other (h ∙ out))) ∙ ap Some (sym h)
+
+-- a root without a fault of its shape and claim has none
+pub root-found : (g c : ℕ) (group : List ConfigurationData) (x : ConfigurationData) → configuration_at group c ≡ x → x.parent ≡ None → shape_fault g group c ≡ None → claim_fault g c false x.meets (meets_claim x) ≡ None → configuration_fault g group c ≡ None
+root-found g c group x here parent shape meets =
+    (λ i. or_then (shape i) (claims g group c (here i) (here i).parent)) ∙ (λ i. claims g group c x (parent i)) ∙ ap (λ o. or_then o None) meets
 
 pub none-more : (i : ℕ) (f : ℕ → Option PlanFault) → first_below i f ≡ None → f i ≡ None → first_below (i + 1) f ≡ None
 none-more i f before here = ap (λ n. first_below n f) (add-one i) ∙ (λ j. or_then (before j) (here j))

@@ -1,17 +1,18 @@
 -- The claims of configurations, listed one after the other.
-use Rattle.std.proofs.Common.{◌≡◌, ◌≢◌, ℕ, zero, suc, ◌+◌, ◌<◌, List, [], ◌∷◌, ◌++◌, arith, ap, ◌∙◌, add-one, inl, inr}
+use Rattle.std.proofs.Common.{◌≡◌, ◌≢◌, ℕ, zero, suc, ◌+◌, ◌<◌, List, [], ◌∷◌, ◌++◌, arith, ap, ◌∙◌, sym, add-one, inl, inr}
 use Rattle.std.specs.Prelude.{true, false, Option, Some, None, Result, Ok, Err}
 use Rattle.std.proofs.lemmas.Bool.{cases_lt}
 use Rattle.std.specs.FinSet.{empty, difference}
+use Rattle.std.specs.Result.{IsErrAnd}
 use Rattle.volume_model.specs.declared.fault.Fault.TheVariants.{NoMemory}
 use Rattle.volume_model.specs.Formula.{dual_of}
 use Rattle.quorum_checker.specs.Refutes.{State, claim_state}
 use Rattle.plan.specs.declared.fault.PlanFault.{PlanFault}
 use Rattle.plan.specs.declared.fault.PlanFault.TheVariants.{Text}
 use Rattle.plan.specs.PlanData.{ConfigurationData, configuration_at, by_parent}
-use Rattle.plan.specs.PlanFaults.{shape_fault, meets_claim}
-use Rattle.plan.specs.PlanText.{◌>=>◌}
-use Rattle.plan.specs.PlanClaims.{PlacedClaim, unless, configuration_claims, claims_below}
+use Rattle.plan.specs.PlanFaults.{shape_fault, meets_claim, Finds}
+use Rattle.plan.specs.PlanText.{◌>=>◌, Reads}
+use Rattle.plan.specs.PlanClaims.{PlacedClaim, claims_at, unless, configuration_claims, claims_below}
 
 -- the claims of x, where its parent is q
 abbrev claims-of : ℕ → List ConfigurationData → ℕ → ConfigurationData → Option ℕ → List PlacedClaim
@@ -23,6 +24,16 @@ claims-of g group c x q =
       step = true;
       claim = claim_state x.read (dual_of (configuration_at group p).read) (by_parent q empty (λ m. difference x.members (configuration_at group m).members));
     } ∷ [])
+
+-- a fault of the configuration's shape is that of its claims
+pub shape-refused : {X : Type 0} (view : X → List PlacedClaim) (g c : ℕ) (group : List ConfigurationData) (r : Result X PlanFault) (fault : PlanFault) → Finds (Err fault) (shape_fault g group c) → IsErrAnd r (λ f. f ≡ fault) → Reads view r (configuration_claims g group c)
+shape-refused view g c group (Ok x) fault found h = absurd h
+shape-refused view g c group (Err f) fault found h = λ other. ap (λ o. unless o (claims_at g group c)) (found (λ out. other (h ∙ out))) ∙ ap Err (sym h)
+
+-- want of memory fits each definition
+pub wants : {X Y : Type 0} (view : X → Y) (r : Result X PlanFault) (defined : Result Y PlanFault) → IsErrAnd r (λ f. f ≡ Text NoMemory) → Reads view r defined
+wants view (Ok x) defined h = absurd h
+wants view (Err f) defined h = λ other. absurd (other h)
 
 pub root-claims : (g c : ℕ) (group : List ConfigurationData) (x : ConfigurationData) (meets : State) → shape_fault g group c ≡ None → configuration_at group c ≡ x → x.parent ≡ None → meets_claim x ≡ meets
     → configuration_claims g group c ≡ Ok (record { group = g; configuration = c; step = false; claim = meets } ∷ [])

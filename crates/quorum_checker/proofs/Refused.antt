@@ -1,6 +1,6 @@
 -- What a rule answers where it is refused before its branches are checked.
-use Rattle.std.proofs.Common.{◌≡◌, ◌≢◌, ℕ, ◌+◌, ◌<◌, length, map, arith, ap, ◌∙◌, sym, subst, rules}
-use Rattle.std.specs.Prelude.{Option, Some, None, Ok, Err, Vec}
+use Rattle.std.proofs.Common.{◌≡◌, ◌≢◌, ℕ, ◌+◌, ◌<◌, length, arith, ap, ◌∙◌, sym, subst}
+use Rattle.std.specs.Prelude.{Option, Some, None, Ok, Err}
 use Rattle.std.specs.Result.{IsErrAnd}
 use Rattle.volume_model.specs.Formula.{Formula}
 use Rattle.volume_model.specs.declared.fault.Fault.{Fault}

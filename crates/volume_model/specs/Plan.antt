@@ -80,6 +80,6 @@ pub record IsPlanOf (Quorums : Configuration → Type 0) (Step : Plan → ℕ �
   pub quorums : (group c : ℕ) → group < plan.groups → c < plan.configurations group → Quorums (plan.configuration group c)
   pub step : (group c : ℕ) → group < plan.groups → c < plan.configurations group → 0 < c → Step plan group c
 
--- each read set has a member in common with each write set, and each step is a step
+-- In each configuration each read set has a member in common with each write set, and each configuration but the root is a step from its parent.
 abbrev pub IsCertified : Plan → Type 0
 IsCertified plan = IsPlanOf HasQuorums IsStep plan
