@@ -4,10 +4,10 @@ use borrow.Author.Count.{falls}
 use Rattle.volume_model.specs.Answer.{Gives}
 use Rattle.quorum_expr.proofs.Handed.{wants, handed}
 use Rattle.quorum_expr.proofs.Rebuilt.{pushed, finish}
-use Rattle.refutation.specs.Rule.{pick, pair_up, branches_of, branch_depth, depth_of}
+use Rattle.refutation.specs.Rule.{open_all, pick, pair_up, split, branches_of, branch_depth, depth_of}
 use Rattle.refutation.specs.Refutation.{rule_of}
 use Rattle.refutation.specs.Forms.{rules_of}
-use Rattle.refutation.proofs.Rules.{rule_of-Pick, rule_of-Match, depth_step}
+use Rattle.refutation.proofs.Rules.{rule_of-Open, rule_of-Pick, rule_of-Match, rule_of-Split, depth_step, open_below, left_below}
 use Rattle.refutation.proofs.Copied.{given, all_given, dead-copied, clash-copied, pick-copied, match-copied}
 use Rattle.refutation.proofs.copying.+copy.Goals as goal
 
@@ -99,3 +99,23 @@ copy_branches-loop-rule-smaller g t c = falls _ _ c.loop-rule-test.true
 
 pub copy_branches-returns : goal.copy_branches-returns
 copy_branches-returns g t c = ap Ok (sym (finish rule_of _ _ _ _ c.loop-rule-test.false c.loop-rule.invariant.copied))
+
+pub copy_tree-returns-in_ok-copy-in-Open : goal.copy_tree-returns-in_ok-copy-in-Open
+copy_tree-returns-in_ok-copy-in-Open g t c =
+    subst (λ r. Gives rule_of c.copy_open.result (Ok r))
+    (ap (open_all c.in-Open.side c.in-Open.item) (given _ _ c.in_ok-copy-in-Open.ensures ∙ ap rule_of c.deref.ensures)
+    ∙ sym (ap rule_of c.in-Open.is ∙ rule_of-Open c.in-Open.side c.in-Open.item c.in-Open.then))
+    c.copy_open.ensures
+
+pub copy_tree-returns-in_ok-second-in-Split : goal.copy_tree-returns-in_ok-second-in-Split
+copy_tree-returns-in_ok-second-in-Split g t c =
+    subst (λ r. Gives rule_of c.copy_split.result (Ok r))
+    ((λ i. split c.in-Split.member ((given _ _ c.in_ok-first-in-Split.ensures ∙ ap rule_of c.deref-in-Split.ensures) i) ((given _ _ c.in_ok-second-in-Split.ensures ∙ ap rule_of c.deref-in-Split-2.ensures) i))
+    ∙ sym (ap rule_of c.in-Split.is ∙ rule_of-Split c.in-Split.member c.in-Split.left c.in-Split.right))
+    c.copy_split.ensures
+
+pub copy_tree-copy_tree-requires : goal.copy_tree-copy_tree-requires
+copy_tree-copy_tree-requires g t c κs within = (open_below c.args.rule.now c.in-Open.side c.in-Open.item t c.in-Open.then c.deref.result.now c.in-Open.is c.deref.ensures c.decreases, within)
+
+pub copy_tree-copy_tree-requires-in-Split : goal.copy_tree-copy_tree-requires-in-Split
+copy_tree-copy_tree-requires-in-Split g t c κs within = (left_below c.args.rule.now c.in-Split.member t c.in-Split.left c.in-Split.right c.deref-in-Split.result.now c.in-Split.is c.deref-in-Split.ensures c.decreases, within)
