@@ -24,4 +24,4 @@ pub use client::{Client, ClientState};
 pub use event::{Event, Order};
 pub use outcome::{FindEnd, Outcome, WriterEnd};
 pub use recovery::Found;
-pub use running::{run, run_orders};
+pub use running::{promised, run, run_orders};

@@ -31,8 +31,8 @@ fn told(step: Result<u64, Fault>) -> Result<Result<u64, Fault>, Fault>
     }
 }
 
-/// Every promise that the volume makes of a plan's runs.
-fn promised(plan: &CheckedPlan)
+/// Of every list of events over the plan, every promise that the volume makes of runs. It does nothing.
+pub fn promised(plan: &CheckedPlan)
     ensures { PromisesRuns (checked_model plan.now) }
 {
     plan.certified();
