@@ -5,3 +5,4 @@ pub mod Tokens
 pub mod Steps
 pub mod Entered
 pub mod Noting
+pub mod Plans
