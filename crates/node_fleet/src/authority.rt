@@ -43,7 +43,11 @@ impl<L: Site> AuthorityActor<L> {
         AuthorityActor { mark, authority }
     }
 
-    /// Assigns the next volume epoch, and enters the step.
+    /// Assigns the next volume epoch, and enters the step. Its caller holds the authority's lock and the journal's.
+    ///
+    /// # Errors
+    /// [`Again`](Halt::Again) where the journal doesn't have the authority as it stands here. Else, and these are noted: `EpochsSpent` where no
+    /// volume epoch is left, `NoSlot` where the last slot's was assigned, `JournalFull` where no cell is left; and `NoMemory`, which isn't noted.
     pub fn assign<'a, R: Wait>(
         &mut self,
         rt: &R,

@@ -7,4 +7,4 @@ mod opening;
 
 pub use authority::AuthorityActor;
 pub use halt::Halt;
-pub use opening::{one_step, open};
+pub use opening::open;

@@ -9,19 +9,18 @@ ghost use Rattle.journal.specs.Tokens.{ids_of};
 ghost use Rattle.journal.specs.Passes.{journal_of, notes_of, steps_of};
 
 use crate::authority::AuthorityActor;
-use crate::halt::Halt;
-use board::{Board, BoardSeat};
+use board::BoardSeat;
 use epochs::Authority;
 use height::{Height, Top};
 use journal::{Log, Mark, Opened, Pass, Row, Site, Who};
 use plan::CheckedPlan;
 use std::alloc::Global;
-use std::marker::Brand;
+use std::sync::Arc;
 use std::sync::ledger::Blank;
-use std::sync::{Arc, Wait};
 use volume_model::Fault;
 
-/// The authority of a new volume, an empty journal over a row, and one pass.
+/// The authority of a new volume, an empty journal over a row of cells, for clients of the volume epochs up to that of the last slot, and one
+/// pass. `NoMemory` where a growth was refused.
 pub fn open<'a, L: Site>(
     alloc: Global,
     row: &'a Row,
@@ -52,61 +51,4 @@ pub fn open<'a, L: Site>(
     let pass = Pass::new(alloc, share, height.floor(&mut top), &history, seat);
     let log = Log::new(alloc, row, slots, groups, book, top, history)?;
     Ok((authority, log, pass))
-}
-
-// How many entries there are after two assignments, of which the second has no slot.
-fn drive<L: Site, R: Wait>(
-    rt: &R,
-    alloc: Global,
-    row: &Row,
-    height: &Height,
-    top: Top,
-    seat: BoardSeat,
-    opened: Opened,
-    blank: Blank,
-    plan: Arc<CheckedPlan>,
-) -> Result<usize, Halt>
-    requires plan { checked_model (arc_value plan) ≡ L.plan }
-    requires cells { ids_of row.now ≡ L.cells }
-    requires height { (table_of height.now ≡ L.table) × (top_table top ≡ L.table) × (height_of top ≡ 0) }
-    requires board { IsSeatIn L.board seat }
-    requires history { opened.seen.book ≡ L.history }
-    requires slots { L.slots ≡ 2 }
-    requires blank { (blank.name ≡ L.name) × (blank.parts ≡ L.parts) × (L.parts ≡ 1) }
-{
-    let Ok((mut authority, mut log, mut pass)) = open::<L>(
-        alloc, row, height, top, seat, opened, blank, plan, 2,
-    ) else {
-        return Err(Halt::Refused(Fault::NoMemory));
-    };
-    authority.assign(rt, alloc, height, &mut log, &mut pass, 2)?;
-    if authority
-        .assign(rt, alloc, height, &mut log, &mut pass, 2)
-        .is_ok()
-    {
-        return Err(Halt::Again);
-    }
-    log.replays();
-    Ok(log.len())
-}
-
-/// An authority with two slots assigns twice: the journal has one step, unless memory ran out.
-pub fn one_step<R: Wait>(rt: &R, alloc: Global, plan: Arc<CheckedPlan>) -> Result<usize, Halt> {
-    let row = Row::new(alloc, 8)?;
-    let (height, top) = Height::new(alloc)?;
-    let (_board, mut seats) = Board::new(alloc, 1)?;
-    let Some(seat) = seats.pop() else {
-        return Err(Halt::Again);
-    };
-    drive::<Brand, R>(
-        rt,
-        alloc,
-        &row,
-        &height,
-        top,
-        seat,
-        Opened::new(),
-        Blank::new(1),
-        plan,
-    )
 }
