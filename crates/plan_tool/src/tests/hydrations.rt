@@ -33,12 +33,6 @@ fn report(alloc: Global, from: u8, lineage: Lineage, last: u64) -> Result<CopyRe
     })
 }
 
-/// What a member's copy holds, as [`report`] has it.
-fn copied(alloc: Global, from: u8, lineage: Lineage, last: u64) -> Result<Copied, Fail> {
-    let contents = report(alloc, from, lineage, last)?.contents;
-    Ok(Copied { from, contents })
-}
-
 /// The lineage of a volume's first recovery, of epoch 2, with this cut and an allowance of 10.
 fn recovered(alloc: Global, cut: u64) -> Result<Lineage, Fail> {
     let birth = Lineage::birth(alloc)?;
@@ -97,8 +91,14 @@ fn what_copies_hold(rt: HostRuntime) -> Result<(), Fail> {
     let alloc = rt.alloc();
     let lineage = recovered(alloc, 3)?;
     let copies = [
-        copied(alloc, 0, lineage.clone()?, 2)?,
-        copied(alloc, 2, Lineage::birth(alloc)?, 5)?,
+        Copied {
+            from: 0,
+            contents: report(alloc, 0, lineage.clone()?, 2)?.contents,
+        },
+        Copied {
+            from: 2,
+            contents: report(alloc, 2, Lineage::birth(alloc)?, 5)?.contents,
+        },
     ];
     assert_eq!(rt; senders(&copies).len(), 2);
     let none = Lineage::empty(alloc);
@@ -114,9 +114,18 @@ fn what_copies_hold(rt: HostRuntime) -> Result<(), Fail> {
 fn newest_of_three(rt: HostRuntime) -> Result<(), Fail> {
     let alloc = rt.alloc();
     let copies = [
-        copied(alloc, 4, Lineage::birth(alloc)?, 1)?,
-        copied(alloc, 5, recovered(alloc, 3)?, 1)?,
-        copied(alloc, 1, recovered(alloc, 5)?, 1)?,
+        Copied {
+            from: 4,
+            contents: report(alloc, 4, Lineage::birth(alloc)?, 1)?.contents,
+        },
+        Copied {
+            from: 5,
+            contents: report(alloc, 5, recovered(alloc, 3)?, 1)?.contents,
+        },
+        Copied {
+            from: 1,
+            contents: report(alloc, 1, recovered(alloc, 5)?, 1)?.contents,
+        },
     ];
     let none = Lineage::empty(alloc);
     assert_eq!(rt; newest_with(&copies, &none).last_cut(), 3);
