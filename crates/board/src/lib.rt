@@ -81,6 +81,9 @@ impl Board {
     ghost use Rattle.board.specs.Seats.{IsSeatOf, steps_of};
 
     /// A board that reads 0, and so many seats, which have made no step.
+    ///
+    /// # Errors
+    /// Where a growth was refused.
     pub fn new(alloc: Global, seats: usize) -> Result<(Board, Vec<BoardSeat>), AllocError>
         requires { 0 < seats }
         ensures count { IfOk result (λ b. vec_len b.1 ≡ seats) }

@@ -1,6 +1,7 @@
 -- Each step keeps the rule of the deque.
 use Rattle.std.proofs.Common.{◌≡◌, ◌≢◌, ◌⊎◌, ℕ, zero, suc, ◌+◌, ◌-◌, ◌<◌, ◌≤◌, zero-add, suc-add, List, [], ◌∷◌, ◌++◌, length, set, Bool, true, false, ◌||◌, true≢false, refl, sym, ap, ◌∙◌, subst, inl, inr, ⊎_elim, append_assoc, append-nil, arith}
 use Rattle.std.proofs.Math.ListN.{length-set}
+use Rattle.std.specs.Prelude.{if◌then◌else◌}
 use mathlib.Core.Option.{some, some-ne-none, some-injective}
 use mathlib.Core.Logic.{dite}
 use native.Mathlib.Decide.{ℕ_discrete}
@@ -13,7 +14,7 @@ use Rattle.cert_search.specs.declared.deque.Holder.TheVariants.{Owner, Guest, No
 use Rattle.cert_search.specs.declared.deque.Task.{Task}
 use Rattle.cert_search.specs.declared.deque.Task.TheVariants.{Claim, End}
 use Rattle.cert_search.specs.Views.{At}
-use Rattle.cert_search.specs.Deque.{first_view, guest_view, spent_view, lend, regain, is_owner, holders, dealt_more, closed, got_more, at_end, lent_view, both_views, got_of, counts, weight, Rises, marks_of, tasks_of, Keeps, NoMark, IsDeque, GetsClaim, Took, Adds, Settles}
+use Rattle.cert_search.specs.Deque.{first_view, guest_view, spent_view, lend, regain, is_owner, holders, dealt_more, closed, got_more, at_end, lent_view, both_views, got_of, counts, weight, Rises, marks_of, tasks_of, mark_of, marks_had, Keeps, NoMark, AreMarked, IsDeque, GetsClaim, Took, Adds, Settles}
 use Rattle.cert_search.proofs.Steps.{at_push, in_range, each_after, at_still, at_new, at_after, at_same, at_kept, at_more, at_fewer}
 
 -- the number of views that count, where one view changes
@@ -26,6 +27,38 @@ sum_least : (l : List Had) (i : ℕ) (x : Had) → get_elem? l i ≡ some x → 
 sum_least [] i x e = absurd (some-ne-none x (sym e))
 sum_least (z ∷ zs) zero x e = let is = ap weight (some-injective z x e) in omega (arith, is)
 sum_least (z ∷ zs) (suc i) x e = let more = sum_least zs i x e in omega (arith, more)
+
+-- the marks that views may have had, where one view changes
+marks_set : (l : List Had) (i : ℕ) (x y : Had) → get_elem? l i ≡ some x → marks_had (set l i y) + mark_of x ≡ marks_had l + mark_of y
+marks_set [] i x y e = absurd (some-ne-none x (sym e))
+marks_set (z ∷ zs) zero x y e = let is = ap mark_of (some-injective z x e) in omega (arith, is)
+marks_set (z ∷ zs) (suc i) x y e = let more = marks_set zs i x y e in omega (arith, more)
+
+marks_snoc : (l : List Had) (x : Had) → marks_had (l ++ x ∷ []) ≡ marks_had l + mark_of x
+marks_snoc [] x = omega arith
+marks_snoc (z ∷ zs) x = let more = marks_snoc zs x in omega (arith, more)
+
+-- no mark is lost where one view changes
+marked_still : (views : List Had) (id : ℕ) (v w : Had) (marks marks' : ℕ) → get_elem? views id ≡ some v → AreMarked marks views → marks + mark_of v ≤ marks' + mark_of w
+    → (weight w ≡ 1 → (weight v ≡ 1) × (w.marks + (marks + mark_of v) ≤ v.marks + (marks' + mark_of w))) → AreMarked marks' (set views id w)
+marked_still views id v w marks marks' here kept more mine p u e held =
+    let even = marks_set views id v w here in
+    ⊎_elim
+    (λ (t : (p ≡ id) × (w ≡ u)).
+    let m = mine (ap weight t.1 ∙ held) in
+    let was = kept id v here m.0 in
+    let same = ap (λ (y : Had). y.marks) t.1 in omega (arith, even, m.1, was, same))
+    (λ (t : (p ≢ id) × (get_elem? views p ≡ some u)). let was = kept p u t.1 held in omega (arith, even, more, was))
+    (at_set views id p w u e)
+
+-- nor where another view comes
+marked_snoc : (views : List Had) (x : Had) (marks : ℕ) → AreMarked marks views → (weight x ≡ 1 → x.marks ≤ marks + marks_had views) → AreMarked marks (views ++ x ∷ [])
+marked_snoc views x marks kept mine p u e held =
+    let more = marks_snoc views x in
+    ⊎_elim
+    (λ (old : get_elem? views p ≡ some u). let was = kept p u old held in omega (arith, more, was))
+    (λ (is : x ≡ u). let was = mine (ap weight is ∙ held) in let same = ap (λ (y : Had). y.marks) is in omega (arith, more, was, same))
+    (at_snoc views x u p e)
 
 -- two views are no more than all
 sum_two : (l : List Had) (i j : ℕ) (x y : Had) → i ≢ j → get_elem? l i ≡ some x → get_elem? l j ≡ some y → weight x + weight y ≤ holders l
@@ -224,16 +257,24 @@ module _ (gone items : List ℕ) (views : List Had) (id : ℕ) (v w : Had) (kept
 still_marked : (views : List Had) (id : ℕ) (v w : Had) (marks marks' : ℕ) → get_elem? views id ≡ some v → NoMark marks views → (marks ≡ 0 → marks' ≡ 0) → (w.deals ≡ true → marks' ≡ 0) → NoMark marks' (set views id w)
 still_marked views id v w marks marks' here none less mine = each_after views id v w here (λ p u. u.deals ≡ true → marks' ≡ 0) (λ p u e may. less (none p u e may)) mine
 
-pub takes : (port : ℕ) (v : Had) → weight v ≡ 1 → Takes IsDeque port v 1 (Took v)
-takes port v held [] tasks views some_task few h here = absurd (omega arith)
-takes port v held (Claim x ∷ []) tasks views some_task few h here =
+pub takes : (port : ℕ) (v : Had) → weight v ≡ 1 → v.ended ≡ false → Takes IsDeque port v 1 (Took v)
+takes port v held unended [] tasks views some_task few h here = absurd (omega arith)
+takes port v held unended (Claim x ∷ []) tasks views some_task few h here =
     let front = front_claim h.1 h.2 x tasks h.3 in
     let kept = subst (λ l. Keeps h.0 l views) front.1 h.5 in (
       got_more v x,
-      (h.0 ++ x ∷ [], front.0, h.2, front.2, still_marked views port v (got_more v x) h.2 h.2 here h.4 (λ e. e) (h.4 port v here), after_take h.0 front.0 x views port v kept here held),
+      (
+        h.0 ++ x ∷ [],
+        front.0,
+        h.2,
+        front.2,
+        still_marked views port v (got_more v x) h.2 h.2 here h.4 (λ e. e) (h.4 port v here),
+        after_take h.0 front.0 x views port v kept here held,
+        marked_still views port v (got_more v x) h.2 h.2 here h.6 (omega arith) (λ _. (held, omega arith)),
+      ),
       gets h.0 front.0 x views port v kept here held,
     )
-takes port v held (End ∷ []) tasks views some_task few h here =
+takes port v held unended (End ∷ []) tasks views some_task few h here =
     let front = front_mark h.1 h.2 tasks h.3 in (
       at_end v,
       (
@@ -243,10 +284,12 @@ takes port v held (End ∷ []) tasks views some_task few h here =
         front.3,
         still_marked views port v (at_end v) h.2 front.0 here h.4 (λ e. absurd (omega (arith, e, front.1))) (λ may. let e = h.4 port v here may in absurd (omega (arith, e, front.1))),
         after_still h.0 [] views port v (at_end v) (subst (λ l. Keeps h.0 l views) front.2 h.5) here refl refl refl (λ may. may) (λ _. refl),
+        (let none : mark_of v ≡ 0 + (1 - weight v) = ap (λ (b : Bool). (if b then 1 else 0) + (1 - weight v)) unended in
+            marked_still views port v (at_end v) h.2 front.0 here h.6 (omega (arith, none, front.1)) (λ _. (held, omega (arith, none, front.1)))),
       ),
       refl,
     )
-takes port v held (x ∷ y ∷ ys) tasks views some_task few h here = absurd (omega arith)
+takes port v held unended (x ∷ y ∷ ys) tasks views some_task few h here = absurd (omega arith)
 
 -- a mark of the end is put in
 pub closes : (port : ℕ) (v : Had) → Pushes IsDeque port v (End ∷ []) (λ w. w ≡ closed v)
@@ -259,6 +302,7 @@ closes port v tasks views h here = (
     ap (λ l. l ++ End ∷ []) h.3 ∙ tasks_mark h.1 h.2,
     (λ p u e may. absurd (closed_alone p u e may)),
     after_still h.0 h.1 views port v (closed v) h.5 here refl refl refl (λ may. absurd (off may)) (h.5.ends port v here),
+    marked_still views port v (closed v) h.2 (suc h.2) here h.6 (omega arith) (λ holds. (holds, omega arith)),
   ),
   refl,
 )
@@ -328,6 +372,7 @@ deals port v x may held unended below tasks views h here =
         ap (λ l. l ++ Claim x ∷ []) stands ∙ tasks_push h.1 x,
         (λ p u e yes. refl),
         after_deal h.0 h.1 x views port v h.5 here may held unended below,
+        (let kept : AreMarked 0 views = λ p u e holds. let was = h.6 p u e holds in omega (arith, was, none) in marked_still views port v (dealt_more v x) 0 0 here kept (omega arith) (λ _. (held, omega arith))),
       ),
       refl,
     )
@@ -338,7 +383,7 @@ module _ (gone items : List ℕ) (views : List Had) (v : Had) (out : ℕ) (kept 
   left = lent_view v
 
   abbrev right : Had
-  right = guest_view v.dealt
+  right = guest_view v.dealt v.marks
 
   abbrev two : List Had
   two = set views 0 left ++ right ∷ []
@@ -390,16 +435,25 @@ module _ (gone items : List ℕ) (views : List Had) (v : Had) (out : ℕ) (kept 
         (λ p zero_ owns. absurd (cc (owns))) 0 u e refl is;
   }
 
-pub enters : (port : ℕ) (v : Had) (out : ℕ) → port ≡ 0 → v.holder ≡ Owner out → Forks IsDeque port v (lent_view v) (guest_view v.dealt)
+  marked_two : (marks : ℕ) → AreMarked marks views → AreMarked marks two
+  marked_two marks kept =
+      let mine : counts (lend v.holder) ≡ 1 = ap counts lent_out in
+      let held = lender_held in
+      let lent = marked_still views 0 v left marks marks here kept (omega (arith, mine, held)) (λ _. (held, omega (arith, mine, held))) in
+      let there : get_elem? (set views 0 left) 0 ≡ some left = set_here views 0 left (in_range views 0 v here) in
+      marked_snoc (set views 0 left) right marks lent (λ _. lent 0 left there mine)
+
+pub enters : (port : ℕ) (v : Had) (out : ℕ) → port ≡ 0 → v.holder ≡ Owner out → Forks IsDeque port v (lent_view v) (guest_view v.dealt v.marks)
 enters port v out first owner tasks views h here =
     let here0 = ap (get_elem? views) (sym first) ∙ here in
-    subst (λ n. IsDeque tasks (set views n (lent_view v) ++ guest_view v.dealt ∷ [])) (sym first) (
+    subst (λ n. IsDeque tasks (set views n (lent_view v) ++ guest_view v.dealt v.marks ∷ [])) (sym first) (
       h.0,
       h.1,
       h.2,
       h.3,
       each_two h.0 h.1 views v out h.5 here0 owner (λ p u. u.deals ≡ true → h.2 ≡ 0) (λ p u _ e. h.4 p u e) (λ may. absurd (off may)) (λ p may. absurd (off may)),
       after_enter h.0 h.1 views v out h.5 here0 owner,
+      marked_two h.0 h.1 views v out h.5 here0 owner h.2 h.6,
     )
 
 -- what stands in two lists on end
@@ -411,6 +465,14 @@ at_either (x ∷ xs) m (suc i) b e = ⊎_elim (λ t. inl t) (λ t. let is = t.1 
 either_true : (a b : Bool) → (a || b) ≡ true → (a ≡ true) ⊎ (b ≡ true)
 either_true true b e = inl refl
 either_true false b e = inr e
+
+more_ended : (a b : Bool) → (if a then 1 else 0) ≤ (if a || b then 1 else 0)
+more_ended true b = omega arith
+more_ended false b = omega arith
+
+at_most_one : (a : Bool) → (if a then 1 else 0) ≤ 1
+at_most_one true = omega arith
+at_most_one false = omega arith
 
 -- the worker takes another's view back
 module _ (gone items : List ℕ) (views : List Had) (v : Had) (other : ℕ) (w : Had) (out : ℕ) (kept : Keeps gone items views) (here : get_elem? views 0 ≡ some v) (apart : other ≢ 0) (there : get_elem? views other ≡ some w) (owner : v.holder ≡ Owner (suc out)) (guest : w.holder ≡ Guest) where
@@ -524,6 +586,16 @@ module _ (gone items : List ℕ) (views : List Had) (v : Had) (other : ℕ) (w :
         (λ p not_first zero_ owns. absurd (not_first zero_)) 0 u e refl is;
   }
 
+  marked_merged : (marks : ℕ) → AreMarked marks views → AreMarked marks merged
+  marked_merged marks kept =
+      let mine : counts v.holder ≡ 1 = ap counts owner in
+      let mine' : counts (regain v.holder) ≡ 1 = ap counts regained in
+      let theirs : counts w.holder ≡ 1 = ap counts guest in
+      let more : (if v.ended then 1 else 0) ≤ (if v.ended || w.ended then 1 else 0) = more_ended v.ended w.ended in
+      let one : (if w.ended then 1 else 0) ≤ 1 = at_most_one w.ended in
+      let taken = marked_still views 0 v both marks marks here kept (omega (arith, mine, mine', more)) (λ _. (mine, omega (arith, mine, mine', more))) in
+      marked_still first other w spent_view marks marks there_first taken (omega (arith, theirs, one)) (λ none. absurd (omega (arith, none)))
+
 pub merges : (port : ℕ) (v : Had) (other : ℕ) (w : Had) (known : ℕ) → port ≡ 0 → v.holder ≡ Owner known → w.holder ≡ Guest → Merges IsDeque port v other w (both_views v w) spent_view
 merges port v other w known zero_ knows guest tasks views h here apart there =
     let here0 = ap (get_elem? views) (sym zero_) ∙ here in
@@ -543,6 +615,7 @@ merges port v other w known zero_ knows guest tasks views h here apart there =
       h.3,
       each_merged h.0 h.1 views v other w out h.5 here0 apart0 there0 owner guest (λ p u. u.deals ≡ true → h.2 ≡ 0) (λ p u _ e. h.4 p u e) (h.4 0 v here0) (λ p _ may. absurd (off may)),
       after_merge h.0 h.1 views v other w out h.5 here0 apart0 there0 owner guest,
+      marked_merged h.0 h.1 views v other w out h.5 here0 apart0 there0 owner guest h.2 h.6,
     )
 
 -- what the worker learns
@@ -587,6 +660,7 @@ begins = (
     spent = λ p u e none. ap (λ (y : Had). y.got) (sym (only p u e));
     counted = λ u out e is. let first = ap (λ (y : Had). y.holder) (only 0 u e) in let same : 0 ≡ out = cc (first, is) in ap suc same;
   },
+  (λ p u e held. let same = ap (λ (y : Had). y.marks) (only p u e) in omega (arith, same)),
 )
   where
     only : (p : ℕ) (u : Had) → get_elem? (first_view ∷ []) p ≡ some u → first_view ≡ u

@@ -1,28 +1,13 @@
 -- How many views of each deque are out.
-use Rattle.std.proofs.Common.{◌≡◌, ◌≢◌, ℕ, zero, suc, ◌+◌, ◌-◌, ◌<◌, ◌≤◌, ◌%◌, List, map, length, set, get_or, Some, refl, sym, ap, ◌∙◌, arith}
+use Rattle.std.proofs.Common.{◌≡◌, ◌≢◌, ℕ, zero, suc, ◌+◌, ◌-◌, ◌<◌, ◌≤◌, ◌%◌, List, length, set, get_or, Some, refl, sym, ap, ◌∙◌, arith}
 use Rattle.std.specs.Prelude.{slice_get}
-use Rattle.std.specs.List.{range_with_len}
 use mathlib.Core.Logic.{dite}
 use native.Mathlib.Decide.{ℕ_discrete}
-use Rattle.cert_search.specs.declared.deque.Had.{Had}
 use Rattle.cert_search.specs.declared.own.Own.{Own}
-use Rattle.cert_search.specs.Deque.{out_of}
 use Rattle.cert_search.specs.Sights.{round_of}
-use Rattle.cert_search.specs.Dealing.{own_view, own_out, open_deque, outs, AreOut, LendsOthers, IsFilledTo}
-use Rattle.cert_search.proofs.Rows.{map_set, map_get, map_at, map_twice, set_same, set_at, set_other, within, range_get}
+use Rattle.cert_search.specs.Dealing.{own_out, outs, AreOut, LendsOthers}
+use Rattle.cert_search.proofs.Rows.{map_set, map_get, map_at, set_at, set_other, within}
 use Rattle.cert_search.proofs.Rounds.{round_get, round_at, round_has, round_apart}
-
--- no view is out of deques that are being dealt
-pub none_out : (workers n : ℕ) (owns : List Own) → IsFilledTo workers n owns → AreOut workers 0 owns
-none_out workers n owns filled d lt =
-    let out : ℕ × Had → ℕ = λ v. out_of v.1.holder in
-    sym (ap (λ l. slice_get l d) (map_twice own_view out owns)) ∙ ap (λ l. slice_get (map out l) d) filled
-    ∙ ap (λ l. slice_get l d) (map_twice (open_deque workers n) out (range_with_len 0 workers)) ∙ range_get (λ k. out (open_deque workers n k)) 0 workers d lt
-
-pub outs_still : (d : ℕ) (owns : List Own) (o p : Own) → d < length owns → o ≡ get_or owns d o → own_out p ≡ own_out o → outs (set owns d p) ≡ outs owns
-outs_still d owns o p lt is same =
-    let at : slice_get (outs owns) d ≡ Some (own_out o) = map_get own_out owns d o lt ∙ ap (λ y. Some (own_out y)) (sym is) in
-    map_set own_out owns d p ∙ ap (λ q. set (outs owns) d q) same ∙ set_same (outs owns) d (own_out o) at
 
 module _ (workers which : ℕ) (below : which < workers) where
   abbrev spot : ℕ → ℕ

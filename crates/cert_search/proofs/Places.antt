@@ -7,10 +7,12 @@ use Rattle.std.proofs.lemmas.List.{get_or-set_same, get_or-set_other, get_or_app
 use Rattle.std.proofs.lemmas.List.Elements.{All-push}
 use Rattle.std.proofs.lemmas.Option.{get_or_from_slice_get, slice_get-get_or, slice_get_read, slice_get_within}
 use Rattle.refutation.specs.declared.certificate.Certificate.{Certificate}
+use Rattle.refutation.specs.Rule.{Rule}
 use Rattle.plan.specs.PlanClaims.{PlacedClaim}
-use Rattle.cert_search.specs.Answers.{EachAnswers, IsAnswer}
+use Rattle.cert_search.specs.Answers.{rule_in, EachAnswers, IsAnswer}
 use Rattle.cert_search.specs.Places.{ArePlaces, IsFound}
 use Rattle.cert_search.specs.declared.working.Found.{Found}
+use Rattle.cert_search.proofs.Rows.{some_is}
 
 abbrev Answer : Type 0
 Answer = Option (Certificate Global)
@@ -21,9 +23,6 @@ empty budget claims places long none = record {
   as_many = long;
   each = λ i c answer at_claim at_place. absurd (cc (none i None (slice_get_within places i (Some answer) at_place), get_or_from_slice_get places i (Some answer) None at_place));
 }
-
-some_is : {A : Type 0} (x y : A) → Some x ≡ Some y → x ≡ y
-some_is x y h = cc h
 
 -- what stands where nothing was written
 elsewhere : {A : Type 0} (xs : List A) (j i : ℕ) (v x : A) → i ≢ j → slice_get (slice_set xs j v) i ≡ Some x → slice_get xs i ≡ Some x
@@ -43,7 +42,7 @@ filled budget claims places found are is = record {
   as_many = length-set places found.claim (Some found.answer) ∙ are.as_many;
   each = λ i c answer at_claim at_place. elim (cases_eq i found.claim) [
     | inl same ↦
-        subst (IsAnswer budget c.claim) (some_is found.answer answer (here places found.claim (Some found.answer) (Some answer) (subst (λ j. slice_get (slice_set places found.claim (Some found.answer)) j ≡ Some (Some answer)) same at_place)))
+        subst (λ a. IsAnswer budget c.claim (rule_in a)) (some_is found.answer answer (here places found.claim (Some found.answer) (Some answer) (subst (λ j. slice_get (slice_set places found.claim (Some found.answer)) j ≡ Some (Some answer)) same at_place)))
         (is c (subst (λ j. slice_get claims j ≡ Some c) same at_claim))
     | inr other ↦ are.each i c answer at_claim (elsewhere places found.claim i (Some found.answer) (Some answer) other at_place)
   ];
@@ -71,7 +70,7 @@ added P xs ys x true is all here = subst (All P) (sym is) (All-push P xs x all h
 added P xs ys x false is all here = subst (All P) (sym is) all
 
 -- one answer more, that of the next claim
-pub one_more : (budget : ℕ) (claims : List PlacedClaim) (answers more : List Answer) (at : ℕ) (answer : Answer) → more ≡ answers ++ answer ∷ [] → length answers ≡ at → IsFound budget claims (record { claim = at; answer = answer }) → EachAnswers budget claims answers
+pub one_more : (budget : ℕ) (claims : List PlacedClaim) (answers more : List (Option Rule)) (at : ℕ) (answer : Option Rule) → more ≡ answers ++ answer ∷ [] → length answers ≡ at → ((c : PlacedClaim) → slice_get claims at ≡ Some c → IsAnswer budget c.claim answer) → EachAnswers budget claims answers
     → EachAnswers budget claims more
 one_more budget claims answers more at answer is long found each i c x at_claim at_answer =
     let there : get_or (answers ++ answer ∷ []) i x ≡ x = ap (λ xs. get_or xs i x) (sym is) ∙ get_or_from_slice_get more i x x at_answer in

@@ -12,9 +12,9 @@ use Rattle.cert_search.specs.declared.reach.Reach.{Reach}
 use Rattle.cert_search.specs.declared.deque.Holder.TheVariants.{Owner}
 use Rattle.cert_search.specs.Deque.{both_views, out_of, claims_of, Settles}
 use Rattle.cert_search.proofs.Claims.{owner_out}
-use Rattle.cert_search.specs.Sights.{Name, Sight, SameDeque, own_sight, reach_sight, look, name_at}
+use Rattle.cert_search.specs.Sights.{Name, Sight, SameDeque, own_sight, reach_sight, look, name_at, IsRound}
 use Rattle.cert_search.specs.Dealing.{names_in, own_name}
-use Rattle.cert_search.specs.Hands.{sights_of, names_of, deque_at, had_from}
+use Rattle.cert_search.specs.Hands.{sights_of, names_of, deque_at, had_from, IsOfDeal}
 use Rattle.cert_search.specs.Settled.{AreOfDeal, Stands, HadOnce, EachHad, own_views, hand_own, others_of, all_others, taken_back, AreTied, EachTaken, EachSettles}
 use Rattle.cert_search.proofs.Steps.{in_range}
 use Rattle.cert_search.proofs.Rows.{map_set, map_len, map_get, map_at, map_from, map_twice, set_same, set_at, set_other, within}
@@ -91,14 +91,14 @@ name_seen (x ∷ xs) (suc k) p e only =
     ∙ name_seen xs k p e (λ j q f g. let h = only (suc j) q f g in omega (arith, h))
 
 -- the hand sees the deque under its number
-seen : (h : Hand) (k : ℕ) (s : Sight) → slice_get (sights_of h) k ≡ Some s → deque_at h s.0 ≡ Some s.2
-seen h k s e =
+seen : (claims workers : ℕ) (h : Hand) → IsOfDeal claims workers h → (k : ℕ) (s : Sight) → slice_get (sights_of h) k ≡ Some s → deque_at h s.0 ≡ Some s.2
+seen claims workers h deal k s e =
     let pair : Sight → ℕ × Name = λ (t : Sight). (t.0, t.2) in
     name_seen (names_of h) k (pair s) (map_at pair (sights_of h) k s e)
     (λ j q f same.
     let t = map_from pair (sights_of h) j q f in
     let number : t.0.0 ≡ s.0 = ap (λ (r : ℕ × Name). r.0) t.2 ∙ same in
-    sight_apart h.claims h.workers h.own.which (sights_of h) h.round k j s t.0 e t.1 number)
+    sight_apart claims workers h.own.which (sights_of h) deal.round k j s t.0 e t.1 number)
 
 -- what the workers have learned, of each hand
 pub views_are : (hands : List Hand) (owns news : List Own) (ss : List Sight) → (map own_sight owns ≡ map hand_own hands) × (ss ≡ all_others hands) → EachTaken owns ss news → EachSettles news
@@ -180,11 +180,11 @@ module _ (claims : ℕ) (hands : List Hand) (deal : AreOfDeal claims hands) wher
       by_list (x ∷ xs) (suc d) lt = by_list xs d (omega arith)
 
   module _ (i : ℕ) (h : Hand) (at : slice_get hands i ≡ Some h) where
-    pub workers_are : h.workers ≡ count
-    workers_are = (deal.each i h at).0.1
+    pub of_deal : IsOfDeal claims count h
+    of_deal = (deal.each i h at).0
 
-    pub claims_are : h.claims ≡ claims
-    claims_are = (deal.each i h at).0.0
+    pub ring : IsRound claims count h.own.which (sights_of h)
+    ring = of_deal.round
 
     pub own_is : h.own.which ≡ i
     own_is = (deal.each i h at).1
@@ -192,19 +192,19 @@ module _ (claims : ℕ) (hands : List Hand) (deal : AreOfDeal claims hands) wher
     -- what it sees of other deques is of deques of the deal
     pub number_below : (k : ℕ) (s : Sight) → slice_get (sights_of h) k ≡ Some s → s.0 < count
     number_below k s e =
-        let t = sight_at h.claims h.workers h.own.which (sights_of h) h.round k s e in
-        let r = round_at h.workers h.own.which k s.0 h.round.within t.0 in
-        let some : 0 < h.workers = omega (arith, h.round.within) in
+        let t = sight_at claims count h.own.which (sights_of h) ring k s e in
+        let r = round_at count h.own.which k s.0 ring.within t.0 in
+        let some : 0 < count = omega (arith, ring.within) in
         let lt = mod-lt (h.own.which + k) some in
-        omega (arith, lt, r.1, workers_are)
+        omega (arith, lt, r.1)
 
     -- each view of another's deque is of the deque that its worker has
     pub view_tied : (k : ℕ) (s : Sight) → slice_get (others_of h) k ≡ Some s → (g : Hand) × (slice_get hands s.0 ≡ Some g) × (own_name g.own ≡ s.2)
     view_tied k s e =
         let lt = number_below (suc k) s e in
         let g = hand_at s.0 lt in
-        let mine : deque_at h s.0 ≡ Some s.2 = seen h (suc k) s e in
-        let theirs : deque_at g.0 g.0.own.which ≡ Some (own_name g.0.own) = seen g.0 0 (own_sight g.0.own) refl in
+        let mine : deque_at h s.0 ≡ Some s.2 = seen claims count h of_deal (suc k) s e in
+        let theirs : deque_at g.0 g.0.own.which ≡ Some (own_name g.0.own) = seen claims count g.0 (deal.each s.0 g.0 g.1).0 0 (own_sight g.0.own) refl in
         let own : g.0.own.which ≡ s.0 = (deal.each s.0 g.0 g.1).1 in
         let shared = deal.shared i s.0 s.0 h g.0 at g.1 lt in
         let both : Some (own_name g.0.own) ≡ Some s.2 = sym theirs ∙ ap (deque_at g.0) own ∙ sym shared.same ∙ mine in
@@ -232,8 +232,8 @@ module _ (claims : ℕ) (hands : List Hand) (deal : AreOfDeal claims hands) wher
 
     pub all_dealt : (taken_back d view (all_others hands)).dealt ≡ claims_of count d claims
     all_dealt =
-        let share = (sight_at own.claims own.workers own.own.which (sights_of own) own.round 0 (own_sight own.own) refl).1 in
-        taken_dealt d view (all_others hands) ∙ share ∙ (λ i. claims_of (workers_are d own mine i) (own_is d own mine i) (claims_are d own mine i))
+        let share = (sight_at claims count own.own.which (sights_of own) (ring d own mine) 0 (own_sight own.own) refl).1 in
+        taken_dealt d view (all_others hands) ∙ share ∙ ap (λ n. claims_of count n claims) (own_is d own mine)
 
     -- where what the hand i has had of the deque stands among the lists
     slot_of : (i : ℕ) (h : Hand) → slice_get hands i ≡ Some h → (n : ℕ) × (slice_get lists n ≡ Some (had_from h d)) × (((i ≡ d) × (n ≡ 0)) ⊎ ((i ≢ d) × (n ≡ suc i)))
@@ -248,7 +248,7 @@ module _ (claims : ℕ) (hands : List Hand) (deal : AreOfDeal claims hands) wher
         let number : h.own.which ≢ d = λ e. apart (sym (own_is i h at) ∙ e) in
         let had : had_from h d ≡ (look d (others_of h)).got = ap (λ (b : Bool). (if b then (own_sight h.own).1 else look d (others_of h)).got) (ne_eqb h.own.which d number) in
         let one = gots_one d (others_of h) (λ j k s t e f is is'.
-        let g = sight_apart h.claims h.workers h.own.which (sights_of h) h.round (suc k) (suc j) t s f e (is ∙ sym is') in omega (arith, g)) in
+        let g = sight_apart claims count h.own.which (sights_of h) (ring i h at) (suc k) (suc j) t s f e (is ∙ sym is') in omega (arith, g)) in
         (suc i, map_at (λ x. gots d (others_of x)) hands i h at ∙ ap Some (one ∙ sym had), inr (apart, refl)))
 
     -- two slots are two hands
@@ -281,7 +281,7 @@ module _ (claims : ℕ) (hands : List Hand) (deal : AreOfDeal claims hands) wher
   -- the workers have learned what stands in their views
   module _ (learned : (d : ℕ) (h : Hand) → slice_get hands d ≡ Some h → Settles (taken_back d (own_sight h.own).1 (all_others hands))) where
     below_count : (i d k claim : ℕ) → Stands hands i d k claim → d < count
-    below_count i d k claim s = omega (arith, s.2, workers_are i s.0 s.1)
+    below_count i d k claim s = s.2
 
     pub had_once : HadOnce hands
     had_once i d k j e l claim s t =
@@ -293,10 +293,7 @@ module _ (claims : ℕ) (hands : List Hand) (deal : AreOfDeal claims hands) wher
         let one = had_apart d own.0 own.1 (learned d own.0 own.1) i k j l claim s (subst (λ n. Stands hands j n l claim) (sym same) t) in
         (one.0, same, one.1)
 
-    module _ (i d claim : ℕ) (h : Hand) (at : slice_get hands i ≡ Some h) (below : d < h.workers) (ended : (look d (sights_of h)).ended ≡ true) (dealt : claim < h.claims) (turn : claim % h.workers ≡ d) where
-      inside : d < count
-      inside = omega (arith, below, workers_are i h at)
-
+    module _ (i d claim : ℕ) (h : Hand) (at : slice_get hands i ≡ Some h) (inside : d < count) (ended : (look d (sights_of h)).ended ≡ true) (dealt : claim < claims) (turn : claim % count ≡ d) where
       abbrev worker : Hand
       worker = (hand_at d inside).0
 
@@ -310,9 +307,9 @@ module _ (claims : ℕ) (hands : List Hand) (deal : AreOfDeal claims hands) wher
       each_one : Each d 0 hands
       each_one j g e = (
         (λ same. tally_none d (others_of g) (λ k s f is.
-            let z = sight_apart g.claims g.workers g.own.which (sights_of g) g.round 0 (suc k) (own_sight g.own) s refl f (is ∙ sym (own_is j g e ∙ (let w : j ≡ d = omega (arith, same) in w))) in omega (arith, z))),
+            let z = sight_apart claims count g.own.which (sights_of g) (ring j g e) 0 (suc k) (own_sight g.own) s refl f (is ∙ sym (own_is j g e ∙ (let w : j ≡ d = omega (arith, same) in w))) in omega (arith, z))),
         (λ differ.
-            let t = sight_of g.claims g.workers g.own.which (sights_of g) g.round d (omega (arith, inside, workers_are j g e)) in
+            let t = sight_of claims count g.own.which (sights_of g) (ring j g e) d inside in
             by_place j g e differ t.0 t.1 t.2 t.3),
       )
         where
@@ -322,14 +319,14 @@ module _ (claims : ℕ) (hands : List Hand) (deal : AreOfDeal claims hands) wher
               absurd (differ (zero-add j ∙ sym (own_is j g e) ∙ ap (λ (u : Sight). u.0) first ∙ is))
           by_place j g e differ (suc k) s f is =
               tally_one d (others_of g) k s f is (λ m t f' is'.
-              let z = sight_apart g.claims g.workers g.own.which (sights_of g) g.round (suc k) (suc m) s t f f' (is' ∙ sym is) in omega (arith, z))
+              let z = sight_apart claims count g.own.which (sights_of g) (ring j g e) (suc k) (suc m) s t f f' (is' ∙ sym is) in omega (arith, z))
 
       only_holder : known.holder ≡ Owner 0
       only_holder =
           let all = tally_all d 0 hands (omega arith) (omega (arith, inside)) each_one in
           let out = taken_out d (own_sight worker.own).1 (all_others hands) in
-          let lent = worker.lent in
-          let none : out_of known.holder ≡ 0 = omega (arith, all, out, lent, workers_are d worker mine) in
+          let lent = (of_deal d worker mine).lent in
+          let none : out_of known.holder ≡ 0 = omega (arith, all, out, lent) in
           let owner = owner_out known (taken_owner d (own_sight worker.own).1 (all_others hands) worker.own.owner) in
           let zero_ : owner.0 ≡ 0 = sym (ap out_of owner.1) ∙ none in
           owner.1 ∙ ap Owner zero_
@@ -351,14 +348,14 @@ module _ (claims : ℕ) (hands : List Hand) (deal : AreOfDeal claims hands) wher
       -- the mark has come back to the worker
       end_known : IsEnd
       end_known =
-          let t = sight_of h.claims h.workers h.own.which (sights_of h) h.round d below in
-          let looked_ = looked h.claims h.workers h.own.which (sights_of h) h.round t.0 t.1 t.2 in
+          let t = sight_of claims count h.own.which (sights_of h) (ring i h at) d inside in
+          let looked_ = looked claims count h.own.which (sights_of h) (ring i h at) t.0 t.1 t.2 in
           let mark : t.1.1.ended ≡ true = ap (λ (v : Had). v.ended) (sym looked_ ∙ ap (λ n. look n (sights_of h)) t.3) ∙ ended in
           sight_place IsEnd (own_sight h.own) (others_of h) t.0 t.1 t.2 (λ first. end_here t.1 first t.3 mark) (λ j e. end_there t.1 j e t.3 mark)
 
       stands : (j : ℕ) × (k : ℕ) × Stands hands j d k claim
       stands =
-          let c = claims_has count d claims claim (omega (arith, dealt, claims_are i h at)) (ap (λ n. claim % n) (sym (workers_are i h at)) ∙ turn) in
+          let c = claims_has count d claims claim dealt turn in
           let got = (learned d worker mine).all_had only_holder end_known c.0 claim (ap (λ l. get_elem? l c.0) (all_dealt d worker mine) ∙ c.1) in
           let place_ = flat_from (lists d worker mine) got.0 claim (ap (λ l. get_elem? l got.0) (sym (all_got d worker mine)) ∙ got.1) in
           by_list place_.0 place_.1 place_.2 place_.3 place_.4
@@ -368,20 +365,21 @@ module _ (claims : ℕ) (hands : List Hand) (deal : AreOfDeal claims hands) wher
               let s = slot_of d worker mine d worker mine in
               let is : (own_sight worker.own).1.got ≡ l = cc (e) in
               let had : had_from worker d ≡ (own_sight worker.own).1.got = ap (λ (v : Had). v.got) (look_first (own_sight worker.own) (others_of worker) d (own_is d worker mine)) in
-              (d, k, (worker, mine, omega (arith, inside, workers_are d worker mine), ap (λ m. get_elem? m k) (had ∙ is) ∙ f))
+              (d, k, (worker, mine, inside, ap (λ m. get_elem? m k) (had ∙ is) ∙ f))
           by_list (suc n) k l e f =
               let g = map_from (λ x. gots d (others_of x)) hands n l e in
               let s = slot_of d worker mine n g.0 g.1 in
               ⊎_elim
               (λ (t : (n ≡ d) × (s.0 ≡ 0)).
               let empty = gots_none d (others_of g.0) (λ m u f' is.
-              let z = sight_apart g.0.claims g.0.workers g.0.own.which (sights_of g.0) g.0.round 0 (suc m) (own_sight g.0.own) u refl f' (is ∙ sym (own_is n g.0 g.1 ∙ t.0)) in omega (arith, z)) in
+              let z = sight_apart claims count g.0.own.which (sights_of g.0) (ring n g.0 g.1) 0 (suc m) (own_sight g.0.own) u refl f' (is ∙ sym (own_is n g.0 g.1 ∙ t.0)) in omega (arith, z)) in
               absurd (some-ne-none claim (sym (ap (λ m. get_elem? m k) (sym empty ∙ g.2) ∙ f))))
               (λ (t : (n ≢ d) × (s.0 ≡ suc n)).
               let both : Some (gots d (others_of g.0)) ≡ Some (had_from g.0 d) = sym (map_at (λ x. gots d (others_of x)) hands n g.0 g.1) ∙ ap (slice_get (lists d worker mine)) (sym t.1) ∙ s.1 in
               let same : gots d (others_of g.0) ≡ had_from g.0 d = cc (both) in
-              (n, k, (g.0, g.1, omega (arith, inside, workers_are n g.0 g.1), ap (λ m. get_elem? m k) (sym same ∙ g.2) ∙ f)))
+              (n, k, (g.0, g.1, inside, ap (λ m. get_elem? m k) (sym same ∙ g.2) ∙ f)))
               s.2
 
-    pub each_had : EachHad hands
-    each_had i d claim h at below ended dealt turn = stands i d claim h at below ended dealt turn
+-- each claim of a deque has been had, whichever deal the hands are of
+pub each_had : (hands : List Hand) → ((d : ℕ) (h : Hand) → slice_get hands d ≡ Some h → Settles (taken_back d (own_sight h.own).1 (all_others hands))) → EachHad hands
+each_had hands learned claims i d claim h deal at inside ended dealt turn = stands claims hands deal learned i d claim h at inside ended dealt turn

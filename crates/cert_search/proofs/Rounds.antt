@@ -1,5 +1,5 @@
 -- What a hand knows of each deque, and one step of it.
-use Rattle.std.proofs.Common.{◌≡◌, ◌≢◌, ⊎_elim, ℕ, zero, suc, ◌+◌, ◌-◌, ◌<◌, ◌≤◌, ◌%◌, ◌==◌, List, [], ◌∷◌, ◌++◌, map, length, set, Bool, true, false, Option, Some, None, IfSome, IfNone, All, refl, sym, ap, ◌∙◌, subst, eq-eqb, ne_eqb, mod-eq_of_lt, arith}
+use Rattle.std.proofs.Common.{◌≡◌, ◌≢◌, ⊎_elim, ℕ, zero, suc, ◌+◌, ◌-◌, ◌<◌, ◌≤◌, ◌%◌, ◌==◌, List, [], ◌∷◌, ◌++◌, map, length, set, get_or, Bool, true, false, Option, Some, None, IfSome, IfNone, All, refl, sym, ap, ◌∙◌, subst, eq-eqb, ne_eqb, mod-eq_of_lt, arith}
 use Rattle.std.specs.Prelude.{slice_get, if◌then◌else◌}
 use Rattle.std.proofs.Math.Nat.{add-mod_right}
 use Rattle.std.proofs.lemmas.Bool.{cases_lt}
@@ -11,7 +11,8 @@ use Rattle.cert_search.specs.declared.own.Own.{Own}
 use Rattle.cert_search.specs.declared.reach.Reach.{Reach}
 use Rattle.cert_search.specs.Deque.{had, claims_of}
 use Rattle.cert_search.specs.Sights.{Name, Sight, Ends, Gets, GetsOne, own_sight, reach_sight, own_calm, reach_calm, calm, calms, sights, look, share_of, share, face, round_of, IsRound}
-use Rattle.cert_search.specs.Hands.{dealt_workers, own_deque, sights_of, had_from, SameDeal, TakesClaim, IsThrough}
+use Rattle.cert_search.specs.Hands.{sights_of, had_from, IsOfDeal, SameDeal, TakesClaim, ComesAfterOwn, IsThrough}
+use Rattle.cert_search.specs.Dealing.{own_out}
 use Rattle.cert_search.proofs.Rows.{map_set, map_at, map_from, map_twice, set_same, set_at, within, all_from, get_at, range_get, range_len}
 use Rattle.cert_search.proofs.Shares.{claims_in}
 
@@ -146,10 +147,10 @@ look_had h d = ap (λ (l : List Sight). (look d (own_calm h.own ∷ l)).got) (sy
 
 -- where the deque is at its end, or gives a claim
 pub calm_ends : (s t : Sight) → Ends s t → calm t ≡ calm s
-calm_ends s t e = λ i. (e.0.0 i, ap (λ (v : Had). had v.holder v.deals v.dealt v.got false) e.1 i, e.0.1 i)
+calm_ends s t e = λ i. (e.0.0 i, ap (λ (v : Had). had v.holder v.deals v.dealt v.got v.marks false) e.1 i, e.0.1 i)
 
 pub calm_gets : (s t : Sight) (c : ℕ) → Gets s c t → Gets (calm s) c (calm t)
-calm_gets s t c g = (g.0, (ap (λ (v : Had). had v.holder v.deals v.dealt v.got false) g.1.0, g.1.1, g.1.2))
+calm_gets s t c g = (g.0, (ap (λ (v : Had). had v.holder v.deals v.dealt v.got v.marks false) g.1.0, g.1.1, g.1.2))
 
 pub look_first : (s : Sight) (ss : List Sight) (d : ℕ) → s.0 ≡ d → look d (s ∷ ss) ≡ s.1
 look_first s ss d is = ap (λ (b : Bool). if b then s.1 else look d ss) (eq-eqb s.0 d is)
@@ -163,42 +164,41 @@ module _ (ss : List Sight) (claim : ℕ) (ts : List Sight) (gets : GetsOne ss cl
       ap (λ l. map face l) gets.4 ∙ map_set face ss k t ∙ ap (λ p. set (map face ss) k p) same ∙ set_same (map face ss) k (face s) (map_at face ss k s gets.3)
 
 -- the round, whether or not marks of the end have been had
-pub calm_round : (h : Hand) → IsRound h.claims h.workers h.own.which (calms h.own h.others.items)
-calm_round h = same_round h.claims h.workers h.own.which (sights_of h) h.round (calms h.own h.others.items) (shares_by_faces (sights_of h) (calms h.own h.others.items) (calm_faces h.own h.others.items))
+pub calm_round : (claims workers : ℕ) (h : Hand) → IsOfDeal claims workers h → IsRound claims workers h.own.which (calms h.own h.others.items)
+calm_round claims workers h deal = same_round claims workers h.own.which (sights_of h) deal.round (calms h.own h.others.items) (shares_by_faces (sights_of h) (calms h.own h.others.items) (calm_faces h.own h.others.items))
 
 -- a hand has had a claim
-module _ (old new : Hand) (claim : ℕ) (gets : GetsOne (calms old.own old.others.items) claim (calms new.own new.others.items)) where
-  pub takes_claim : TakesClaim old claim new
-  takes_claim =
-      let ss = calms old.own old.others.items in let ts = calms new.own new.others.items in
-      let k = gets.0 in let s = gets.1 in let t = gets.2 in let at = gets.3 in let is = gets.4 in
-      let same = gets.5.0.0 in let step = gets.5.1 in
-      let first = calm_round old in
-      let dealt = (sight_at old.claims old.workers old.own.which ss first k s at).1 in
-      let inside = claims_in old.workers s.0 old.claims step.1.0 claim (ap (λ l. get_elem? l step.1.0) (sym dealt) ∙ step.1.1) in
-      let knew : look (claim % old.workers) ss ≡ s.1 = ap (λ d. look d ss) inside.1 ∙ looked old.claims old.workers old.own.which ss first k s at in
-      let round = same_round old.claims old.workers old.own.which ss first ts (shares_by_faces ss ts (faces_stay ss claim ts gets)) in
-      let knows : look (claim % old.workers) ts ≡ t.1 =
-      ap (λ d. look d ts) (inside.1 ∙ sym same) ∙ looked old.claims old.workers old.own.which ts round k t (ap (λ l. slice_get l k) is ∙ set_at ss k t s at) in
-      let before : had_from old (claim % old.workers) ≡ s.1.got = sym (look_had old (claim % old.workers)) ∙ ap (λ (v : Had). v.got) knew in
-      record {
-        dealt = inside.0;
-        above = subst (λ l. All (λ c. c < claim) l) (sym before) (all_from (λ c. c < claim) s.1.got step.2);
-        taken = sym (look_had new (claim % old.workers)) ∙ ap (λ (v : Had). v.got) (knows ∙ step.0) ∙ ap (λ l. l ++ claim ∷ []) (sym before);
-        others = λ d apart. sym (look_had new d) ∙ ap (λ (v : Had). v.got) (ap (look d) is ∙ look_else ss k s t d at same (λ e. apart (e ∙ sym inside.1))) ∙ look_had old d;
-      }
+pub takes_claim : (old new : Hand) (claim : ℕ) → GetsOne (calms old.own old.others.items) claim (calms new.own new.others.items) → TakesClaim old claim new
+takes_claim old new claim gets claims workers deal =
+    let ss = calms old.own old.others.items in let ts = calms new.own new.others.items in
+    let k = gets.0 in let s = gets.1 in let t = gets.2 in let at = gets.3 in let is = gets.4 in
+    let same = gets.5.0.0 in let step = gets.5.1 in
+    let first = calm_round claims workers old deal in
+    let dealt = (sight_at claims workers old.own.which ss first k s at).1 in
+    let inside = claims_in workers s.0 claims step.1.0 claim (ap (λ l. get_elem? l step.1.0) (sym dealt) ∙ step.1.1) in
+    let knew : look (claim % workers) ss ≡ s.1 = ap (λ d. look d ss) inside.1 ∙ looked claims workers old.own.which ss first k s at in
+    let round = same_round claims workers old.own.which ss first ts (shares_by_faces ss ts (faces_stay ss claim ts gets)) in
+    let knows : look (claim % workers) ts ≡ t.1 =
+    ap (λ d. look d ts) (inside.1 ∙ sym same) ∙ looked claims workers old.own.which ts round k t (ap (λ l. slice_get l k) is ∙ set_at ss k t s at) in
+    let before : had_from old (claim % workers) ≡ s.1.got = sym (look_had old (claim % workers)) ∙ ap (λ (v : Had). v.got) knew in
+    record {
+      dealt = inside.0;
+      above = subst (λ l. All (λ c. c < claim) l) (sym before) (all_from (λ c. c < claim) s.1.got step.2);
+      taken = sym (look_had new (claim % workers)) ∙ ap (λ (v : Had). v.got) (knows ∙ step.0) ∙ ap (λ l. l ++ claim ∷ []) (sym before);
+      others = λ d apart. sym (look_had new d) ∙ ap (λ (v : Had). v.got) (ap (look d) is ∙ look_else ss k s t d at same (λ e. apart (e ∙ sym inside.1))) ∙ look_had old d;
+    }
 
 -- where the own deque gave it, it is one of its claims
-pub own_claim : (old : Hand) (claim : ℕ) (own : Own) → Gets (own_sight old.own) claim (own_sight own) → claim % old.workers ≡ old.own.which
-own_claim old claim own gets =
-    let dealt = (sight_at old.claims old.workers old.own.which (sights_of old) old.round 0 (own_sight old.own) refl).1 in
+pub own_claim : (old : Hand) (claim : ℕ) (own : Own) → Gets (own_sight old.own) claim (own_sight own) → (claims workers : ℕ) → IsOfDeal claims workers old → claim % workers ≡ old.own.which
+own_claim old claim own gets claims workers deal =
+    let dealt = (sight_at claims workers old.own.which (sights_of old) deal.round 0 (own_sight old.own) refl).1 in
     let at = gets.1.1 in
-    (claims_in old.workers old.own.which old.claims at.0 claim (ap (λ l. get_elem? l at.0) (sym dealt) ∙ at.1)).1
+    (claims_in workers old.own.which claims at.0 claim (ap (λ l. get_elem? l at.0) (sym dealt) ∙ at.1)).1
 
 -- where the own deque is at its end, any claim will do
-pub own_ended : (old : Hand) (own : Own) (others : List Reach) (r : Option ℕ) → Ends (own_sight old.own) (own_sight own) → IfSome r (λ c. c % dealt_workers old ≢ own_deque old → (look (own_deque old) (sights own others)).ended ≡ true)
-own_ended old own others (Some c) e = λ _. ap (λ (v : Had). v.ended) (look_first (own_sight own) (map reach_sight others) old.own.which e.0.0 ∙ e.1)
-own_ended old own others None e = tt
+pub own_ended : (old new : Hand) (r : Option ℕ) → Ends (own_sight old.own) (own_sight new.own) → IfSome r (λ c. ComesAfterOwn old c new)
+own_ended old new (Some c) e = λ claims workers deal other. ap (λ (v : Had). v.ended) (look_first (own_sight new.own) (map reach_sight new.others.items) old.own.which e.0.0 ∙ e.1)
+own_ended old new None e = tt
 
 -- the own deque stays, and one of the others gives the claim or none does
 module _ (old : Hand) (own : Own) (others : List Reach) (r : Option ℕ) (same : own_calm own ≡ own_calm old.own) (some : IfSome r (λ c. GetsOne (map reach_calm old.others.items) c (map reach_calm others))) where
@@ -212,32 +212,43 @@ module _ (old : Hand) (own : Own) (others : List Reach) (r : Option ℕ) (same :
   pub gives : Gives r
   gives = behind r some
 
-  calm_same : IfNone r (map reach_calm others ≡ map reach_calm old.others.items) → map face (calms own others) ≡ map face (calms old.own old.others.items)
-  calm_same none = by_result r gives none
+  pub calms_same : IfNone r (map reach_calm others ≡ map reach_calm old.others.items) → map face (calms own others) ≡ map face (calms old.own old.others.items)
+  calms_same none = by_result r gives none
     where
       by_result : (r : Option ℕ) → Gives r → IfNone r (map reach_calm others ≡ map reach_calm old.others.items) → map face (calms own others) ≡ map face (calms old.own old.others.items)
       by_result (Some c) g none = faces_stay (calms old.own old.others.items) c (calms own others) g
       by_result None g none = λ i. face (same i) ∷ map face (none i)
-
-  pub faces_same : IfNone r (map reach_calm others ≡ map reach_calm old.others.items) → map face (sights own others) ≡ map face (sights_of old)
-  faces_same none = sym (calm_faces own others) ∙ calm_same none ∙ calm_faces old.own old.others.items
-
-  pub round_same : IfNone r (map reach_calm others ≡ map reach_calm old.others.items) → IsRound old.claims old.workers own.which (sights own others)
-  round_same none =
-      subst (λ d. IsRound old.claims old.workers d (sights own others)) (ap (λ (s : Sight). s.0) (sym same))
-      (same_round old.claims old.workers old.own.which (sights_of old) old.round (sights own others) (shares_by_faces (sights_of old) (sights own others) (faces_same none)))
 
 -- where a claim was had, the hand took it
 pub takes_any : (old new : Hand) (r : Option ℕ) → IfSome r (λ c. GetsOne (calms old.own old.others.items) c (calms new.own new.others.items)) → IfSome r (λ c. TakesClaim old c new)
 takes_any old new (Some c) g = takes_claim old new c g
 takes_any old new None g = tt
 
+-- The deal stays where what is known of the deques does, but for the claims that were had.
+module _ (old new : Hand) (same : map face (calms new.own new.others.items) ≡ map face (calms old.own old.others.items)) (out : own_out new.own ≡ own_out old.own) where
+  faces : map face (sights_of new) ≡ map face (sights_of old)
+  faces = sym (calm_faces new.own new.others.items) ∙ same ∙ calm_faces old.own old.others.items
+
+  own_same : new.own.which ≡ old.own.which
+  own_same = ap (λ l. (get_or l 0 (face (own_sight old.own))).0) faces
+
+  round_same : (claims workers : ℕ) → IsOfDeal claims workers old → IsRound claims workers new.own.which (sights_of new)
+  round_same claims workers deal =
+      subst (λ d. IsRound claims workers d (sights_of new)) (sym own_same) (same_round claims workers old.own.which (sights_of old) deal.round (sights_of new) (shares_by_faces (sights_of old) (sights_of new) faces))
+
+  pub same_deal : SameDeal old new
+  same_deal = record {
+    deal = λ claims workers deal. record { round = round_same claims workers deal; lent = out ∙ deal.lent };
+    deques = sym (map_twice face (λ (p : ℕ × List ℕ × Name). p.0) (sights_of new)) ∙ ap (map (λ (p : ℕ × List ℕ × Name). p.0)) faces ∙ map_twice face (λ (p : ℕ × List ℕ × Name). p.0) (sights_of old);
+    names = sym (map_twice face (λ (p : ℕ × List ℕ × Name). let t : ℕ × Name = (p.0, p.2) in t) (sights_of new)) ∙ ap (map (λ (p : ℕ × List ℕ × Name). let t : ℕ × Name = (p.0, p.2) in t)) faces ∙ map_twice face (λ (p : ℕ × List ℕ × Name). let t : ℕ × Name = (p.0, p.2) in t) (sights_of old);
+  }
+
 -- where there was none, each deque is at its end
-pub none_left : (old new : Hand) (r : Option ℕ) → new.workers ≡ old.workers → Ends (own_sight old.own) (own_sight new.own) → IfNone r (All (λ s. s.1.ended ≡ true) (map reach_sight new.others.items))
+pub none_left : (old new : Hand) (r : Option ℕ) → SameDeal old new → Ends (own_sight old.own) (own_sight new.own) → IfNone r (All (λ s. s.1.ended ≡ true) (map reach_sight new.others.items))
     → IfNone r (map reach_calm new.others.items ≡ map reach_calm old.others.items) → IfNone r (IsThrough old new)
-none_left old new (Some c) workers e all none = tt
-none_left old new None workers e all none = record {
-  at_end = λ d lt. look_all new.claims new.workers new.own.which (sights_of new) new.round (λ v. v.ended ≡ true) each d (omega (arith, lt, workers));
+none_left old new (Some c) stays e all none = tt
+none_left old new None stays e all none = record {
+  at_end = λ claims workers d deal lt. look_all claims workers new.own.which (sights_of new) (stays.deal claims workers deal).round (λ v. v.ended ≡ true) each d lt;
   same = λ d. sym (look_had new d) ∙ ap (λ l. (look d l).got) rows ∙ look_had old d;
 }
   where
@@ -247,12 +258,3 @@ none_left old new None workers e all none = record {
 
     rows : calms new.own new.others.items ≡ calms old.own old.others.items
     rows = λ i. calm_ends (own_sight old.own) (own_sight new.own) e i ∷ none i
-
--- the deal stays
-pub same_deal : (old new : Hand) → new.claims ≡ old.claims → new.workers ≡ old.workers → map face (sights_of new) ≡ map face (sights_of old) → SameDeal old new
-same_deal old new claims workers same = record {
-  claims = claims;
-  workers = workers;
-  deques = sym (map_twice face (λ (p : ℕ × List ℕ × Name). p.0) (sights_of new)) ∙ ap (map (λ (p : ℕ × List ℕ × Name). p.0)) same ∙ map_twice face (λ (p : ℕ × List ℕ × Name). p.0) (sights_of old);
-  names = sym (map_twice face (λ (p : ℕ × List ℕ × Name). let t : ℕ × Name = (p.0, p.2) in t) (sights_of new)) ∙ ap (map (λ (p : ℕ × List ℕ × Name). let t : ℕ × Name = (p.0, p.2) in t)) same ∙ map_twice face (λ (p : ℕ × List ℕ × Name). let t : ℕ × Name = (p.0, p.2) in t) (sights_of old);
-}

@@ -6,6 +6,9 @@ use mathlib.Core.Option.{some, some-ne-none, some-injective}
 use lib.ListN.{get_elem?}
 use Rattle.cert_search.proofs.Steps.{in_range}
 
+pub some_is : {A : Type 0} (x y : A) → Some x ≡ Some y → x ≡ y
+some_is x y e = cc (e)
+
 module _ {A B : Type 0} (f : A → B) where
   pub map_set : (xs : List A) (i : ℕ) (y : A) → map f (set xs i y) ≡ set (map f xs) i (f y)
   map_set [] i y = refl

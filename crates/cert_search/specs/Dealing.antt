@@ -1,6 +1,7 @@
 -- How the deques stand while claims are dealt.
-use Rattle.std.specs.Prelude.{◌≡◌, ◌≢◌, ◌<◌, suc, ℕ, ◌+◌, ◌-◌, ◌%◌, List, [], map, true, false, Option, Some, slice_get}
+use Rattle.std.specs.Prelude.{◌≡◌, ◌≢◌, ◌<◌, suc, ℕ, ◌+◌, ◌-◌, ◌%◌, List, [], map, length, true, false, Option, Some, Vec, slice_get}
 use Rattle.std.specs.List.{range_with_len}
+use Rattle.std.specs.declared.alloc.Global.{Global}
 use Rattle.cert_search.specs.declared.deque.Had.{Had}
 use Rattle.cert_search.specs.declared.deque.Holder.TheVariants.{Owner}
 use Rattle.cert_search.specs.declared.own.Own.{Own}
@@ -14,22 +15,22 @@ own_view o = ((own_sight o).0, (own_sight o).1)
 
 -- the deque d has been dealt its claims below n, and more may come
 abbrev pub open_deque : ℕ → ℕ → ℕ → ℕ × Had
-open_deque workers n d = (d, had (Owner 0) true (claims_of workers d n) [] false)
+open_deque workers n d = (d, had (Owner 0) true (claims_of workers d n) [] 0 false)
 
 -- each deque has been dealt its claims below n, and more may come
 abbrev pub IsFilledTo : ℕ → ℕ → List Own → Type 0
 IsFilledTo workers n owns = map own_view owns ≡ map (open_deque workers n) (range_with_len 0 workers)
 
--- the number of a deque, what it was dealt, what has been had of it, and which deque it is
+-- the number of a deque, what it was dealt, what has been had of it, which deque it is, and how many marks of the end it was dealt
 abbrev pub Plain : Type 0
-Plain = ℕ × List ℕ × List ℕ × Option Name
+Plain = ℕ × List ℕ × List ℕ × Option Name × ℕ
 
 abbrev pub plain_of : Sight → Plain
-plain_of s = (s.0, s.1.dealt, s.1.got, Some s.2)
+plain_of s = (s.0, s.1.dealt, s.1.got, Some s.2, s.1.marks)
 
--- of the deques with these names, the deque d has been dealt its claims, and none has been had
+-- of the deques with these names, the deque d has been dealt its claims and a mark of the end for each worker, and none has been had
 abbrev pub fresh : List Name → ℕ → ℕ → ℕ → Plain
-fresh names claims workers d = (d, claims_of workers d claims, [], slice_get names d)
+fresh names claims workers d = (d, claims_of workers d claims, [], slice_get names d, workers)
 
 -- what the owner of a deque says of it
 abbrev pub own_plain : Own → Plain
@@ -39,9 +40,18 @@ own_plain o = plain_of (own_sight o)
 abbrev pub own_out : Own → ℕ
 own_out o = out_of (own_sight o).1.holder
 
--- the deque is the same, with the claims that it was dealt, and none more has been had
-abbrev pub SamePlain : Own → Own → Type 0
-SamePlain old new = (own_plain new ≡ own_plain old) × (own_out new ≡ own_out old)
+-- so many marks more were dealt
+abbrev pub with_marks : ℕ → Plain → Plain
+with_marks n p = (p.0, p.1, p.2, p.3, n + p.4)
+
+-- the deque was dealt so many marks of the end more, and is else the same
+abbrev pub GetsMarks : ℕ → Own → Own → Type 0
+GetsMarks n old new = (own_plain new ≡ with_marks n (own_plain old)) × (own_out new ≡ own_out old)
+
+-- the same of each deque
+pub record EachGetsMarks (n : ℕ) (olds news : List Own) : Type 0 where
+  pub as_many : length news ≡ length olds
+  pub each : (d : ℕ) (old new : Own) → slice_get olds d ≡ Some old → slice_get news d ≡ Some new → GetsMarks n old new
 
 -- how many views of each deque are out
 abbrev pub outs : List Own → List ℕ
@@ -64,7 +74,7 @@ own_name o = (own_sight o).2
 abbrev pub names_in : List Own → List Name
 names_in owns = map own_name owns
 
--- each deque has been dealt its claims, and none has been had
+-- each deque has been dealt its claims and a mark of the end for each worker, and none has been had
 abbrev pub IsFilled : ℕ → ℕ → List Own → Type 0
 IsFilled claims workers owns = map own_plain owns ≡ map (fresh (names_in owns) claims workers) (range_with_len 0 workers)
 
@@ -83,3 +93,15 @@ fresh_row names claims workers which = fresh_part names claims workers which (wo
 -- the views of the first n workers are each of all others
 abbrev pub AreRows : List Name → ℕ → ℕ → ℕ → List (List Plain) → Type 0
 AreRows names claims workers n rows = rows ≡ map (fresh_row names claims workers) (range_with_len 0 n)
+
+-- whatever claims the deques have been dealt, the views are of all others, from the right neighbour of `which` round
+abbrev pub IsRow : ℕ → List Own → ℕ → List Reach → Type 0
+IsRow workers owns which row = (claims : ℕ) → IsFilled claims workers owns → row_plain row ≡ fresh_row (names_in owns) claims workers which
+
+-- the same of each worker
+abbrev pub EachRow : ℕ → List Own → List (Vec Reach Global) → Type 0
+EachRow workers owns rows = (claims : ℕ) → IsFilled claims workers owns → AreRows (names_in owns) claims workers workers (map (λ row. row_plain row.items) rows)
+
+-- the deques are plainly the same
+abbrev pub SameDeques : List Own → List Own → Type 0
+SameDeques old new = map own_plain new ≡ map own_plain old

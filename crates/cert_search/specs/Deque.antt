@@ -1,5 +1,5 @@
 -- A deque of claims, and what each holder has had of it.
-use Rattle.std.specs.Prelude.{◌≡◌, ℕ, zero, suc, ◌<◌, List, [], ◌∷◌, ◌++◌, length, ◌%◌, ◌==◌, filter, ◌+◌, Bool, true, false, ◌||◌}
+use Rattle.std.specs.Prelude.{◌≡◌, ℕ, zero, suc, ◌<◌, ◌≤◌, ◌-◌, if◌then◌else◌, List, [], ◌∷◌, ◌++◌, length, ◌%◌, ◌==◌, filter, ◌+◌, Bool, true, false, ◌||◌}
 use Rattle.std.specs.List.{range_with_len}
 use mathlib.Core.Option.{some}
 use lib.ListN.{get_elem?}
@@ -10,21 +10,22 @@ use Rattle.cert_search.specs.declared.deque.Task.{Task}
 use Rattle.cert_search.specs.declared.deque.Task.TheVariants.{Claim, End}
 use Rattle.cert_search.specs.Views.{At}
 
--- what a holder knows: who it is, whether it may still deal, what was dealt, what it has had, and whether it has had a mark of the end
-abbrev pub had : Holder → Bool → List ℕ → List ℕ → Bool → Had
-had holder deals dealt got ended = record { holder = holder; deals = deals; dealt = dealt; got = got; ended = ended }
+-- What a holder knows: who it is, whether it may still deal, what was dealt, what it has had, how many marks of the end were dealt, and
+-- whether it has had one.
+abbrev pub had : Holder → Bool → List ℕ → List ℕ → ℕ → Bool → Had
+had holder deals dealt got marks ended = record { holder = holder; deals = deals; dealt = dealt; got = got; marks = marks; ended = ended }
 
 -- the worker of an empty deque, with no other view out
 abbrev pub first_view : Had
-first_view = had (Owner 0) true [] [] false
+first_view = had (Owner 0) true [] [] 0 false
 
 -- another worker, which has had nothing of what was dealt
-abbrev pub guest_view : List ℕ → Had
-guest_view dealt = had Guest false dealt [] false
+abbrev pub guest_view : List ℕ → ℕ → Had
+guest_view dealt marks = had Guest false dealt [] marks false
 
 -- the view of a holder whose view was taken back
 abbrev pub spent_view : Had
-spent_view = had Nobody false [] [] false
+spent_view = had Nobody false [] [] 0 false
 
 -- one more view is out, or one less
 abbrev pub lend : Holder → Holder
@@ -52,27 +53,27 @@ out_of Nobody = 0
 
 -- the claim has been dealt
 abbrev pub dealt_more : Had → ℕ → Had
-dealt_more v claim = had v.holder true (v.dealt ++ claim ∷ []) v.got v.ended
+dealt_more v claim = had v.holder true (v.dealt ++ claim ∷ []) v.got v.marks v.ended
 
--- no claim is dealt any more
+-- one more mark of the end was dealt, and no claim is dealt any more
 abbrev pub closed : Had → Had
-closed v = had v.holder false v.dealt v.got v.ended
+closed v = had v.holder false v.dealt v.got (suc v.marks) v.ended
 
 -- the claim has been had
 abbrev pub got_more : Had → ℕ → Had
-got_more v claim = had v.holder v.deals v.dealt (v.got ++ claim ∷ []) v.ended
+got_more v claim = had v.holder v.deals v.dealt (v.got ++ claim ∷ []) v.marks v.ended
 
 -- a mark of the end has been had
 abbrev pub at_end : Had → Had
-at_end v = had v.holder v.deals v.dealt v.got true
+at_end v = had v.holder v.deals v.dealt v.got v.marks true
 
 -- a view has been lent to another worker
 abbrev pub lent_view : Had → Had
-lent_view v = had (lend v.holder) false v.dealt v.got v.ended
+lent_view v = had (lend v.holder) false v.dealt v.got v.marks v.ended
 
 -- another's view has been taken back: what both have had
 abbrev pub both_views : Had → Had → Had
-both_views v w = had (regain v.holder) v.deals v.dealt (v.got ++ w.got) (v.ended || w.ended)
+both_views v w = had (regain v.holder) v.deals v.dealt (v.got ++ w.got) v.marks (v.ended || w.ended)
 
 -- what the holder has had
 abbrev pub got_of : Had → List ℕ
@@ -131,9 +132,21 @@ pub record Keeps (gone left : List ℕ) (views : List Had) : Type 0 where
 abbrev pub NoMark : ℕ → List Had → Type 0
 NoMark marks views = (p : ℕ) (v : Had) → get_elem? views p ≡ some v → v.deals ≡ true → marks ≡ 0
 
+-- the mark of the end that a view may have had: one that was taken back is counted with its mark
+abbrev pub mark_of : Had → ℕ
+mark_of v = (if v.ended then 1 else 0) + (1 - weight v)
+
+abbrev pub marks_had : List Had → ℕ
+marks_had [] = 0
+marks_had (v ∷ vs) = mark_of v + marks_had vs
+
+-- no mark of the end is lost: each that was dealt, as a holder knows, stands in the deque, or a view may have had it
+abbrev pub AreMarked : ℕ → List Had → Type 0
+AreMarked marks views = (p : ℕ) (v : Had) → get_elem? views p ≡ some v → weight v ≡ 1 → v.marks ≤ marks + marks_had views
+
 -- the rule, whatever is gone and however many marks are left
 abbrev pub IsDeque : List Task → List Had → Type 0
-IsDeque tasks views = (gone : List ℕ) × (left : List ℕ) × (marks : ℕ) × (tasks ≡ tasks_of left marks) × NoMark marks views × Keeps gone left views
+IsDeque tasks views = (gone : List ℕ) × (left : List ℕ) × (marks : ℕ) × (tasks ≡ tasks_of left marks) × NoMark marks views × Keeps gone left views × AreMarked marks views
 
 -- the claim was dealt here, is above all that this holder has had of this deque, and has been had now
 abbrev pub GetsClaim : Had → ℕ → Had → Type 0

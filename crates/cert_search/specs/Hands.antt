@@ -1,19 +1,14 @@
 -- What contracts see of a hand.
-use Rattle.std.specs.Prelude.{◌≡◌, ◌≢◌, ◌<◌, ℕ, ◌%◌, List, [], ◌∷◌, ◌++◌, map, All, Bool, true, Option, Some, IsSome, slice_get}
+use Rattle.std.specs.Prelude.{◌≡◌, ◌≢◌, ◌<◌, ℕ, ◌-◌, ◌%◌, List, [], ◌∷◌, ◌++◌, map, All, Bool, true, Option, Some, IsSome, Vec, slice_get}
 use Rattle.std.specs.List.{range_with_len}
+use Rattle.std.specs.declared.alloc.Global.{Global}
 use Rattle.cert_search.specs.declared.deque.Had.{Had}
 use Rattle.cert_search.specs.declared.hand.Hand.{Hand}
+use Rattle.cert_search.specs.declared.own.Own.{Own}
+use Rattle.cert_search.specs.declared.reach.Reach.{Reach}
 use Rattle.cert_search.specs.Deque.{claims_of}
-use Rattle.cert_search.specs.Sights.{Name, Sight, sights, look, name_at, round_of}
-use Rattle.cert_search.specs.Dealing.{Plain, plain_of, fresh, fresh_row}
-
--- how many claims were dealt
-abbrev pub dealt_claims : Hand → ℕ
-dealt_claims h = h.claims
-
--- to how many workers they were dealt
-abbrev pub dealt_workers : Hand → ℕ
-dealt_workers h = h.workers
+use Rattle.cert_search.specs.Sights.{Name, Sight, sights, look, name_at, round_of, IsRound}
+use Rattle.cert_search.specs.Dealing.{Plain, plain_of, own_plain, own_out, row_plain, fresh, fresh_row}
 
 -- the number of the hand's own deque
 abbrev pub own_deque : Hand → ℕ
@@ -39,6 +34,10 @@ dealt_to h d = (known_of h d).dealt
 abbrev pub had_from : Hand → ℕ → List ℕ
 had_from h d = (known_of h d).got
 
+-- how many marks of the end the deque d was dealt, as the hand knows: they stand behind all its claims
+abbrev pub marks_dealt : Hand → ℕ → ℕ
+marks_dealt h d = (known_of h d).marks
+
 -- whether the hand has had a mark of the end of the deque d, which stands behind all its claims
 abbrev pub is_at_end : Hand → ℕ → Bool
 is_at_end h d = (known_of h d).ended
@@ -57,8 +56,6 @@ ReachesOnce h d = (k : ℕ) × (slice_get (deques_of h) k ≡ Some d) × ((j : �
 
 -- the hand of the worker i, as it is dealt
 pub record IsDealt (claims workers i : ℕ) (h : Hand) : Type 0 where
-  pub claims_is : dealt_claims h ≡ claims
-  pub workers_is : dealt_workers h ≡ workers
   -- the i-th hand's own deque is deque i
   pub own_is : own_deque h ≡ i
   -- it tries its own deque first, and then the others from its right neighbour's round
@@ -67,6 +64,8 @@ pub record IsDealt (claims workers i : ℕ) (h : Hand) : Type 0 where
   pub each_once : (d : ℕ) → d < workers → ReachesOnce h d
   -- each deque d was dealt exactly the claims whose remainder is d, in growing order
   pub dealt : (d : ℕ) → d < workers → dealt_to h d ≡ claims_of workers d claims
+  -- and behind them a mark of the end for each worker
+  pub marked : (d : ℕ) → d < workers → marks_dealt h d ≡ workers
   -- the hand has had no claim yet
   pub none_had : (d : ℕ) → had_from h d ≡ []
 
@@ -83,44 +82,60 @@ pub record SharesDeque (d : ℕ) (h g : Hand) : Type 0 where
 abbrev pub ShareDeques : ℕ → List Hand → Type 0
 ShareDeques workers hands = (i j d : ℕ) (h g : Hand) → slice_get hands i ≡ Some h → slice_get hands j ≡ Some g → d < workers → SharesDeque d h g
 
--- the hand is of a deal of so many claims to so many workers
-abbrev pub IsOfDeal : ℕ → ℕ → Hand → Type 0
-IsOfDeal claims workers h = (dealt_claims h ≡ claims) × (dealt_workers h ≡ workers)
+-- The hand is of a deal of so many claims to so many workers: it reaches each deque, each deque was dealt its claims, and each other
+-- worker has a view of the hand's own deque.
+pub record IsOfDeal (claims workers : ℕ) (h : Hand) : Type 0 where
+  pub round : IsRound claims workers (own_deque h) (sights_of h)
+  pub lent : own_out h.own ≡ workers - 1
 
--- the hand has had the claim, which was dealt and comes from the deque of its remainder
-pub record TakesClaim (old : Hand) (claim : ℕ) (new : Hand) : Type 0 where
-  pub dealt : claim < dealt_claims old
+-- of a deal of so many claims to so many workers, the hand has had the claim, which was dealt and comes from the deque of its remainder
+pub record HasTaken (claims workers : ℕ) (old : Hand) (claim : ℕ) (new : Hand) : Type 0 where
+  pub dealt : claim < claims
   -- it is above all that this hand has had from that deque
-  pub above : All (λ c. c < claim) (had_from old (claim % dealt_workers old))
+  pub above : All (λ c. c < claim) (had_from old (claim % workers))
   -- the hand has had exactly this claim more from that deque
-  pub taken : had_from new (claim % dealt_workers old) ≡ had_from old (claim % dealt_workers old) ++ claim ∷ []
+  pub taken : had_from new (claim % workers) ≡ had_from old (claim % workers) ++ claim ∷ []
   -- from the other deques it has had what it had
-  pub others : (d : ℕ) → d ≢ claim % dealt_workers old → had_from new d ≡ had_from old d
+  pub others : (d : ℕ) → d ≢ claim % workers → had_from new d ≡ had_from old d
 
--- the hand has had a mark of the end of each deque, and no claim more
+-- whichever deal the hand is of, it has had the claim
+abbrev pub TakesClaim : Hand → ℕ → Hand → Type 0
+TakesClaim old claim new = (claims workers : ℕ) → IsOfDeal claims workers old → HasTaken claims workers old claim new
+
+-- whichever deal the hand is of, it has had a mark of the end of each deque, and no claim more
 pub record IsThrough (old new : Hand) : Type 0 where
-  pub at_end : (d : ℕ) → d < dealt_workers old → is_at_end new d ≡ true
+  pub at_end : (claims workers d : ℕ) → IsOfDeal claims workers old → d < workers → is_at_end new d ≡ true
   pub same : (d : ℕ) → had_from new d ≡ had_from old d
 
 -- a claim of another's deque comes only where the hand has had a mark of the end of its own
 abbrev pub ComesAfterOwn : Hand → ℕ → Hand → Type 0
-ComesAfterOwn old claim new = claim % dealt_workers old ≢ own_deque old → is_at_end new (own_deque old) ≡ true
+ComesAfterOwn old claim new = (claims workers : ℕ) → IsOfDeal claims workers old → claim % workers ≢ own_deque old → is_at_end new (own_deque old) ≡ true
 
--- the hand is of the same deal, and reaches the same deques
+-- the hand is of each deal that it was of, and reaches the same deques
 pub record SameDeal (old new : Hand) : Type 0 where
-  pub claims : dealt_claims new ≡ dealt_claims old
-  pub workers : dealt_workers new ≡ dealt_workers old
+  pub deal : (claims workers : ℕ) → IsOfDeal claims workers old → IsOfDeal claims workers new
   pub deques : deques_of new ≡ deques_of old
   pub names : names_of new ≡ names_of old
 
--- the size of the deal, and what the hand's views say of the deques
-abbrev pub hand_plain : Hand → ℕ × ℕ × List Plain
-hand_plain h = (h.claims, h.workers, map plain_of (sights_of h))
+-- the hand is of each deal that it was of, and has had a mark of the end of each deque
+pub record HasEnded (old new : Hand) : Type 0 where
+  pub deal : SameDeal old new
+  pub at_end : (claims workers d : ℕ) → IsOfDeal claims workers old → d < workers → is_at_end new d ≡ true
+
+-- how many views of the hand's own deque are out, and what its views say of the deques
+abbrev pub hand_plain : Hand → ℕ × List Plain
+hand_plain h = (own_out h.own, map plain_of (sights_of h))
+
+-- the same of the hands that are made of deques and of views of the others
+abbrev pub hands_from : List Own → List (Vec Reach Global) → List (ℕ × List Plain)
+hands_from [] rows = []
+hands_from (own ∷ owns) [] = []
+hands_from (own ∷ owns) (row ∷ rows) = (own_out own, own_plain own ∷ row_plain row.items) ∷ hands_from owns rows
 
 -- the hand of the worker i, with no claim had
-abbrev pub fresh_hand : List Name → ℕ → ℕ → ℕ → ℕ × ℕ × List Plain
-fresh_hand names claims workers i = (claims, workers, fresh names claims workers i ∷ fresh_row names claims workers i)
+abbrev pub fresh_hand : List Name → ℕ → ℕ → ℕ → ℕ × List Plain
+fresh_hand names claims workers i = (workers - 1, fresh names claims workers i ∷ fresh_row names claims workers i)
 
--- the hands of the first n workers, in order
-abbrev pub AreHands : List Name → ℕ → ℕ → ℕ → List Hand → Type 0
-AreHands names claims workers n hands = map hand_plain hands ≡ map (fresh_hand names claims workers) (range_with_len 0 n)
+-- the hands of all workers, in order
+abbrev pub AreHands : List Name → ℕ → ℕ → List Hand → Type 0
+AreHands names claims workers hands = map hand_plain hands ≡ map (fresh_hand names claims workers) (range_with_len 0 workers)

@@ -7,7 +7,7 @@ use Rattle.cert_search.specs.declared.hand.Hand.{Hand}
 use Rattle.cert_search.specs.declared.own.Own.{Own}
 use Rattle.cert_search.specs.Deque.{both_views, Settles}
 use Rattle.cert_search.specs.Sights.{Name, Sight, own_sight, reach_sight}
-use Rattle.cert_search.specs.Hands.{dealt_workers, own_deque, had_from, IsOfDeal, ShareDeques, is_at_end, dealt_claims}
+use Rattle.cert_search.specs.Hands.{own_deque, had_from, IsOfDeal, ShareDeques, is_at_end}
 
 -- all hands of a deal, in order: the i-th has the deque i, and they share the deques
 pub record AreOfDeal (claims : ℕ) (hands : List Hand) : Type 0 where
@@ -20,15 +20,22 @@ AreOfOneDeal hands = (claims : ℕ) × AreOfDeal claims hands
 
 -- the claim stands at the place k of what the hand i has had from the deque d
 abbrev pub Stands : List Hand → ℕ → ℕ → ℕ → ℕ → Type 0
-Stands hands i d k claim = (h : Hand) × (slice_get hands i ≡ Some h) × (d < dealt_workers h) × (get_elem? (had_from h d) k ≡ some claim)
+Stands hands i d k claim = (h : Hand) × (slice_get hands i ≡ Some h) × (d < length hands) × (get_elem? (had_from h d) k ≡ some claim)
 
 -- no claim has been had by two hands, or twice by one
 abbrev pub HadOnce : List Hand → Type 0
 HadOnce hands = (i d k j e l claim : ℕ) → Stands hands i d k claim → Stands hands j e l claim → (i ≡ j) × (d ≡ e) × (k ≡ l)
 
--- where a hand has had a mark of the end of a deque, each claim of that deque has been had
+-- where a hand has had a mark of the end of a deque, each claim of that deque has been had, whichever deal the hands are of
 abbrev pub EachHad : List Hand → Type 0
-EachHad hands = (i d claim : ℕ) (h : Hand) → slice_get hands i ≡ Some h → d < dealt_workers h → is_at_end h d ≡ true → claim < dealt_claims h → claim % dealt_workers h ≡ d → (j : ℕ) × (k : ℕ) × Stands hands j d k claim
+EachHad hands = (claims i d claim : ℕ) (h : Hand) → AreOfDeal claims hands → slice_get hands i ≡ Some h → d < length hands → is_at_end h d ≡ true → claim < claims → claim % length hands ≡ d → (j : ℕ) × (k : ℕ) × Stands hands j d k claim
+
+-- all claims of a deal have been had, each once, by hands that were these before
+pub record AllHad (first : List Hand) : Type 0 where
+  pub ended : List Hand
+  pub deal : (claims : ℕ) → AreOfDeal claims first → AreOfDeal claims ended
+  pub once : HadOnce ended
+  pub all : (claims claim : ℕ) → AreOfDeal claims first → 0 < length first → claim < claims → (j : ℕ) × (d : ℕ) × (k : ℕ) × Stands ended j d k claim
 
 -- what a worker knows of its own deque, of each worker
 abbrev pub own_views : List Own → List Had

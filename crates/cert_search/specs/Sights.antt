@@ -38,7 +38,7 @@ Gets s claim t = SameDeque s t × GetsClaim s.1 claim t.1
 
 -- the same, whether or not a mark of the end has been had
 abbrev pub calm : Sight → Sight
-calm s = (s.0, had s.1.holder s.1.deals s.1.dealt s.1.got false, s.2)
+calm s = (s.0, had s.1.holder s.1.deals s.1.dealt s.1.got s.1.marks false, s.2)
 
 -- what a worker knows of its own deque, and of another's, whether or not it has had a mark of the end
 abbrev pub own_calm : Own → Sight
@@ -53,7 +53,7 @@ GetsOne ss claim ts = (k : ℕ) × (s : Sight) × (t : Sight) × (slice_get ss k
 
 -- what is known of the deque d, and nothing where it isn't reached
 abbrev pub look : ℕ → List Sight → Had
-look d [] = guest_view []
+look d [] = guest_view [] 0
 look d (s ∷ ss) = if s.0 == d then s.1 else look d ss
 
 -- which deque has the number d

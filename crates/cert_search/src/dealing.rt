@@ -1,8 +1,7 @@
 //! Claims are dealt to workers, before any worker starts.
-ghost use Rattle.std.specs.Prelude.{◌≡◌, ◌<◌, ◌≤◌, ◌-◌, map, vec_len, All, IfOk, IfErr};
+ghost use Rattle.std.specs.Prelude.{◌≡◌, ◌<◌, ◌≤◌, map, vec_len, All, IfOk, IfErr};
 ghost use Rattle.volume_model.specs.declared.fault.Fault.TheVariants.{NoMemory};
-ghost use Rattle.cert_search.specs.Dealing.{names_in, row_plain, AreOut, AreRows};
-ghost use Rattle.cert_search.specs.Hands.{AreDealt, AreHands, IsOfDeal, ShareDeques};
+ghost use Rattle.cert_search.specs.Hands.{hand_plain, hands_from, AreDealt, IsOfDeal, ShareDeques};
 
 use crate::hand::Hand;
 use crate::reach::Reach;
@@ -31,22 +30,16 @@ pub fn deal(alloc: Global, claims: usize, workers: usize) -> Result<Vec<Hand>, F
 
 // Each worker's own deque, with its views of the others.
 fn hands_of(alloc: Global, table: Table, rows: Vec<Vec<Reach>>) -> Result<Vec<Hand>, AllocError>
-    requires lent { AreOut table.workers (table.workers - 1) table.owns.items }
-    requires rows { AreRows (names_in table.owns.items) table.claims table.workers table.workers (map (λ row. row_plain row.items) rows.items) }
-    ensures { IfOk result (λ hands. AreHands (names_in table.owns.items) table.claims table.workers table.workers hands.items) }
+    requires { vec_len rows ≡ table.workers }
+    ensures { IfOk result (λ hands. map hand_plain hands.items ≡ hands_from table.owns.items rows.items) }
 {
-    let Table {
-        claims,
-        workers,
-        owns,
-    } = table;
     let mut hands = Vec::new(alloc);
-    let mut owners = owns.into_iter();
+    let mut owners = table.owns.into_iter();
     for others in rows {
         let Some(own) = owners.next() else {
             unreachable!()
         };
-        hands.push(Hand::new(claims, workers, own, others))?;
+        hands.push(Hand::new(own, others))?;
     }
     Ok(hands)
 }

@@ -21,13 +21,14 @@ pub enum Holder {
     Nobody,
 }
 
-/// What a holder knows of a deque: whether it may still deal, the claims that were dealt, those that it has had, and whether it has had
-/// a mark of the end. No value of it is made.
+/// What a holder knows of a deque: whether it may still deal, the claims that were dealt, those that it has had, how many marks of the
+/// end were dealt, and whether it has had one. No value of it is made.
 pub struct Had {
     pub holder: Holder,
     pub deals: bool,
     pub dealt: LinkedList<usize>,
     pub got: LinkedList<usize>,
+    pub marks: usize,
     pub ended: bool,
 }
 
@@ -42,7 +43,7 @@ impl Protocol<Task, Had> for Once {
 
     ghost first = { first_view };
 
-    ghost guest = { guest_view [] };
+    ghost guest = { guest_view [] 0 };
 }
 
 /// A claim joins the deque.
@@ -80,7 +81,7 @@ impl Split<Had> for Thieves {
 
     ghost left = { lent_view };
 
-    ghost right = { λ v. guest_view v.dealt };
+    ghost right = { λ v. guest_view v.dealt v.marks };
 }
 
 impl Join<Had> for Thieves {

@@ -1,7 +1,6 @@
 //! A worker's hand: its own claims, and the deques of the others.
-ghost use Rattle.std.specs.Prelude.{◌≡◌, ◌-◌, map, true, IfSome, IfNone, All};
-ghost use Rattle.cert_search.specs.Sights.{reach_sight, reach_calm, sights, GetsOne, IsRound};
-ghost use Rattle.cert_search.specs.Dealing.{own_out};
+ghost use Rattle.std.specs.Prelude.{◌≡◌, map, true, IfSome, IfNone, All};
+ghost use Rattle.cert_search.specs.Sights.{reach_sight, reach_calm, GetsOne};
 
 use crate::own::Own;
 use crate::reach::Reach;
@@ -10,45 +9,26 @@ use std::sync::Wait;
 /// A worker's own claims, and the deques of the others, from its right neighbour's round.
 #[derive(Drop)]
 pub struct Hand {
-    claims: usize,
-    workers: usize,
     own: Own,
     others: Vec<Reach>,
-    ghost round: { IsRound claims workers own.which (sights own others.items) },
-    ghost lent: { own_out own ≡ workers - 1 },
 }
 
 impl Hand {
-    ghost use Rattle.std.specs.Prelude.{◌≡◌, ◌-◌, IfSome, IfNone};
-    ghost use Rattle.cert_search.specs.Sights.{sights, IsRound};
-    ghost use Rattle.cert_search.specs.Dealing.{own_out};
-    ghost use Rattle.cert_search.specs.Hands.{sights_of, ComesAfterOwn, IsOfDeal, IsThrough, SameDeal, TakesClaim};
+    ghost use Rattle.std.specs.Prelude.{◌≡◌, IfSome, IfNone};
+    ghost use Rattle.cert_search.specs.Hands.{ComesAfterOwn, IsThrough, SameDeal, TakesClaim};
 
-    // The hand of a worker that reaches each deque, each with its claims in it.
-    pub(crate) fn new(claims: usize, workers: usize, own: Own, others: Vec<Reach>) -> Hand
-        requires round { IsRound claims workers own.which (sights own others.items) }
-        requires lent { own_out own ≡ workers - 1 }
-        ensures deal { IsOfDeal claims workers result }
-        ensures sights { sights_of result ≡ sights own others.items }
+    // The hand of a worker with its own deque, and its views of the others.
+    pub(crate) fn new(own: Own, others: Vec<Reach>) -> Hand
+        ensures { (result.own ≡ own) × (result.others ≡ others) }
     {
-        Hand {
-            claims,
-            workers,
-            own,
-            others,
-        }
+        Hand { own, others }
     }
 
     // The hand's own deque, and its views of the others.
     pub(crate) fn into_parts(self) -> (Own, Vec<Reach>)
         ensures { (result.0 ≡ self.own) × (result.1 ≡ self.others) }
     {
-        let Hand {
-            claims: _,
-            workers: _,
-            own,
-            others,
-        } = self;
+        let Hand { own, others } = self;
         (own, others)
     }
 

@@ -7,7 +7,7 @@ ghost use Rattle.refutation.specs.Limits.{is_certificate};
 ghost use Rattle.refutation.specs.Refutation.{rule_of};
 ghost use Rattle.quorum_checker.specs.Claim.{first_state};
 ghost use Rattle.quorum_checker.specs.Refutes.{Refutes};
-ghost use Rattle.cert_search.specs.Answers.{IsAnswer};
+ghost use Rattle.cert_search.specs.Answers.{rule_in, IsAnswer};
 ghost use Rattle.cert_search.specs.Plain.{IsPlain};
 
 use crate::cases::split;
@@ -102,7 +102,7 @@ pub fn search_in<A: Allocator, B: Allocator + Clone>(
     claim: &Claim<A>,
     budget: u64,
 ) -> Result<Option<Certificate<Global>>, Fault>
-    ensures answer { IfOk result (IsAnswer budget (first_state claim.now)) }
+    ensures answer { IfOk result (λ answer. IsAnswer budget (first_state claim.now) (rule_in answer)) }
     ensures memory { IfErr result (λ e. e ≡ NoMemory) }
 {
     if PLAIN_NODES <= budget {
@@ -126,7 +126,7 @@ pub fn search_one(
     claim: &Claim<Global>,
     budget: u64,
 ) -> Result<Option<Certificate<Global>>, Fault>
-    ensures answer { IfOk result (IsAnswer budget (first_state claim.now)) }
+    ensures answer { IfOk result (λ answer. IsAnswer budget (first_state claim.now) (rule_in answer)) }
     ensures memory { IfErr result (λ e. e ≡ NoMemory) }
 {
     let arena = Bump::new(alloc);

@@ -24,7 +24,7 @@ impl Own {
     ghost use Rattle.std.specs.Prelude.{◌≡◌, ◌<◌, suc, true, false, IfOk, MatchOption, All};
     ghost use Rattle.cert_search.specs.Deque.{first_view, guest_view, dealt_more, both_views, Settles};
     ghost use Rattle.cert_search.specs.Sights.{own_sight, reach_sight, Ends, Gets, SameDeque};
-    ghost use Rattle.cert_search.specs.Dealing.{own_plain, own_out, SamePlain};
+    ghost use Rattle.cert_search.specs.Dealing.{own_plain, own_out, GetsMarks};
 
     // A deque with no claim in it.
     pub(crate) fn new(alloc: Global, which: usize, capacity: usize) -> Result<Own, AllocError>
@@ -54,7 +54,7 @@ impl Own {
 
     // Deals a mark of the end. From now on no claim is dealt.
     pub(crate) fn close(&mut self) -> Result<(), AllocError>
-        ensures { SamePlain self.old self.new }
+        ensures { IfOk result (λ _. GetsMarks 1 self.old self.new) }
     {
         match self.deque.push_as::<Closes>(Task::End) {
             Ok(()) => Ok(()),
@@ -86,7 +86,7 @@ impl Own {
     pub(crate) fn reach(&mut self) -> Result<Reach, AllocError>
         ensures plain { own_plain self.new ≡ own_plain self.old }
         ensures lent { IfOk result (λ _. own_out self.new ≡ suc (own_out self.old)) }
-        ensures reach { IfOk result (λ r. SameDeque (own_sight self.old) (reach_sight r) × ((reach_sight r).1 ≡ guest_view (own_sight self.old).1.dealt)) }
+        ensures reach { IfOk result (λ r. SameDeque (own_sight self.old) (reach_sight r) × ((reach_sight r).1 ≡ guest_view (own_sight self.old).1.dealt (own_sight self.old).1.marks)) }
     {
         let stealer = self.deque.stealer()?;
         let pass = self.deque.another::<Thieves>();

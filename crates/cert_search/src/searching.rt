@@ -1,21 +1,23 @@
 //! The search for all certificates of a plan, by several workers.
 
-ghost use Rattle.std.specs.Prelude.{◌≡◌, ◌≢◌, ◌<◌, ◌≤◌, All, Err, IfOk, IfErr, length};
+ghost use Rattle.std.specs.Prelude.{◌≡◌, ◌≢◌, ◌<◌, ◌≤◌, All, Err, IfOk, IfErr, length, map};
 ghost use Rattle.volume_model.specs.declared.fault.Fault.TheVariants.{NoMemory};
 ghost use Rattle.plan.specs.LentClaims.{all_lent};
 ghost use Rattle.plan.specs.Plan.{plan_data};
 ghost use Rattle.plan.specs.PlanClaims.{claims_in};
 ghost use Rattle.plan.specs.FaultKinds.{kind_of};
 ghost use Rattle.plan.specs.declared.fault.PlanFault.{PlanFault};
-ghost use Rattle.cert_search.specs.Answers.{AreAnswers, AreAnswersOf};
-ghost use Rattle.cert_search.specs.Places.{ArePlaces, IsFound, IsWork};
+ghost use Rattle.cert_search.specs.Answers.{rule_in, AreAnswers, AreAnswersOf};
+ghost use Rattle.cert_search.specs.Settled.{AllHad, AreOfOneDeal};
+ghost use Rattle.cert_search.specs.Places.{ArePlaces, AreWorked, IsFound, IsWork, IsWorked};
 
 use crate::dealing::deal;
 use crate::filling::{Answer, empty_places, fill_all, take_out};
 use crate::gate::Gate;
 use crate::hand::Hand;
 use crate::one::search_one;
-use crate::working::{Found, work};
+use crate::settling::settle;
+use crate::working::{Found, Worked, work};
 use plan::{LentClaim, Plan, lent_claims};
 use refutation::Certificate;
 use std::alloc::{AllocError, Global};
@@ -52,7 +54,7 @@ fn answers(
     places: &mut Vec<Option<Answer>>,
 ) -> Result<Vec<Answer>, Fault>
     requires { ArePlaces budget (all_lent claims.now) places.old.items }
-    ensures answers { IfOk result (λ v. AreAnswers budget (all_lent claims.now) v.items) }
+    ensures answers { IfOk result (λ v. AreAnswers budget (all_lent claims.now) (map rule_in v.items)) }
     ensures memory { IfErr result (λ e. e ≡ NoMemory) }
 {
     let mut answers = Vec::new(alloc);
@@ -63,6 +65,39 @@ fn answers(
 }
 
 /// What workers find of claims, each in a thread of its own where there is one.
+fn worked_by<R: Threads + Wait + Sync, G: Gate + Sync>(
+    rt: &R,
+    alloc: Global,
+    claims: &[LentClaim<'_>],
+    hands: Vec<Hand>,
+    budget: u64,
+    gate: &G,
+) -> Result<Vec<Worked>, AllocError>
+    ensures { IfOk result (λ v. AreWorked budget (all_lent claims.now) hands.items v.items) }
+{
+    thread::map_vec(
+        rt,
+        hands,
+        &|hand: Hand| -> Worked
+            ensures { IsWorked budget (all_lent claims.entry.now) hand result }
+        { work(rt, alloc, claims, budget, gate, hand) },
+    )
+}
+
+/// What each worker found, and the hands of all.
+fn parts_of(alloc: Global, works: Vec<Worked>) -> Result<(Vec<Vec<Found>>, Vec<Hand>), AllocError>
+    ensures { IfOk result (λ p. (p.0.items ≡ map (λ w. w.founds) works.items) × (p.1.items ≡ map (λ w. w.hand) works.items)) }
+{
+    let mut found = Vec::new(alloc);
+    let mut hands = Vec::new(alloc);
+    for worked in works {
+        found.push(worked.founds)?;
+        hands.push(worked.hand)?;
+    }
+    Ok((found, hands))
+}
+
+/// What workers find of the claims that were dealt to them. Each claim has been had by one of them, once all have ended.
 fn found_by<R: Threads + Wait + Sync, G: Gate + Sync>(
     rt: &R,
     alloc: Global,
@@ -70,16 +105,16 @@ fn found_by<R: Threads + Wait + Sync, G: Gate + Sync>(
     hands: Vec<Hand>,
     budget: u64,
     gate: &G,
-) -> Result<Vec<Vec<Found>>, AllocError>
-    ensures { IfOk result (λ v. All (IsWork budget (all_lent claims.now)) v.items) }
+) -> Result<Vec<Vec<Found>>, Fault>
+    requires dealt { AreOfOneDeal hands.items }
+    ensures found { IfOk result (λ v. All (IsWork budget (all_lent claims.now)) v.items) }
+    ensures had { IfOk result (λ _. AllHad hands.items) }
+    ensures memory { IfErr result (λ e. e ≡ NoMemory) }
 {
-    thread::map_vec(
-        rt,
-        hands,
-        &|hand: Hand| -> Vec<Found>
-            ensures { IsWork budget (all_lent claims.entry.now) result }
-        { work(rt, alloc, claims, budget, gate, hand) },
-    )
+    let works = worked_by(rt, alloc, claims, hands, budget, gate)?;
+    let (found, ended) = parts_of(alloc, works)?;
+    settle(alloc, ended)?;
+    Ok(found)
 }
 
 /// The answers to claims, by so many workers.
@@ -92,7 +127,7 @@ fn searched<R: Threads + Wait + Sync, G: Gate + Sync>(
     gate: &G,
 ) -> Result<Vec<Answer>, Fault>
     requires workers { (0 < workers) × (workers ≤ 16) }
-    ensures answers { IfOk result (λ v. AreAnswers budget (all_lent claims.now) v.items) }
+    ensures answers { IfOk result (λ v. AreAnswers budget (all_lent claims.now) (map rule_in v.items)) }
     ensures memory { IfErr result (λ e. e ≡ NoMemory) }
 {
     let mut places = empty_places(alloc, claims, budget)?;
@@ -117,7 +152,7 @@ pub fn search_all<R: Threads + Wait + Sync, G: Gate + Sync>(
     gate: &G,
 ) -> Result<Vec<Option<Certificate<Global>>>, Fault>
     requires workers { (0 < workers) × (workers ≤ 16) }
-    ensures answers { IfOk result (λ v. AreAnswersOf budget (claims_in (plan_data plan.now)) v.items) }
+    ensures answers { IfOk result (λ v. AreAnswersOf budget (claims_in (plan_data plan.now)) (map rule_in v.items)) }
     ensures fault { IfErr result (λ e. e ≢ NoMemory → (fault : PlanFault) × (claims_in (plan_data plan.now) ≡ Err fault) × (e ≡ kind_of fault)) }
 {
     let claims = match lent_claims(alloc, plan) {

@@ -1,6 +1,6 @@
 //! The deques of all workers, before they start.
-ghost use Rattle.std.specs.Prelude.{◌≡◌, ◌<◌, ◌≤◌, length, map, IfOk};
-ghost use Rattle.cert_search.specs.Dealing.{own_plain, outs, names_in, AreOut, LendsOthers, row_plain, fresh_row, AreRows, IsFilled, IsFilledTo, SamePlain};
+ghost use Rattle.std.specs.Prelude.{◌≡◌, ◌<◌, ◌≤◌, length, IfOk};
+ghost use Rattle.cert_search.specs.Dealing.{EachGetsMarks, GetsMarks, IsFilledTo};
 
 use crate::own::Own;
 use crate::reach::Reach;
@@ -9,41 +9,37 @@ use std::alloc::{AllocError, Global};
 /// A deque for each worker, with the claims that are its own. No claim has been had.
 #[derive(Drop)]
 pub struct Table {
-    pub(crate) claims: usize,
     pub(crate) workers: usize,
     pub(crate) owns: Vec<Own>,
     ghost some: { 0 < workers },
     ghost few: { workers ≤ 16 },
-    ghost filled: { IsFilled claims workers owns.items },
+    ghost count: { length owns.items ≡ workers },
 }
 
 impl Table {
-    ghost use Rattle.std.specs.Prelude.{◌≡◌, ◌<◌, ◌≤◌, ◌-◌, map, IfOk};
-    ghost use Rattle.cert_search.specs.Dealing.{names_in, row_plain, fresh_row, AreOut, AreRows, LendsOthers};
+    ghost use Rattle.std.specs.Prelude.{◌≡◌, ◌<◌, ◌≤◌, ◌-◌, vec_len, IfOk};
+    ghost use Rattle.cert_search.specs.Dealing.{AreOut, EachRow, IsFilled, IsRow, LendsOthers, SameDeques};
 
     /// Deals the claims.
     pub(crate) fn new(alloc: Global, claims: usize, workers: usize) -> Result<Table, AllocError>
         requires some { 0 < workers }
         requires few { workers ≤ 16 }
-        ensures deal { IfOk result (λ t. (t.claims ≡ claims) × (t.workers ≡ workers)) }
+        ensures workers { IfOk result (λ t. t.workers ≡ workers) }
+        ensures filled { IfOk result (λ t. IsFilled claims workers t.owns.items) }
         ensures none { IfOk result (λ t. AreOut workers 0 t.owns.items) }
     {
         let mut owns = empty_deques(alloc, claims.div_ceil(workers), workers)?;
         deal_out(&mut owns, claims)?;
         close_all(&mut owns, workers)?;
-        Ok(Table {
-            claims,
-            workers,
-            owns,
-        })
+        Ok(Table { workers, owns })
     }
 
     // The views of all other deques, from the right neighbour's round.
     fn row(&mut self, alloc: Global, which: usize) -> Result<Vec<Reach>, AllocError>
         requires { which < self.old.workers }
-        ensures row { IfOk result (λ row. row_plain row.items ≡ fresh_row (names_in self.old.owns.items) self.old.claims self.old.workers which) }
-        ensures same { (self.new.claims ≡ self.old.claims) × (self.new.workers ≡ self.old.workers) }
-        ensures names { names_in self.new.owns.items ≡ names_in self.old.owns.items }
+        ensures row { IfOk result (λ row. IsRow self.old.workers self.old.owns.items which row.items) }
+        ensures workers { self.new.workers ≡ self.old.workers }
+        ensures same { SameDeques self.old.owns.items self.new.owns.items }
         ensures lent { IfOk result (λ _. LendsOthers self.old.workers which self.old.owns.items self.new.owns.items) }
     {
         let mut row = Vec::new(alloc);
@@ -57,9 +53,10 @@ impl Table {
     /// The views of each worker.
     pub(crate) fn rows(&mut self, alloc: Global) -> Result<Vec<Vec<Reach>>, AllocError>
         requires none { AreOut self.old.workers 0 self.old.owns.items }
-        ensures rows { IfOk result (λ rows. AreRows (names_in self.old.owns.items) self.old.claims self.old.workers self.old.workers (map (λ row. row_plain row.items) rows.items)) }
-        ensures same { (self.new.claims ≡ self.old.claims) × (self.new.workers ≡ self.old.workers) }
-        ensures names { names_in self.new.owns.items ≡ names_in self.old.owns.items }
+        ensures count { IfOk result (λ rows. vec_len rows ≡ self.old.workers) }
+        ensures rows { IfOk result (λ rows. EachRow self.old.workers self.old.owns.items rows.items) }
+        ensures workers { self.new.workers ≡ self.old.workers }
+        ensures same { SameDeques self.old.owns.items self.new.owns.items }
         ensures lent { IfOk result (λ _. AreOut self.old.workers (self.old.workers - 1) self.new.owns.items) }
     {
         let mut rows = Vec::new(alloc);
@@ -96,8 +93,7 @@ fn deal_out(owns: &mut Vec<Own>, claims: usize) -> Result<(), AllocError>
 
 // A mark of the end for each worker goes to each deque, behind its claims.
 fn close_all(owns: &mut Vec<Own>, workers: usize) -> Result<(), AllocError>
-    ensures plain { map own_plain owns.new.items ≡ map own_plain owns.old.items }
-    ensures outs { outs owns.new.items ≡ outs owns.old.items }
+    ensures { IfOk result (λ _. EachGetsMarks workers owns.old.items owns.new.items) }
 {
     for which in 0..owns.len() {
         let own = &mut owns[which];
@@ -108,7 +104,7 @@ fn close_all(owns: &mut Vec<Own>, workers: usize) -> Result<(), AllocError>
 
 // A mark of the end for each of so many workers.
 fn close_for(own: &mut Own, workers: usize) -> Result<(), AllocError>
-    ensures { SamePlain own.old own.new }
+    ensures { IfOk result (λ _. GetsMarks workers own.old own.new) }
 {
     for _ in 0..workers {
         own.close()?;

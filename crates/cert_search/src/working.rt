@@ -2,8 +2,8 @@
 
 ghost use Rattle.std.specs.Prelude.{All, IfOk, IfSome};
 ghost use Rattle.plan.specs.LentClaims.{all_lent, lent_state};
-ghost use Rattle.cert_search.specs.Answers.{IsAnswer};
-ghost use Rattle.cert_search.specs.Places.{IsFound, IsWork};
+ghost use Rattle.cert_search.specs.Answers.{rule_in, IsAnswer};
+ghost use Rattle.cert_search.specs.Places.{IsFound, IsWorked};
 
 use crate::gate::Gate;
 use crate::hand::Hand;
@@ -22,6 +22,13 @@ pub struct Found {
     pub answer: Option<Certificate<Global>>,
 }
 
+/// What a worker found, and its hand after it.
+#[derive(Drop)]
+pub struct Worked {
+    pub founds: Vec<Found>,
+    pub hand: Hand,
+}
+
 /// The arena, empty again, or another where something in it is still held.
 fn emptied(alloc: Global, mut arena: Bump) -> Bump {
     match arena.reset() {
@@ -37,7 +44,7 @@ fn answer_in(
     lent: &LentClaim<'_>,
     budget: u64,
 ) -> Result<Option<Certificate<Global>>, Fault>
-    ensures { IfOk result (IsAnswer budget (lent_state lent.now)) }
+    ensures { IfOk result (λ answer. IsAnswer budget (lent_state lent.now) (rule_in answer)) }
 {
     let claim = lent.claim_in(arena)?;
     search_in(alloc, &arena, &claim, budget)
@@ -81,8 +88,8 @@ fn add<G: Gate>(
     }
 }
 
-/// Searches the claims that a hand takes, until each deque was found empty, in an arena that is emptied after each. A claim whose search
-/// finds no memory is left out.
+/// Searches the claims that a hand takes, until it has had a mark of the end of each deque, in an arena that is emptied after each. A
+/// claim whose search finds no memory is left out.
 pub fn work<R: Wait, G: Gate>(
     rt: &R,
     alloc: Global,
@@ -90,8 +97,8 @@ pub fn work<R: Wait, G: Gate>(
     budget: u64,
     gate: &G,
     mut hand: Hand,
-) -> Vec<Found>
-    ensures { IsWork budget (all_lent claims.now) result }
+) -> Worked
+    ensures { IsWorked budget (all_lent claims.now) hand result }
 {
     let mut arena = Bump::new(alloc);
     let mut founds = Vec::new(alloc);
@@ -102,5 +109,5 @@ pub fn work<R: Wait, G: Gate>(
         add(alloc, &arena, claims, claim, budget, gate, &mut founds);
         arena = emptied(alloc, arena);
     }
-    founds
+    Worked { founds, hand }
 }

@@ -96,6 +96,9 @@ impl Height {
     ghost use Rattle.height.specs.Seats.{table_of, top_table, floor_table, height_of, floor_of};
 
     /// A height of 0, and its keeper.
+    ///
+    /// # Errors
+    /// Where a growth was refused.
     pub fn new(alloc: Global) -> Result<(Height, Top), AllocError>
         ensures { IfOk result (λ h. (top_table h.1 ≡ table_of h.0) × (height_of h.1 ≡ 0)) }
     {

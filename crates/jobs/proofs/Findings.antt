@@ -1,39 +1,25 @@
--- What the search answers, as what is told of it.
-use Rattle.std.proofs.Common.{◌≡◌, ◌∙◌, sym, subst, refl, ℕ, List, Option, Some, None, Ok, option_map, map, arith}
-use Rattle.std.specs.Prelude.{slice_get}
-use Rattle.std.proofs.lemmas.List.{length-map}
-use Rattle.std.proofs.lemmas.Option.{slice_get-map}
-use Rattle.std.specs.declared.alloc.Global.{Global}
-use Rattle.refutation.specs.declared.certificate.Certificate.{Certificate}
+-- What the search answers, and the plan that is written with it.
+use Rattle.std.proofs.Common.{◌≡◌, refl, ℕ, suc, false, List, [], ◌∷◌, Option, Some, None, Ok, is_none, length, arith}
+use Rattle.std.specs.List.{list_any}
 use Rattle.refutation.specs.Rule.{Rule}
-use Rattle.quorum_checker.specs.Refutes.{State}
 use Rattle.plan.specs.PlanClaims.{PlacedClaim, claims_in}
 use Rattle.plan.specs.PlanData.{PlanData}
 use Rattle.plan.specs.PlanText.{plan_of}
+use Rattle.plan.specs.Shown.{AreShown}
 use Rattle.plan.specs.WithCertificates.{with_certificates}
 use Rattle.plan.specs.Written.{rewritten}
-use Rattle.cert_search.specs.Answers.{IsAnswer, AreAnswers}
-use Rattle.jobs.specs.Searched.{IsFinding, AreFindings}
-use Rattle.jobs.proofs.Searching.{rule_in}
+use Rattle.cert_search.specs.Answers.{EachAnswers, AreAnswers}
 
-is_finding : (claim : State) (x : Option (Certificate Global)) → IsAnswer 100000 claim x → IsFinding claim (rule_in x)
-is_finding claim None a = record { refutes = tt; plain = λ p. a.plain (omega arith) p }
-is_finding claim (Some c) a = record { refutes = a.refutes; plain = λ p. a.plain (omega arith) p }
-
-finding_at : (claim : State) (found : Option (Option (Certificate Global))) (rule : Option Rule) → option_map rule_in found ≡ Some rule
-    → ((x : Option (Certificate Global)) → found ≡ Some x → IsAnswer 100000 claim x) → IsFinding claim rule
-finding_at claim None rule e h = absurd cc
-finding_at claim (Some x) rule e h =
-    let same : rule_in x ≡ rule = cc in
-    subst (λ (r : Option Rule). IsFinding claim r) same (is_finding claim x (h x refl))
-
--- the answers of the search are findings
-pub are_findings : (claims : List PlacedClaim) (answers : List (Option (Certificate Global))) → AreAnswers 100000 claims answers → AreFindings claims (map rule_in answers)
-are_findings claims answers a = record {
-  as_many = length-map answers rule_in ∙ a.as_many;
-  each = λ i c rule at_claim at_rule.
-      finding_at c.claim (slice_get answers i) rule (sym (slice_get-map rule_in answers i) ∙ at_rule) (λ x at. a.each i c x at_claim at);
-}
+-- what was found for all claims refutes them
+pub all_shown : (budget : ℕ) (claims : List PlacedClaim) (rules : List (Option Rule)) → AreAnswers budget claims rules → list_any (λ rule. is_none rule) rules ≡ false → AreShown claims rules
+all_shown budget claims rules found whole = shown_from claims rules found.as_many found.each whole
+  where
+    shown_from : (claims : List PlacedClaim) (rules : List (Option Rule)) → length rules ≡ length claims → EachAnswers budget claims rules → list_any (λ rule. is_none rule) rules ≡ false → AreShown claims rules
+    shown_from [] rules many each whole = tt
+    shown_from (c ∷ cs) [] many each whole = absurd (omega arith)
+    shown_from (c ∷ cs) (None ∷ rules) many each whole = absurd cc
+    shown_from (c ∷ cs) (Some r ∷ rules) many each whole =
+        ((each 0 c (Some r) refl refl).refutes, shown_from cs rules (omega arith) (λ i d rule at_claim at_rule. each (suc i) d rule at_claim at_rule) whole)
 
 -- the plan of a text with other certificates, where it has claims
 pub rewritten-is : (text : List ℕ) (plan : PlanData) (claims : List PlacedClaim) (rules : List (Option Rule)) → plan_of text ≡ Ok plan → claims_in plan ≡ Ok claims → rewritten text rules ≡ Ok (with_certificates plan rules)

@@ -1,4 +1,3 @@
-pub mod Certifies
 pub mod Due
 pub mod Findings
 pub mod Given

@@ -7,11 +7,11 @@ use Rattle.std.proofs.lemmas.List.{append_assoc, append-nil}
 use Rattle.std.proofs.Math.Seq.{drop-length}
 use Rattle.std.specs.declared.alloc.Global.{Global}
 use Rattle.refutation.specs.declared.certificate.Certificate.{Certificate}
-use Rattle.refutation.specs.Certificate.{certificate_rule}
 use Rattle.refutation.specs.Rule.{Rule}
 use Rattle.plan.specs.declared.lent.LentClaim.{LentClaim}
 use Rattle.plan.specs.LentClaims.{all_lent, lent_placed}
 use Rattle.plan.specs.PlanClaims.{PlacedClaim}
+use Rattle.cert_search.specs.Answers.{rule_in}
 use Rattle.jobs.specs.Searched.{TellsSearch}
 use Rattle.jobs.specs.Unfound.{found_status, unfound_line, unfound_lines}
 
@@ -19,10 +19,6 @@ use Rattle.jobs.specs.Unfound.{found_status, unfound_line, unfound_lines}
 pub ok_and : {X E : Type 0} (r : Result X E) (P : X → Type 0) → IsOkAnd r P → (x : X) × (r ≡ Ok x) × P x
 ok_and (Ok x) P h = (x, refl, h)
 ok_and (Err e) P h = absurd h
-
--- the rule of a certificate, if there is one
-abbrev pub rule_in : Option (Certificate Global) → Option Rule
-rule_in = option_map certificate_rule
 
 is_none-map : {A B : Type 0} (f : A → B) (o : Option A) → is_none o ≡ is_none (option_map f o)
 is_none-map f None = refl

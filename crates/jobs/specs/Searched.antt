@@ -1,7 +1,6 @@
 -- What a search prints of the bytes of its file.
-use Rattle.std.specs.Prelude.{◌≡◌, ◌⊎◌, ℕ, List, ◌++◌, length, Option, None, Result, Ok, Err, IfSome, IsSome, Some, codes, slice_get, string_bytes}
+use Rattle.std.specs.Prelude.{◌≡◌, ◌⊎◌, ℕ, List, ◌++◌, Option, None, Result, Ok, Err, codes, string_bytes}
 use Rattle.refutation.specs.Rule.{Rule}
-use Rattle.quorum_checker.specs.Refutes.{State, Refutes}
 use Rattle.plan.specs.declared.fault.PlanFault.{PlanFault}
 use Rattle.plan.specs.PlanData.{PlanData}
 use Rattle.plan.specs.PlanFaults.{plan_fault}
@@ -9,7 +8,7 @@ use Rattle.plan.specs.PlanText.{◌>=>◌, plan_of}
 use Rattle.plan.specs.PlanClaims.{PlacedClaim, claims_in}
 use Rattle.plan.specs.WithCertificates.{with_certificates}
 use Rattle.plan.specs.Written.{IsCompact, spelt}
-use Rattle.cert_search.specs.Plain.{IsPlain}
+use Rattle.cert_search.specs.Answers.{AreAnswers}
 use Rattle.jobs.specs.Answer.{Answer, fault_answer}
 use Rattle.jobs.specs.Stops.{stop_answer}
 use Rattle.jobs.specs.Unfound.{found_status, unfound_lines}
@@ -20,16 +19,6 @@ use Rattle.jobs.specs.declared.reply.Found.{Found}
 abbrev pub claims_of : List ℕ → Result (List PlacedClaim) PlanFault
 claims_of text = plan_of text >=> claims_in
 
--- What was found for a claim: nothing, or a rule that refutes it. For a plain claim it is a rule.
-pub record IsFinding (claim : State) (rule : Option Rule) : Type 0 where
-  pub refutes : IfSome rule (λ r. Refutes r claim)
-  pub plain : IsPlain claim → IsSome rule
-
--- what was found for each claim, in the order of the claims
-pub record AreFindings (claims : List PlacedClaim) (rules : List (Option Rule)) : Type 0 where
-  pub as_many : length rules ≡ length claims
-  pub each : (i : ℕ) (c : PlacedClaim) (rule : Option Rule) → slice_get claims i ≡ Some c → slice_get rules i ≡ Some rule → IsFinding c.claim rule
-
 -- a line of compact JSON that spells this plan
 pub record IsPlanLine (plan : PlanData) (line : List ℕ) : Type 0 where
   pub text : List ℕ
@@ -38,7 +27,7 @@ pub record IsPlanLine (plan : PlanData) (line : List ℕ) : Type 0 where
   pub line_is : line ≡ text ++ codes "\n"
 
 -- The plan's text spells a plan that has claims, and what is printed is a line that spells this plan with what was found for its
--- claims, and a line for each of them for which nothing was. The status is 0 exactly where there is no such line, and then that
+-- claims with a budget of 100,000, and a line for each of them for which nothing was. The status is 0 exactly where there is no such line, and then that
 -- plan has no fault.
 pub record TellsSearch (plan : List ℕ) (status : ℕ) (text notes : List ℕ) : Type 0 where
   pub data_of : PlanData
@@ -46,7 +35,7 @@ pub record TellsSearch (plan : List ℕ) (status : ℕ) (text notes : List ℕ) 
   pub claims : List PlacedClaim
   pub listed : claims_in data_of ≡ Ok claims
   pub rules : List (Option Rule)
-  pub found : AreFindings claims rules
+  pub found : AreAnswers 100000 claims rules
   pub line : IsPlanLine (with_certificates data_of rules) text
   pub notes_are : notes ≡ unfound_lines claims rules
   pub status_is : status ≡ found_status rules

@@ -1,5 +1,5 @@
 -- What the program prints of a run.
-use Rattle.std.specs.Prelude.{◌≡◌, ℕ, zero, suc, ◌+◌, ◌-◌, ◌*◌, Bool, true, false, if◌then◌else◌, List, [], ◌∷◌, ◌++◌, Option, Some, None, Result, Ok, Err, codes, is_err, max, min}
+use Rattle.std.specs.Prelude.{◌≡◌, ℕ, ◌+◌, ◌-◌, ◌*◌, Bool, true, false, if◌then◌else◌, List, [], ◌∷◌, ◌++◌, Option, Some, None, Result, Ok, Err, codes, is_err, max, min}
 use Rattle.std.specs.Fmt.{decimal}
 use Rattle.std.specs.List.{list_any}
 use Rattle.volume_model.specs.declared.fault.Fault.{Fault}
@@ -9,6 +9,7 @@ use Rattle.volume_model.specs.Outcome.{Opened, Find}
 use Rattle.volume_model.specs.Plan.{Plan}
 use Rattle.volume_model.specs.Redo.{last_lsn}
 use Rattle.script.specs.declared.reading.Step.{Step}
+use Rattle.plan.specs.Sums.{sum_below}
 
 -- what is told of an event: the number of messages that it made, or why it was refused
 abbrev pub Told : Type 0
@@ -80,11 +81,6 @@ pub record TellsOf (steps : List Step) (results : List Told) (writers : List Ope
   pub lines_are : AreLinesOf (tellings steps results) lines
   pub text_is : text ≡ (lines ++ each_line writer_line writers) ++ each_line find_line finds
   pub status_is : status ≡ status_of results
-
--- the sum of what f gives for the numbers below a bound
-abbrev pub sum_below : (ℕ → ℕ) → ℕ → ℕ
-sum_below f zero = 0
-sum_below f (suc n) = sum_below f n + f n
 
 -- the line of a plan without a fault that has so many groups, configurations and certificates
 abbrev pub counts_line : ℕ → ℕ → ℕ → List ℕ

@@ -3,13 +3,12 @@
 ghost use Rattle.std.specs.Prelude.{◌≡◌, ◌<◌, ◌≤◌, ◌++◌, Err, IfErr, IfOk, Ok, OnOk, is_none, length, map, option_map, string_bytes};
 ghost use Rattle.std.specs.List.{list_any};
 ghost use Rattle.refutation.specs.Certificate.{certificate_rule};
-ghost use Rattle.plan.specs.FaultText.{claim_text};
 ghost use Rattle.plan.specs.LentClaims.{all_lent, lent_placed};
 ghost use Rattle.plan.specs.Plan.{plan_data};
 ghost use Rattle.plan.specs.PlanClaims.{claims_in};
 ghost use Rattle.plan.specs.PlanData.{PlanData};
 ghost use Rattle.plan.specs.Written.{HasPlaces, rewritten};
-ghost use Rattle.cert_search.specs.Answers.{AreAnswersOf};
+ghost use Rattle.cert_search.specs.Answers.{rule_in, AreAnswersOf};
 ghost use Rattle.jobs.specs.Answers.{AnswersOf, file_of};
 ghost use Rattle.jobs.specs.Searched.{IsPlanLine, SearchesTo, TellsSearch, claims_of, found_answer};
 ghost use Rattle.jobs.specs.Stops.{StopsBy};
@@ -21,7 +20,7 @@ use crate::inputs::{contents, plan_in};
 use crate::reply::{Found, Stop};
 use cert_search::{Gate, search_all};
 use command_line::Job;
-use plan::{LentClaim, Plan, lent_claims, no_fault_is_certified, write_plan};
+use plan::{LentClaim, Plan, claim_name, lent_claims, shown_claims_certify, write_plan};
 use refutation::Certificate;
 use std::alloc::{AllocError, Global};
 use std::io::Read;
@@ -59,7 +58,7 @@ fn answers<H: Threads + Wait + Sync>(
     workers: u8,
 ) -> Result<Vec<Option<Certificate<Global>>>, Stop<'static>>
     requires { (0 < workers) × (workers ≤ 16) }
-    ensures answers { IfOk result (λ v. AreAnswersOf 100000 (claims_in (plan_data plan.now)) v.items) }
+    ensures answers { IfOk result (λ v. AreAnswersOf 100000 (claims_in (plan_data plan.now)) (map rule_in v.items)) }
     ensures stop { IfErr result (λ stop. stop ≡ NoMemory) }
 {
     match search_all(rt, alloc, plan, usize::from(workers), BUDGET, &NoGate) {
@@ -85,13 +84,6 @@ fn plan_line(
         }
         Err(_) => Err(Stop::NoMemory),
     }
-}
-
-/// The name of a claim: that of a step, or that read sets meet write sets.
-fn claim_name(step: bool) -> &'static str
-    ensures { result.now ≡ claim_text step }
-{
-    if step { "step" } else { "meets" }
 }
 
 /// Adds the line of a claim without a certificate.
@@ -159,7 +151,7 @@ fn searched<H: Threads + Wait + Sync>(
     ensures told { IfOk result (λ found. TellsSearch text.now found.status found.plan.items (string_bytes found.unfound)) }
     ensures stop { IfErr result (StopsBy (λ fault. claims_of text.now ≡ Err fault)) }
 {
-    no_fault_is_certified();
+    shown_claims_certify();
     let plan = plan_in(alloc, text)?;
     let claims = claims_of(alloc, &plan)?;
     let certificates = answers(rt, alloc, &plan, workers)?;

@@ -7,7 +7,8 @@ ghost use Rattle.volume_model.specs.Redo.{last_lsn};
 ghost use Rattle.plan.specs.CheckedModel.{checked_model};
 ghost use Rattle.writer_core.specs.Logs.{log_of};
 ghost use Rattle.world.specs.Outcomes.{find_of, opened_of};
-ghost use Rattle.jobs.specs.Told.{TellsOf, counts_line, each_line, find_line, first_if, next_lsn, plan_line, refused_line, rest_if, sum_below, writer_line};
+ghost use Rattle.plan.specs.Sums.{sum_below};
+ghost use Rattle.jobs.specs.Told.{TellsOf, counts_line, each_line, find_line, first_if, next_lsn, plan_line, refused_line, rest_if, writer_line};
 ghost use Rattle.jobs.specs.ToldLines.{AppendsLine, AppendsLines};
 
 use crate::reply::Reply;

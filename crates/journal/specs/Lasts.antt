@@ -9,3 +9,12 @@ abbrev pub last_in : Lasts → Actor → Option ℕ
 last_in l Actor.TheAuthority = Some l.authority
 last_in l (Actor.Client volume) = slice_get l.clients.items volume
 last_in l (Actor.Node group member) = if nat_lt member members then slice_get l.nodes.items (slot_of group member) else None
+
+-- a number, 0 where there is none
+abbrev pub or_zero : Option ℕ → ℕ
+or_zero None = 0
+or_zero (Some n) = n
+
+-- the last number of an actor, 0 where there is no such actor
+abbrev pub last_known : Lasts → Actor → ℕ
+last_known l actor = or_zero (last_in l actor)

@@ -91,6 +91,10 @@ module _ {X : Type 0} {s : SiteGhosts X} {l : LedgerGhosts X} where
   abbrev pub letter_number : Letter X s l → ℕ
   letter_number letter = letter.number
 
+  -- the place of the step that made it
+  abbrev pub letter_step : Letter X s l → ℕ
+  letter_step letter = letter.cell
+
   -- the message that a letter is
   abbrev pub letter_message : Letter X s l → Option Message
   letter_message letter = option_map message_of (slice_get letter.entry.now.made.items letter.index)

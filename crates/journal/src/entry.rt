@@ -22,7 +22,8 @@ pub struct Note {
     pub event: Event,
     /// Why it was refused.
     pub fault: Fault,
-    /// The number of the last entry of its actor, 0 where it had none.
+    /// The number of the last entry of its actor, 0 where it had none; of an actor that the journal keeps no place for,
+    /// how many entries there were.
     pub number: usize,
 }
 

@@ -39,15 +39,19 @@ fn place(group: u8, member: u8) -> usize
 }
 
 impl Lasts {
-    ghost use Rattle.std.specs.Prelude.{ℕ, ◌≡◌, IfOk, IsSome, MatchBool, Some};
+    ghost use Rattle.std.specs.Prelude.{ℕ, ◌≡◌, ◌<◌, ◌≤◌, IfOk, IsSome, MatchBool, Some};
     ghost use Rattle.volume_model.specs.Actor.{Actor, same_actor};
+    ghost use Rattle.volume_model.specs.Actor.Actor.{Client, Node};
+    ghost use Rattle.world.specs.Slots.{members};
     ghost use Rattle.journal.specs.Actors.{seen_who};
-    ghost use Rattle.journal.specs.Lasts.{last_in};
+    ghost use Rattle.journal.specs.Lasts.{last_in, last_known};
 
     /// Of the clients of the volume epochs up to that of the last slot, and the nodes of so many groups. None has made a
     /// step.
     pub(crate) fn new(alloc: Global, slots: u32, groups: u8) -> Result<Lasts, AllocError>
-        ensures { IfOk result (λ l. (actor : Actor) (n : ℕ) → last_in l actor ≡ Some n → n ≡ 0) }
+        ensures clients { IfOk result (λ l. (volume : ℕ) → volume ≤ slots → last_in l (Client volume) ≡ Some 0) }
+        ensures nodes { IfOk result (λ l. (group member : ℕ) → group < groups → member < members → last_in l (Node group member) ≡ Some 0) }
+        ensures none { IfOk result (λ l. (actor : Actor) → last_known l actor ≡ 0) }
     {
         Ok(Lasts {
             authority: 0,
@@ -75,7 +79,7 @@ impl Lasts {
     /// The actor has made a step, of this number.
     pub(crate) fn set(&mut self, who: Who, number: usize)
         requires { IsSome (last_in self.old (seen_who who)) }
-        ensures { (other : Actor) (n : ℕ) → last_in self.new other ≡ Some n → MatchBool (same_actor (seen_who who) other) (n ≡ number) (last_in self.old other ≡ Some n) }
+        ensures { (other : Actor) → MatchBool (same_actor (seen_who who) other) (last_in self.new other ≡ Some number) (last_in self.new other ≡ last_in self.old other) }
     {
         match who {
             Who::TheAuthority => self.authority = number,

@@ -8,7 +8,7 @@ ghost use Rattle.atomic_table.specs.Seated.{table_id_coded};
 ghost use Rattle.volume_model.specs.Actor.{Actor};
 ghost use Rattle.volume_model.specs.Journal.{world_at, last_of, IsRun};
 ghost use Rattle.journal.specs.Entries.{entries_of};
-ghost use Rattle.journal.specs.Lasts.{last_in};
+ghost use Rattle.journal.specs.Lasts.{last_in, last_known};
 ghost use Rattle.journal.specs.Tokens.{ids_of, shown, Shows};
 
 use crate::entry::{Entry, Receipt};
@@ -48,7 +48,7 @@ pub struct Log<'a, L: Site> {
     ghost run: { IsRun L.plan (entries_of (shown tokens.items)) } by { Prim.hlevel props },
     ghost firsts_are: { firsts.items ≡ map (λ e. e.first) (shown tokens.items) },
     ghost messages_are: { messages ≡ length (world_at L.plan (entries_of (shown tokens.items))).messages },
-    ghost newest: { (actor : Actor) (n : ℕ) → last_in lasts actor ≡ Some n → n ≡ last_of actor (entries_of (shown tokens.items)) } by { Prim.hlevel props },
+    ghost newest: { (actor : Actor) → last_known lasts actor ≡ last_of actor (entries_of (shown tokens.items)) } by { Prim.hlevel props },
     ghost counted: { book.total ≡ vec_len tokens },
 }
 
@@ -82,19 +82,25 @@ impl<'a, L: Site> Log<'a, L> {
     ghost use Rattle.std.specs.Prelude.{◌++◌, [], ◌∷◌, ◌^◌, slice_get, None, All, IsSome, IfSome, IfNone, IfOk, MatchBool, sum_by, take};
     ghost use Rattle.height.specs.Seats.{table_of};
     ghost use Rattle.volume_model.specs.Lists.{numbered};
-    ghost use Rattle.volume_model.specs.World.{after, step};
+    ghost use Rattle.volume_model.specs.World.{after, opening, step};
     ghost use Rattle.volume_model.specs.Actor.{actor_of, Agree};
+    ghost use Rattle.volume_model.specs.Actor.Actor.{Client, Node};
     ghost use Rattle.volume_model.specs.Told.{makes};
     ghost use Rattle.volume_model.specs.Journal.{before, events};
     ghost use Rattle.volume_model.specs.Judging.{Exact, IsNoted, IsRefused};
     ghost use Rattle.wire.specs.Message.{messages_of};
     ghost use Rattle.world.specs.Events.{event_of, events_of};
+    ghost use Rattle.world.specs.Slots.{members};
+    ghost use Rattle.journal.specs.Actors.{seen_who};
     ghost use Rattle.journal.specs.Entries.{entry_of};
     ghost use Rattle.journal.specs.Standing.{durable_in, made, IsElse, NamesEarlier, Stands};
-    ghost use Rattle.journal.specs.Passes.{journal_of, kept_in, letter_message, letter_number, mark_number, marked, notes_of, seat_of, seen_at, steps_of, world_of, AddsRefusal, AddsStep, HasNoteRoom, HasPlace, HasRoom, HasStepRoom, SeesAll};
+    ghost use Rattle.journal.specs.Passes.{journal_of, kept_in, letter_message, letter_number, letter_step, mark_number, marked, notes_of, seat_of, seen_at, steps_of, world_of, AddsRefusal, AddsStep, HasNoteRoom, HasPlace, HasRoom, HasStepRoom, SeesAll};
 
-    /// An empty journal over a row of cells, for the clients of the volume epochs up to that of the last slot and the
-    /// nodes of so many groups.
+    /// An empty journal over a row of cells that nobody has written, for the clients of the volume epochs up to that of
+    /// the last slot and the nodes of so many groups.
+    ///
+    /// # Errors
+    /// Where a growth was refused.
     pub fn new(
         alloc: Global,
         row: &'a Row,
@@ -108,7 +114,9 @@ impl<'a, L: Site> Log<'a, L> {
         requires top { (top_table top ≡ L.table) × (height_of top ≡ 0) }
         requires history { history.seen.log ≡ [] }
         requires book { book.total ≡ 0 }
-        ensures { IfOk result (λ log. journal_of log ≡ []) }
+        ensures empty { IfOk result (λ log. journal_of log ≡ []) }
+        ensures clients { IfOk result (λ log. (volume : ℕ) → volume ≤ slots → HasPlace log (Client volume)) }
+        ensures nodes { IfOk result (λ log. (group member : ℕ) → group < groups → member < members → HasPlace log (Node group member)) }
     {
         let lasts = Lasts::new(alloc, slots, groups)?;
         Ok(Log {
@@ -123,10 +131,11 @@ impl<'a, L: Site> Log<'a, L> {
         })
     }
 
-    /// Whether the actor stands here as it stands under its own lock. Then it is in the state that the journal says.
+    /// Whether the actor stands here as it stands under its own lock, as it always does where the journal keeps its last
+    /// number. Then it is in the state that the journal says.
     pub fn compare(&self, mark: &Mark<L>) -> bool
         ensures agree { MatchBool result (Agree (marked mark.now) (world_at L.plan (seen_at mark.now)) (world_of self.now)) (Unit {0}) }
-        ensures last { MatchBool result ((mark_number mark.now ≡ last_of (marked mark.now) (journal_of self.now)) × HasPlace self.now (marked mark.now)) (Unit {0}) }
+        ensures last { MatchBool result ((mark_number mark.now ≡ last_of (marked mark.now) (journal_of self.now)) × HasPlace self.now (marked mark.now)) (HasPlace self.now (marked mark.now) → mark_number mark.now ≡ last_of (marked mark.now) (journal_of self.now) → ⊥) }
         ensures seen { MatchBool result (take (mark_number mark.now) (journal_of self.now) ≡ seen_at mark.now) (Unit {0}) }
     {
         if self.lasts.get(mark.who) != Some(mark.number) {
@@ -135,6 +144,13 @@ impl<'a, L: Site> Log<'a, L> {
         let mut both = self.history.seen.again();
         both.learn(&mark.seen);
         true
+    }
+
+    /// Whether the journal keeps the number of the actor's last step. Where it doesn't, the actor has made none.
+    pub fn has_place(&self, who: Who) -> bool
+        ensures { MatchBool result (HasPlace self.now (seen_who who)) (Agree (seen_who who) (opening L.plan) (world_of self.now)) }
+    {
+        self.lasts.get(who).is_some()
     }
 
     /// Shows that the journal has come past all that the pass has seen. From then on the pass has seen the whole of it.
@@ -151,6 +167,9 @@ impl<'a, L: Site> Log<'a, L> {
     }
 
     /// Makes room for a step.
+    ///
+    /// # Errors
+    /// Where a growth was refused; the journal is what it was.
     pub fn reserve(&mut self) -> Result<(), AllocError>
         ensures same { (kept_in self.new ≡ kept_in self.old) × (self.new.lasts ≡ self.old.lasts) }
         ensures room { IfOk result (λ _. HasRoom self.new) }
@@ -274,8 +293,8 @@ impl<'a, L: Site> Log<'a, L> {
         requires room { HasRoom self.old × HasStepRoom pass.old }
         ensures step { AddsStep (event_of event) result (steps_of pass.old) (steps_of pass.new) }
         ensures notes { (notes_of pass.new ≡ notes_of pass.old) × (seat_of pass.new ≡ seat_of pass.old) }
-        ensures durable { result.durable ≡ durable }
-        ensures entry { journal_of self.new ≡ journal_of self.old ++ record { event = event_of event; made = messages_of made.items; first = self.old.messages } ∷ [] }
+        ensures receipt { (result.number ≡ length (journal_of self.new)) × (result.durable ≡ durable) }
+        ensures entry { journal_of self.new ≡ journal_of self.old ++ record { event = event_of event; made = messages_of made.items; first = length (world_of self.old).messages } ∷ [] }
         ensures world { world_of self.new ≡ after L.plan (world_of self.old) (event_of event) }
         ensures mark { (marked mark.new ≡ marked mark.old) × (seen_at mark.new ≡ journal_of self.new) }
         ensures seen { SeesAll pass.new self.new }
@@ -307,6 +326,9 @@ impl<'a, L: Site> Log<'a, L> {
     }
 
     /// A copy of what happened, in order.
+    ///
+    /// # Errors
+    /// Where a growth was refused.
     pub fn events(&self, alloc: Global) -> Result<Vec<Event>, AllocError>
         ensures { IfOk result (λ made. events_of made.items ≡ events (journal_of self.now)) }
     {
@@ -359,7 +381,7 @@ impl<'a, L: Site> Log<'a, L> {
     /// Whether the journal has a letter that was found before, as it always has: then its message has the letter's
     /// number.
     pub fn has(&self, letter: &Letter<'a, L>) -> bool
-        ensures { MatchBool result (numbered (world_of self.now).messages (letter_number letter.now) ≡ letter_message letter.now) (Unit {0}) }
+        ensures { MatchBool result (numbered (world_of self.now).messages (letter_number letter.now) ≡ letter_message letter.now) (length (journal_of self.now) ≤ letter_step letter.now) }
     {
         if letter.cell >= self.tokens.len() {
             return false;

@@ -60,6 +60,9 @@ impl Row {
     ghost use Rattle.std.specs.Prelude.{◌≡◌, IfOk, vec_len};
 
     /// So many cells, none of them written.
+    ///
+    /// # Errors
+    /// Where a growth was refused.
     pub fn new(alloc: Global, cells: usize) -> Result<Row, AllocError>
         ensures { IfOk result (λ row. vec_len row.cells ≡ cells) }
     {

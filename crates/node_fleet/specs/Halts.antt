@@ -1,5 +1,5 @@
 -- What a step under both locks does to a pass, and what its refusal says.
-use Rattle.std.specs.Prelude.{◌≡◌, ℕ, List, Result, Ok, Err}
+use Rattle.std.specs.Prelude.{◌≡◌, ℕ, List, [], ◌∷◌, ◌++◌, Result, Ok, Err}
 use Rattle.volume_model.specs.declared.fault.Fault.{Fault}
 use Rattle.volume_model.specs.Plan.{Plan}
 use Rattle.volume_model.specs.World.{Event}
@@ -27,3 +27,8 @@ abbrev pub IsExact : Plan → ℕ → ℕ → List Entry → Event → Result Re
 IsExact plan slots cells es event (Ok r) = Unit {0}
 IsExact plan slots cells es event (Err Again) = Unit {0}
 IsExact plan slots cells es event (Err (Refused fault)) = Exact plan slots cells es event fault
+
+-- what it does to the journal: its last entry is the step's, or it is what it was
+abbrev pub Enters : Event → List Entry → List Entry → Result Receipt Halt → Type 0
+Enters event es es' (Ok r) = (e : Entry) × (es' ≡ es ++ e ∷ []) × (e.event ≡ event)
+Enters event es es' (Err halt) = es' ≡ es

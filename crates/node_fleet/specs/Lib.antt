@@ -1,1 +1,11 @@
+pub mod Acts
+pub mod Bases
+pub mod Calls
+pub mod Deeds
 pub mod Halts
+pub mod Journals
+pub mod Mails
+pub mod Nodes
+pub mod Ready
+pub mod Tried
+pub mod Volumes

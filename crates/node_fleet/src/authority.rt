@@ -8,14 +8,15 @@ ghost use Rattle.epochs.specs.Authority.{authority_of, authority_plan};
 ghost use Rattle.journal.specs.Passes.{marked, seen_at};
 ghost use Rattle.journal.proofs.Plans.{Plan-set};
 
+use crate::authority_tried::{event, tried};
 use crate::halt::Halt;
+use crate::step::{conclude, ready};
 use epochs::Authority;
 use height::Height;
 use journal::{Log, Mark, Pass, Receipt, Site};
 use std::alloc::Global;
 use std::sync::Wait;
-use volume_model::Fault;
-use world::Event;
+use world::AuthorityAct;
 
 /// The authority, and where it stands in the history.
 #[derive(Drop)]
@@ -28,11 +29,14 @@ pub struct AuthorityActor<L: Site> {
 }
 
 impl<L: Site> AuthorityActor<L> {
-    ghost use Rattle.std.specs.Prelude.{length};
+    ghost use Rattle.std.specs.Prelude.{Err, length, OnOk};
     ghost use Rattle.height.specs.Seats.{table_of};
-    ghost use Rattle.volume_model.specs.World.Event.{Assign};
-    ghost use Rattle.journal.specs.Passes.{journal_of, notes_of, seat_of, steps_of};
-    ghost use Rattle.node_fleet.specs.Halts.{Halts, IsExact};
+    ghost use Rattle.volume_model.specs.declared.fault.Fault.TheVariants.{JournalFull, NoSlot};
+    ghost use Rattle.journal.specs.Passes.{journal_of, notes_of, seat_of, steps_of, world_of};
+    ghost use Rattle.node_fleet.specs.declared.halt.Halt.TheVariants.{Again, Refused};
+    ghost use Rattle.node_fleet.specs.Acts.{event_by, IsLeft, IsSpent};
+    ghost use Rattle.node_fleet.specs.Halts.{Enters, Halts, IsExact};
+    ghost use Rattle.node_fleet.specs.Ready.{IsStale};
 
     /// The authority of a new volume, which has made no step.
     pub fn new(mark: Mark<L>, authority: Authority) -> AuthorityActor<L>
@@ -43,50 +47,39 @@ impl<L: Site> AuthorityActor<L> {
         AuthorityActor { mark, authority }
     }
 
-    /// Assigns the next volume epoch, and enters the step. Its caller holds the authority's lock and the journal's.
+    /// Does what it is asked to, and enters the step. Its caller holds the authority's lock and the journal's.
     ///
     /// # Errors
-    /// [`Again`](Halt::Again) where the journal doesn't have the authority as it stands here. Else, and these are noted: `EpochsSpent` where no
-    /// volume epoch is left, `NoSlot` where the last slot's was assigned, `JournalFull` where no cell is left; and `NoMemory`, which isn't noted.
-    pub fn assign<'a, R: Wait>(
+    /// [`Again`](Halt::Again) where the journal doesn't have the authority as it stands here. Else, and these are
+    /// noted: what [`AuthorityAct::admitted_by`] says, `NoSlot` where a volume epoch is to be assigned and that of the
+    /// last slot was, and `JournalFull` where no cell is left; and `NoMemory`, which isn't noted. The authority is what
+    /// it was then.
+    pub fn act<'a, R: Wait>(
         &mut self,
         rt: &R,
         alloc: Global,
         height: &Height,
         log: &mut Log<'a, L>,
         pass: &mut Pass<'a, L>,
+        act: AuthorityAct,
         slots: u32,
     ) -> Result<Receipt, Halt>
         requires height { table_of height.now ≡ L.table }
         requires slots { slots ≡ L.slots }
-        ensures told { Halts Assign result (steps_of pass.old) (steps_of pass.new) (notes_of pass.old) (notes_of pass.new) }
-        ensures exact { IsExact L.plan L.slots (length L.cells) (journal_of log.old) Assign result }
+        ensures told { Halts (event_by act) result (steps_of pass.old) (steps_of pass.new) (notes_of pass.old) (notes_of pass.new) }
+        ensures exact { IsExact L.plan L.slots (length L.cells) (journal_of log.old) (event_by act) result }
+        ensures left { OnOk result (IsLeft act (world_of log.old).authority slots) }
+        ensures spent { result ≡ Err (Refused NoSlot) → IsSpent act (world_of log.old).authority slots }
+        ensures full { result ≡ Err (Refused JournalFull) → IsLeft act (world_of log.old).authority slots }
+        ensures entered { Enters (event_by act) (journal_of log.old) (journal_of log.new) result }
+        ensures stale { result ≡ Err Again → IsStale self.old.mark log.old }
         ensures seat { seat_of pass.new ≡ seat_of pass.old }
     {
         let AuthorityActor { mark, authority } = self;
-        if !log.compare(mark) {
-            return Err(Halt::Again);
+        if let Err(halt) = ready(height, log, pass, mark) {
+            return Err(halt);
         }
-        let mut made = Vec::with_capacity(alloc, 1)?;
-        log.reserve()?;
-        pass.reserve()?;
-        log.settle(height, pass);
-        if let Err(fault) = authority.admits_assign() {
-            log.refuse(mark, pass, Event::Assign, fault);
-            return Err(Halt::Refused(fault));
-        }
-        if authority.last_volume() == slots {
-            log.refuse(mark, pass, Event::Assign, Fault::NoSlot);
-            return Err(Halt::Refused(Fault::NoSlot));
-        }
-        if log.is_full() {
-            log.refuse(mark, pass, Event::Assign, Fault::JournalFull);
-            return Err(Halt::Refused(Fault::JournalFull));
-        }
-        let Ok(message) = authority.assign(alloc) else {
-            return Err(Halt::Refused(Fault::NoMemory));
-        };
-        made.push_reserved(message);
-        Ok(log.enter(rt, height, mark, pass, Event::Assign, made, 0))
+        let done = tried(alloc, authority, log.is_full(), act, slots);
+        conclude(rt, height, log, mark, pass, event(act), done, 0)
     }
 }

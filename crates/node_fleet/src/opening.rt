@@ -1,54 +1,182 @@
-//! A new authority, with its journal and a pass.
+//! A new fleet, with its passes.
 
-ghost use Rattle.std.specs.Prelude.{◌≡◌, [], IfOk};
+ghost use Rattle.std.specs.Prelude.{◌≡◌, ◌+◌, All, [], IfOk, vec_len};
 ghost use Rattle.std.specs.Arc.{arc_value};
 ghost use Rattle.height.specs.Seats.{table_of, top_table, height_of};
 ghost use Rattle.board.specs.Seats.{IsSeatIn};
 ghost use Rattle.plan.specs.CheckedModel.{checked_model};
 ghost use Rattle.journal.specs.Tokens.{ids_of};
-ghost use Rattle.journal.specs.Passes.{journal_of, notes_of, steps_of};
+ghost use Rattle.journal.specs.Passes.{notes_of, steps_of};
 
 use crate::authority::AuthorityActor;
+use crate::base::Base;
+use crate::client::ClientActor;
+use crate::fleet::Fleet;
+use crate::node::NodeActor;
 use board::BoardSeat;
 use epochs::Authority;
 use height::{Height, Top};
-use journal::{Log, Mark, Opened, Pass, Row, Site, Who};
+use journal::{History, Log, Mark, Pass, Row, Site, Who};
 use plan::CheckedPlan;
-use std::alloc::Global;
-use std::sync::Arc;
-use std::sync::ledger::Blank;
+use std::alloc::{AllocError, Global};
+use std::sync::ledger::Share;
+use std::sync::{Arc, Mutex};
 use volume_model::Fault;
+use world::Client;
 
-/// The authority of a new volume, an empty journal over a row of cells, for clients of the volume epochs up to that of the last slot, and one
-/// pass. `NoMemory` where a growth was refused.
-pub fn open<'a, L: Site>(
+/// How many members a group can have.
+const MEMBERS: u8 = 64;
+
+// Passes that have made no step, one for each seat of the board, with a part of the ledger each.
+fn passes<'a, L: Site>(
     alloc: Global,
-    row: &'a Row,
     height: &Height,
-    mut top: Top,
-    seat: BoardSeat,
-    opened: Opened,
-    blank: Blank,
-    plan: Arc<CheckedPlan>,
-    slots: u32,
-) -> Result<(AuthorityActor<L>, Log<'a, L>, Pass<'a, L>), Fault>
-    requires plan { checked_model (arc_value plan) ≡ L.plan }
-    requires cells { ids_of row.now ≡ L.cells }
-    requires height { (table_of height.now ≡ L.table) × (top_table top ≡ L.table) × (height_of top ≡ 0) }
-    requires board { IsSeatIn L.board seat }
-    requires history { opened.seen.book ≡ L.history }
-    requires blank { (blank.name ≡ L.name) × (blank.parts ≡ L.parts) × (L.parts ≡ 1) }
-    ensures journal { IfOk result (λ f. journal_of f.1 ≡ []) }
-    ensures pass { IfOk result (λ f. (steps_of f.2 ≡ []) × (notes_of f.2 ≡ [])) }
+    top: &mut Top,
+    mut rest: Share<L>,
+    history: &History<L>,
+    mut seats: Vec<BoardSeat>,
+) -> Result<Vec<Pass<'a, L>>, AllocError>
+    requires table { (table_of height.now ≡ L.table) × (top_table top.old ≡ L.table) × (height_of top.old ≡ 0) }
+    requires parts { (rest.parts ≡ vec_len seats) × (rest.amount ≡ 0) }
+    requires history { history.now.seen.log ≡ [] }
+    requires seats { All (λ s. IsSeatIn L.board s) seats.items }
+    ensures top { (top_table top.new ≡ top_table top.old) × (height_of top.new ≡ height_of top.old) }
+    ensures count { IfOk result (λ made. vec_len made ≡ vec_len seats) }
+    ensures fresh { IfOk result (λ made. All (λ p. (steps_of p ≡ []) × (notes_of p ≡ [])) made.items) }
 {
-    let groups = plan.groups();
-    let (book, share) = blank.open::<L>();
-    let history = opened.named::<L>();
-    let authority = AuthorityActor::new(
-        Mark::new(Who::TheAuthority, &history),
-        Authority::new(alloc, plan)?,
-    );
-    let pass = Pass::new(alloc, share, height.floor(&mut top), &history, seat);
-    let log = Log::new(alloc, row, slots, groups, book, top, history)?;
-    Ok((authority, log, pass))
+    let mut made = Vec::with_capacity(alloc, seats.len())?;
+    while let Some(seat) = seats.pop() {
+        let share = rest.split_off(1, 0);
+        let floor = height.floor(top);
+        made.push(Pass::new(alloc, share, floor, history, seat))?;
+    }
+    Ok(made)
+}
+
+// The client of a volume epoch: the first is born a writer, and no View has reached the others.
+fn client<L: Site>(
+    alloc: Global,
+    plan: &Arc<CheckedPlan>,
+    volume: u32,
+    history: &History<L>,
+) -> Result<ClientActor<L>, Fault>
+    requires plan { checked_model (arc_value plan.now) ≡ L.plan }
+    requires history { history.now.seen.log ≡ [] }
+{
+    let client = if volume == 1 {
+        Client::first(alloc, plan.clone()?)?
+    } else {
+        Client::unborn(plan.clone()?, volume)
+    };
+    let mark = Mark::new(Who::Client(volume), history);
+    Ok(ClientActor::new(mark, client))
+}
+
+// The clients of the volume epochs up to that of the last slot, and of volume epoch 0, which nobody is born with.
+fn clients<L: Site>(
+    alloc: Global,
+    plan: &Arc<CheckedPlan>,
+    slots: u32,
+    history: &History<L>,
+) -> Result<Vec<Mutex<ClientActor<L>>>, Fault>
+    requires plan { checked_model (arc_value plan.now) ≡ L.plan }
+    requires history { history.now.seen.log ≡ [] }
+    ensures { IfOk result (λ made. vec_len made ≡ slots + 1) }
+{
+    let mut made = Vec::with_capacity(alloc, slots as usize + 1)?;
+    made.push(Mutex::new(client(alloc, plan, 0, history)?))?;
+    for slot in 0..slots {
+        made.push(Mutex::new(client(alloc, plan, slot + 1, history)?))?;
+    }
+    Ok(made)
+}
+
+// The node of a member of a group, where the plan names it.
+fn node<L: Site>(
+    alloc: Global,
+    plan: &Arc<CheckedPlan>,
+    group: u8,
+    member: u8,
+    history: &History<L>,
+) -> Result<Option<Mutex<NodeActor<L>>>, Fault>
+    requires plan { checked_model (arc_value plan.now) ≡ L.plan }
+    requires history { history.now.seen.log ≡ [] }
+{
+    if !plan.names(group, member) {
+        return Ok(None);
+    }
+    let actor = NodeActor::born(alloc, plan.clone()?, group, member, history)?;
+    Ok(Some(Mutex::new(actor)))
+}
+
+// The nodes of the groups, 64 a group.
+fn nodes<L: Site>(
+    alloc: Global,
+    plan: &Arc<CheckedPlan>,
+    history: &History<L>,
+) -> Result<Vec<Option<Mutex<NodeActor<L>>>>, Fault>
+    requires plan { checked_model (arc_value plan.now) ≡ L.plan }
+    requires history { history.now.seen.log ≡ [] }
+{
+    let mut made = Vec::new(alloc);
+    for group in 0..plan.groups() {
+        for member in 0..MEMBERS {
+            made.push(node(alloc, plan, group, member, history)?)?;
+        }
+    }
+    Ok(made)
+}
+
+impl<'a, L: Site> Fleet<'a, L> {
+    ghost use Rattle.node_fleet.specs.Bases.{passes_of, IsBaseOf};
+
+    /// A fleet of a new volume over a plan, with an empty journal over a row of cells that nobody has written, for
+    /// clients of the volume epochs up to that of the last slot; and the passes of its callers.
+    ///
+    /// # Errors
+    /// `NoMemory` where a growth was refused.
+    pub fn new(
+        alloc: Global,
+        row: &'a Row,
+        base: Base,
+        plan: Arc<CheckedPlan>,
+        slots: u32,
+    ) -> Result<(Fleet<'a, L>, Vec<Pass<'a, L>>), Fault>
+        requires plan { checked_model (arc_value plan) ≡ L.plan }
+        requires cells { ids_of row.now ≡ L.cells }
+        requires slots { slots ≡ L.slots }
+        requires base { IsBaseOf L.table L.board L.history L.name L.parts base }
+        ensures count { IfOk result (λ f. vec_len f.1 ≡ passes_of base) }
+        ensures fresh { IfOk result (λ f. All (λ p. (steps_of p ≡ []) × (notes_of p ≡ [])) f.1.items) }
+    {
+        let Base {
+            height,
+            mut top,
+            board,
+            seats,
+            opened,
+            blank,
+        } = base;
+        let (book, rest) = blank.open::<L>();
+        let history = opened.named::<L>();
+        let made = passes(alloc, &height, &mut top, rest, &history, seats)?;
+        let nodes = nodes(alloc, &plan, &history)?;
+        let volumes = slots.max(1);
+        let clients = clients(alloc, &plan, volumes, &history)?;
+        let authority = Authority::new(alloc, plan.clone()?)?;
+        let authority = AuthorityActor::new(Mark::new(Who::TheAuthority, &history), authority);
+        let log = Log::new(alloc, row, volumes, plan.groups(), book, top, history)?;
+        let fleet = Fleet {
+            alloc,
+            plan,
+            height,
+            board,
+            authority: Mutex::new(authority),
+            clients,
+            nodes,
+            journal: Mutex::new(log),
+            slots,
+        };
+        Ok((fleet, made))
+    }
 }

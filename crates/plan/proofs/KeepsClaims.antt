@@ -1,6 +1,6 @@
 -- A plan without a fault is certified.
 use Rattle.std.proofs.Common.{◌≡◌, ℕ, zero, suc, ◌<◌, ◌≤◌, List, [], ◌∷◌, length, get_or, map, arith, refl, ap, ◌∙◌, sym, subst, inl, inr}
-use Rattle.std.specs.Prelude.{Bool, true, false, not, ◌&&◌, ◌==◌, nat_lt, if◌then◌else◌, Option, Some, None, slice_get}
+use Rattle.std.specs.Prelude.{Bool, true, false, not, ◌&&◌, ◌==◌, nat_lt, if◌then◌else◌, Option, Some, None}
 use Rattle.std.proofs.lemmas.Bool.{cases_lt, and_parts, and_from, ltb-true, lt-ltb, false_from_ne_true}
 use Rattle.std.proofs.lemmas.List.{length-map}
 use Rattle.std.specs.Ordering.{nat_cmp}
@@ -28,7 +28,7 @@ use Rattle.plan.specs.declared.fault.PlanFault.{PlanFault}
 use Rattle.plan.specs.declared.fault.PlanFault.TheVariants.{BadParent}
 use Rattle.plan.specs.PlanData.{ConfigurationData, PlanData, configuration_at, group_at, by_parent, epoch_at, or_zero, shown, model_of, names_only, each_names_only}
 use Rattle.plan.specs.Plan.{configuration_data, group_data, plan_data}
-use Rattle.plan.specs.PlanFaults.{or_then, first_below, is_good_parent, parent_fault, fresh_at, unused_within, reused_at, reused_member, reuse_fault, certificate_fault, claim_fault, meets_claim, step_claim, meets_fault, step_fault, shape_fault, configuration_fault, group_fault, plan_fault}
+use Rattle.plan.specs.PlanFaults.{or_then, first_below, is_good_parent, parent_fault, fresh_at, reused_member, reuse_fault, certificate_fault, claim_fault, meets_claim, step_claim, meets_fault, step_fault, shape_fault, configuration_fault, group_fault, plan_fault}
 use Rattle.plan.proofs.Lookups.{any-listed}
 use Rattle.plan.proofs.Named.{root-of}
 use Rattle.plan.proofs.Epochs.{epoch-next}

@@ -15,3 +15,4 @@ pub mod RereadPlan
 pub mod GoodParents
 pub mod Rewrites
 pub mod GroupsMore
+pub mod Certifies

@@ -15,3 +15,5 @@ pub mod PlanFaultText
 pub mod WithCertificates
 pub mod Rewriting
 pub mod Written
+pub mod Sums
+pub mod Shown

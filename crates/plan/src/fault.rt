@@ -117,7 +117,7 @@ impl fmt::Display for Place {
 }
 
 /// The name of a claim: that of a step, or that read sets meet write sets.
-fn claim_name(step: bool) -> &'static str
+pub fn claim_name(step: bool) -> &'static str
     ensures { result.now ≡ claim_text step }
 {
     if step { "step" } else { "meets" }

@@ -1,9 +1,13 @@
 //! What it means that a plan has no fault.
 
-ghost use Rattle.std.specs.Prelude.{◌≡◌, None};
+ghost use Rattle.std.specs.Prelude.{◌≡◌, None, Ok, Option, List};
+ghost use Rattle.refutation.specs.Rule.{Rule};
 ghost use Rattle.plan.specs.PlanData.{PlanData};
 ghost use Rattle.plan.specs.PlanFaults.{plan_fault};
+ghost use Rattle.plan.specs.PlanClaims.{PlacedClaim, claims_in};
 ghost use Rattle.plan.specs.Certified.{IsCertifiedPlan};
+ghost use Rattle.plan.specs.Shown.{AreShown};
+ghost use Rattle.plan.specs.WithCertificates.{with_certificates};
 ghost use Rattle.plan.specs.Reused.{ReuseIsFound};
 
 use quorum_checker::no_fault_refutes;
@@ -15,6 +19,15 @@ pub fn no_fault_is_certified()
     ensures fault_free { (plan : PlanData) → IsCertifiedPlan plan → plan_fault plan ≡ None }
 {
     no_fault_refutes();
+}
+
+/// Where each claim of a plan has a rule that refutes it, the plan is certified and has no fault, once it is written with
+/// these rules.
+pub fn shown_claims_certify()
+    ensures certified { (plan : PlanData) (claims : List PlacedClaim) (rules : List (Option Rule)) → claims_in plan ≡ Ok claims → AreShown claims rules → IsCertifiedPlan (with_certificates plan rules) }
+    ensures fault_free { (plan : PlanData) (claims : List PlacedClaim) (rules : List (Option Rule)) → claims_in plan ≡ Ok claims → AreShown claims rules → plan_fault (with_certificates plan rules) ≡ None }
+{
+    no_fault_is_certified();
 }
 
 /// A member is said to be used again exactly where one of the configuration that the parent lacks is one of a

@@ -7,6 +7,7 @@ mod deals;
 mod expressions;
 mod faults;
 mod files;
+mod fleets;
 mod gates;
 mod hands;
 mod hydrations;

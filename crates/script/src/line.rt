@@ -38,7 +38,7 @@ pub enum Verb {
 pub enum Line {
     /// Nothing: it is empty or a comment.
     Empty,
-    /// It waits for the lines before it.
+    /// The lines before it end before those after it begin. A run takes them one by one, so there it does nothing.
     Wait,
     /// It makes an event happen.
     Order(Order),

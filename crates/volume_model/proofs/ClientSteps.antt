@@ -21,7 +21,7 @@ use Rattle.volume_model.proofs.Basics.{any_passes, numbered-in, IsIn-append, IsI
 use Rattle.volume_model.proofs.Logs.{IsLink}
 use Rattle.volume_model.proofs.Chains.{record_at-some}
 use Rattle.volume_model.proofs.Invariant.{log_of, found_of, lineage_of, HasCut, IsMade, label, WasAt, IsCopy, config}
-use Rattle.volume_model.proofs.Kept.{IsPlace, IsGrown, HasRead, IsChild, IsOwned, IsCutClient, IsReached, IsBorn, ClientKept, IsView, MessageKept, IsKept}
+use Rattle.volume_model.proofs.Kept.{IsPlace, IsGrown, HasRead, IsHeir, IsOwned, IsCutClient, IsReached, IsBorn, ClientKept, IsView, MessageKept, IsKept}
 use Rattle.volume_model.proofs.Ordered.{IsOrdered, of_group-ordered}
 use Rattle.volume_model.proofs.Added.{MessageNew, messages_added}
 use Rattle.volume_model.proofs.Changed.{ClientGrows, client_changed}
@@ -479,7 +479,7 @@ module _ (plan : Plan) (certified : IsCertified plan) (world : World) (kept : Is
       let known : parent ≡ lineage_of world p = one.2 ∙ copy.lineage ∙ ap (λ u. lineage_of world u) same_last in
       let below : last_epoch d.lineage < v = subst (λ z. last_epoch z.lineage < v) came.4 told.1 in
       let after : Client = record client { stage = Installing; lineage = lineage; found = found; log = found } in
-      let child : IsChild plan world v after = record {
+      let child : IsHeir plan world v after = record {
         parent = p;
         below = omega arith;
         parent_cut = subst (λ u. HasCut world u) same_last copy.cut;

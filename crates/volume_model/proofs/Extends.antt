@@ -11,7 +11,7 @@ use Rattle.volume_model.specs.Node.{Node, senders}
 use Rattle.volume_model.specs.Client.{Client, place_of, reports_of, group_point_of}
 use Rattle.volume_model.specs.World.{World}
 use Rattle.volume_model.proofs.Invariant.{epoch_now, path, config, log_of, found_of, lineage_of, HasCut, IsMade, WasAt, IsCopy, IsSource, IsSourced, MessageSourced, IsHistory}
-use Rattle.volume_model.proofs.Kept.{IsPlace, Retains, NodeGrows, NodeKept, HasRead, reported_to, IsChild, IsReached, ClientKept, IsWrite, MessageKept}
+use Rattle.volume_model.proofs.Kept.{IsPlace, Retains, NodeGrows, NodeKept, HasRead, reported_to, IsHeir, IsReached, ClientKept, IsWrite, MessageKept}
 
 -- what was so in the one world is so in the other
 pub record Extends (plan : Plan) (world later : World) : Type 0 where
@@ -132,8 +132,8 @@ module _ (plan : Plan) (world later : World) (extends : Extends plan world later
     kept = λ from i. (extends.messages _ (h.kept from i).0, (h.kept from i).1);
   }
 
-  IsChild-later : (v : ℕ) (client : Client) → IsChild plan world v client → IsChild plan later v client
-  IsChild-later v client h =
+  IsHeir-later : (v : ℕ) (client : Client) → IsHeir plan world v client → IsHeir plan later v client
+  IsHeir-later v client h =
       let same : lineage_of world h.parent ≡ lineage_of later h.parent = sym (extends.lineage h.parent h.parent_cut) in
       record {
         parent = h.parent;
@@ -168,7 +168,7 @@ module _ (plan : Plan) (world later : World) (extends : Extends plan world later
       log = (h.cut c).log;
       grown = (h.cut c).grown;
       owned = (h.cut c).owned;
-      origin = elim (h.cut c).origin [ inl r ↦ inl r | inr k ↦ inr (IsChild-later v client k) ];
+      origin = elim (h.cut c).origin [ inl r ↦ inl r | inr k ↦ inr (IsHeir-later v client k) ];
     };
     counts = λ group there count i. (let (a, p, m) = h.counts group there count i in (a, p, extends.messages _ m));
     points = λ group there. elim (h.points group there) [ inl z ↦ inl z | inr r ↦ inr (IsReached-later v group (group_point_of client.groups group) r) ];

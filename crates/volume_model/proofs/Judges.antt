@@ -166,7 +166,7 @@ module _ (plan : Plan) where
   told_now slots cells number es event NoMessage is agree h = absurd is
   told_now slots cells number es event NotAddressed is agree h = own_noted number es event 81 (λ (e : 81 ≡ 80). omega (arith, e)) agree h
   told_now slots cells number es event NoActor is agree h = own_noted number es event 82 (λ (e : 82 ≡ 80). omega (arith, e)) agree h
-  told_now slots cells number es event NoSlot is agree h = last_agrees (actor_of event) (world_at plan (take number es)) (world_at plan es) h.0 agree ∙ h.1
+  told_now slots cells number es event NoSlot is agree h = last_agrees (actor_of event) (world_at plan (take number es)) (world_at plan es) (ap actor_of h.0) agree ∙ h.2
   told_now slots cells number es event JournalFull is agree h = h.1
 
   -- what the model refuses now may be noted

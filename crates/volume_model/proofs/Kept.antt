@@ -73,7 +73,7 @@ abbrev pub records_of : Plan → World → Client → ℕ → List Redo
 records_of plan world client parent = found_in (lineage_of world parent) (reported_to plan client)
 
 -- a client that has cut, from the reports of an earlier one's log
-pub record IsChild (plan : Plan) (world : World) (v : ℕ) (client : Client) : Type 0 where
+pub record IsHeir (plan : Plan) (world : World) (v : ℕ) (client : Client) : Type 0 where
   pub parent : ℕ
   pub below : parent < v
   pub parent_cut : HasCut world parent
@@ -99,7 +99,7 @@ pub record IsCutClient (plan : Plan) (world : World) (v : ℕ) (client : Client)
   pub log : own ++ client.found ≡ client.log
   pub grown : IsGrown client.found own
   pub owned : (r : Redo) → IsIn r own → IsOwned plan v client r
-  pub origin : IsRoot v client ⊎ IsChild plan world v client
+  pub origin : IsRoot v client ⊎ IsHeir plan world v client
 
 -- the group point is acknowledged by a write set of an epoch at which the client was
 pub record IsReached (plan : Plan) (world : World) (v group n : ℕ) : Type 0 where

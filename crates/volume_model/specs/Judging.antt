@@ -45,10 +45,12 @@ pub record IsRefused (plan : Plan) (slots cells : ℕ) (es : List Entry) (n : Re
   pub within : n.number ≤ length es
   pub told : found_in plan es n.number n.event n.fault ≡ wanted slots cells n.fault
 
--- the refusal is the one of the model after these entries. Want of memory says nothing
+-- The refusal is true after these entries. NoSlot is of Assign alone, where the model assigns and the last volume epoch is the number of slots; the
+-- journal is full where the model refuses nothing and it has as many entries as there are cells; any other is the model's. Want of memory says nothing
 abbrev pub Exact : Plan → ℕ → ℕ → List Entry → Event → Fault → Type 0
 Exact plan slots cells es event NoMemory = Unit {0}
-Exact plan slots cells es event NoSlot = (actor_of event ≡ Actor.TheAuthority) × ((world_at plan es).authority.last_volume ≡ slots)
+Exact plan slots cells es event NoSlot =
+    (event ≡ Event.Assign) × (refusal (step plan (world_at plan es) event) ≡ 0) × ((world_at plan es).authority.last_volume ≡ slots)
 Exact plan slots cells es event JournalFull = (refusal (step plan (world_at plan es) event) ≡ 0) × (length es ≡ cells)
 Exact plan slots cells es event fault = refusal (step plan (world_at plan es) event) ≡ number_of fault
 

@@ -74,6 +74,11 @@ abbrev pub order_late : ClientOrder → Fault → Bool
 order_late (order.Take message) = never_late
 order_late (order.Act act) = client_late act
 
+-- what is said of a client's act but a cut, which alone takes memory to be judged
+abbrev pub ButForCut : ClientAct → Type 0 → Type 0
+ButForCut client.Cut P = Unit {0}
+ButForCut act P = P
+
 -- the order asks for this act, where these messages were made
 pub record IsOrderOf (made : List model.Message) (order : ClientOrder) (act : ClientAct) : Type 0 where
   pub does : (plan : Plan) (volume : ℕ) (now : Client) → client_ordered made order plan volume now ≡ client_acted act plan volume now

@@ -9,7 +9,7 @@ ghost use Rattle.volume_model.specs.declared.fault.Fault.TheVariants.{NoMemory};
 ghost use Rattle.plan.specs.CheckedModel.{checked_model};
 ghost use Rattle.wire.specs.Message.{message_of};
 ghost use Rattle.recovery.specs.Recoveries.{admitted, begun, birth_of, recovery_plan, recovery_volume, view_volume};
-ghost use Rattle.world.specs.Acts.{client_acted, client_late};
+ghost use Rattle.world.specs.Acts.{client_acted, client_late, ButForCut};
 
 use crate::acts::ClientAct;
 use crate::addressed::addressed;
@@ -36,6 +36,7 @@ fn admits_birth(plan: &CheckedPlan, volume: u32, message: &Message) -> Result<()
 /// Whether a client that no View has reached would act: by a View alone.
 pub fn admits(plan: &CheckedPlan, volume: u32, act: ClientAct<'_>) -> Result<(), Fault>
     ensures answers { AnswersLate (client_late act.entry) admitted (refusal_of (client_acted act.entry (checked_model plan.now) volume unborn)) tt result tt }
+    ensures sure { ButForCut act.entry (result ≡ refusal_of (client_acted act.entry (checked_model plan.now) volume unborn)) }
     ensures own { IfErr result (λ fault. fault ≢ NoMemory) }
 {
     match act {

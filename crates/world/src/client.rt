@@ -35,13 +35,13 @@ pub struct Client {
 impl Client {
     ghost use Rattle.std.specs.Prelude.{◌≡◌, IfOk, Ok};
     ghost use Rattle.std.specs.Arc.{arc_value};
-    ghost use Rattle.volume_model.specs.Answer.{never_late, refusal_of, AnswersLate, Gives};
+    ghost use Rattle.volume_model.specs.Answer.{never_late, refusal_of, AnswersLate, AnswersNew};
     ghost use Rattle.volume_model.specs.Client.{first_writer, unborn};
     ghost use Rattle.volume_model.specs.ClientRecovery.{opened};
     ghost use Rattle.plan.specs.CheckedModel.{checked_model};
     ghost use Rattle.writer_core.specs.Writers.{acted, silent};
     ghost use Rattle.recovery.specs.Recoveries.{admitted};
-    ghost use Rattle.world.specs.Acts.{client_acted, client_late};
+    ghost use Rattle.world.specs.Acts.{client_acted, client_late, ButForCut};
     ghost use Rattle.world.specs.Clients.{client_plan, client_volume, seen_client, seen_state, IsClientOf, IsSameClient};
 
     /// The client of a volume epoch that no View has reached.
@@ -58,7 +58,7 @@ impl Client {
 
     /// The client of volume epoch 1, which is the writer that a volume is born with.
     pub fn first(alloc: Global, plan: Arc<CheckedPlan>) -> Result<Client, Fault>
-        ensures client { Gives seen_client result (Ok (first_writer (checked_model (arc_value plan)))) }
+        ensures client { AnswersNew seen_client (Ok (first_writer (checked_model (arc_value plan)))) result }
         ensures own { IfOk result (IsClientOf (checked_model (arc_value plan)) 1) }
     {
         let writer = Writer::first(alloc, plan.clone()?)?;
@@ -107,7 +107,8 @@ impl Client {
     /// a writer alone does, and for a cut `AlreadyDone`, `NotReady` until the reports are a read set of each group, or `LsnSpent`; of a
     /// writer `AlreadyDone` for a cut, and what [`Writer`] answers to an issue, a resend or a read.
     pub fn admits(&self, alloc: Global, act: ClientAct<'_>) -> Result<(), Fault>
-        ensures { AnswersLate (client_late act.entry) admitted (refusal_of (client_acted act.entry (client_plan self.now) (client_volume self.now) (seen_client self.now))) tt result tt }
+        ensures answers { AnswersLate (client_late act.entry) admitted (refusal_of (client_acted act.entry (client_plan self.now) (client_volume self.now) (seen_client self.now))) tt result tt }
+        ensures sure { ButForCut act.entry (result ≡ refusal_of (client_acted act.entry (client_plan self.now) (client_volume self.now) (seen_client self.now))) }
     {
         match &self.state {
             ClientState::Unborn => birth::admits(&self.plan, self.volume, act),
@@ -152,6 +153,7 @@ impl Client {
     /// Becomes a writer. Refused as [`Client::admits_open`] says; then it is what it was. Takes no memory.
     pub fn open(&mut self) -> Result<(), Fault>
         ensures answers { AnswersLate never_late silent (opened (client_plan self.old) (seen_client self.old)) (seen_client self.old) result (seen_client self.new) }
+        ensures refusal { result ≡ refusal_of (opened (client_plan self.old) (seen_client self.old)) }
         ensures same { IsSameClient self.old self.new }
     {
         match mem::replace(&mut self.state, ClientState::Unborn) {

@@ -6,7 +6,7 @@ ghost use Rattle.volume_model.specs.ClientMessages.{taken};
 ghost use Rattle.wire.specs.Message.{message_of};
 ghost use Rattle.writer_core.specs.Writers.{acted};
 ghost use Rattle.recovery.specs.Recoveries.{client_of, admitted, recovery_plan, recovery_volume};
-ghost use Rattle.world.specs.Acts.{client_acted, client_late};
+ghost use Rattle.world.specs.Acts.{client_acted, client_late, ButForCut};
 
 use crate::acts::ClientAct;
 use crate::addressed::addressed;
@@ -27,7 +27,8 @@ fn admits_message(recovery: &Recovery, message: &Message) -> Result<(), Fault>
 
 /// Whether a recovery would act. `NotOpen` where a writer alone could.
 pub fn admits(alloc: Global, recovery: &Recovery, act: ClientAct<'_>) -> Result<(), Fault>
-    ensures { AnswersLate (client_late act.entry) admitted (refusal_of (client_acted act.entry (recovery_plan recovery.now) (recovery_volume recovery.now) (client_of recovery.now))) tt result tt }
+    ensures answers { AnswersLate (client_late act.entry) admitted (refusal_of (client_acted act.entry (recovery_plan recovery.now) (recovery_volume recovery.now) (client_of recovery.now))) tt result tt }
+    ensures sure { ButForCut act.entry (result ≡ refusal_of (client_acted act.entry (recovery_plan recovery.now) (recovery_volume recovery.now) (client_of recovery.now))) }
 {
     match act {
         ClientAct::Take(message) => admits_message(recovery, message),

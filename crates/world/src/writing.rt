@@ -6,7 +6,7 @@ ghost use Rattle.volume_model.specs.ClientMessages.{taken};
 ghost use Rattle.wire.specs.Message.{message_of};
 ghost use Rattle.writer_core.specs.Writers.{acted, client_of, silent, writer_plan, writer_volume};
 ghost use Rattle.recovery.specs.Recoveries.{admitted};
-ghost use Rattle.world.specs.Acts.{client_acted, client_late};
+ghost use Rattle.world.specs.Acts.{client_acted, client_late, ButForCut};
 
 use crate::acts::ClientAct;
 use crate::addressed::addressed;
@@ -27,7 +27,8 @@ fn admits_message(writer: &Writer, message: &Message) -> Result<(), Fault>
 
 /// Whether a writer would act. `AlreadyDone` where it is to cut.
 pub fn admits(writer: &Writer, act: ClientAct<'_>) -> Result<(), Fault>
-    ensures { AnswersLate (client_late act.entry) admitted (refusal_of (client_acted act.entry (writer_plan writer.now) (writer_volume writer.now) (client_of writer.now))) tt result tt }
+    ensures answers { AnswersLate (client_late act.entry) admitted (refusal_of (client_acted act.entry (writer_plan writer.now) (writer_volume writer.now) (client_of writer.now))) tt result tt }
+    ensures sure { ButForCut act.entry (result ≡ refusal_of (client_acted act.entry (writer_plan writer.now) (writer_volume writer.now) (client_of writer.now))) }
 {
     match act {
         ClientAct::Issue(changes) => writer.admits(changes),

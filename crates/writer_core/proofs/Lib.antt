@@ -1,5 +1,6 @@
 pub mod Below
 pub mod Logs
+pub mod Copied
 pub mod Counting
 pub mod Covering
 pub mod Entering

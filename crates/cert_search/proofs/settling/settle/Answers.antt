@@ -15,5 +15,5 @@ returns-clause-once c =
 
 pub returns-clause-each : goal.returns-clause-each
 returns-clause-each c =
-    each_had c.requires.0 c.args.hands.items c.requires.1
+    each_had c.args.hands.items
     (views_are c.args.hands.items c.in_ok-owns.owns.items c.gather.new.owns.items _ c.in_ok-owns.ensures c.gather.ensures c.learn_all.ensures)

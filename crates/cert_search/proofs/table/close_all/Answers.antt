@@ -1,29 +1,25 @@
-use Rattle.std.proofs.Common.{◌<◌, length, ◌∙◌, arith}
-use Rattle.cert_search.proofs.Lents.{outs_still}
-use Rattle.cert_search.proofs.Tables.{plain_still}
+use Rattle.std.proofs.Common.{◌<◌, length, refl, arith}
+use Rattle.cert_search.proofs.Rows.{within}
+use Rattle.cert_search.proofs.Tables.{marked_before, marked_after}
 use Rattle.cert_search.proofs.table.close_all.Goals as goal
+
+pub loop-which-init : goal.loop-which-init
+loop-which-init c = record { count = refl; before = λ d old new lt e f. absurd (omega arith); after = λ d le. refl }
 
 pub loop-which-preserved : goal.loop-which-preserved
 loop-which-preserved c =
     let inv = c.loop-which.invariant in
+    let which = c.loop-which.which in
+    let olds = c.args.owns.now.items in
     let owns = c.loop-which.owns.items in
-    let lt : c.loop-which.which < length owns = omega (arith, inv.count) in
+    let lt : which < length owns = omega (arith, inv.count) in
     record {
       count = inv.count;
-      plain = plain_still c.loop-which.which owns c.index_mut-own.result.now c.close_for.new.own lt c.index_mut-own.ensures.value c.close_for.ensures.0 ∙ inv.plain;
-      outs = outs_still c.loop-which.which owns c.index_mut-own.result.now c.close_for.new.own lt c.index_mut-own.ensures.value c.close_for.ensures.1 ∙ inv.outs;
+      before = marked_before c.args.workers which olds owns c.index_mut-own.result.now c.close_for.new.own lt c.index_mut-own.ensures.value c.in_ok-close_for.ensures inv.before inv.after;
+      after = marked_after c.args.workers which olds owns c.index_mut-own.result.now c.close_for.new.own lt c.index_mut-own.ensures.value c.in_ok-close_for.ensures inv.after;
     }
 
-pub returns-in_err-close_for-clause-plain : goal.returns-in_err-close_for-clause-plain
-returns-in_err-close_for-clause-plain c =
+pub returns : goal.returns
+returns c =
     let inv = c.loop-which.invariant in
-    let owns = c.loop-which.owns.items in
-    let lt : c.loop-which.which < length owns = omega (arith, inv.count) in
-    plain_still c.loop-which.which owns c.index_mut-own.result.now c.close_for.new.own lt c.index_mut-own.ensures.value c.close_for.ensures.0 ∙ inv.plain
-
-pub returns-in_err-close_for-clause-outs : goal.returns-in_err-close_for-clause-outs
-returns-in_err-close_for-clause-outs c =
-    let inv = c.loop-which.invariant in
-    let owns = c.loop-which.owns.items in
-    let lt : c.loop-which.which < length owns = omega (arith, inv.count) in
-    outs_still c.loop-which.which owns c.index_mut-own.result.now c.close_for.new.own lt c.index_mut-own.ensures.value c.close_for.ensures.1 ∙ inv.outs
+    record { as_many = omega (arith, inv.count); each = λ d old new e f. inv.before d old new (omega (arith, within c.args.owns.now.items d old e, inv.count)) e f }

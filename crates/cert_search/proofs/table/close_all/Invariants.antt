@@ -1,10 +1,12 @@
-use Rattle.std.proofs.Common.{◌≡◌, map, vec_len}
-use Rattle.cert_search.specs.Dealing.{own_plain, outs}
+use Rattle.std.proofs.Common.{◌≡◌, ◌<◌, ◌≤◌, ℕ, vec_len}
+use Rattle.std.specs.Prelude.{Some, slice_get}
+use Rattle.cert_search.specs.declared.own.Own.{Own}
+use Rattle.cert_search.specs.Dealing.{GetsMarks}
 use Rattle.cert_search.proofs.table.close_all.Given as goal
 
 abbrev pub invariant-loop-which : goal.invariant-loop-which
 invariant-loop-which l = record {
   count : vec_len l.owns ≡ vec_len l.initial.owns;
-  plain : map own_plain l.owns.items ≡ map own_plain l.initial.owns.items;
-  outs : outs l.owns.items ≡ outs l.initial.owns.items;
+  before : (d : ℕ) (old new : Own) → d < l.which → slice_get l.initial.owns.items d ≡ Some old → slice_get l.owns.items d ≡ Some new → GetsMarks l.workers old new;
+  after : (d : ℕ) → l.which ≤ d → slice_get l.owns.items d ≡ slice_get l.initial.owns.items d;
 }

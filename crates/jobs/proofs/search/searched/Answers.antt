@@ -11,12 +11,11 @@ use Rattle.plan.specs.LentClaims.{all_lent}
 use Rattle.plan.specs.WithCertificates.{with_certificates}
 use Rattle.plan.specs.Written.{rewritten}
 use Rattle.plan.proofs.Reread.{ok_is}
-use Rattle.cert_search.specs.Answers.{AreAnswersOf}
+use Rattle.cert_search.specs.Answers.{rule_in, AreAnswersOf}
 use Rattle.jobs.specs.Searched.{IsPlanLine}
 use Rattle.jobs.specs.Unfound.{found_status, unfound_lines}
-use Rattle.jobs.proofs.Certifies.{all_shown, certifies}
-use Rattle.jobs.proofs.Findings.{are_findings, rewritten-is}
-use Rattle.jobs.proofs.Searching.{gap-map, no_gap, rule_in, status_by, status-is}
+use Rattle.jobs.proofs.Findings.{all_shown, rewritten-is}
+use Rattle.jobs.proofs.Searching.{gap-map, no_gap, status_by, status-is}
 use Rattle.jobs.proofs.search.searched.Goals as goal
 
 pub returns-clause-told : goal.returns-clause-told
@@ -28,13 +27,12 @@ returns-clause-told g c =
     let rules_of = λ (xs : List (Option (Certificate Global))). map rule_in xs in
     let rules = rules_of answers in
     let listed = c.in_ok-claims.ensures.claims in
-    let answered = subst (λ (r : Result (List PlacedClaim) PlanFault). AreAnswersOf 100000 r answers) listed c.in_ok-certificates.ensures.answers in
+    let answered = subst (λ (r : Result (List PlacedClaim) PlanFault). AreAnswersOf 100000 r rules) listed c.in_ok-certificates.ensures.answers in
     let line = c.in_ok-line.ensures.line in
     let given : rewritten text rules ≡ Ok line.0 = ap (λ xs. rewritten text (rules_of xs)) (sym c.deref.ensures.value) ∙ line.1 in
     let is : line.0 ≡ with_certificates plan rules = ok_is line.0 (with_certificates plan rules) (sym given ∙ rewritten-is text plan claims rules c.in_ok-plan.ensures.plan listed) in
     let gap = λ (xs : List (Option (Certificate Global))). list_any (λ x. is_none x) xs in
     let byte : c.from-status.result ≡ status_by c.has_gap.result = status-is c.has_gap.result c.from-status.result c.from-status.ensures in
-    let found = are_findings claims answers answered in
     let status : c.from-status.result ≡ found_status rules = byte ∙ ap status_by (c.has_gap.ensures ∙ (ap gap c.deref-4.ensures.value ∙ gap-map certificate_rule answers)) in
     record {
       data_of = plan;
@@ -42,9 +40,9 @@ returns-clause-told g c =
       claims = claims;
       listed = listed;
       rules = rules;
-      found = found;
+      found = answered;
       line = subst (λ (p : PlanData). IsPlanLine p c.in_ok-line.line.items) is line.2;
       notes_are = c.in_ok-unfound.ensures ∙ ap₂ (λ xs ys. unfound_lines (all_lent xs) (rules_of ys)) c.deref-2.ensures.value c.deref-3.ensures.value;
       status_is = status;
-      faultless = λ zero. c.no_fault_is_certified.ensures.fault_free (with_certificates plan rules) (certifies plan claims rules listed (all_shown claims rules found (no_gap rules (sym status ∙ zero))));
+      faultless = λ zero. c.shown_claims_certify.ensures.fault_free plan claims rules listed (all_shown 100000 claims rules answered (no_gap rules (sym status ∙ zero)));
     }

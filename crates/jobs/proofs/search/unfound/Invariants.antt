@@ -1,7 +1,7 @@
 use Rattle.std.proofs.Common.{◌≡◌, ◌++◌, drop, map, string_bytes}
 use Rattle.plan.specs.LentClaims.{all_lent}
 use Rattle.jobs.specs.Unfound.{unfound_lines}
-use Rattle.jobs.proofs.Searching.{rule_in}
+use Rattle.cert_search.specs.Answers.{rule_in}
 use Rattle.jobs.proofs.search.unfound.Given as goal
 
 abbrev pub invariant-loop-claim : goal.invariant-loop-claim

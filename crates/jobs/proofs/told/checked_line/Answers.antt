@@ -1,7 +1,7 @@
 use Rattle.std.proofs.Common.{◌≡◌, ◌∙◌, ◌*◌, ◌-◌, arith}
 use Rattle.std.proofs.lemmas.Result.{IfOk-weaker}
 use Rattle.plan.specs.CheckedModel.{checked_model}
-use Rattle.jobs.specs.Told.{sum_below}
+use Rattle.plan.specs.Sums.{sum_below}
 use Rattle.jobs.proofs.Telling.{same_counts}
 use Rattle.jobs.proofs.told.checked_line.Goals as goal
 

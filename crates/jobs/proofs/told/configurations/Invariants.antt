@@ -1,6 +1,6 @@
 use Rattle.std.proofs.Common.{◌≡◌, ◌≤◌, ◌*◌}
 use Rattle.plan.specs.CheckedModel.{checked_model}
-use Rattle.jobs.specs.Told.{sum_below}
+use Rattle.plan.specs.Sums.{sum_below}
 use Rattle.jobs.proofs.told.configurations.Given as goal
 
 abbrev pub invariant-loop-group : goal.invariant-loop-group

@@ -54,7 +54,7 @@ returns-in_err-admits-clause-moves c =
     let old : Client = seen_client c.args.client.now in
     let fault : Fault = c.in_err-admits.field-0.0 in
     let ordered : IsOrderOf (added (messages_of kept) []) c.args.order c.in-Ok.act = subst (λ (ms : List Message). IsOrderOf (added (messages_of ms) []) c.args.order c.in-Ok.act) (c.as_slice.ensures.value ∙ c.reserve-room.ensures.items) c.in-Ok.ensures in
-    let judged : AnswersLate (client_late c.in-Ok.act) admitted (refusal_of (client_acted c.in-Ok.act plan volume old)) tt (Err fault) tt = c.in_err-admits.ensures in
+    let judged : AnswersLate (client_late c.in-Ok.act) admitted (refusal_of (client_acted c.in-Ok.act plan volume old)) tt (Err fault) tt = c.in_err-admits.ensures.answers in
     let whole : AnswersLate (order_late c.args.order) admitted (refusal_of (client_ordered (added (messages_of kept) []) c.args.order plan volume old)) tt (Err fault) tt =
     subst (λ (late : Fault → Bool). AnswersLate late admitted (refusal_of (client_ordered (added (messages_of kept) []) c.args.order plan volume old)) tt (Err fault) tt) (sym ordered.late)
     (subst (λ (d : ClientAnswer). AnswersLate (client_late c.in-Ok.act) admitted (refusal_of d) tt (Err fault) tt) (sym (ordered.does plan volume old)) judged) in

@@ -1,14 +1,12 @@
-use Rattle.std.proofs.Common.{◌≡◌, ◌+◌, ◌%◌, ap, ◌∙◌, mod-lt, arith}
-use Rattle.cert_search.specs.Dealing.{own_plain, names_in, row_plain, fresh}
-use Rattle.cert_search.proofs.Tables.{made_at, made_len, filled_still, names_still, part_more}
+use Rattle.std.proofs.Common.{◌≡◌, ◌+◌, ◌-◌, ◌<◌, ◌%◌, length, ap, ◌∙◌, mod-lt, arith}
+use Rattle.std.proofs.Math.ListN.{length-set}
+use Rattle.cert_search.specs.Dealing.{own_plain, names_in, row_plain, fresh, fresh_part}
+use Rattle.cert_search.proofs.Tables.{made_at, plain_still, part_more}
 use Rattle.cert_search.proofs.Lents.{lent_step, lent_done}
 use Rattle.cert_search.proofs.table.Table.row.Goals as goal
 
 pub index_mut-own-requires : goal.index_mut-own-requires
-index_mut-own-requires c =
-    let t = c.loop-k.self in
-    let long = made_len own_plain (fresh (names_in t.owns.items) t.claims t.workers) t.workers t.owns.items t.filled in
-    omega (arith, long, mod-lt (c.args.which + c.loop-k.k) t.some)
+index_mut-own-requires c = let t = c.loop-k.self in omega (arith, t.count, mod-lt (c.args.which + c.loop-k.k) t.some)
 
 pub invariant_of-self : goal.invariant_of-self
 invariant_of-self c =
@@ -16,7 +14,7 @@ invariant_of-self c =
     record {
       some = t.some;
       few = t.few;
-      filled = filled_still t.claims t.workers ((c.args.which + c.loop-k.k) % t.workers) t.owns.items c.index_mut-own.result.now c.reach.new.self (mod-lt (c.args.which + c.loop-k.k) t.some) t.filled c.index_mut-own.ensures.value c.reach.ensures.plain;
+      count = length-set t.owns.items ((c.args.which + c.loop-k.k) % t.workers) c.reach.new.self ∙ t.count;
     }
 
 pub loop-k-preserved : goal.loop-k-preserved
@@ -26,30 +24,36 @@ loop-k-preserved c =
     let inv = c.loop-k.invariant in
     let d = (c.args.which + c.loop-k.k) % t.workers in
     let o = c.index_mut-own.result.now in
-    let mine : own_plain o ≡ fresh (names_in was.owns.items) was.claims was.workers d =
-    made_at own_plain (fresh (names_in t.owns.items) t.claims t.workers) t.workers t.owns.items d o t.filled (mod-lt (c.args.which + c.loop-k.k) t.some) c.index_mut-own.ensures.value ∙ (λ i. fresh (inv.names i) (inv.claims i) (inv.workers i) d) in
+    let lt : d < length t.owns.items = omega (arith, t.count, mod-lt (c.args.which + c.loop-k.k) t.some) in
+    let turn = ap (λ w. (c.args.which + c.loop-k.k) % w) inv.workers in
     record {
-      claims = inv.claims;
       workers = inv.workers;
-      names = names_still d t.owns.items o c.reach.new.self (let long = made_len own_plain (fresh (names_in t.owns.items) t.claims t.workers) t.workers t.owns.items t.filled in omega (arith, long, mod-lt (c.args.which + c.loop-k.k) t.some)) c.index_mut-own.ensures.value c.reach.ensures.plain ∙ inv.names;
-      lent = λ below. lent_step was.workers c.args.which below c.loop-k.k d was.owns.items t.owns.items o c.reach.new.self (omega arith) (omega (arith, inv.workers)) (ap (λ w. (c.args.which + c.loop-k.k) % w) inv.workers) (let long = made_len own_plain (fresh (names_in t.owns.items) t.claims t.workers) t.workers t.owns.items t.filled in omega (arith, long, mod-lt (c.args.which + c.loop-k.k) t.some)) c.index_mut-own.ensures.value c.in_ok-reach.ensures.lent (inv.lent below);
-      row = ap row_plain c.in_ok-push.ensures.items
-          ∙ part_more (names_in was.owns.items) was.claims was.workers c.args.which c.loop-k.k d o c.in_ok-reach.field-0 c.loop-k.row.items (omega arith) (ap (λ w. (c.args.which + c.loop-k.k) % w) inv.workers) mine c.in_ok-reach.ensures.reach.0 c.in_ok-reach.ensures.reach.1 inv.row;
+      same = plain_still d t.owns.items o c.reach.new.self lt c.index_mut-own.ensures.value c.reach.ensures.plain ∙ inv.same;
+      lent = λ below. lent_step was.workers c.args.which below c.loop-k.k d was.owns.items t.owns.items o c.reach.new.self (omega arith) (omega (arith, inv.workers)) turn lt c.index_mut-own.ensures.value c.in_ok-reach.ensures.lent (inv.lent below);
+      row = λ claims filled.
+          let mine : own_plain o ≡ fresh (names_in was.owns.items) claims was.workers d =
+          made_at own_plain (fresh (names_in was.owns.items) claims was.workers) was.workers t.owns.items d o (inv.same ∙ filled) (omega (arith, lt, t.count, inv.workers)) c.index_mut-own.ensures.value in
+          ap row_plain c.in_ok-push.ensures.items
+          ∙ part_more (names_in was.owns.items) claims was.workers c.args.which c.loop-k.k d o c.in_ok-reach.field-0 c.loop-k.row.items (omega arith) turn mine c.in_ok-reach.ensures.reach.0 c.in_ok-reach.ensures.reach.1 (inv.row claims filled);
     }
 
-pub returns-in_err-reach-clause-names : goal.returns-in_err-reach-clause-names
-returns-in_err-reach-clause-names c =
+pub returns-in_err-reach-clause-same : goal.returns-in_err-reach-clause-same
+returns-in_err-reach-clause-same c =
     let t = c.loop-k.self in
-    let d = (c.args.which + c.loop-k.k) % t.workers in
-    let long = made_len own_plain (fresh (names_in t.owns.items) t.claims t.workers) t.workers t.owns.items t.filled in
-    names_still d t.owns.items c.index_mut-own.result.now c.reach.new.self (omega (arith, long, mod-lt (c.args.which + c.loop-k.k) t.some)) c.index_mut-own.ensures.value c.reach.ensures.plain ∙ c.loop-k.invariant.names
+    let lt : (c.args.which + c.loop-k.k) % t.workers < length t.owns.items = omega (arith, t.count, mod-lt (c.args.which + c.loop-k.k) t.some) in
+    plain_still ((c.args.which + c.loop-k.k) % t.workers) t.owns.items c.index_mut-own.result.now c.reach.new.self lt c.index_mut-own.ensures.value c.reach.ensures.plain ∙ c.loop-k.invariant.same
 
-pub returns-in_err-push-clause-names : goal.returns-in_err-push-clause-names
-returns-in_err-push-clause-names c =
+pub returns-in_err-push-clause-same : goal.returns-in_err-push-clause-same
+returns-in_err-push-clause-same c =
     let t = c.loop-k.self in
-    let d = (c.args.which + c.loop-k.k) % t.workers in
-    let long = made_len own_plain (fresh (names_in t.owns.items) t.claims t.workers) t.workers t.owns.items t.filled in
-    names_still d t.owns.items c.index_mut-own.result.now c.reach.new.self (omega (arith, long, mod-lt (c.args.which + c.loop-k.k) t.some)) c.index_mut-own.ensures.value c.reach.ensures.plain ∙ c.loop-k.invariant.names
+    let lt : (c.args.which + c.loop-k.k) % t.workers < length t.owns.items = omega (arith, t.count, mod-lt (c.args.which + c.loop-k.k) t.some) in
+    plain_still ((c.args.which + c.loop-k.k) % t.workers) t.owns.items c.index_mut-own.result.now c.reach.new.self lt c.index_mut-own.ensures.value c.reach.ensures.plain ∙ c.loop-k.invariant.same
+
+pub returns-clause-row : goal.returns-clause-row
+returns-clause-row c = λ claims filled.
+    let inv = c.loop-k.invariant in
+    let end : c.loop-k.k ≡ c.args.self.now.workers = omega (arith, inv.workers, c.args.self.now.some) in
+    inv.row claims filled ∙ ap (λ k. fresh_part (names_in c.args.self.now.owns.items) claims c.args.self.now.workers c.args.which (k - 1)) end
 
 pub returns-clause-lent : goal.returns-clause-lent
 returns-clause-lent c =

@@ -9,7 +9,7 @@ use Rattle.journal.specs.declared.entry.Entry.{Entry}
 use Rattle.journal.specs.declared.pass.Held.{Held}
 use Rattle.journal.specs.Actors.{seen_who}
 use Rattle.journal.specs.Entries.{entry_of, entries_of, note_of}
-use Rattle.journal.specs.Lasts.{last_in}
+use Rattle.journal.specs.Lasts.{last_known, or_zero}
 use Rattle.journal.specs.Standing.{made, Stands}
 use Rattle.journal.specs.Tokens.{shown, Shows}
 use Rattle.world.specs.Events.{event_of}
@@ -22,9 +22,9 @@ use Rattle.journal.proofs.log.Log.append.Goals as goal
 length_more : (es now : List Entry) (x : Entry) → now ≡ es ++ x ∷ [] → length now ≡ length es + 1
 length_more es now x e = omega (arith, ap length e, length-append es (x ∷ []))
 
-on_false : (b : Bool) (P Q R : Type 0) → (Q → R) → MatchBool b P Q → MatchBool b P R
-on_false true P Q R f h = h
-on_false false P Q R f h = f h
+on_both : (b : Bool) {P Q R S : Type 0} → (P → R) → (Q → S) → MatchBool b P Q → MatchBool b R S
+on_both true f g h = f h
+on_both false f g h = g h
 
 pub invariant_of-pass : goal.invariant_of-pass
 invariant_of-pass g c =
@@ -89,7 +89,7 @@ invariant_of-self g c =
       run = entries_run plan es (shown ts) x longer log.run goes;
       firsts_are = c.push_reserved-2.ensures.items ∙ (λ i. log.firsts_are i ++ sym c.requires.first i ∷ []) ∙ sym (firsts_push es x) ∙ ap (map (λ (y : Entry). y.first)) (sym longer);
       messages_are = omega (arith, c.total.ensures, c.requires.first, more, entries_messages plan es (shown ts) x longer goes);
-      newest = λ other k h. newest_push (seen_who c.of.result) other (entries_of es) (entries_of (shown ts)) (entry_of x) k c.len-cell.result (entries_push es (shown ts) x longer) actor at (same_actor (seen_who c.of.result) other) refl
-          (on_false (same_actor (seen_who c.of.result) other) (k ≡ c.len-cell.result + 1) (last_in log.lasts other ≡ Some k) (k ≡ last_of other (entries_of es)) (λ q. log.newest other k q) (c.set.ensures other k h));
+      newest = λ other. newest_push (seen_who c.of.result) other (entries_of es) (entries_of (shown ts)) (entry_of x) (last_known c.set.new.self other) c.len-cell.result (entries_push es (shown ts) x longer) actor at (same_actor (seen_who c.of.result) other) refl
+          (on_both (same_actor (seen_who c.of.result) other) (λ q. ap or_zero q) (λ q. ap or_zero q ∙ log.newest other) (c.set.ensures other));
       counted = omega (arith, c.add-2.ensures.total, log.counted, n);
     }

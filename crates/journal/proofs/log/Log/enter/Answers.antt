@@ -2,7 +2,7 @@ use Rattle.std.proofs.Common.{◌≡◌, ◌+◌, ◌<◌, [], ◌∷◌, ◌++�
 use Rattle.volume_model.specs.World.{after}
 use Rattle.volume_model.specs.Journal.{world_at}
 use Rattle.volume_model.proofs.ListFacts.{get_within}
-use Rattle.wire.specs.Message.{message_of}
+use Rattle.wire.specs.Message.{message_of, messages_of}
 use Rattle.world.specs.Events.{event_of}
 use Rattle.journal.specs.declared.entry.Entry.{Entry}
 use Rattle.journal.specs.declared.pass.Held.{Held}
@@ -36,6 +36,7 @@ returns-clause-entry g c =
     let es = shown log.tokens.items in
     let token = c.write-token.result in
     entries_push es (shown c.append.new.self.tokens.items) token.value c.append.ensures.entries ∙ ap (λ (e : Entry). entries_of es ++ entry_of e ∷ []) c.write-token.ensures.1
+    ∙ ap (λ n. entries_of es ++ record { event = event_of c.args.event; made = messages_of c.args.made.items; first = n } ∷ []) log.messages_are
 
 pub returns-clause-world : goal.returns-clause-world
 returns-clause-world g c =

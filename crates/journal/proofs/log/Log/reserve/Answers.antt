@@ -22,7 +22,7 @@ invariant_of-self g c =
       run = subst (λ (ts : List (OnceToken Entry)). IsRun plan (entries_of (shown ts))) (sym e) log.run;
       firsts_are = log.firsts_are ∙ ap (λ (ts : List (OnceToken Entry)). map (λ x. x.first) (shown ts)) (sym e);
       messages_are = log.messages_are ∙ ap (λ (ts : List (OnceToken Entry)). length (world_at plan (entries_of (shown ts))).messages) (sym e);
-      newest = λ actor k h. log.newest actor k h ∙ ap (λ (ts : List (OnceToken Entry)). last_of actor (entries_of (shown ts))) (sym e);
+      newest = λ actor. log.newest actor ∙ ap (λ (ts : List (OnceToken Entry)). last_of actor (entries_of (shown ts))) (sym e);
       counted = log.counted ∙ sym n;
     }
 
@@ -42,6 +42,6 @@ invariant_of-self-2 g c =
       run = subst (λ (ts : List (OnceToken Entry)). IsRun plan (entries_of (shown ts))) (sym e) log.run;
       firsts_are = c.reserve-2.ensures.items ∙ log.firsts_are ∙ ap (λ (ts : List (OnceToken Entry)). map (λ x. x.first) (shown ts)) (sym e);
       messages_are = log.messages_are ∙ ap (λ (ts : List (OnceToken Entry)). length (world_at plan (entries_of (shown ts))).messages) (sym e);
-      newest = λ actor k h. log.newest actor k h ∙ ap (λ (ts : List (OnceToken Entry)). last_of actor (entries_of (shown ts))) (sym e);
+      newest = λ actor. log.newest actor ∙ ap (λ (ts : List (OnceToken Entry)). last_of actor (entries_of (shown ts))) (sym e);
       counted = log.counted ∙ sym n;
     }

@@ -1,7 +1,6 @@
 -- A plan whose claims all have rules that refute them is certified, once it is written with these.
-use Rattle.std.proofs.Common.{◌≡◌, ◌∙◌, ap, sym, subst, refl, ℕ, zero, suc, ◌+◌, ◌<◌, true, false, List, [], ◌∷◌, ◌++◌, Option, Some, None, Result, Ok, is_none, length, drop, arith, inl, inr}
+use Rattle.std.proofs.Common.{◌≡◌, ◌∙◌, ap, sym, subst, refl, ℕ, zero, suc, ◌+◌, ◌<◌, true, false, List, [], ◌∷◌, ◌++◌, Option, Some, None, Result, Ok, length, drop, arith, inl, inr}
 use Rattle.std.specs.Prelude.{slice_get, slice_index_or}
-use Rattle.std.specs.List.{list_any}
 use Rattle.std.specs.Ordering.{nat_cmp}
 use Rattle.std.specs.FinSet.{FinSet, difference, empty}
 use Rattle.std.proofs.lemmas.Bool.{cases_lt}
@@ -21,31 +20,12 @@ use Rattle.plan.specs.Certified.{IsShown, IsStepShown, IsCertifiedAt, IsCertifie
 use Rattle.plan.proofs.Reused.{reuse_is_found}
 use Rattle.plan.proofs.Found.{passes}
 use Rattle.plan.proofs.Reread.{then_ok, ok_is}
-use Rattle.jobs.specs.Searched.{IsFinding, AreFindings}
-use Rattle.jobs.specs.Told.{sum_below}
+use Rattle.plan.specs.Shown.{AreShown}
+use Rattle.plan.specs.Sums.{sum_below}
 
 -- ---- claims and rules
 
--- each claim has a rule that refutes it
-abbrev pub AllShown : List PlacedClaim → List (Option Rule) → Type 0
-AllShown [] rules = Unit {0}
-AllShown (c ∷ cs) [] = ⊥
-AllShown (c ∷ cs) (rule ∷ rules) = IsShown rule c.claim × AllShown cs rules
-
-shown_from : (claims : List PlacedClaim) (rules : List (Option Rule)) → length rules ≡ length claims
-    → ((i : ℕ) (c : PlacedClaim) (rule : Option Rule) → slice_get claims i ≡ Some c → slice_get rules i ≡ Some rule → IsFinding c.claim rule)
-    → list_any (λ rule. is_none rule) rules ≡ false → AllShown claims rules
-shown_from [] rules many each whole = tt
-shown_from (c ∷ cs) [] many each whole = absurd (omega arith)
-shown_from (c ∷ cs) (None ∷ rules) many each whole = absurd cc
-shown_from (c ∷ cs) (Some r ∷ rules) many each whole =
-    ((each 0 c (Some r) refl refl).refutes, shown_from cs rules (omega arith) (λ i d rule at_claim at_rule. each (suc i) d rule at_claim at_rule) whole)
-
--- what was found for all claims refutes them
-pub all_shown : (claims : List PlacedClaim) (rules : List (Option Rule)) → AreFindings claims rules → list_any (λ rule. is_none rule) rules ≡ false → AllShown claims rules
-all_shown claims rules found whole = shown_from claims rules found.as_many found.each whole
-
-shown_parts : (xs ys : List PlacedClaim) (rules : List (Option Rule)) → AllShown (xs ++ ys) rules → AllShown xs rules × AllShown ys (drop (length xs) rules)
+shown_parts : (xs ys : List PlacedClaim) (rules : List (Option Rule)) → AreShown (xs ++ ys) rules → AreShown xs rules × AreShown ys (drop (length xs) rules)
 shown_parts [] ys rules h = (tt, h)
 shown_parts (x ∷ xs) ys [] h = absurd h
 shown_parts (x ∷ xs) ys (rule ∷ rules) h = let parts = shown_parts xs ys rules h.1 in ((h.0, parts.0), parts.1)
@@ -62,20 +42,20 @@ module _ (claims_of : ℕ → Result (List PlacedClaim) PlanFault) (count : ℕ 
       ap length (sym joined) ∙ (length-append before.0 here.0 ∙ (λ i. below_counted n before.0 before.1 i + counted n here.0 here.1 i))
 
   -- the claims of each number are shown by the rules in their places
-  below_shown : (n : ℕ) (xs : List PlacedClaim) (rules : List (Option Rule)) → claims_below n claims_of ≡ Ok xs → AllShown xs rules
-      → (i : ℕ) → i < n → (ys : List PlacedClaim) × (claims_of i ≡ Ok ys) × AllShown ys (drop (sum_below count i) rules)
+  below_shown : (n : ℕ) (xs : List PlacedClaim) (rules : List (Option Rule)) → claims_below n claims_of ≡ Ok xs → AreShown xs rules
+      → (i : ℕ) → i < n → (ys : List PlacedClaim) × (claims_of i ≡ Ok ys) × AreShown ys (drop (sum_below count i) rules)
   below_shown zero xs rules h shown i below = absurd (omega arith)
   below_shown (suc n) xs rules h shown i below =
       let before = then_ok (claims_below n claims_of) (λ before. claims_of n >=> λ here. Ok (before ++ here)) xs h in
       let here = then_ok (claims_of n) (λ here. Ok (before.0 ++ here)) xs before.2 in
       let joined : before.0 ++ here.0 ≡ xs = ok_is (before.0 ++ here.0) xs here.2 in
-      let parts = shown_parts before.0 here.0 rules (subst (λ (zs : List PlacedClaim). AllShown zs rules) (sym joined) shown) in
+      let parts = shown_parts before.0 here.0 rules (subst (λ (zs : List PlacedClaim). AreShown zs rules) (sym joined) shown) in
       elim (cases_lt i n) [
         | inl earlier ↦ below_shown n before.0 rules before.1 parts.0 i earlier
         | inr past ↦ (let same : n ≡ i = omega arith in (
           here.0,
           ap claims_of (sym same) ∙ here.1,
-          subst (λ (k : ℕ). AllShown here.0 (drop k rules)) (below_counted n before.0 before.1 ∙ ap (sum_below count) same) parts.1,
+          subst (λ (k : ℕ). AreShown here.0 (drop k rules)) (below_counted n before.0 before.1 ∙ ap (sum_below count) same) parts.1,
         ))
       ]
 
@@ -193,18 +173,18 @@ configuration-counted g xs c ys h = ap length (sym (unless_ok (shape_fault g xs 
 group-counted : (g : ℕ) (xs : List ConfigurationData) (ys : List PlacedClaim) → group_claims g xs ≡ Ok ys → length ys ≡ claim_counts xs
 group-counted g xs ys h = below_counted (configuration_claims g xs) (λ c. claim_count (configuration_at xs c)) (configuration-counted g xs) (length xs) ys h ∙ all-before xs
 
-first-shown : (claim : PlacedClaim) (rest : List PlacedClaim) (rules : List (Option Rule)) → AllShown (claim ∷ rest) rules → IsShown (certificate_at rules 0) claim.claim
+first-shown : (claim : PlacedClaim) (rest : List PlacedClaim) (rules : List (Option Rule)) → AreShown (claim ∷ rest) rules → IsShown (certificate_at rules 0) claim.claim
 first-shown claim rest [] h = absurd h
 first-shown claim rest (rule ∷ rules) h = h.0
 
-second-shown : (first second : PlacedClaim) (rules : List (Option Rule)) → AllShown (first ∷ second ∷ []) rules → IsShown (certificate_at rules 1) second.claim
+second-shown : (first second : PlacedClaim) (rules : List (Option Rule)) → AreShown (first ∷ second ∷ []) rules → IsShown (certificate_at rules 1) second.claim
 second-shown first second [] h = absurd h
 second-shown first second (rule ∷ []) h = absurd h.1
 second-shown first second (rule ∷ other ∷ rules) h = h.1.0
 
 -- the step of a configuration that is written with these rules
 step-shown : (g c : ℕ) (xs : List ConfigurationData) (rules here : List (Option Rule)) (q : Option ℕ)
-    → AllShown (claims-by g c xs q) here
+    → AreShown (claims-by g c xs q) here
     → (configuration_at (configurations_with xs rules) c).step ≡ by_parent q None (λ p. certificate_at here 1)
     → IsStepShown q (configurations_with xs rules) c
 step-shown g c xs rules here None shown is = tt
@@ -213,14 +193,14 @@ step-shown g c xs rules here (Some p) shown is =
     subst (λ (r : Option Rule). IsShown r (step_claim (configurations_with xs rules) c p)) (sym is)
     (subst (λ (st : State). IsShown (certificate_at here 1) st) (sym (step-same xs rules c p)) claim)
 
-certified-at : (g c : ℕ) (xs : List ConfigurationData) (rules : List (Option Rule)) (ys : List PlacedClaim) → c < length xs → configuration_claims g xs c ≡ Ok ys → AllShown ys (drop (claims_before xs c) rules)
+certified-at : (g c : ℕ) (xs : List ConfigurationData) (rules : List (Option Rule)) (ys : List PlacedClaim) → c < length xs → configuration_claims g xs c ≡ Ok ys → AreShown ys (drop (claims_before xs c) rules)
     → IsCertifiedAt (configurations_with xs rules) c
 certified-at g c xs rules ys below has shown =
     let group = configurations_with xs rules in
     let here = drop (claims_before xs c) rules in
     let parts = unless_ok (shape_fault g xs c) (claims_at g xs c) ys has in
     let shape = passes (is_good_parent c (configuration_at xs c).parent) (BadParent g c) (reuse_fault g xs c) parts.0 in
-    let claims : AllShown (claims_at g xs c) here = subst (λ (zs : List PlacedClaim). AllShown zs here) (sym parts.1) shown in
+    let claims : AreShown (claims_at g xs c) here = subst (λ (zs : List PlacedClaim). AreShown zs here) (sym parts.1) shown in
     let is : configuration_at group c ≡ configuration_with (configuration_at xs c) here = written-at xs rules c below in
     let meets : IsShown (certificate_at here 0) (meets_claim (configuration_at xs c)) = first-shown (meets-placed g c xs) (by_parent (configuration_at xs c).parent [] (λ p. step-placed g c xs p ∷ [])) here claims in
     let step : IsStepShown (configuration_at xs c).parent group c = step-shown g c xs rules here (configuration_at xs c).parent claims (ap (λ (x : ConfigurationData). x.step) is) in
@@ -234,7 +214,7 @@ certified-at g c xs rules ys below has shown =
 -- ---- the plan
 
 -- a plan whose claims are all shown is certified, once it is written with the rules that show them
-pub certifies : (plan : PlanData) (claims : List PlacedClaim) (rules : List (Option Rule)) → claims_in plan ≡ Ok claims → AllShown claims rules → IsCertifiedPlan (with_certificates plan rules)
+pub certifies : (plan : PlanData) (claims : List PlacedClaim) (rules : List (Option Rule)) → claims_in plan ≡ Ok claims → AreShown claims rules → IsCertifiedPlan (with_certificates plan rules)
 unfolding claims_in
 certifies plan claims rules has shown g c there below =
     let groups = plan.groups in

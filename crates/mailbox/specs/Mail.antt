@@ -1,0 +1,36 @@
+-- The letters of a mailbox and their places.
+use Rattle.std.specs.Prelude.{◌≡◌, ℕ, ◌<◌, List, [], ◌∷◌, ◌++◌, Option}
+use mathlib.Core.Option.{some}
+use lib.ListN.{get_elem?}
+use Rattle.mailbox.specs.declared.MailStep.{MailStep}
+use Rattle.mailbox.specs.declared.MailStep.TheVariants.{Posted, Collected}
+use Rattle.mailbox.specs.Views.{At}
+
+-- The letters that were collected are `got`, and then `items` wait: a place is a number in this list.
+pub record Keeps (got items : List (Option ℕ)) (views : List (List MailStep)) : Type 0 where
+  -- one place has one letter
+  pub posted : (p i place : ℕ) (x : Option ℕ) → At views p i (Posted place x) → get_elem? (got ++ items) place ≡ some x
+  pub posted_once : (p i q j place : ℕ) (x y : Option ℕ) → At views p i (Posted place x) → At views q j (Posted place y) → (p ≡ q) × (i ≡ j)
+  pub each_posted : (place : ℕ) (x : Option ℕ) → get_elem? (got ++ items) place ≡ some x → (p : ℕ) × (i : ℕ) × At views p i (Posted place x)
+  -- a place is collected at most once
+  pub collected : (p i place : ℕ) (x : Option ℕ) → At views p i (Collected place x) → get_elem? got place ≡ some x
+  pub collected_once : (p i q j place : ℕ) (x y : Option ℕ) → At views p i (Collected place x) → At views q j (Collected place y) → (p ≡ q) × (i ≡ j)
+  -- in the order of places
+  pub in_order : (p i j k l : ℕ) (x y : Option ℕ) → i < j → At views p i (Collected k x) → At views p j (Collected l y) → k < l
+
+abbrev pub IsMailbox : List (Option ℕ) → List (List MailStep) → Type 0
+IsMailbox items views = (got : List (Option ℕ)) × Keeps got items views
+
+-- a seat's steps are among those of all seats of a mailbox, which keep the rule
+abbrev pub IsKept : List MailStep → Type 0
+IsKept steps = (got : List (Option ℕ)) × (items : List (Option ℕ)) × (views : List (List MailStep)) × (seat : ℕ) × (get_elem? views seat ≡ some steps) × Keeps got items views
+
+-- one more step: the letter was posted at some place
+abbrev pub AddsPosted : List MailStep → Option ℕ → List MailStep → Type 0
+AddsPosted before letter after = (place : ℕ) × (after ≡ before ++ Posted place letter ∷ [])
+
+-- one more step: the letter was collected at some place, above all that were collected before
+abbrev pub AddsCollected : List MailStep → Option ℕ → List MailStep → Type 0
+AddsCollected before letter after =
+    (place : ℕ) × (after ≡ before ++ Collected place letter ∷ [])
+    × ((i k : ℕ) (x : Option ℕ) → get_elem? before i ≡ some (Collected k x) → k < place)

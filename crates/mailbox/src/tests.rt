@@ -1,0 +1,68 @@
+ghost use Rattle.mailbox.specs.Seats.{IsSeatOf};
+
+use crate::{MailSeat, Mailbox};
+use std::sync::Wait;
+use std::test::*;
+use std::thread;
+
+// One holder of a seat.
+#[derive(Drop)]
+struct Desk<'m> {
+    mail: &'m Mailbox,
+    seat: MailSeat,
+    ghost of: { IsSeatOf mail.now seat },
+}
+
+impl<'m> Desk<'m> {
+    // Posts two letters, and the closing letter.
+    fn post_two<R: Wait>(self, rt: &R, first: u64, second: u64) {
+        let Desk { mail, mut seat } = self;
+        mail.post(rt, &mut seat, first);
+        mail.post(rt, &mut seat, second);
+        mail.close(rt, &mut seat);
+    }
+
+    // Whether these two letters come in this order, and then the closing letter.
+    fn collects_two<R: Wait>(self, rt: &R, first: u64, second: u64) -> bool {
+        let Desk { mail, mut seat } = self;
+        let one = mail.collect(rt, &mut seat);
+        let other = mail.collect(rt, &mut seat);
+        let last = mail.collect(rt, &mut seat);
+        mail.recall(&mut seat);
+        one == Some(first) && other == Some(second) && last.is_none()
+    }
+}
+
+#[test]
+fn letters_come_in_order_and_the_closing_letter_last(rt: HostRuntime) -> Result<(), Fail> {
+    let (mail, mut seats) = Mailbox::new(rt.alloc(), 4, 2)?;
+    let mut second = seats.pop().ok_or("no seat")?;
+    let mut first = seats.pop().ok_or("no seat")?;
+    assert!(rt; seats.is_empty());
+    mail.post(&rt, &mut first, 7);
+    mail.post(&rt, &mut second, 9);
+    mail.post(&rt, &mut first, 8);
+    mail.close(&rt, &mut first);
+    assert_eq!(rt; mail.collect(&rt, &mut second), Some(7));
+    assert_eq!(rt; mail.collect(&rt, &mut first), Some(9));
+    assert_eq!(rt; mail.collect(&rt, &mut second), Some(8));
+    assert_eq!(rt; mail.collect(&rt, &mut second), None);
+    Ok(())
+}
+
+#[test]
+fn letters_reach_another_thread_in_order(rt: HostRuntime) -> Result<(), Fail> {
+    let (mail, mut seats) = Mailbox::new(rt.alloc(), 1, 2)?;
+    let second = seats.pop().ok_or("no seat")?;
+    let first = seats.pop().ok_or("no seat")?;
+    let (rt, mail) = (&rt, &mail);
+    let poster = Desk { mail, seat: first };
+    let reader = Desk { mail, seat: second };
+    let ends = thread::join(
+        rt,
+        move || poster.post_two(rt, 7, 8),
+        move || reader.collects_two(rt, 7, 8),
+    );
+    assert!(rt; ends.1);
+    Ok(())
+}

@@ -1,0 +1,37 @@
+-- What a try of a call tells of the call.
+use Rattle.std.proofs.Common.{◌≡◌, ℕ, List, All, ◌∙◌, subst}
+use Rattle.volume_model.specs.World.{Event}
+use Rattle.volume_model.specs.Judging.{Refusal}
+use Rattle.board.specs.declared.BoardStep.{BoardStep}
+use Rattle.journal.specs.declared.entry.Receipt.{Receipt}
+use Rattle.journal.specs.Passes.{AddsStep}
+use Rattle.journal.specs.Standing.{IsElse, Made}
+use Rattle.node_fleet.specs.declared.client_deed.ClientDeed.{ClientDeed}
+use Rattle.node_fleet.specs.declared.client_deed.ClientDeed.TheVariants as deed
+use Rattle.node_fleet.specs.Calls.{NamesElse, Raises, RaisesBy}
+use Rattle.node_fleet.specs.Deeds.{event_by}
+use Rattle.node_fleet.specs.Volumes.{IsElsewhere}
+
+-- a step of the last try, before which the pass was as at first
+pub adds_first : (event asked : Event) (r : Receipt) (first steps steps' : List Made) (notes notes' before : List Refusal) → asked ≡ event → steps ≡ first → notes ≡ before
+    → AddsStep asked r steps steps' × (notes' ≡ notes) → AddsStep event r first steps' × (notes' ≡ before)
+adds_first event asked r first steps steps' notes notes' before is same kept told =
+    (subst (λ (e : Event). AddsStep e r first steps') is (subst (λ (s : List Made). AddsStep asked r s steps') same told.0), told.1 ∙ kept)
+
+-- what a deed raises
+pub raises_by : (volume : ℕ) (asked : ClientDeed) (durable : ℕ) (seat seat' : List BoardStep) → Raises asked durable seat seat' → RaisesBy (event_by volume asked) durable seat seat'
+raises_by volume (deed.Issue changes) durable seat seat' h = h
+raises_by volume (deed.Take message) durable seat seat' h = h
+raises_by volume deed.Cut durable seat seat' h = h
+raises_by volume deed.Open durable seat seat' h = h
+raises_by volume (deed.Resend lsn) durable seat seat' h = h
+raises_by volume (deed.Read group block) durable seat seat' h = h
+
+-- a message that is not there
+pub names_else : (volume : ℕ) (asked : ClientDeed) (steps : List Made) → IsElsewhere asked steps → NamesElse (event_by volume asked) steps
+names_else volume (deed.Take message) steps h number is = let same : message ≡ number = cc in subst (λ n. All (IsElse n) steps) same h
+names_else volume (deed.Issue changes) steps h number is = absurd cc
+names_else volume deed.Cut steps h number is = absurd cc
+names_else volume deed.Open steps h number is = absurd cc
+names_else volume (deed.Resend lsn) steps h number is = absurd cc
+names_else volume (deed.Read group block) steps h number is = absurd cc

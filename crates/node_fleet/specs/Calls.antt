@@ -1,0 +1,56 @@
+-- What a call of a fleet does to the pass of its caller.
+use Rattle.std.specs.Prelude.{◌≡◌, ℕ, Bool, true, false, List, [], ◌∷◌, ◌++◌, All, Some, Result, Ok, Err}
+use Rattle.volume_model.specs.declared.fault.Fault.{Fault}
+use Rattle.volume_model.specs.declared.fault.Fault.TheVariants.{NoMessage}
+use Rattle.volume_model.specs.Plan.{Plan, is_named}
+use Rattle.volume_model.specs.World.{Event}
+use Rattle.volume_model.specs.World.Event.{Deliver, Hydrate, Restart, Offer, Open, Take}
+use Rattle.volume_model.specs.Actor.{named_by}
+use Rattle.volume_model.specs.Judging.{Refusal}
+use Rattle.board.specs.declared.BoardStep.{BoardStep}
+use Rattle.board.specs.declared.BoardStep.TheVariants.{Raised}
+use Rattle.journal.specs.declared.entry.Receipt.{Receipt}
+use Rattle.journal.specs.Passes.{AddsStep}
+use Rattle.journal.specs.Standing.{IsElse, Made}
+use Rattle.node_fleet.specs.declared.client_deed.ClientDeed.{ClientDeed}
+use Rattle.node_fleet.specs.declared.client_deed.ClientDeed.TheVariants as deed
+use Rattle.node_fleet.specs.Halts.{AddsNote}
+
+-- the pass has the step of this event more, as its receipt says, or a note of the refusal
+abbrev pub Tells : Event → Result Receipt Fault → List Made → List Made → List Refusal → List Refusal → Type 0
+Tells event (Ok r) steps steps' notes notes' = AddsStep event r steps steps' × (notes' ≡ notes)
+Tells event (Err fault) steps steps' notes notes' = (steps' ≡ steps) × AddsNote event fault steps notes notes'
+
+-- a message that is said not to be there was made by none of these steps
+abbrev pub Unmade : ℕ → List Made → Fault → Type 0
+Unmade number steps fault = fault ≡ NoMessage → All (IsElse number) steps
+
+-- the event is of a node that the plan doesn't name
+abbrev pub IsOfNone : Plan → Event → Type 0
+IsOfNone plan (Deliver group member number) = is_named plan group member ≡ false
+IsOfNone plan (Hydrate group member) = is_named plan group member ≡ false
+IsOfNone plan (Restart group member) = is_named plan group member ≡ false
+IsOfNone plan (Offer group member lsn) = is_named plan group member ≡ false
+IsOfNone plan event = ⊥
+
+-- whether a deed may move the durable point of its client
+abbrev pub is_moving : ClientDeed → Bool
+is_moving (deed.Take message) = true
+is_moving deed.Open = true
+is_moving other = false
+
+-- what a step of a client does on the board: its durable point is raised, where the step may move it
+abbrev pub Raises : ClientDeed → ℕ → List BoardStep → List BoardStep → Type 0
+Raises (deed.Take message) durable seat seat' = seat' ≡ seat ++ Raised durable ∷ []
+Raises deed.Open durable seat seat' = seat' ≡ seat ++ Raised durable ∷ []
+Raises other durable seat seat' = seat' ≡ seat
+
+-- the same of the event that the step is
+abbrev pub RaisesBy : Event → ℕ → List BoardStep → List BoardStep → Type 0
+RaisesBy (Take volume number) durable seat seat' = seat' ≡ seat ++ Raised durable ∷ []
+RaisesBy (Open volume) durable seat seat' = seat' ≡ seat ++ Raised durable ∷ []
+RaisesBy event durable seat seat' = seat' ≡ seat
+
+-- the message that the event names was made by none of these steps
+abbrev pub NamesElse : Event → List Made → Type 0
+NamesElse event steps = (number : ℕ) → named_by event ≡ Some number → All (IsElse number) steps

@@ -1,0 +1,11 @@
+-- What contracts see of the journal of a closed fleet.
+use Rattle.std.specs.Prelude.{List}
+use Rattle.std.specs.declared.sync.ledger.Ledger.{Ghosts as LedgerGhosts}
+use Rattle.volume_model.specs.Journal.{Entry}
+use Rattle.journal.specs.declared.row.Site.{Ghosts as SiteGhosts}
+use Rattle.journal.specs.Passes.{journal_of}
+use Rattle.node_fleet.specs.declared.closed.Journal.{Journal}
+
+-- its entries, in order
+abbrev pub entries_in : {X : Type 0} {s : SiteGhosts X} {l : LedgerGhosts X} → Journal X s l → List Entry
+entries_in j = journal_of j.log

@@ -1,0 +1,65 @@
+//! What the authority does in a fleet.
+
+ghost use Rattle.std.specs.Prelude.{◌≡◌};
+ghost use Rattle.journal.specs.Passes.{notes_of, seat_of, steps_of};
+ghost use Rattle.node_fleet.specs.Acts.{event_by};
+ghost use Rattle.node_fleet.specs.Calls.{Tells};
+ghost use Rattle.node_fleet.specs.Halts.{Halts};
+
+use crate::fleet::Fleet;
+use crate::halt::Halt;
+use journal::{Pass, Receipt, Site};
+use std::sync::Wait;
+use volume_model::Fault;
+use world::AuthorityAct;
+
+impl<'a, L: Site> Fleet<'a, L> {
+    // One try of what the authority does.
+    fn try_authority<R: Wait>(
+        &self,
+        rt: &R,
+        pass: &mut Pass<'a, L>,
+        act: AuthorityAct,
+    ) -> Result<Receipt, Halt>
+        ensures told { Halts (event_by act) result (steps_of pass.old) (steps_of pass.new) (notes_of pass.old) (notes_of pass.new) }
+        ensures seat { seat_of pass.new ≡ seat_of pass.old }
+    {
+        let mut actor = self.authority.lock(rt);
+        let mut log = self.journal.lock(rt);
+        actor.act(
+            rt,
+            self.alloc,
+            &self.height,
+            &mut log,
+            pass,
+            act,
+            self.slots,
+        )
+    }
+
+    /// The authority assigns a volume epoch, leads a group to a child of its configuration, or tells a client where the
+    /// groups stand.
+    ///
+    /// # Errors
+    /// The authority's own refusal, as [`AuthorityActor::act`](crate::AuthorityActor::act) gives it, `NoSlot` where it
+    /// is to assign and the last volume epoch is that of the last slot, and `JournalFull` where no cell is left.
+    /// `NoMemory`, which isn't noted, where a growth was refused.
+    pub fn advance<R: Wait>(
+        &self,
+        rt: &R,
+        pass: &mut Pass<'a, L>,
+        act: AuthorityAct,
+    ) -> Result<Receipt, Fault>
+        ensures told { Tells (event_by act) result (steps_of pass.old) (steps_of pass.new) (notes_of pass.old) (notes_of pass.new) }
+        ensures seat { seat_of pass.new ≡ seat_of pass.old }
+    {
+        for _ in rt.forever() {
+            match self.try_authority(rt, pass, act) {
+                Ok(receipt) => return Ok(receipt),
+                Err(Halt::Again) => {}
+                Err(Halt::Refused(fault)) => return Err(fault),
+            }
+        }
+        unreachable!()
+    }
+}

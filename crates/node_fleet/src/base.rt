@@ -1,0 +1,53 @@
+//! What a fleet stands on, before its site has a name.
+
+ghost use Rattle.std.specs.Prelude.{◌≡◌, ◌<◌, All, vec_len};
+ghost use Rattle.std.proofs.Props.{props};
+ghost use Rattle.height.specs.Seats.{table_of, top_table, height_of};
+ghost use Rattle.board.specs.Seats.{IsSeatOf};
+
+use board::{Board, BoardSeat};
+use height::{Height, Top};
+use journal::Opened;
+use std::alloc::{AllocError, Global};
+use std::sync::ledger::Blank;
+
+/// The height and the board of a fleet that isn't there yet, its empty history, and the ledger of its steps, with a
+/// part and a seat for each of its passes.
+#[derive(Drop)]
+pub struct Base {
+    pub(crate) height: Height,
+    pub(crate) top: Top,
+    pub(crate) board: Board,
+    pub(crate) seats: Vec<BoardSeat>,
+    pub(crate) opened: Opened,
+    pub(crate) blank: Blank,
+    ghost one_table: { top_table top ≡ table_of height },
+    ghost low: { height_of top ≡ 0 },
+    ghost seats_of: { All (λ s. IsSeatOf board s) seats.items } by { Prim.hlevel props },
+    ghost parts: { blank.parts ≡ vec_len seats },
+}
+
+impl Base {
+    ghost use Rattle.std.specs.Prelude.{IfOk};
+    ghost use Rattle.node_fleet.specs.Bases.{passes_of};
+
+    /// The base of a fleet with so many passes.
+    ///
+    /// # Errors
+    /// Where a growth was refused.
+    pub fn new(alloc: Global, passes: usize) -> Result<Base, AllocError>
+        requires { 0 < passes }
+        ensures { IfOk result (λ base. passes_of base ≡ passes) }
+    {
+        let (height, top) = Height::new(alloc)?;
+        let (board, seats) = Board::new(alloc, passes)?;
+        Ok(Base {
+            height,
+            top,
+            board,
+            seats,
+            opened: Opened::new(),
+            blank: Blank::new(passes as u64),
+        })
+    }
+}

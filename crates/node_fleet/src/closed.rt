@@ -1,0 +1,44 @@
+//! What a closed fleet leaves.
+
+use journal::{Log, Site};
+use std::alloc::Global;
+use volume_model::Fault;
+use world::Event;
+
+/// The steps that the actors of a fleet made, in order.
+#[derive(Drop)]
+pub struct Journal<'a, L: Site> {
+    log: Log<'a, L>,
+}
+
+impl<'a, L: Site> Journal<'a, L> {
+    ghost use Rattle.std.specs.Prelude.{◌≡◌, IfOk, length};
+    ghost use Rattle.volume_model.specs.Journal.{events};
+    ghost use Rattle.volume_model.specs.declared.fault.Fault.TheVariants.{NoMemory};
+    ghost use Rattle.std.specs.Prelude.{IfErr};
+    ghost use Rattle.world.specs.Events.{events_of};
+    ghost use Rattle.journal.specs.Passes.{journal_of};
+    ghost use Rattle.node_fleet.specs.Journals.{entries_in};
+
+    // The journal of a fleet that is closed.
+    pub(crate) fn of(log: Log<'a, L>) -> Journal<'a, L>
+        ensures { entries_in result ≡ journal_of log.entry }
+    {
+        Journal { log }
+    }
+
+    /// How many steps it has.
+    pub fn len(&self) -> usize
+        ensures { result ≡ length (entries_in self.now) }
+    {
+        self.log.len()
+    }
+
+    /// A copy of its events, in order. `NoMemory` where a growth was refused.
+    pub fn events(&self, alloc: Global) -> Result<Vec<Event>, Fault>
+        ensures events { IfOk result (λ made. events_of made.items ≡ events (entries_in self.now)) }
+        ensures memory { IfErr result (λ fault. fault ≡ NoMemory) }
+    {
+        Ok(self.log.events(alloc)?)
+    }
+}

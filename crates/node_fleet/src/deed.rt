@@ -1,0 +1,196 @@
+//! What a node does of itself.
+
+ghost use Rattle.std.specs.Prelude.{◌≡◌};
+
+use crate::halt::Halt;
+use crate::node::NodeActor;
+use crate::step::{ready, refused};
+use height::Height;
+use journal::{Log, Pass, Receipt, Site};
+use std::alloc::Global;
+use std::sync::Wait;
+use volume_model::Fault;
+use world::Event;
+
+/// What a node does without a message.
+#[derive(Clone, Copy, PartialEq, Eq, Debug)]
+pub enum NodeDeed {
+    /// It becomes whole from the copies that it was sent.
+    Hydrate,
+    /// It starts again.
+    Restart,
+    /// It offers the record with this LSN to the others of its group.
+    Offer { lsn: u64 },
+}
+
+impl<L: Site> NodeActor<L> {
+    ghost use Rattle.std.specs.Prelude.{◌≢◌, Err, IfErr, OnErr, OnOk, length};
+    ghost use Rattle.height.specs.Seats.{table_of};
+    ghost use Rattle.volume_model.specs.declared.fault.Fault.TheVariants.{NoMessage};
+    ghost use Rattle.volume_model.specs.World.Event.{Hydrate, Restart, Offer};
+    ghost use Rattle.journal.specs.Passes.{journal_of, notes_of, seat_of, steps_of, world_of};
+    ghost use Rattle.node_fleet.specs.declared.halt.Halt.TheVariants.{Again, Refused};
+    ghost use Rattle.node_fleet.specs.Halts.{Enters, Halts, IsExact};
+    ghost use Rattle.node_fleet.specs.Ready.{IsStale};
+    ghost use Rattle.node_fleet.specs.Nodes.{actor_group, actor_member, actor_node, event_by};
+
+    /// The node becomes whole, and the step is entered.
+    fn hydrate<'a, R: Wait>(
+        &mut self,
+        rt: &R,
+        alloc: Global,
+        height: &Height,
+        log: &mut Log<'a, L>,
+        pass: &mut Pass<'a, L>,
+    ) -> Result<Receipt, Halt>
+        requires height { table_of height.now ≡ L.table }
+        ensures told { Halts (Hydrate self.old.group self.old.member) result (steps_of pass.old) (steps_of pass.new) (notes_of pass.old) (notes_of pass.new) }
+        ensures exact { IsExact L.plan L.slots (length L.cells) (journal_of log.old) (Hydrate self.old.group self.old.member) result }
+        ensures entered { Enters (Hydrate self.old.group self.old.member) (journal_of log.old) (journal_of log.new) result }
+        ensures stale { result ≡ Err Again → IsStale self.old.mark log.old }
+        ensures seat { seat_of pass.new ≡ seat_of pass.old }
+        ensures found { IfErr result (λ halt. halt ≢ Refused NoMessage) }
+        ensures same { (self.new.group ≡ self.old.group) × (self.new.member ≡ self.old.member) }
+        ensures moved { OnOk result (actor_node self.new ≡ (world_of log.new).nodes self.old.group self.old.member) }
+        ensures still { OnErr result (actor_node self.new ≡ actor_node self.old) }
+    {
+        let NodeActor {
+            mark,
+            segment,
+            group,
+            member,
+        } = self;
+        ready(height, log, pass, mark)?;
+        let event = Event::Hydrate {
+            group: *group,
+            member: *member,
+        };
+        let prepared = match segment.prepare_hydration(alloc) {
+            Ok(prepared) => prepared,
+            Err(fault) => return Err(refused(log, mark, pass, event, fault)),
+        };
+        if log.is_full() {
+            return Err(refused(log, mark, pass, event, Fault::JournalFull));
+        }
+        let made = segment.apply(prepared);
+        Ok(log.enter(rt, height, mark, pass, event, made, 0))
+    }
+
+    /// The node starts again, and the step is entered.
+    fn restart<'a, R: Wait>(
+        &mut self,
+        rt: &R,
+        alloc: Global,
+        height: &Height,
+        log: &mut Log<'a, L>,
+        pass: &mut Pass<'a, L>,
+    ) -> Result<Receipt, Halt>
+        requires height { table_of height.now ≡ L.table }
+        ensures told { Halts (Restart self.old.group self.old.member) result (steps_of pass.old) (steps_of pass.new) (notes_of pass.old) (notes_of pass.new) }
+        ensures exact { IsExact L.plan L.slots (length L.cells) (journal_of log.old) (Restart self.old.group self.old.member) result }
+        ensures entered { Enters (Restart self.old.group self.old.member) (journal_of log.old) (journal_of log.new) result }
+        ensures stale { result ≡ Err Again → IsStale self.old.mark log.old }
+        ensures seat { seat_of pass.new ≡ seat_of pass.old }
+        ensures found { IfErr result (λ halt. halt ≢ Refused NoMessage) }
+        ensures same { (self.new.group ≡ self.old.group) × (self.new.member ≡ self.old.member) }
+        ensures moved { OnOk result (actor_node self.new ≡ (world_of log.new).nodes self.old.group self.old.member) }
+        ensures still { OnErr result (actor_node self.new ≡ actor_node self.old) }
+    {
+        let NodeActor {
+            mark,
+            segment,
+            group,
+            member,
+        } = self;
+        ready(height, log, pass, mark)?;
+        let event = Event::Restart {
+            group: *group,
+            member: *member,
+        };
+        if log.is_full() {
+            return Err(refused(log, mark, pass, event, Fault::JournalFull));
+        }
+        segment.restart();
+        Ok(log.enter(rt, height, mark, pass, event, Vec::new(alloc), 0))
+    }
+
+    /// The node offers a record, and the step is entered.
+    fn offer<'a, R: Wait>(
+        &mut self,
+        rt: &R,
+        alloc: Global,
+        height: &Height,
+        log: &mut Log<'a, L>,
+        pass: &mut Pass<'a, L>,
+        lsn: u64,
+    ) -> Result<Receipt, Halt>
+        requires height { table_of height.now ≡ L.table }
+        ensures told { Halts (Offer self.old.group self.old.member lsn) result (steps_of pass.old) (steps_of pass.new) (notes_of pass.old) (notes_of pass.new) }
+        ensures exact { IsExact L.plan L.slots (length L.cells) (journal_of log.old) (Offer self.old.group self.old.member lsn) result }
+        ensures entered { Enters (Offer self.old.group self.old.member lsn) (journal_of log.old) (journal_of log.new) result }
+        ensures stale { result ≡ Err Again → IsStale self.old.mark log.old }
+        ensures seat { seat_of pass.new ≡ seat_of pass.old }
+        ensures found { IfErr result (λ halt. halt ≢ Refused NoMessage) }
+        ensures same { (self.new.group ≡ self.old.group) × (self.new.member ≡ self.old.member) }
+        ensures moved { OnOk result (actor_node self.new ≡ (world_of log.new).nodes self.old.group self.old.member) }
+        ensures still { OnErr result (actor_node self.new ≡ actor_node self.old) }
+    {
+        let NodeActor {
+            mark,
+            segment,
+            group,
+            member,
+        } = self;
+        let mut made = Vec::with_capacity(alloc, 1)?;
+        ready(height, log, pass, mark)?;
+        let event = Event::Offer {
+            group: *group,
+            member: *member,
+            lsn,
+        };
+        let gossip = match segment.offer(lsn) {
+            Ok(gossip) => gossip,
+            Err(fault) => return Err(refused(log, mark, pass, event, fault)),
+        };
+        if log.is_full() {
+            return Err(refused(log, mark, pass, event, Fault::JournalFull));
+        }
+        made.push_reserved(gossip);
+        Ok(log.enter(rt, height, mark, pass, event, made, 0))
+    }
+
+    /// The node does what it does of itself, and the step is entered. Its caller holds the node's lock and the
+    /// journal's.
+    ///
+    /// # Errors
+    /// [`Again`](Halt::Again) where the journal doesn't have the node as it stands here. Else, and these are noted, the
+    /// node's own refusal, of [`NodeDeed::Hydrate`] `AlreadyWhole`, `NotEnough` or `Full`, of [`NodeDeed::Offer`]
+    /// `NotWhole`, `NotInstalled` or `NoRecord`, and `JournalFull` where no cell is left; and `NoMemory`, which isn't
+    /// noted. The node is then what it was.
+    pub fn act<'a, R: Wait>(
+        &mut self,
+        rt: &R,
+        alloc: Global,
+        height: &Height,
+        log: &mut Log<'a, L>,
+        pass: &mut Pass<'a, L>,
+        deed: NodeDeed,
+    ) -> Result<Receipt, Halt>
+        requires height { table_of height.now ≡ L.table }
+        ensures told { Halts (event_by (actor_group self.old) (actor_member self.old) deed) result (steps_of pass.old) (steps_of pass.new) (notes_of pass.old) (notes_of pass.new) }
+        ensures exact { IsExact L.plan L.slots (length L.cells) (journal_of log.old) (event_by (actor_group self.old) (actor_member self.old) deed) result }
+        ensures entered { Enters (event_by (actor_group self.old) (actor_member self.old) deed) (journal_of log.old) (journal_of log.new) result }
+        ensures stale { result ≡ Err Again → IsStale self.old.mark log.old }
+        ensures seat { seat_of pass.new ≡ seat_of pass.old }
+        ensures found { IfErr result (λ halt. halt ≢ Refused NoMessage) }
+        ensures same { (actor_group self.new ≡ actor_group self.old) × (actor_member self.new ≡ actor_member self.old) }
+        ensures moved { OnOk result (actor_node self.new ≡ (world_of log.new).nodes (actor_group self.old) (actor_member self.old)) }
+        ensures still { OnErr result (actor_node self.new ≡ actor_node self.old) }
+    {
+        match deed {
+            NodeDeed::Hydrate => self.hydrate(rt, alloc, height, log, pass),
+            NodeDeed::Restart => self.restart(rt, alloc, height, log, pass),
+            NodeDeed::Offer { lsn } => self.offer(rt, alloc, height, log, pass, lsn),
+        }
+    }
+}

@@ -1,0 +1,223 @@
+//! What nodes do in a fleet.
+
+ghost use Rattle.std.specs.Prelude.{◌≡◌, IfErr};
+ghost use Rattle.volume_model.specs.World.Event.{Deliver};
+ghost use Rattle.journal.specs.Passes.{letter_number, notes_of, seat_of, steps_of};
+ghost use Rattle.world.specs.Events.{event_of};
+ghost use Rattle.node_fleet.specs.Calls.{IsOfNone, Tells, Unmade};
+ghost use Rattle.node_fleet.specs.Halts.{AddsNote, Halts};
+ghost use Rattle.node_fleet.specs.Nodes.{event_by};
+
+use crate::deed::NodeDeed;
+use crate::fleet::Fleet;
+use crate::gate::StepGate;
+use crate::halt::Halt;
+use crate::node::NodeActor;
+use journal::{Letter, Pass, Receipt, Site};
+use std::sync::{Mutex, Wait};
+use volume_model::Fault;
+use world::Event;
+
+/// How many members a group can have.
+const MEMBERS: usize = 64;
+
+// The event that a node's deed is.
+fn event(group: u8, member: u8, deed: NodeDeed) -> Event
+    ensures { event_of result ≡ event_by group member deed }
+{
+    match deed {
+        NodeDeed::Hydrate => Event::Hydrate { group, member },
+        NodeDeed::Restart => Event::Restart { group, member },
+        NodeDeed::Offer { lsn } => Event::Offer { group, member, lsn },
+    }
+}
+
+impl<'a, L: Site> Fleet<'a, L> {
+    ghost use Rattle.std.specs.Prelude.{◌≢◌, false, All, IfNone, IfSome};
+    ghost use Rattle.volume_model.specs.Plan.{is_named};
+    ghost use Rattle.volume_model.specs.declared.fault.Fault.TheVariants.{NoMessage};
+    ghost use Rattle.journal.specs.Standing.{IsElse};
+    ghost use Rattle.node_fleet.specs.declared.halt.Halt.TheVariants.{Refused};
+
+    // The node of a member of a group, if there is one.
+    fn node(&self, group: u8, member: u8) -> Option<&Mutex<NodeActor<L>>> {
+        if usize::from(member) >= MEMBERS {
+            return None;
+        }
+        let place = usize::from(group) * MEMBERS + usize::from(member);
+        self.nodes.get(place)?.as_ref()
+    }
+
+    // Refuses what is asked of a node that the plan doesn't name. Want of memory is told, and not noted.
+    fn refuse_unnamed<R: Wait>(&self, rt: &R, pass: &mut Pass<'a, L>, event: Event) -> Fault
+        requires unnamed { IsOfNone L.plan (event_of event) }
+        ensures steps { steps_of pass.new ≡ steps_of pass.old }
+        ensures seat { seat_of pass.new ≡ seat_of pass.old }
+        ensures note { AddsNote (event_of event) result (steps_of pass.old) (notes_of pass.old) (notes_of pass.new) }
+        ensures found { result ≢ NoMessage }
+    {
+        if pass.reserve().is_err() {
+            return Fault::NoMemory;
+        }
+        let mut log = self.journal.lock(rt);
+        log.settle(&self.height, pass);
+        log.refuse_absent(pass, event, Fault::NoActor);
+        Fault::NoActor
+    }
+
+    // Refuses what is asked of a node that isn't there. The plan doesn't name it: else it waits for good, which nothing
+    // brings about.
+    fn refuse_absent<R: Wait>(
+        &self,
+        rt: &R,
+        pass: &mut Pass<'a, L>,
+        group: u8,
+        member: u8,
+        event: Event,
+    ) -> Fault
+        requires of { is_named L.plan group member ≡ false → IsOfNone L.plan (event_of event) }
+        ensures steps { steps_of pass.new ≡ steps_of pass.old }
+        ensures seat { seat_of pass.new ≡ seat_of pass.old }
+        ensures note { AddsNote (event_of event) result (steps_of pass.old) (notes_of pass.old) (notes_of pass.new) }
+        ensures found { result ≢ NoMessage }
+    {
+        if self.plan.names(group, member) {
+            for _ in rt.forever() {}
+            unreachable!()
+        }
+        self.refuse_unnamed(rt, pass, event)
+    }
+
+    // Looks a message up, and lets the journal go. None where no step has made it; then no step of the pass did.
+    fn find<R: Wait>(&self, rt: &R, pass: &mut Pass<'a, L>, message: u64) -> Option<Letter<'a, L>>
+        ensures pass { (steps_of pass.new ≡ steps_of pass.old) × (notes_of pass.new ≡ notes_of pass.old) × (seat_of pass.new ≡ seat_of pass.old) }
+        ensures found { IfSome result (λ letter. letter_number letter ≡ message) }
+        ensures own { IfNone result (All (IsElse message) (steps_of pass.old)) }
+    {
+        let mut log = self.journal.lock(rt);
+        log.seek(&self.height, pass, message)
+    }
+
+    // One try of a delivery.
+    fn try_deliver<R: Wait, G: StepGate>(
+        &self,
+        rt: &R,
+        pass: &mut Pass<'a, L>,
+        node: &Mutex<NodeActor<L>>,
+        group: u8,
+        member: u8,
+        letter: &Letter<'a, L>,
+        gate: &G,
+    ) -> Result<Receipt, Halt>
+        ensures told { Halts (Deliver group member (letter_number letter.now)) result (steps_of pass.old) (steps_of pass.new) (notes_of pass.old) (notes_of pass.new) }
+        ensures found { IfErr result (λ halt. halt ≢ Refused NoMessage) }
+        ensures seat { seat_of pass.new ≡ seat_of pass.old }
+    {
+        let mut actor = node.lock(rt);
+        if actor.group() != group || actor.member() != member {
+            return Err(Halt::Again);
+        }
+        actor.react(
+            rt,
+            self.alloc,
+            &self.journal,
+            &self.height,
+            pass,
+            letter,
+            gate,
+        )
+    }
+
+    /// Delivers a message to a node: looks it up, makes the node ready under its own lock, lends what it answers to the
+    /// gate while the journal is free, and then makes and enters the step.
+    ///
+    /// # Errors
+    /// `NoActor` where the plan names no such node, `NoMessage` where no step has made the message, which isn't noted,
+    /// then the node's own refusal, as `Segment::deliver` gives it, and `JournalFull` where no cell is left.
+    /// `NoMemory`, which isn't noted, where a growth was refused.
+    pub fn deliver<R: Wait, G: StepGate>(
+        &self,
+        rt: &R,
+        pass: &mut Pass<'a, L>,
+        group: u8,
+        member: u8,
+        message: u64,
+        gate: &G,
+    ) -> Result<Receipt, Fault>
+        ensures told { Tells (Deliver group member message) result (steps_of pass.old) (steps_of pass.new) (notes_of pass.old) (notes_of pass.new) }
+        ensures unmade { IfErr result (λ fault. Unmade message (steps_of pass.old) fault) }
+        ensures seat { seat_of pass.new ≡ seat_of pass.old }
+    {
+        let Some(node) = self.node(group, member) else {
+            let event = Event::Deliver {
+                group,
+                member,
+                message,
+            };
+            return Err(self.refuse_absent(rt, pass, group, member, event));
+        };
+        let Some(letter) = self.find(rt, pass, message) else {
+            return Err(Fault::NoMessage);
+        };
+        for _ in rt.forever() {
+            match self.try_deliver(rt, pass, node, group, member, &letter, gate) {
+                Ok(receipt) => return Ok(receipt),
+                Err(Halt::Again) => {}
+                Err(Halt::Refused(fault)) => return Err(fault),
+            }
+        }
+        unreachable!()
+    }
+
+    // One try of what a node does of itself.
+    fn try_node<R: Wait>(
+        &self,
+        rt: &R,
+        pass: &mut Pass<'a, L>,
+        node: &Mutex<NodeActor<L>>,
+        group: u8,
+        member: u8,
+        deed: NodeDeed,
+    ) -> Result<Receipt, Halt>
+        ensures told { Halts (event_by group member deed) result (steps_of pass.old) (steps_of pass.new) (notes_of pass.old) (notes_of pass.new) }
+        ensures found { IfErr result (λ halt. halt ≢ Refused NoMessage) }
+        ensures seat { seat_of pass.new ≡ seat_of pass.old }
+    {
+        let mut actor = node.lock(rt);
+        if actor.group() != group || actor.member() != member {
+            return Err(Halt::Again);
+        }
+        let mut log = self.journal.lock(rt);
+        actor.act(rt, self.alloc, &self.height, &mut log, pass, deed)
+    }
+
+    /// A node does what it does of itself.
+    ///
+    /// # Errors
+    /// `NoActor` where the plan names no such node, then the node's own refusal, as [`NodeActor::act`] gives it, and
+    /// `JournalFull` where no cell is left. `NoMemory`, which isn't noted, where a growth was refused.
+    pub fn node_step<R: Wait>(
+        &self,
+        rt: &R,
+        pass: &mut Pass<'a, L>,
+        group: u8,
+        member: u8,
+        deed: NodeDeed,
+    ) -> Result<Receipt, Fault>
+        ensures told { Tells (event_by group member deed) result (steps_of pass.old) (steps_of pass.new) (notes_of pass.old) (notes_of pass.new) }
+        ensures found { IfErr result (λ fault. fault ≢ NoMessage) }
+        ensures seat { seat_of pass.new ≡ seat_of pass.old }
+    {
+        let Some(node) = self.node(group, member) else {
+            return Err(self.refuse_absent(rt, pass, group, member, event(group, member, deed)));
+        };
+        for _ in rt.forever() {
+            match self.try_node(rt, pass, node, group, member, deed) {
+                Ok(receipt) => return Ok(receipt),
+                Err(Halt::Again) => {}
+                Err(Halt::Refused(fault)) => return Err(fault),
+            }
+        }
+        unreachable!()
+    }
+}

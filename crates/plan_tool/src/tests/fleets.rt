@@ -1,0 +1,7 @@
+//! Fleets of actors, which calls step by passes.
+
+mod calls;
+mod drive;
+mod looks;
+mod refusals;
+mod runs;

@@ -1,0 +1,126 @@
+//! Calls of a fleet, as tables give them.
+
+use super::looks::Look;
+use journal::{Pass, Receipt, Site};
+use node_fleet::{ClientDeed, Fleet, NodeDeed};
+use std::alloc::{AllocError, Global};
+use std::sync::Wait;
+use volume_model::Fault;
+use world::AuthorityAct;
+use writer_core::Change;
+
+/// A call that concerns group 0.
+#[derive(Clone, Copy)]
+pub enum Call {
+    /// A message is delivered to a member.
+    Deliver(u8, u64),
+    /// A member does something of itself.
+    Node(u8, NodeDeed),
+    /// The authority acts.
+    Authority(AuthorityAct),
+    /// A client gives these bytes their records, one a byte, from the first byte of block 0 on.
+    Issue(u32, &'static str),
+    /// A client takes a message.
+    Take(u32, u64),
+    /// A client cuts.
+    Cut(u32),
+    /// A client asks for block 0.
+    Read(u32),
+    /// The board is read.
+    Board,
+}
+
+/// How many messages a call made and the durable point that it showed, or why it was refused.
+pub type Told = Result<(usize, u64), Fault>;
+
+/// A call, and what is to be told of it.
+pub type Step = (Call, Told);
+
+/// Changes to these bytes, one a byte, from the first byte of block 0 on.
+fn changes(alloc: Global, bytes: &str) -> Result<Vec<Change>, AllocError> {
+    let mut changes = Vec::new(alloc);
+    for (offset, byte) in bytes.bytes().enumerate() {
+        changes.push(Change {
+            group: 0,
+            block: 0,
+            offset: u16::try_from(offset).unwrap_or(0),
+            bytes: vec![in alloc; byte]?,
+        })?;
+    }
+    Ok(changes)
+}
+
+/// What a client is asked to do.
+fn deed(alloc: Global, call: Call) -> Result<ClientDeed, AllocError> {
+    match call {
+        Call::Issue(_, bytes) => Ok(ClientDeed::Issue(changes(alloc, bytes)?)),
+        Call::Take(_, message) => Ok(ClientDeed::Take { message }),
+        Call::Read(_) => Ok(ClientDeed::Read { group: 0, block: 0 }),
+        _ => Ok(ClientDeed::Cut),
+    }
+}
+
+impl Call {
+    /// Makes it by a pass.
+    fn made<'a, L: Site, R: Wait>(
+        self,
+        rt: &R,
+        alloc: Global,
+        fleet: &Fleet<'a, L>,
+        pass: &mut Pass<'a, L>,
+        look: &Look,
+    ) -> Result<Receipt, Fault> {
+        match self {
+            Call::Deliver(member, message) => fleet.deliver(rt, pass, 0, member, message, look),
+            Call::Node(member, deed) => fleet.node_step(rt, pass, 0, member, deed),
+            Call::Authority(act) => fleet.advance(rt, pass, act),
+            Call::Issue(volume, _)
+            | Call::Take(volume, _)
+            | Call::Cut(volume)
+            | Call::Read(volume) => {
+                let deed = deed(alloc, self)?;
+                fleet.client_step(rt, pass, volume, &deed)
+            }
+            Call::Board => Ok(Receipt {
+                number: 0,
+                first_message: 0,
+                made: 0,
+                durable: fleet.durable(pass),
+            }),
+        }
+    }
+
+    /// What is told of it.
+    fn told<'a, L: Site, R: Wait>(
+        self,
+        rt: &R,
+        alloc: Global,
+        fleet: &Fleet<'a, L>,
+        pass: &mut Pass<'a, L>,
+        look: &Look,
+    ) -> Told {
+        let receipt = self.made(rt, alloc, fleet, pass, look)?;
+        Ok((receipt.made, receipt.durable))
+    }
+}
+
+/// The first place where another thing is told than is to be. The passes make the calls in turn.
+pub fn first_wrong<'a, L: Site, R: Wait>(
+    rt: &R,
+    alloc: Global,
+    fleet: &Fleet<'a, L>,
+    passes: &mut [Pass<'a, L>],
+    steps: &[Step],
+    look: &Look,
+) -> Option<usize> {
+    let count = passes.len();
+    if count == 0 {
+        return None;
+    }
+    for (i, (call, told)) in steps.iter().enumerate() {
+        if call.told(rt, alloc, fleet, &mut passes[i % count], look) != *told {
+            return Some(i);
+        }
+    }
+    None
+}

@@ -1,0 +1,105 @@
+//! Fleets from their opening to their end.
+
+ghost use Rattle.std.specs.Prelude.{◌≡◌, ◌<◌, vec_len};
+ghost use Rattle.std.specs.Arc.{arc_value};
+ghost use Rattle.plan.specs.CheckedModel.{checked_model};
+ghost use Rattle.journal.specs.Tokens.{ids_of};
+ghost use Rattle.node_fleet.specs.Bases.{passes_of, IsBaseOf};
+
+use super::super::texts::checked;
+use super::calls::{Step, first_wrong};
+use super::looks::Look;
+use journal::{Pass, Row, Site};
+use node_fleet::{Base, Fleet};
+use plan::CheckedPlan;
+use std::alloc::Global;
+use std::marker::Brand;
+use std::sync::{Arc, Wait};
+use std::test::*;
+use world::{Outcome, run};
+
+/// What a fleet leaves.
+#[derive(Drop)]
+pub struct Ending {
+    /// The place of the first call of the table that was answered otherwise than the table says.
+    pub wrong: Option<usize>,
+    /// How many steps the closed journal has.
+    pub steps: usize,
+    /// How many of its events a run of the world refuses.
+    pub refused: usize,
+    /// How that run ends.
+    pub outcome: Outcome,
+}
+
+impl Ending {
+    /// Of the first writer its volume epoch, its durable point and the LSN of its last record.
+    pub fn writer(&self) -> Option<(u32, u64, u64)> {
+        let writer = self.outcome.writers.first()?;
+        let last = writer.log.last()?;
+        Some((writer.volume, writer.durable, last.lsn))
+    }
+}
+
+/// What a fleet leaves that is closed, where this call of a table was the first to be answered otherwise.
+pub fn ended<'a, L: Site>(
+    alloc: Global,
+    fleet: Fleet<'a, L>,
+    passes: Vec<Pass<'a, L>>,
+    plan: &Arc<CheckedPlan>,
+    wrong: Option<usize>,
+) -> Result<Ending, Fail>
+    requires { (vec_len passes ≡ L.parts) × (0 < vec_len passes) }
+{
+    let journal = fleet.close(passes);
+    let events = journal.events(alloc)?;
+    let outcome = run(alloc, plan, events.as_slice())?;
+    let refused = outcome.results.iter().filter(|told| told.is_err()).count();
+    Ok(Ending {
+        wrong,
+        steps: journal.len(),
+        refused,
+        outcome,
+    })
+}
+
+/// What a fleet leaves after the calls of a table, which its passes make in turn.
+fn drive<L: Site, R: Wait>(
+    rt: &R,
+    alloc: Global,
+    row: &Row,
+    base: Base,
+    plan: Arc<CheckedPlan>,
+    slots: u32,
+    steps: &[Step],
+    look: &Look,
+) -> Result<Ending, Fail>
+    requires plan { checked_model (arc_value plan) ≡ L.plan }
+    requires cells { ids_of row.now ≡ L.cells }
+    requires slots { slots ≡ L.slots }
+    requires base { IsBaseOf L.table L.board L.history L.name L.parts base }
+    requires passes { 0 < passes_of base }
+{
+    let copy = plan.clone()?;
+    let (fleet, mut passes) = Fleet::<L>::new(alloc, row, base, copy, slots)?;
+    let wrong = first_wrong(rt, alloc, &fleet, passes.as_mut_slice(), steps, look);
+    ended(alloc, fleet, passes, &plan, wrong)
+}
+
+/// What a fleet over the plan of a text leaves after the calls of a table.
+pub fn run_table<R: Wait>(
+    rt: &R,
+    alloc: Global,
+    text: &[u8],
+    passes: usize,
+    slots: u32,
+    cells: usize,
+    steps: &[Step],
+    look: &Look,
+) -> Result<Ending, Fail>
+    requires { 0 < passes }
+{
+    let plan = checked(alloc, text)?;
+    let row = Row::new(alloc, cells)?;
+    let base = Base::new(alloc, passes)?;
+    drive::<Brand, R>(rt, alloc, &row, base, plan, slots, steps, look)
+}

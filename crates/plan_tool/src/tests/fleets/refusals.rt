@@ -1,0 +1,62 @@
+//! What fleets refuse.
+
+use super::super::texts::SIX;
+use super::calls::{Call, Step};
+use super::drive::run_table;
+use super::looks::Look;
+use node_fleet::NodeDeed;
+use std::test::*;
+use volume_model::Fault;
+use world::AuthorityAct;
+
+/// Two steps fill a journal of two cells, and no actor makes another.
+const FULL: [Step; 6] = [
+    (Call::Node(0, NodeDeed::Restart), Ok((0, 0))),
+    (Call::Issue(1, "a"), Ok((1, 0))),
+    (Call::Node(0, NodeDeed::Restart), Err(Fault::JournalFull)),
+    (Call::Deliver(0, 1), Err(Fault::JournalFull)),
+    (Call::Issue(1, "a"), Err(Fault::JournalFull)),
+    (
+        Call::Authority(AuthorityAct::Assign),
+        Err(Fault::JournalFull),
+    ),
+];
+
+/// What names no node, no message, no client and no slot.
+const NOBODY: [Step; 17] = [
+    (Call::Deliver(6, 1), Err(Fault::NoActor)),
+    (Call::Node(64, NodeDeed::Restart), Err(Fault::NoActor)),
+    (Call::Deliver(0, 1), Err(Fault::NoMessage)),
+    (Call::Deliver(0, 0), Err(Fault::NoMessage)),
+    (Call::Issue(1, "a"), Ok((1, 0))),
+    (Call::Node(0, NodeDeed::Restart), Ok((0, 0))),
+    (Call::Deliver(0, 2), Err(Fault::NoMessage)),
+    (Call::Take(1, 2), Err(Fault::NoMessage)),
+    (Call::Cut(0), Err(Fault::NoActor)),
+    (Call::Cut(2), Err(Fault::NoActor)),
+    (Call::Cut(3), Err(Fault::NoActor)),
+    (Call::Take(2, 1), Err(Fault::NotAddressed)),
+    (Call::Take(3, 1), Err(Fault::NotAddressed)),
+    (Call::Take(3, 2), Err(Fault::NoMessage)),
+    (Call::Authority(AuthorityAct::Assign), Ok((1, 0))),
+    (Call::Authority(AuthorityAct::Assign), Err(Fault::NoSlot)),
+    (Call::Deliver(0, 1), Ok((1, 0))),
+];
+
+#[test]
+fn nobody_there(rt: HostRuntime) -> Result<(), Fail> {
+    let steps = NOBODY.as_slice();
+    let ending = run_table(&rt, rt.alloc(), SIX, 2, 2, 9, steps, &Look::new())?;
+    assert_eq!(rt; ending.wrong, None);
+    assert_eq!(rt; (ending.steps, ending.refused), (4, 0));
+    Ok(())
+}
+
+#[test]
+fn a_full_journal(rt: HostRuntime) -> Result<(), Fail> {
+    let steps = FULL.as_slice();
+    let ending = run_table(&rt, rt.alloc(), SIX, 2, 2, 2, steps, &Look::new())?;
+    assert_eq!(rt; ending.wrong, None);
+    assert_eq!(rt; (ending.steps, ending.refused), (2, 0));
+    Ok(())
+}
