@@ -16,10 +16,7 @@ use crate::node::NodeActor;
 use journal::{Letter, Pass, Receipt, Site};
 use std::sync::{Mutex, Wait};
 use volume_model::Fault;
-use world::Event;
-
-/// How many members a group can have.
-const MEMBERS: usize = 64;
+use world::{Event, slot};
 
 // The event that a node's deed is.
 fn event(group: u8, member: u8, deed: NodeDeed) -> Event
@@ -41,11 +38,8 @@ impl<'a, L: Site> Fleet<'a, L> {
 
     // The node of a member of a group, if there is one.
     fn node(&self, group: u8, member: u8) -> Option<&Mutex<NodeActor<L>>> {
-        if usize::from(member) >= MEMBERS {
-            return None;
-        }
-        let place = usize::from(group) * MEMBERS + usize::from(member);
-        self.nodes.get(place)?.as_ref()
+        let slot = slot(self.nodes.len(), group, member)?;
+        self.nodes[slot].as_ref()
     }
 
     // Refuses what is asked of a node that the plan doesn't name. Want of memory is told, and not noted.

@@ -22,6 +22,7 @@ mod writing;
 pub use acts::{AuthorityAct, ClientAct};
 pub use client::{Client, ClientState};
 pub use event::{Event, Order};
+pub use nodes::slot;
 pub use outcome::{FindEnd, Outcome, WriterEnd};
 pub use recovery::Found;
 pub use running::{promised, run, run_orders};

@@ -251,7 +251,7 @@ fn recoveries_after_recoveries(rt: HostRuntime) -> Result<(), AllocError> {
 }
 
 /// The plan of six copies, in two groups.
-fn two_groups(alloc: Global) -> Result<String, AllocError> {
+pub fn two_groups(alloc: Global) -> Result<String, AllocError> {
     let group = SIX_COPIES
         .strip_prefix("{\"format\":1,\"lal\":10,\"groups\":[")
         .and_then(|rest| rest.strip_suffix("]}"))

@@ -1,6 +1,7 @@
 //! What fleets refuse.
 
 use super::super::texts::SIX;
+use super::super::volumes::two_groups;
 use super::calls::{Call, Step};
 use super::drive::run_table;
 use super::looks::Look;
@@ -43,6 +44,13 @@ const NOBODY: [Step; 17] = [
     (Call::Deliver(0, 1), Ok((1, 0))),
 ];
 
+/// A number above all members of the first of two groups names no node of the second.
+const BEYOND: [Step; 3] = [
+    (Call::Node(64, NodeDeed::Restart), Err(Fault::NoActor)),
+    (Call::Deliver(64, 1), Err(Fault::NoActor)),
+    (Call::Node(0, NodeDeed::Restart), Ok((0, 0))),
+];
+
 #[test]
 fn nobody_there(rt: HostRuntime) -> Result<(), Fail> {
     let steps = NOBODY.as_slice();
@@ -58,5 +66,16 @@ fn a_full_journal(rt: HostRuntime) -> Result<(), Fail> {
     let ending = run_table(&rt, rt.alloc(), SIX, 2, 2, 2, steps, &Look::new())?;
     assert_eq!(rt; ending.wrong, None);
     assert_eq!(rt; (ending.steps, ending.refused), (2, 0));
+    Ok(())
+}
+
+#[test]
+fn beyond_the_members_of_a_group(rt: HostRuntime) -> Result<(), Fail> {
+    let alloc = rt.alloc();
+    let text = two_groups(alloc)?;
+    let steps = BEYOND.as_slice();
+    let ending = run_table(&rt, alloc, text.as_bytes(), 1, 1, 3, steps, &Look::new())?;
+    assert_eq!(rt; ending.wrong, None);
+    assert_eq!(rt; (ending.steps, ending.refused), (1, 0));
     Ok(())
 }
