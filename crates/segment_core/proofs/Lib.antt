@@ -1,5 +1,6 @@
 pub mod Complete
 pub mod Settled
+pub mod AtEnd
 pub mod Edits
 pub mod Taking
 pub mod Sets

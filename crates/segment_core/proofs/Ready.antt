@@ -1,8 +1,7 @@
 -- Steps that a segment is ready for.
-use Rattle.std.proofs.Common.{◌≡◌, ℕ, Ok, inl}
-use Rattle.volume_model.specs.Plan as model
+use Rattle.std.proofs.Common.{◌≡◌, Ok, inl}
 use Rattle.volume_model.specs.Message.{Message}
-use Rattle.volume_model.specs.Node.{Node, NodeStep, reaction}
+use Rattle.volume_model.specs.Node.{NodeStep}
 use Rattle.segment_core.specs.declared.segment.Segment.{Segment}
 use Rattle.segment_core.specs.Segment.{node_of, reaction_of, IsSameActor, MayStep}
 

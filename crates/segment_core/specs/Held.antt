@@ -1,5 +1,6 @@
-use Rattle.std.specs.Prelude.{◌≡◌, ℕ, suc, ◌<◌, List, map, length, take, slice_index_or}
-use Rattle.volume_model.specs.Redo.{Redo, scl}
+use Rattle.std.specs.Prelude.{◌≡◌, ℕ, suc, ◌<◌, true, false, nat_le, List, map, length, take, slice_index_or}
+use Rattle.std.specs.List.Sorted.{IsPartitionPoint}
+use Rattle.volume_model.specs.Redo.{Redo, numbers_before, scl, spelling}
 use Rattle.redo_record.specs.declared.packet.Packet.{Packet}
 use Rattle.redo_record.specs.Packet.{packet_redo}
 use Rattle.redo_record.specs.Order.{IsInOrder}
@@ -25,3 +26,11 @@ IsReachedBelow bound held = (k : ℕ) (d : Held) → k < bound → (slice_index_
 pub record AreSettled (held : List Held) : Type 0 where
   pub in_order : IsInOrder (redos_of held)
   pub reached : IsReachedBelow (length held) held
+
+-- so many of them have at most this number, and the later ones are above it
+abbrev pub IsCountTo : List Held → ℕ → ℕ → Type 0
+IsCountTo held number count = IsPartitionPoint (λ h. nat_le (redo_held h).lsn number ≡ true) (λ h. nat_le (redo_held h).lsn number ≡ false) held count
+
+-- so many of them come before the record, and the later ones don't
+abbrev pub IsCountBefore : List Held → Redo → ℕ → Type 0
+IsCountBefore held r count = IsPartitionPoint (λ h. numbers_before (spelling (redo_held h)) (spelling r) ≡ true) (λ h. numbers_before (spelling (redo_held h)) (spelling r) ≡ false) held count

@@ -5,7 +5,7 @@ ghost use Rattle.volume_model.specs.Redo.{scl};
 ghost use Rattle.redo_record.specs.Packet.{packet_redo};
 ghost use Rattle.segment_core.specs.declared.held.Held.{Held};
 ghost use Rattle.redo_record.specs.Order.{IsInOrder};
-ghost use Rattle.segment_core.specs.Held.{redo_held, redos_of, unsettled_held, IsReachedBelow, AreSettled};
+ghost use Rattle.segment_core.specs.Held.{redo_held, redos_of, unsettled_held, IsCountBefore, IsCountTo, IsReachedBelow, AreSettled};
 
 use redo_record::Packet;
 use std::alloc::{AllocError, Global};
@@ -41,14 +41,42 @@ pub fn complete_point(held: &[Held]) -> u64
     }
 }
 
+/// How many of these records have at most this number: often all of them.
+fn count_to(held: &[Held], number: u64) -> usize
+    requires { AreSettled held.now }
+    ensures bound { result ≤ length held.now }
+    ensures split { IsCountTo held.now number result }
+{
+    if let Some(last) = held.last() {
+        if last.packet.lsn() <= number {
+            return held.len();
+        }
+    }
+    held.partition_point(|held| held.packet.lsn() <= number)
+}
+
+/// How many of these records come before this one: often all of them.
+pub fn count_before(held: &[Held], packet: &Packet) -> usize
+    requires { AreSettled held.now }
+    ensures bound { result ≤ length held.now }
+    ensures split { IsCountBefore held.now (packet_redo packet.now) result }
+{
+    if let Some(last) = held.last() {
+        if last.packet.is_before(packet) {
+            return held.len();
+        }
+    }
+    held.partition_point(|held| held.packet.is_before(packet))
+}
+
 /// The complete point of these records and one more, whose number is at least theirs.
-fn complete_point_with(held: &[Held], packet: &Packet) -> u64
+pub fn complete_point_with(held: &[Held], packet: &Packet) -> u64
     requires settled { AreSettled held.now }
     requires last { (k : ℕ) (d : Held) → k < length held.now → (redo_held (slice_index_or held.now k d)).lsn ≤ (packet_redo packet.now).lsn }
     ensures { result ≡ scl (redos_of held.now ++ packet_redo packet.now ∷ []) }
 {
     let back = packet.prev_group();
-    let count = held.partition_point(|held| held.packet.lsn() <= back);
+    let count = count_to(held, back);
     let below = &held[..count];
     if complete_point(below) == back {
         packet.lsn()

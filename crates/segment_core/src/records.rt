@@ -2,7 +2,7 @@
 
 ghost use Rattle.segment_core.specs.Held.{AreSettled};
 
-use crate::held::{Held, complete_point, settle, unsettled};
+use crate::held::{Held, complete_point, complete_point_with, count_before, settle, unsettled};
 use pages::{BLOCK, write_packet};
 use redo_record::{Packet, RecordSet};
 use std::alloc::{AllocError, Global};
@@ -90,9 +90,7 @@ impl Records {
     pub fn place_for(&self, packet: &Packet) -> Option<usize>
         ensures { MatchOption result (IsHeldIn (records_of self.now) (packet_redo packet.now)) (λ place. IsPlaceFor (records_of self.now) (packet_redo packet.now) place) }
     {
-        let place = self
-            .held
-            .partition_point(|held| held.packet.is_before(packet));
+        let place = count_before(&self.held, packet);
         if place == self.held.len() {
             return Some(place);
         }
@@ -144,6 +142,9 @@ impl Records {
         ensures same { records_of self.new ≡ records_of self.old }
         ensures room { HasRoom self.new }
     {
+        if place == self.held.len() {
+            return complete_point_with(&self.held, packet);
+        }
         self.insert(place, packet);
         let point = self.complete_point();
         self.remove(place);

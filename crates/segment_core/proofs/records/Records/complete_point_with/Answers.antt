@@ -1,9 +1,27 @@
-use Rattle.std.proofs.Common.{◌≡◌, length, ap, ◌∙◌, arith}
+use Rattle.std.proofs.Common.{◌≡◌, ◌≤◌, ℕ, ◌<◌, List, [], ◌∷◌, ◌++◌, length, get_or, ap, sym, ◌∙◌, subst, arith}
 use Rattle.std.specs.List.{remove}
+use Rattle.volume_model.specs.Redo.{Redo, scl}
 use Rattle.redo_record.specs.Packet.{packet_redo}
 use Rattle.segment_core.specs.Records.{records_of, room_of}
 use Rattle.redo_record.proofs.Places.{remove-insert}
+use Rattle.segment_core.specs.declared.held.Held.{Held}
+use Rattle.segment_core.specs.Held.{redo_held, redos_of}
+use Rattle.segment_core.proofs.AtEnd.{joins-end, last-end}
 use Rattle.segment_core.proofs.records.Records.complete_point_with.Goals as goal
+
+pub complete_point_with-requires-clause-last : goal.complete_point_with-requires-clause-last
+complete_point_with-requires-clause-last c =
+    let held : List Held = c.args.self.now.held.items in
+    let e : c.args.place ≡ length held = omega (arith, c.if-place-len.true, c.len.ensures) in
+    subst (λ (xs : List Held). (k : ℕ) (d : Held) → k < length xs → (redo_held (get_or xs k d)).lsn ≤ (packet_redo c.args.packet.now).lsn) (sym c.deref.ensures.value)
+    (last-end held (packet_redo c.args.packet.now) c.args.place e c.requires.place c.args.self.now.settled.in_order)
+
+pub returns-then-place-len-clause-point : goal.returns-then-place-len-clause-point
+returns-then-place-len-clause-point c =
+    let held : List Held = c.args.self.now.held.items in
+    let r : Redo = packet_redo c.args.packet.now in
+    let e : c.args.place ≡ length held = omega (arith, c.if-place-len.true, c.len.ensures) in
+    c.complete_point_with.ensures ∙ ap (λ xs. scl (redos_of xs ++ r ∷ [])) c.deref.ensures.value ∙ ap scl (sym (joins-end held r c.args.place e c.requires.place))
 
 pub returns-clause-same : goal.returns-clause-same
 returns-clause-same c =
