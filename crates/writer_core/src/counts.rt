@@ -1,6 +1,6 @@
 //! The acknowledgements of a group that a client counts.
 
-ghost use Rattle.std.specs.Prelude.{◌≡◌, ◌<◌, OnOk, OnErr, MatchOption};
+ghost use Rattle.std.specs.Prelude.{◌≡◌, ◌<◌, max, OnOk, OnErr, MatchOption};
 ghost use Rattle.std.specs.FinSet as set;
 ghost use Rattle.volume_model.specs.ClientPoints.{best, reaching, with_count};
 ghost use Rattle.quorum_expr.specs.Expr.{formula_of};
@@ -23,14 +23,14 @@ pub fn reaching(counts: &[Count], limit: u64) -> MemberSet
     members
 }
 
-/// The greatest counted number that a set of members has reached which satisfies the expression, else 0.
-pub fn best(write: &Expr<Global>, counts: &[Count]) -> u64
-    ensures { result ≡ best (formula_of write.now) (counts_of counts.now) (counts_of counts.now) }
+/// The greatest of `least` and the counted numbers that a set of members has reached which satisfies the expression.
+pub fn best_from(write: &Expr<Global>, counts: &[Count], least: u64) -> u64
+    ensures { result ≡ max least (best (formula_of write.now) (counts_of counts.now) (counts_of counts.now)) }
 {
-    let mut best = 0;
+    let mut best = least;
     for count in counts {
-        if holds(write, reaching(counts, count.reached)) {
-            best = count.reached.max(best);
+        if count.reached > best && holds(write, reaching(counts, count.reached)) {
+            best = count.reached;
         }
     }
     best

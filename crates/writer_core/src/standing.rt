@@ -1,7 +1,7 @@
 //! What a client keeps of one group.
 
 use crate::count::Count;
-use crate::counts::{add, best, reaching};
+use crate::counts::{add, best_from, reaching};
 use hydration::{Copied, senders};
 use plan::CheckedPlan;
 use quorum_expr::holds;
@@ -80,8 +80,8 @@ impl Standing {
         ensures { group_at self.new ≡ raised_group (checked_model plan.now) group (group_at self.old) }
     {
         if let Some(configuration) = plan.configuration(group, self.place.configuration) {
-            let best = best(&configuration.write, self.counts.as_slice());
-            self.point = self.point.max(best);
+            let least = self.point;
+            self.point = best_from(&configuration.write, self.counts.as_slice(), least);
         }
     }
 
