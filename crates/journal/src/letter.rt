@@ -5,8 +5,8 @@ ghost use Rattle.std.proofs.Props.{props};
 
 use crate::entry::Entry;
 use crate::row::Site;
+use boxcar::slot::Written;
 use std::marker::PhantomData;
-use std::sync::OnceToken;
 use wire::Message;
 
 /// A message that a step made, as it was found in the journal: the entry of the step, and the message's place in it.
@@ -16,7 +16,7 @@ pub struct Letter<'a, L: Site> {
     pub(crate) cell: usize,
     pub(crate) index: usize,
     pub(crate) entry: &'a Entry,
-    pub(crate) token: OnceToken<'a, Entry>,
+    pub(crate) token: Written<Entry>,
     pub(crate) site: PhantomData<L>,
     ghost of: { slice_get L.cells cell ≡ Some token.of } by { Prim.hlevel props },
     ghost is: { entry.now ≡ token.value } by { Prim.hlevel props },

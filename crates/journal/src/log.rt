@@ -17,13 +17,14 @@ use crate::lasts::Lasts;
 use crate::letter::Letter;
 use crate::mark::Mark;
 use crate::pass::{Held, Pass};
-use crate::row::{Row, Site};
+use crate::row::{AnyEntry, Row, Site};
 use crate::who::Who;
+use boxcar::slot::{OnceSlot, Written};
 use height::{Height, Top};
 use std::alloc::{AllocError, Global};
 use std::marker::PhantomData;
+use std::sync::Wait;
 use std::sync::ledger::Book;
-use std::sync::{OnceLock, OnceToken, Wait};
 use volume_model::Fault;
 use wire::Message;
 use world::Event;
@@ -31,8 +32,8 @@ use world::Event;
 /// The entries so far, each with its token, how many messages were made before each, and the last entry of each actor.
 #[derive(Drop)]
 pub struct Log<'a, L: Site> {
-    row: &'a Vec<OnceLock<Entry>>,
-    tokens: Vec<OnceToken<'a, Entry>>,
+    row: &'a Vec<OnceSlot<Entry, AnyEntry>>,
+    tokens: Vec<Written<Entry>>,
     firsts: Vec<u64>,
     messages: u64,
     lasts: Lasts,
@@ -52,30 +53,32 @@ pub struct Log<'a, L: Site> {
     ghost counted: { book.total ≡ vec_len tokens },
 }
 
-// Writes a cell that nobody has written. Else it waits for good, which no step brings about.
-fn write<'a, R: Wait>(rt: &R, place: &'a OnceLock<Entry>, entry: Entry) -> OnceToken<'a, Entry>
+// Waits for good, which no step brings about.
+fn never<R: Wait, T>(rt: &R) -> T
+    ensures { ⊥ }
+{
+    for _ in rt.forever() {}
+    unreachable!()
+}
+
+// Writes a cell that nobody has written. Else it waits for good.
+fn write<R: Wait>(rt: &R, place: &OnceSlot<Entry, AnyEntry>, entry: Entry) -> Written<Entry>
     ensures { (result.of ≡ place.now.id) × (result.value ≡ entry) }
 {
-    let mut entry = entry;
-    for _ in rt.forever() {
-        match place.try_set(entry) {
-            Ok(token) => return token,
-            Err(back) => entry = back,
-        }
+    match place.set_written(entry) {
+        Ok(token) => token,
+        Err(_) => never(rt),
     }
-    unreachable!()
 }
 
 // The number after so many messages more. Past 2^64 it waits for good.
 fn total<R: Wait>(rt: &R, messages: u64, more: usize) -> u64
     ensures { result ≡ messages + more }
 {
-    for _ in rt.forever() {
-        if let Some(all) = messages.checked_add(more as u64) {
-            return all;
-        }
+    match messages.checked_add(more as u64) {
+        Some(all) => all,
+        None => never(rt),
     }
-    unreachable!()
 }
 
 impl<'a, L: Site> Log<'a, L> {
@@ -122,7 +125,7 @@ impl<'a, L: Site> Log<'a, L> {
         Ok(Log {
             row: &row.cells,
             tokens: Vec::new(alloc),
-            firsts: Vec::new(alloc),
+            firsts: Vec::with_capacity(alloc, row.cells.len())?,
             messages: 0,
             lasts,
             book,
@@ -197,12 +200,9 @@ impl<'a, L: Site> Log<'a, L> {
         requires { (length history.old.seen.log ≡ entries) × (entries + 1 < 2 ^ 64) }
         ensures { history.new.seen.log ≡ history.old.seen.log ++ entry.now ∷ [] }
     {
-        for _ in rt.forever() {
-            if history.add(entry, entries) {
-                return;
-            }
+        if !history.add(entry, entries) {
+            never(rt)
         }
-        unreachable!()
     }
 
     // Enters the entry of a token.
@@ -210,7 +210,7 @@ impl<'a, L: Site> Log<'a, L> {
         &mut self,
         rt: &R,
         height: &Height,
-        token: &OnceToken<'a, Entry>,
+        token: &Written<Entry>,
         entry: &Entry,
         durable: u64,
         pass: &mut Pass<'a, L>,
@@ -339,19 +339,22 @@ impl<'a, L: Site> Log<'a, L> {
         Ok(made)
     }
 
-    // The place of the step that made a message.
+    // The place of the step that made a message, looked for from the end on, in steps that double.
     fn maker(&self, number: u64) -> usize
         requires { (0 < number) × (number ≤ self.now.messages) }
         ensures { (result < vec_len self.now.tokens) × (before L.plan (journal_of self.now) result < number) × (number ≤ before L.plan (journal_of self.now) (result + 1)) }
     {
         let mut low = 0;
         let mut high = self.firsts.len();
+        let mut back = 1;
         while low + 1 < high {
-            let middle = low + (high - low) / 2;
+            let step = ((high - low) / 2).min(back);
+            let middle = high - step;
             if self.firsts[middle] < number {
                 low = middle;
             } else {
                 high = middle;
+                back = 2 * step;
             }
         }
         low

@@ -15,10 +15,10 @@ use crate::entry::{Entry, Note};
 use crate::history::{Front, History};
 use crate::row::Site;
 use board::{Board, BoardSeat, BoardStep};
+use boxcar::slot::Written;
 use height::Floor;
 use std::alloc::{AllocError, Global};
 use std::marker::PhantomData;
-use std::sync::OnceToken;
 use std::sync::ledger::Share;
 use volume_model::Fault;
 use world::Event;
@@ -28,8 +28,8 @@ use world::Event;
 pub struct Held<'a, L: Site> {
     pub(crate) cell: usize,
     pub(crate) durable: u64,
-    pub(crate) token: OnceToken<'a, Entry>,
-    pub(crate) site: PhantomData<L>,
+    pub(crate) token: Written<Entry>,
+    pub(crate) site: PhantomData<(&'a Entry, L)>,
 }
 
 /// What one caller did, and was refused. All of it is told by a beginning of the history, as long as the floor is high.

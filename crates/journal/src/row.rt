@@ -1,9 +1,10 @@
 //! The cells in which the entries of a journal stand, each written once.
 
 use crate::entry::Entry;
+use boxcar::slot::{OnceSlot, SlotRule};
+use boxcar::tag::Tag;
 use std::alloc::{AllocError, Global};
 use std::marker::Brand;
-use std::sync::OnceLock;
 use std::sync::ledger::Ledger;
 
 /// Names a journal: its row of cells, the ledger of its steps, and the plan over which it runs. Each call of a program
@@ -50,10 +51,19 @@ impl Site for Brand {
     ghost slots = { 0 };
 }
 
+/// The rule of a cell: it may hold any entry.
+pub struct AnyEntry;
+
+impl SlotRule<Entry> for AnyEntry {
+    ghost use Rattle.std.specs.Prelude.{⊤};
+
+    ghost holds = { λ _ _. ⊤ };
+}
+
 /// Cells for the entries of a journal.
 #[derive(Drop)]
 pub struct Row {
-    pub(crate) cells: Vec<OnceLock<Entry>>,
+    pub(crate) cells: Vec<OnceSlot<Entry, AnyEntry>>,
 }
 
 impl Row {
@@ -68,7 +78,7 @@ impl Row {
     {
         let mut made = Vec::with_capacity(alloc, cells)?;
         for _ in 0..cells {
-            made.push(OnceLock::new())?;
+            made.push(OnceSlot::new(&Tag::empty()))?;
         }
         Ok(Row { cells: made })
     }
@@ -78,7 +88,7 @@ impl Row {
         ensures { vec_len self.new.cells ≡ vec_len self.old.cells }
     {
         for cell in &mut self.cells {
-            *cell = OnceLock::new();
+            *cell = OnceSlot::new(&Tag::empty());
         }
     }
 }

@@ -2,7 +2,7 @@ use Rattle.std.proofs.Common.{◌≡◌, ◌+◌, ◌≤◌, List, length, lengt
 use Rattle.std.specs.Prelude.{slice_get}
 use mathlib.Core.List.{IsPrefix}
 use Rattle.volume_model.specs.Actor.{actor_of, same_actor}
-use Rattle.volume_model.specs.Journal.{Goes, last_of, world_at}
+use Rattle.volume_model.specs.Journal.{Goes, world_at}
 use Rattle.volume_model.proofs.ListFacts.{get_within}
 use Rattle.volume_model.proofs.Judges.{refused_longer}
 use Rattle.journal.specs.declared.entry.Entry.{Entry}

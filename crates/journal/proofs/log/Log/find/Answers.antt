@@ -1,5 +1,5 @@
 use Rattle.std.proofs.Common.{◌≡◌, ◌-◌, ◌<◌, length, vec_len, Some, sym, ap, ◌∙◌, arith, inl, inr, rules}
-use Rattle.std.specs.declared.sync.OnceToken.{OnceToken}
+use Rattle.boxcar.specs.declared.slot.Written.{Written}
 use Rattle.volume_model.specs.Journal.{world_at}
 use Rattle.volume_model.proofs.ListFacts.{numbered_none}
 use Rattle.journal.specs.declared.entry.Entry.{Entry}
@@ -39,7 +39,7 @@ invariant_of-result g c =
     let made = made_within g.L.Site.plan (shown ts) cell c.args.number e log.run c.entry-entry.ensures m.1 m.2 in
     let other = shown_at ts cell t lt c.index.ensures in
     let same : e ≡ t.value = cc (c.entry-entry.ensures, other) in
-    let here = log.of cell t (get_some ts cell t lt ∙ ap (λ (x : OnceToken Entry). Some x) (sym c.index.ensures)) in
+    let here = log.of cell t (get_some ts cell t lt ∙ ap (λ (x : Written Entry). Some x) (sym c.index.ensures)) in
     record {
       of = here ∙ ap Some (sym c.again.ensures.0);
       is = same ∙ sym c.again.ensures.1;

@@ -1,5 +1,5 @@
 use Rattle.std.proofs.Common.{◌≡◌, ◌≤◌, length, vec_len, map, List, sym, ap, ◌∙◌, subst}
-use Rattle.std.specs.declared.sync.OnceToken.{OnceToken}
+use Rattle.boxcar.specs.declared.slot.Written.{Written}
 use Rattle.volume_model.specs.Journal.{IsRun, world_at, last_of}
 use Rattle.journal.specs.declared.entry.Entry.{Entry}
 use Rattle.journal.specs.Entries.{entries_of}
@@ -19,10 +19,10 @@ invariant_of-self g c =
       cells = log.cells;
       room = subst (λ k. k ≤ length g.L.Site.cells) (sym n) log.room;
       of = subst (Shows g.L.Site.cells) (sym e) log.of;
-      run = subst (λ (ts : List (OnceToken Entry)). IsRun plan (entries_of (shown ts))) (sym e) log.run;
-      firsts_are = log.firsts_are ∙ ap (λ (ts : List (OnceToken Entry)). map (λ x. x.first) (shown ts)) (sym e);
-      messages_are = log.messages_are ∙ ap (λ (ts : List (OnceToken Entry)). length (world_at plan (entries_of (shown ts))).messages) (sym e);
-      newest = λ actor. log.newest actor ∙ ap (λ (ts : List (OnceToken Entry)). last_of actor (entries_of (shown ts))) (sym e);
+      run = subst (λ (ts : List (Written Entry)). IsRun plan (entries_of (shown ts))) (sym e) log.run;
+      firsts_are = log.firsts_are ∙ ap (λ (ts : List (Written Entry)). map (λ x. x.first) (shown ts)) (sym e);
+      messages_are = log.messages_are ∙ ap (λ (ts : List (Written Entry)). length (world_at plan (entries_of (shown ts))).messages) (sym e);
+      newest = λ actor. log.newest actor ∙ ap (λ (ts : List (Written Entry)). last_of actor (entries_of (shown ts))) (sym e);
       counted = log.counted ∙ sym n;
     }
 
@@ -39,9 +39,9 @@ invariant_of-self-2 g c =
       cells = log.cells;
       room = subst (λ k. k ≤ length g.L.Site.cells) (sym n) log.room;
       of = subst (Shows g.L.Site.cells) (sym e) log.of;
-      run = subst (λ (ts : List (OnceToken Entry)). IsRun plan (entries_of (shown ts))) (sym e) log.run;
-      firsts_are = c.reserve-2.ensures.items ∙ log.firsts_are ∙ ap (λ (ts : List (OnceToken Entry)). map (λ x. x.first) (shown ts)) (sym e);
-      messages_are = log.messages_are ∙ ap (λ (ts : List (OnceToken Entry)). length (world_at plan (entries_of (shown ts))).messages) (sym e);
-      newest = λ actor. log.newest actor ∙ ap (λ (ts : List (OnceToken Entry)). last_of actor (entries_of (shown ts))) (sym e);
+      run = subst (λ (ts : List (Written Entry)). IsRun plan (entries_of (shown ts))) (sym e) log.run;
+      firsts_are = c.reserve-2.ensures.items ∙ log.firsts_are ∙ ap (λ (ts : List (Written Entry)). map (λ x. x.first) (shown ts)) (sym e);
+      messages_are = log.messages_are ∙ ap (λ (ts : List (Written Entry)). length (world_at plan (entries_of (shown ts))).messages) (sym e);
+      newest = λ actor. log.newest actor ∙ ap (λ (ts : List (Written Entry)). last_of actor (entries_of (shown ts))) (sym e);
       counted = log.counted ∙ sym n;
     }
