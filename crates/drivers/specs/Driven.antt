@@ -1,0 +1,24 @@
+-- What a script's run on threads leaves.
+use Rattle.std.specs.Prelude.{◌≡◌, ℕ, Bool, ◌+◌, ◌==◌, ◌&&◌, not, length, List, vec_len, is_err}
+use Rattle.std.specs.List.{list_any}
+use Rattle.volume_model.specs.Plan.{Plan}
+use Rattle.volume_model.specs.World.{Event}
+use Rattle.volume_model.specs.Journal.{Entry, IsRun, events}
+use Rattle.volume_model.specs.World.{opening, results}
+use Rattle.world.specs.Outcomes.{KeepsPromises, TellsRun}
+use Rattle.drivers.specs.declared.driving.Driven.{Driven}
+
+-- whether the run of these events refuses none of them, and there are so many
+abbrev pub replays : Plan → List Event → ℕ → Bool
+replays plan events steps = not (list_any (λ told. is_err told) (results plan (opening plan) events)) && (length events == steps)
+
+-- The threads left a journal, a run of the model over the plan, of which every promise of the volume holds. Each event of the
+-- script was made or refused. What is told is how that journal's run ends, and whether it refuses nothing and has as many
+-- steps as were made.
+pub record IsDriven (plan : Plan) (orders : ℕ) (driven : Driven) : Type 0 where
+  pub entries : List Entry
+  pub runs : IsRun plan entries
+  pub promises : KeepsPromises plan (events entries)
+  pub lines : driven.steps + driven.refused ≡ orders
+  pub agrees : driven.agrees ≡ replays plan (events entries) driven.steps
+  pub outcome : TellsRun plan (events entries) driven.outcome

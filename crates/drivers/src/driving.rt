@@ -1,0 +1,272 @@
+//! A script's run on threads, from the fleet's opening to its end.
+
+ghost use Rattle.std.specs.Prelude.{◌≡◌, ◌≤◌, ◌<◌, ◌+◌, ◌==◌, ◌&&◌, All, not, is_err, IfErr, IfOk, vec_len};
+ghost use Rattle.std.specs.List.{list_any};
+ghost use Rattle.std.specs.Arc.{arc_value};
+ghost use Rattle.volume_model.specs.declared.fault.Fault.TheVariants.{NoMemory};
+ghost use Rattle.plan.specs.CheckedModel.{checked_model};
+ghost use Rattle.journal.specs.Tokens.{ids_of};
+ghost use Rattle.node_fleet.specs.Bases.{passes_of, IsBaseOf};
+ghost use Rattle.node_fleet.specs.Mails.{AreSeatsOf, HasNodes};
+ghost use Rattle.drivers.specs.Driven.{IsDriven};
+
+use crate::caller::{Caller, callers};
+use crate::desk::Desk;
+use crate::hand::{Hand, Part};
+use crate::nodes::{Node, receivers};
+use crate::run::Run;
+use crate::threads::{Crew, run_all};
+use crate::turns::{Turn, turns};
+use journal::{Pass, Row, Site};
+use node_fleet::{Base, Fleet, MailSeats, Mailboxes};
+use plan::CheckedPlan;
+use script::Script;
+use std::alloc::{AllocError, Global};
+use std::marker::Brand;
+use std::sync::{Arc, Wait};
+use std::thread::Threads;
+use volume_model::Fault;
+use world::{Event, Outcome, run};
+
+/// How many client slots there are.
+const SLOTS: u32 = 64;
+
+/// What a script's run on threads leaves.
+#[derive(Drop)]
+pub struct Driven {
+    /// How many events were made.
+    pub steps: usize,
+    /// How many events were refused.
+    pub refused: usize,
+    /// Whether the journal that the threads left, run by the world, refuses nothing and has as many steps.
+    pub agrees: bool,
+    /// How that run of the journal ends.
+    pub outcome: Outcome,
+}
+
+/// The parts of these nodes' threads.
+fn node_parts(alloc: Global, nodes: &[Node]) -> Result<Vec<Part>, AllocError> {
+    let mut parts = Vec::with_capacity(alloc, nodes.len())?;
+    for node in nodes {
+        parts.push(Part::Node(*node))?;
+    }
+    Ok(parts)
+}
+
+/// The parts of so many drivers.
+fn driver_parts(alloc: Global, workers: u8) -> Result<Vec<Part>, AllocError> {
+    let mut parts = Vec::with_capacity(alloc, usize::from(workers))?;
+    for number in 0..workers {
+        parts.push(Part::Driver(number))?;
+    }
+    Ok(parts)
+}
+
+/// Gives each part a pass and a caller.
+fn hands<'f, 'a, L: Site>(
+    alloc: Global,
+    run: &Run<'f, 'a, L>,
+    parts: Vec<Part>,
+    passes: &mut Vec<Pass<'a, L>>,
+    callers: &mut Vec<Caller<'f>>,
+) -> Result<Vec<Hand<'f, 'a, L>>, AllocError> {
+    let mut hands = Vec::with_capacity(alloc, parts.len())?;
+    for part in parts {
+        let (Some(pass), Some(caller)) = (passes.pop(), callers.pop()) else {
+            return Err(AllocError);
+        };
+        hands.push(Hand {
+            run: run.again(),
+            part,
+            pass,
+            caller,
+        })?;
+    }
+    Ok(hands)
+}
+
+/// What all threads of a run are lent.
+#[derive(Drop)]
+struct Stage {
+    turns: Vec<Turn>,
+    desk: Desk,
+    mail: Mailboxes,
+}
+
+/// Runs so many drivers and these nodes on threads of their own, and takes their passes back. There are seats for one more
+/// than there are threads.
+fn ran<'f, 'a, L: Site + Send + Sync, R: Threads + Wait + Sync>(
+    rt: &'f R,
+    alloc: Global,
+    fleet: &'f Fleet<'a, L>,
+    stage: &'f Stage,
+    plan: &'f CheckedPlan,
+    script: &'f Script,
+    workers: u8,
+    nodes: &'f [Node],
+    mut passes: Vec<Pass<'a, L>>,
+    seats: Vec<MailSeats>,
+) -> Result<Vec<Pass<'a, L>>, AllocError>
+    requires nodes { HasNodes (checked_model plan.now) stage.now.mail }
+    requires seats { All (λ s. AreSeatsOf stage.now.mail s) seats.items }
+{
+    let run = Run {
+        fleet,
+        orders: &script.orders,
+        turns: &stage.turns,
+        desk: &stage.desk,
+    };
+    let mut callers = callers(alloc, plan, &stage.mail, seats)?;
+    let served = node_parts(alloc, nodes)?;
+    let driven = driver_parts(alloc, workers)?;
+    let served = hands(alloc, &run, served, &mut passes, &mut callers)?;
+    let drivers = hands(alloc, &run, driven, &mut passes, &mut callers)?;
+    let Some(closer) = callers.pop() else {
+        return Err(AllocError);
+    };
+    let crew = Crew {
+        nodes: served,
+        drivers,
+        closer,
+    };
+    run_all(rt, alloc, &stage.desk.go, crew, nodes)
+}
+
+/// Whether some event was refused.
+fn refuses(results: &[Result<u64, Fault>]) -> bool
+    ensures { result ≡ list_any (λ told. is_err told) results.now }
+{
+    results.iter().any(|told| told.is_err())
+}
+
+/// Whether a run refused nothing, and had so many events.
+fn agrees(outcome: &Outcome, events: &Vec<Event>, steps: usize) -> bool
+    ensures { result ≡ (not (list_any (λ told. is_err told) outcome.now.results.items) && (vec_len events.now == steps)) }
+{
+    !refuses(outcome.results.as_slice()) && events.len() == steps
+}
+
+/// What a closed fleet leaves of a run in which so many orders were made, and so many refused.
+fn ended<'a, L: Site>(
+    alloc: Global,
+    fleet: Fleet<'a, L>,
+    passes: Vec<Pass<'a, L>>,
+    plan: &Arc<CheckedPlan>,
+    steps: usize,
+    refused: usize,
+) -> Result<Driven, Fault>
+    requires plan { checked_model (arc_value plan.now) ≡ L.plan }
+    requires passes { (vec_len passes ≡ L.parts) × (0 < vec_len passes) }
+    ensures driven { IfOk result (IsDriven (checked_model (arc_value plan.now)) (steps + refused)) }
+    ensures memory { IfErr result (λ fault. fault ≡ NoMemory) }
+{
+    let journal = fleet.close(passes);
+    let events = journal.events(alloc)?;
+    let outcome = run(alloc, plan, events.as_slice())?;
+    let agrees = agrees(&outcome, &events, steps);
+    Ok(Driven {
+        steps,
+        refused,
+        agrees,
+        outcome,
+    })
+}
+
+/// Runs a script on a fleet by these passes, one for each driver and each of these nodes, and closes it.
+fn drive_over<'a, L: Site + Send + Sync, R: Threads + Wait + Sync>(
+    rt: &R,
+    alloc: Global,
+    fleet: Fleet<'a, L>,
+    passes: Vec<Pass<'a, L>>,
+    mail: Mailboxes,
+    seats: Vec<MailSeats>,
+    plan: &Arc<CheckedPlan>,
+    script: &Script,
+    workers: u8,
+    nodes: &[Node],
+) -> Result<Driven, Fault>
+    requires plan { checked_model (arc_value plan.now) ≡ L.plan }
+    requires passes { (vec_len passes ≡ L.parts) × (0 < vec_len passes) }
+    requires workers { 1 ≤ workers }
+    requires mail { HasNodes (checked_model (arc_value plan.now)) mail }
+    requires seats { All (λ s. AreSeatsOf mail s) seats.items }
+    ensures driven { IfOk result (IsDriven (checked_model (arc_value plan.now)) (vec_len script.now.orders)) }
+    ensures memory { IfErr result (λ fault. fault ≡ NoMemory) }
+{
+    let stage = Stage {
+        turns: turns(alloc, script, workers)?,
+        desk: Desk::new(alloc, script.orders.len())?,
+        mail,
+    };
+    let count = passes.len();
+    let passes = ran(
+        rt, alloc, &fleet, &stage, plan, script, workers, nodes, passes, seats,
+    )?;
+    if passes.len() != count {
+        return Err(Fault::NoMemory);
+    }
+    let (steps, refused) = stage.desk.counts(rt)?;
+    ended(alloc, fleet, passes, plan, steps, refused)
+}
+
+/// Runs a script on a new fleet, with a thread for each of these nodes.
+fn drive_fleet<L: Site + Send + Sync, R: Threads + Wait + Sync>(
+    rt: &R,
+    alloc: Global,
+    row: &Row,
+    base: Base,
+    plan: &Arc<CheckedPlan>,
+    script: &Script,
+    workers: u8,
+    nodes: &[Node],
+) -> Result<Driven, Fault>
+    requires workers { 1 ≤ workers }
+    requires plan { checked_model (arc_value plan.now) ≡ L.plan }
+    requires cells { ids_of row.now ≡ L.cells }
+    requires slots { L.slots ≡ 64 }
+    requires base { IsBaseOf L.table L.board L.history L.name L.parts base }
+    requires passes { 0 < passes_of base }
+    ensures driven { IfOk result (IsDriven (checked_model (arc_value plan.now)) (vec_len script.now.orders)) }
+    ensures memory { IfErr result (λ fault. fault ≡ NoMemory) }
+{
+    let callers = nodes.len() + usize::from(workers) + 1;
+    let (mail, seats) = Mailboxes::new(alloc, plan, callers)?;
+    match Fleet::<L>::new(alloc, row, base, plan.clone()?, SLOTS) {
+        Ok((fleet, passes)) => drive_over(
+            rt, alloc, fleet, passes, mail, seats, plan, script, workers, nodes,
+        ),
+        Err(_) => Err(Fault::NoMemory),
+    }
+}
+
+/// Runs a script over a checked plan on a fleet with 64 client slots: so many drivers take the lines in turn, a thread for
+/// each node that a line delivers to takes that node's letters, a line that names a message waits for the line that made
+/// it, and no line behind a `wait` starts before all lines before it have ended.
+///
+/// # Errors
+/// `NoMemory` where a growth or a thread was refused.
+pub fn drive<H: Threads + Wait + Sync>(
+    rt: &H,
+    alloc: Global,
+    plan: &Arc<CheckedPlan>,
+    script: &Script,
+    workers: u8,
+) -> Result<Driven, Fault>
+    requires { (1 ≤ workers) × (workers ≤ 16) }
+    ensures driven { IfOk result (IsDriven (checked_model (arc_value plan.now)) (vec_len script.now.orders)) }
+    ensures memory { IfErr result (λ fault. fault ≡ NoMemory) }
+{
+    let nodes = receivers(alloc, plan, script.orders.as_slice())?;
+    let row = Row::new(alloc, script.orders.len().max(1))?;
+    let base = Base::new(alloc, usize::from(workers) + nodes.len())?;
+    drive_fleet::<Brand, H>(
+        rt,
+        alloc,
+        &row,
+        base,
+        plan,
+        script,
+        workers,
+        nodes.as_slice(),
+    )
+}

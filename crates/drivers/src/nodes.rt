@@ -1,0 +1,62 @@
+//! The nodes that a script's messages go to.
+
+use plan::CheckedPlan;
+use std::alloc::{AllocError, Global};
+use world::{Event, Order};
+
+/// How many members a group can have.
+const MEMBERS: usize = 64;
+
+/// A member of a group.
+#[derive(Clone, Copy)]
+pub struct Node {
+    pub group: u8,
+    pub member: u8,
+}
+
+/// The node that an order delivers to.
+pub fn receiver(order: &Order) -> Option<Node> {
+    match order {
+        Order::DeliverFrom { group, member, .. }
+        | Order::Event(Event::Deliver { group, member, .. }) => Some(Node {
+            group: *group,
+            member: *member,
+        }),
+        _ => None,
+    }
+}
+
+/// For each member of each group, 64 a group, whether an order delivers to it.
+fn marks(alloc: Global, groups: u8, orders: &[Order]) -> Result<Vec<bool>, AllocError> {
+    let mut marks = vec![in alloc; false; usize::from(groups) * MEMBERS]?;
+    for order in orders {
+        if let Some(node) = receiver(order) {
+            let place = usize::from(node.group) * MEMBERS + usize::from(node.member);
+            if let Some(mark) = marks.get_mut(place) {
+                *mark = true;
+            }
+        }
+    }
+    Ok(marks)
+}
+
+/// The nodes that the plan names and these orders deliver to, each once.
+///
+/// # Errors
+/// Where a growth was refused.
+pub fn receivers(
+    alloc: Global,
+    plan: &CheckedPlan,
+    orders: &[Order],
+) -> Result<Vec<Node>, AllocError> {
+    let marks = marks(alloc, plan.groups(), orders)?;
+    let mut nodes = Vec::new(alloc);
+    for (place, marked) in marks.iter().enumerate() {
+        let group = u8::try_from(place / MEMBERS).unwrap_or(0);
+        let member = (place % MEMBERS) as u8;
+        if *marked && plan.names(group, member) {
+            nodes.push(Node { group, member })?;
+        }
+    }
+    Ok(nodes)
+}

@@ -1,0 +1,108 @@
+//! What all threads of a run share.
+
+use crate::caller::Caller;
+use crate::calls::call;
+use crate::desk::{Desk, told_of};
+use crate::nodes::{Node, receiver};
+use crate::turns::Turn;
+use journal::{Pass, Site};
+use node_fleet::{ClientDeed, Fleet, StepGate};
+use std::sync::Wait;
+use wire::Message;
+use world::{Event, Order};
+
+/// A gate that lets all pass.
+struct Open;
+
+impl StepGate for Open {
+    fn prepared(&self, _answers: &[Message]) {}
+}
+
+/// What all threads of a run share.
+#[derive(Drop)]
+pub struct Run<'f, 'a, L: Site> {
+    pub fleet: &'f Fleet<'a, L>,
+    pub orders: &'f Vec<Order>,
+    /// When each order is followed, and by whom.
+    pub turns: &'f Vec<Turn>,
+    pub desk: &'f Desk,
+}
+
+impl<'f, 'a, L: Site> Run<'f, 'a, L> {
+    /// The same once more.
+    pub fn again(&self) -> Run<'f, 'a, L> {
+        Run {
+            fleet: self.fleet,
+            orders: self.orders,
+            turns: self.turns,
+            desk: self.desk,
+        }
+    }
+
+    /// The number of the message that an order delivers, whose index this is.
+    fn message<R: Wait>(&self, rt: &R, index: usize, order: &Order) -> u64 {
+        match order {
+            Order::DeliverFrom { event, place, .. } | Order::TakeFrom { event, place, .. } => {
+                self.desk.message(rt, index, *event, *place)
+            }
+            Order::Event(Event::Deliver { message, .. }) => *message,
+            Order::Event(_) => 0,
+        }
+    }
+
+    /// Delivers the message of the order with an index to a node, and tells what it came to.
+    pub fn deliver<R: Wait>(&self, rt: &R, pass: &mut Pass<'a, L>, index: usize, node: Node) {
+        let Some(order) = self.orders.get(index) else {
+            return;
+        };
+        let message = self.message(rt, index, order);
+        let call = self
+            .fleet
+            .deliver(rt, pass, node.group, node.member, message, &Open);
+        self.desk.tell(rt, index, told_of(call));
+    }
+
+    /// Has a node's thread deliver the message of the order with an index, and waits until it has. Where the plan names no
+    /// such node there is no thread, and the fleet refuses it.
+    fn send<R: Wait>(
+        &self,
+        rt: &R,
+        pass: &mut Pass<'a, L>,
+        caller: &mut Caller<'f>,
+        index: usize,
+        node: Node,
+    ) {
+        if caller.post(rt, node, index) {
+            let _ = self.desk.told(rt, index);
+        } else {
+            self.deliver(rt, pass, index, node);
+        }
+    }
+
+    /// Follows the order with an index, and tells what it came to. Waits first for the order whose message it names.
+    pub fn follow<R: Wait>(
+        &self,
+        rt: &R,
+        pass: &mut Pass<'a, L>,
+        caller: &mut Caller<'f>,
+        index: usize,
+    ) {
+        let Some(order) = self.orders.get(index) else {
+            return;
+        };
+        let message = self.message(rt, index, order);
+        if let Some(node) = receiver(order) {
+            self.send(rt, pass, caller, index, node);
+            return;
+        }
+        let call = match order {
+            Order::TakeFrom { volume, .. } => {
+                let deed = ClientDeed::Take { message };
+                self.fleet.client_step(rt, pass, *volume, &deed)
+            }
+            Order::Event(event) => call(rt, self.fleet, pass, event),
+            Order::DeliverFrom { .. } => return,
+        };
+        self.desk.tell(rt, index, told_of(call));
+    }
+}

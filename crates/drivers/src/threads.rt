@@ -1,0 +1,102 @@
+//! The threads of a run, from their start to their end.
+
+use crate::caller::Caller;
+use crate::hand::Hand;
+use crate::nodes::Node;
+use journal::{Pass, Site};
+use std::alloc::{AllocError, Global};
+use std::sync::{OnceLock, Wait};
+use std::thread;
+use std::thread::{JoinHandle, Scope, Threads};
+
+/// The threads of a run before their start.
+#[derive(Drop)]
+pub struct Crew<'f, 'a, L: Site> {
+    /// Those of the nodes.
+    pub nodes: Vec<Hand<'f, 'a, L>>,
+    /// Those of the drivers.
+    pub drivers: Vec<Hand<'f, 'a, L>>,
+    /// Who closes the nodes' mailboxes.
+    pub closer: Caller<'f>,
+}
+
+/// Starts a thread for each of these. They wait for the word to go.
+fn start<'s, 'f: 's, 'a: 's, E, L: Site + Send + Sync + 's, R: Wait + Sync>(
+    scope: &Scope<'s, E>,
+    rt: &'f R,
+    alloc: Global,
+    hands: Vec<Hand<'f, 'a, L>>,
+) -> Result<Vec<JoinHandle<Pass<'a, L>>>, AllocError> {
+    let mut threads = Vec::with_capacity(alloc, hands.len())?;
+    for hand in hands {
+        threads.push(scope.spawn(move || hand.work(rt))?)?;
+    }
+    Ok(threads)
+}
+
+/// Waits for these threads, and adds their passes. False where there was no room for one.
+fn join_all<'a, L: Site, R: Threads + Wait>(
+    rt: &R,
+    threads: Vec<JoinHandle<Pass<'a, L>>>,
+    passes: &mut Vec<Pass<'a, L>>,
+) -> bool {
+    let mut all = true;
+    for thread in threads {
+        let pass = thread.join(rt);
+        all = passes.push(pass).is_ok() && all;
+    }
+    all
+}
+
+/// Posts the closing letter to each of these nodes.
+fn close_all<R: Wait>(rt: &R, closer: Caller<'_>, nodes: &[Node]) {
+    let mut closer = closer;
+    for node in nodes {
+        closer.close(rt, *node);
+    }
+}
+
+/// Starts all threads in a scope, lets them go, closes the mailboxes of these nodes once the drivers have ended, and takes
+/// the passes back. Where one couldn't be started, none goes.
+fn run_in<'s, 'f: 's, 'a: 's, E, L: Site + Send + Sync + 's, R: Threads + Wait + Sync>(
+    scope: &Scope<'s, E>,
+    rt: &'f R,
+    alloc: Global,
+    go: &OnceLock<bool>,
+    crew: Crew<'f, 'a, L>,
+    nodes: &[Node],
+) -> Result<Vec<Pass<'a, L>>, AllocError> {
+    let Crew {
+        nodes: served,
+        drivers,
+        closer,
+    } = crew;
+    let mut passes = Vec::with_capacity(alloc, served.len() + drivers.len())?;
+    let served = start(scope, rt, alloc, served);
+    let drivers = start(scope, rt, alloc, drivers);
+    let _ = go.set(rt, served.is_ok() && drivers.is_ok());
+    let (served, drivers) = (served?, drivers?);
+    let driven = join_all(rt, drivers, &mut passes);
+    close_all(rt, closer, nodes);
+    if join_all(rt, served, &mut passes) && driven {
+        Ok(passes)
+    } else {
+        Err(AllocError)
+    }
+}
+
+/// Runs all threads, and takes their passes back.
+///
+/// # Errors
+/// Where a growth or a thread was refused; then no thread has made a step.
+pub fn run_all<'f, 'a, L: Site + Send + Sync, R: Threads + Wait + Sync>(
+    rt: &'f R,
+    alloc: Global,
+    go: &'f OnceLock<bool>,
+    crew: Crew<'f, 'a, L>,
+    nodes: &'f [Node],
+) -> Result<Vec<Pass<'a, L>>, AllocError> {
+    thread::scope(thread::scope_env(), rt, move |scope| {
+        run_in(scope, rt, alloc, go, crew, nodes)
+    })
+}
