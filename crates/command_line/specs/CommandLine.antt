@@ -30,6 +30,10 @@ workers_rule = record (new_rule (codes "workers")) {
 abbrev pub workers_leaf : Text → App
 workers_leaf name = with_rule (file_leaf name) workers_rule
 
+-- a subcommand of a plan, a script and a number of workers
+abbrev pub fleet_leaf : Text → App
+fleet_leaf name = with_rule (script_leaf name) workers_rule
+
 -- a subcommand as it stands before it is added
 pub record IsLeaf (a : App) (c : Command) : Type 0 where
   pub app : app_of c ≡ a
@@ -39,6 +43,13 @@ pub record IsLeaf (a : App) (c : Command) : Type 0 where
 abbrev pub program : App
 program = on_top (λ s. record s { has_version = true; subcommand_required = true }) (new_app (codes "plan_tool"))
 
--- check FILE, run PLAN SCRIPT, search FILE -w N
+-- the program with its first two subcommands, and with its third
+abbrev pub with_runs : App
+with_runs = with_subcommand (with_subcommand program (file_leaf (codes "check")).top) (script_leaf (codes "run")).top
+
+abbrev pub with_fleet : App
+with_fleet = with_subcommand with_runs (fleet_leaf (codes "fleet")).top
+
+-- check FILE, run PLAN SCRIPT, fleet PLAN SCRIPT -w N, search FILE -w N
 abbrev pub tool : App
-tool = with_subcommand (with_subcommand (with_subcommand program (file_leaf (codes "check")).top) (script_leaf (codes "run")).top) (workers_leaf (codes "search")).top
+tool = with_subcommand with_fleet (workers_leaf (codes "search")).top

@@ -3,13 +3,14 @@ use Rattle.std.specs.Prelude.{◌≡◌, ℕ, List, Option, Some, None, codes, o
 use Rattle.std.specs.Str.Parse.{IsNumeral, digits_value, without_leading_plus}
 use Rattle.clap.specs.Words.{Row, Text, first_of, one_of}
 use Rattle.command_line.specs.declared.action.Action.{Action}
-use Rattle.command_line.specs.declared.action.Action.TheVariants.{Check, Run, Search}
+use Rattle.command_line.specs.declared.action.Action.TheVariants.{Check, Run, Fleet, Search}
 use Rattle.command_line.specs.declared.action.Job.{Job}
 
 -- the subcommand of an action
 abbrev pub name_of : Action → Text
 name_of Check = codes "check"
 name_of Run = codes "run"
+name_of Fleet = codes "fleet"
 name_of Search = codes "search"
 
 -- the number that a text spells, and 4 where there is no text

@@ -9,6 +9,8 @@ pub enum Action {
     Check,
     /// Run a script over a plan.
     Run,
+    /// Run a script over a plan on threads.
+    Fleet,
     /// Search for the certificates of a plan.
     Search,
 }

@@ -3,7 +3,7 @@
 ghost use Rattle.std.specs.Prelude.{◌≡◌, IfOk, false};
 ghost use Rattle.clap.specs.Words.{app_of, rule_of, with_subcommand};
 ghost use Rattle.clap.specs.declared.builder.command.Command.TheViews.{out-Command as fields_of};
-ghost use Rattle.command_line.specs.CommandLine.{IsLeaf, file_rule, tool, program, file_leaf, script_leaf, workers_leaf, workers_rule};
+ghost use Rattle.command_line.specs.CommandLine.{IsLeaf, file_rule, tool, program, file_leaf, fleet_leaf, script_leaf, workers_leaf, workers_rule};
 
 use crate::help;
 use clap::{Arg, ArgAction, Command, value_parser};
@@ -47,7 +47,7 @@ fn of_file<'a>(
 }
 
 /// The option of how many workers there are.
-fn workers<'a>(alloc: Global) -> Arg<'a>
+fn workers<'a>(alloc: Global, about: &'a str) -> Arg<'a>
     ensures rule { rule_of result ≡ workers_rule }
     ensures local { result.global ≡ false }
 {
@@ -55,7 +55,7 @@ fn workers<'a>(alloc: Global) -> Arg<'a>
         .short('w')
         .long("workers")
         .value_name("N")
-        .help("How many workers search, 1 to 16")
+        .help(about)
         .value_parser(value_parser!(u8).range(1..=16))
         .default_value("4")
 }
@@ -69,7 +69,7 @@ fn of_workers<'a>(
 ) -> Result<Command<'a>, AllocError>
     ensures { IfOk result (IsLeaf (workers_leaf name.entry.now)) }
 {
-    of_file(alloc, name, about, notes)?.arg(workers(alloc))
+    of_file(alloc, name, about, notes)?.arg(workers(alloc, "How many workers search, 1 to 16"))
 }
 
 /// A subcommand of a plan and a script.
@@ -83,6 +83,21 @@ fn of_script<'a>(
 {
     let script = file(alloc, "script", "The script's file: an event a line");
     of_file(alloc, name, about, notes)?.arg(script)
+}
+
+/// A subcommand of a plan, a script and a number of workers.
+fn of_fleet<'a>(
+    alloc: Global,
+    name: &'a str,
+    about: &'a str,
+    notes: &'a str,
+) -> Result<Command<'a>, AllocError>
+    ensures { IfOk result (IsLeaf (fleet_leaf name.entry.now)) }
+{
+    of_script(alloc, name, about, notes)?.arg(workers(
+        alloc,
+        "How many drivers run the script, 1 to 16",
+    ))
 }
 
 fn add<'a>(command: Command<'a>, leaf: Command<'a>) -> Result<Command<'a>, AllocError>
@@ -107,6 +122,13 @@ pub fn command_line<'a>(alloc: Global) -> Result<Command<'a>, AllocError>
     let command = add(command, check)?;
     let run = of_script(alloc, "run", "Runs a script over a plan", help::RUN)?;
     let command = add(command, run)?;
+    let fleet = of_fleet(
+        alloc,
+        "fleet",
+        "Runs a script over a plan on threads",
+        help::FLEET,
+    )?;
+    let command = add(command, fleet)?;
     let search = of_workers(
         alloc,
         "search",

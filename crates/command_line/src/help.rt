@@ -29,6 +29,22 @@ its text isn't a plan's or a script's (told on standard error).
 
 Example: plan_tool run examples/six_copies.json examples/recovery.script";
 
+/// Of `fleet`.
+pub const FLEET: &str = "\
+Checks the plan, reads the whole script, and makes its events happen over a volume that is just born, on threads:
+drivers take its lines in turn, and each node takes its messages on a thread of its own. A line that names a message
+waits for the line that made it, and no line behind a `wait` starts before all lines before it have ended. Other lines
+happen in any order.
+
+Prints `steps S` and `refused R`, the numbers of events that happened and that were refused; then, of the journal that
+the threads left, run again event by event, the open writers, with what is durable, and the recoveries that have cut;
+then `journal yes` where that run refuses nothing and has S steps, else `journal no`.
+
+Exit status: 0 where no event was refused and the journal says yes; 1 where not, or for a fault of the plan; 2 where a
+file can't be read, its text isn't a plan's or a script's, or memory or a thread is wanting (told on standard error).
+
+Example: plan_tool fleet examples/six_copies.json examples/three_bytes_written.script -w 3";
+
 /// Of `search`.
 pub const SEARCH: &str = "\
 Reads the plan, and prints it with the certificates that are found for its claims; tells on standard error of each claim

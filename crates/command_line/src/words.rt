@@ -53,6 +53,7 @@ fn action_of(name: &str) -> Option<Action>
     match name {
         "check" => Some(Action::Check),
         "run" => Some(Action::Run),
+        "fleet" => Some(Action::Fleet),
         "search" => Some(Action::Search),
         _ => None,
     }
