@@ -1,23 +1,28 @@
 -- Which answer is due, from one part of a job to the next.
-use Rattle.std.proofs.Common.{◌≡◌, ◌∙◌, ap, ap₂, inl, inr, sym, subst, refl, ℕ, List, Some, Result, Ok, Err, IfOk, IfErr, string_bytes}
+use Rattle.std.proofs.Common.{◌≡◌, ◌∙◌, ap, ap₂, inl, inr, sym, subst, refl, ℕ, List, Some, Result, Ok, Err, IfOk, IfErr, length, string_bytes, vec_len, arith}
+use Rattle.std.proofs.lemmas.List.{length-map}
+use Rattle.volume_model.specs.Plan as model
 use Rattle.plan.specs.CheckedModel.{checked_model}
 use Rattle.plan.specs.Plan.{plan_data}
-use Rattle.plan.specs.PlanData.{PlanData}
+use Rattle.plan.specs.PlanData.{PlanData, model_of}
 use Rattle.plan.specs.declared.checked.CheckedPlan.{CheckedPlan}
 use Rattle.plan.specs.declared.fault.PlanFault.{PlanFault}
-use Rattle.script.specs.Script.{IsFirstBad, ReadsScript}
+use Rattle.script.specs.Script.{IsFirstBad, ReadsScript, kept_of}
+use Rattle.script.specs.Seen.{asked_by}
 use Rattle.script.specs.declared.reading.Script.{Script}
 use Rattle.script.specs.declared.reading.ScriptFault.{ScriptFault}
 use Rattle.script.specs.declared.reading.ScriptFault.TheVariants as scripts
 use Rattle.jobs.specs.Answer.{Answer, IsSaid, fault_answer, printed}
-use Rattle.jobs.specs.Answers.{AnswersOf, ChecksTo, File, IsBadScript, PlanAnswers, RunsTo, ScriptAnswers, TellsOrders}
+use Rattle.jobs.specs.Answers.{AnswersOf, BothAnswer, ChecksTo, File, IsBadScript, PlanAnswers, ScriptAnswers, TellsFleetOf, TellsOrders, TellsScript}
 use Rattle.jobs.specs.Answers.AnswersOf.{read, unread, unmade}
 use Rattle.jobs.specs.Answers.PlanAnswers.{faulty, certified}
 use Rattle.jobs.specs.Read.{IsPlanOf, IsRead, IsScriptOf}
 use Rattle.jobs.specs.Searched.{SearchesTo, TellsSearch, claims_of, found_answer}
 use Rattle.jobs.specs.Stops.{StopsAtLine, StopsBy, answer_of, script_stop, stop_answer}
 use Rattle.jobs.specs.Told.{plan_line}
+use Rattle.jobs.specs.ToldFleet.{TellsFleet}
 use Rattle.jobs.specs.Verdict.{IsCertifiedText, text_fault}
+use Rattle.jobs.specs.declared.inputs.PlanAndScript.{PlanAndScript}
 use Rattle.jobs.specs.declared.reply.Found.{Found}
 use Rattle.jobs.specs.declared.reply.Reply.{Reply}
 use Rattle.jobs.specs.declared.reply.Stop.{Stop}
@@ -70,7 +75,7 @@ pub plan_tells : (file : File) (plan : CheckedPlan) (r : Result Reply Stop) → 
 plan_tells file plan (Ok reply) h zero line none = read h.text h.whole h.is_text (certified (whole_text h.text plan h.is_so) (ap₂ printed zero line))
 plan_tells file plan (Err stop) h zero line memory = memory_out ChecksTo file stop memory
 
--- ---- a run
+-- ---- a script over a plan
 
 -- a refused script's fault, as why the job ends
 pub line_stops : (text : List ℕ) (fault : ScriptFault) (stop : Stop) → stop ≡ script_stop fault → ReadsScript text (Err fault) → StopsAtLine text stop
@@ -88,31 +93,71 @@ pub script_stops : (file : File) (items text : List ℕ) (r : Result Script Stop
 script_stops file items text (Ok script) h e s = tt
 script_stops file items text (Err stop) h e s = line_due file text (record { text = h.text; whole = h.whole; is_text = h.is_text; is_so = e ∙ h.is_so }) stop s
 
--- what is told of the run of a file's script
-pub script_tells : (file : File) (plan : CheckedPlan) (script : Script) (r : Result Reply Stop) → IsRead file (λ text. IsScriptOf text script)
-    → IfOk r (λ reply. TellsOrders (checked_model plan) script.steps.items script.orders.items reply.status (string_bytes reply.text)) → IfErr r (λ stop. stop ≡ stops.NoMemory)
-    → AnswersOf file (ScriptAnswers (checked_model plan)) (answer_of r)
-script_tells file plan script (Ok reply) h told none =
-    let is = h.is_so in
-    read h.text h.whole h.is_text (inr (
-      record {
-        deeds = is.deeds;
-        spelled = is.spelled;
-        orders = script.orders.items;
-        asked = is.keeps.orders_are;
-        told = subst (λ steps. TellsOrders (checked_model plan) steps script.orders.items reply.status (string_bytes reply.text)) is.keeps.steps_are told;
-      },
-      refl,
-    ))
-script_tells file plan script (Err stop) h told memory = memory_out (ScriptAnswers (checked_model plan)) file stop memory
+-- what tells of a script
+abbrev pub Telling : Type 1
+Telling = List ℕ → ℕ → List ℕ → Type 0
 
--- a script with a bad line, whatever the plan
-pub bad_script : (plan : CheckedPlan) (file : File) (a : Answer) → AnswersOf file IsBadScript a → AnswersOf file (ScriptAnswers (checked_model plan)) a
-bad_script plan file a h = weaker_file IsBadScript (ScriptAnswers (checked_model plan)) file a (λ text bad. inl bad) h
+-- the same over a plan
+abbrev pub PlanTelling : Type 1
+PlanTelling = model.Plan → Telling
 
--- what is answered of the script over the plan of a file
-pub run_tells : (file script : File) (plan : CheckedPlan) (a : Answer) → IsRead file (λ text. IsPlanOf text plan) → AnswersOf script (ScriptAnswers (checked_model plan)) a → AnswersOf file (RunsTo script) a
-run_tells file script plan a h told = read h.text h.whole h.is_text (certified (whole_text h.text plan h.is_so) told)
+-- nothing tells of it
+abbrev pub untold : PlanTelling
+untold plan script status text = ⊥
+
+-- the plan of a file, and the bad line of a script
+pub bad_script : (file script : File) (plan : CheckedPlan) (r : Result PlanAndScript Stop) → IsRead file (λ text. IsPlanOf text plan) → IfErr r (λ stop. AnswersOf script IsBadScript (stop_answer stop))
+    → IfErr r (λ stop. AnswersOf file (BothAnswer untold script) (stop_answer stop))
+bad_script file script plan (Ok both) h bad = tt
+bad_script file script plan (Err stop) h bad =
+    read h.text h.whole h.is_text (certified (whole_text h.text plan h.is_so) (weaker_file IsBadScript (ScriptAnswers (untold (checked_model plan))) script (stop_answer stop) (λ text b. inl b) bad))
+
+-- where nothing is told, anything else is told as well
+never_script : (T : Telling) (script : List ℕ) (a : Answer) → ScriptAnswers (λ _ _ _. ⊥) script a → ScriptAnswers T script a
+never_script T script a (inl bad) = inl bad
+never_script T script a (inr (none, e)) = absurd none
+
+never_both : (T : PlanTelling) (script : File) (text : List ℕ) (a : Answer) → BothAnswer untold script text a → BothAnswer T script text a
+never_both T script text a (faulty fault is said) = faulty fault is said
+never_both T script text a (certified whole h) =
+    certified whole (weaker_file (ScriptAnswers (λ _ _ _. ⊥)) (ScriptAnswers (T (model_of whole.plan))) script a (λ t b. never_script (T (model_of whole.plan)) t a b) h)
+
+pub never_told : (T : PlanTelling) (script file : File) (a : Answer) → AnswersOf file (BothAnswer untold script) a → AnswersOf file (BothAnswer T script) a
+never_told T script file a h = weaker_file (BothAnswer untold script) (BothAnswer T script) file a (λ text p. never_both T script text a p) h
+
+-- what is told of the script of a file
+script_told : (T : Telling) (file : File) (script : Script) (r : Result Reply Stop) → IsRead file (λ text. IsScriptOf text script)
+    → ((text : List ℕ) → IsScriptOf text script → IfOk r (λ reply. T text reply.status (string_bytes reply.text))) → IfErr r (λ stop. stop ≡ stops.NoMemory) → AnswersOf file (ScriptAnswers T) (answer_of r)
+script_told T file script (Ok reply) h told none = read h.text h.whole h.is_text (inr (told h.text h.is_so, refl))
+script_told T file script (Err stop) h told memory = memory_out (ScriptAnswers T) file stop memory
+
+-- the same, over the plan of a file
+pub both_told : (T : PlanTelling) (file file' : File) (plan : CheckedPlan) (script : Script) (r : Result Reply Stop) → IsRead file (λ text. IsPlanOf text plan) → IsRead file' (λ text. IsScriptOf text script)
+    → ((text : List ℕ) → IsScriptOf text script → IfOk r (λ reply. T (checked_model plan) text reply.status (string_bytes reply.text))) → IfErr r (λ stop. stop ≡ stops.NoMemory) → AnswersOf file (BothAnswer T file') (answer_of r)
+both_told T file file' plan script r p h told memory =
+    read p.text p.whole p.is_text (certified (whole_text p.text plan p.is_so) (script_told (T (checked_model plan)) file' script r h told memory))
+
+-- what is told of the run of a script's orders
+pub run_told : (plan : model.Plan) (script : Script) (r : Result Reply Stop) → IfOk r (λ reply. TellsOrders plan script.steps.items script.orders.items reply.status (string_bytes reply.text))
+    → (text : List ℕ) → IsScriptOf text script → IfOk r (λ reply. TellsScript plan text reply.status (string_bytes reply.text))
+run_told plan script (Ok reply) told text is =
+    record {
+      deeds = is.deeds;
+      spelled = is.spelled;
+      orders = script.orders.items;
+      asked = is.keeps.orders_are;
+      told = subst (λ steps. TellsOrders plan steps script.orders.items reply.status (string_bytes reply.text)) is.keeps.steps_are told;
+    }
+run_told plan script (Err stop) told text is = tt
+
+-- what is told of a run of as many orders on threads
+pub fleet_told : (plan : model.Plan) (script : Script) (r : Result Reply Stop) → IfOk r (λ reply. TellsFleet plan (vec_len script.orders) reply.status (string_bytes reply.text))
+    → (text : List ℕ) → IsScriptOf text script → IfOk r (λ reply. TellsFleetOf plan text reply.status (string_bytes reply.text))
+fleet_told plan script (Ok reply) told text is =
+    let len : vec_len script.orders ≡ length script.orders.items = omega (arith, script.orders.ok.0) in
+    let counted = len ∙ sym (length-map script.orders.items asked_by) ∙ ap length is.keeps.orders_are in
+    record { deeds = is.deeds; spelled = is.spelled; told = subst (λ n. TellsFleet plan n reply.status (string_bytes reply.text)) counted told }
+fleet_told plan script (Err stop) told text is = tt
 
 -- ---- a search
 

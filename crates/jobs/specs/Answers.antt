@@ -1,5 +1,5 @@
 -- Which answer is due to the bytes of a job's files.
-use Rattle.std.specs.Prelude.{◌≡◌, ◌⊎◌, ℕ, List, [], Bool, true, false, Option, Some, map, option_map, unwrap_or}
+use Rattle.std.specs.Prelude.{◌≡◌, ◌⊎◌, ℕ, List, [], Bool, true, false, Option, Some, map, length, option_map, unwrap_or}
 use Rattle.volume_model.specs.Plan as model
 use Rattle.volume_model.specs.Outcome.{writers_in, finds_in}
 use Rattle.volume_model.specs.World.{opening, results, run}
@@ -15,6 +15,7 @@ use Rattle.script.specs.declared.reading.Step.{Step}
 use Rattle.jobs.specs.Answer.{Answer, bad_line, fault_answer, no_memory, printed, unreadable}
 use Rattle.jobs.specs.Streams.{IsTextOf, is_unread, left_of}
 use Rattle.jobs.specs.Told.{TellsOf, plan_line}
+use Rattle.jobs.specs.ToldFleet.{TellsFleet}
 use Rattle.jobs.specs.Verdict.{IsCertifiedText, text_fault}
 use Rattle.jobs.specs.declared.files.Source.{Source}
 
@@ -46,6 +47,23 @@ pub data PlanAnswers (text : List ℕ) (Due : PlanData → Answer → Type 0) (a
 abbrev pub ChecksTo : List ℕ → Answer → Type 0
 ChecksTo text answer = PlanAnswers text (λ plan said. said ≡ printed 0 (plan_line (model_of plan))) answer
 
+-- ---- a script over a plan
+
+-- the text isn't a script, and the answer is the number of its first bad line
+pub record IsBadScript (script : List ℕ) (answer : Answer) : Type 0 where
+  pub number : ℕ
+  pub first : IsFirstBad script number
+  pub answered : answer ≡ bad_line number
+
+-- what is answered to a script's text: its first bad line, or what tells of it
+abbrev pub ScriptAnswers : (List ℕ → ℕ → List ℕ → Type 0) → List ℕ → Answer → Type 0
+ScriptAnswers Tells script answer = IsBadScript script answer ⊎ (Tells script answer.status answer.out × (answer.err ≡ []))
+
+-- What is answered to a plan's text and a script's file: the plan's first fault; or, over the plan, the script's first bad line, or what
+-- tells of the script.
+abbrev pub BothAnswer : (model.Plan → List ℕ → ℕ → List ℕ → Type 0) → File → List ℕ → Answer → Type 0
+BothAnswer Tells script text answer = PlanAnswers text (λ plan. AnswersOf script (ScriptAnswers (Tells (model_of plan)))) answer
+
 -- ---- a run
 
 -- A status and a text tell of the model's run of these orders over a plan: what is told of each event for the steps that have
@@ -63,19 +81,21 @@ pub record TellsScript (plan : model.Plan) (script : List ℕ) (status : ℕ) (t
   pub asked : map asked_by orders ≡ (kept_of deeds).asked
   pub told : TellsOrders plan (kept_of deeds).steps orders status text
 
--- the text isn't a script, and the answer is the number of its first bad line
-pub record IsBadScript (script : List ℕ) (answer : Answer) : Type 0 where
-  pub number : ℕ
-  pub first : IsFirstBad script number
-  pub answered : answer ≡ bad_line number
-
--- what a run over a plan answers to a script's text: its first bad line, or what its run tells
-abbrev pub ScriptAnswers : model.Plan → List ℕ → Answer → Type 0
-ScriptAnswers plan script answer = IsBadScript script answer ⊎ (TellsScript plan script answer.status answer.out × (answer.err ≡ []))
-
--- what a run answers to a plan's text and a script's file: the plan's first fault, or what is answered of the script
+-- what a run answers to a plan's text and a script's file
 abbrev pub RunsTo : File → List ℕ → Answer → Type 0
-RunsTo script text answer = PlanAnswers text (λ plan. AnswersOf script (ScriptAnswers (model_of plan))) answer
+RunsTo = BothAnswer TellsScript
+
+-- ---- a run on threads
+
+-- The text is a script, whose lines do these deeds, and a fleet's run of as many orders as they ask for is told.
+pub record TellsFleetOf (plan : model.Plan) (script : List ℕ) (status : ℕ) (text : List ℕ) : Type 0 where
+  pub deeds : List Deed
+  pub spelled : IsScript script deeds
+  pub told : TellsFleet plan (length (kept_of deeds).asked) status text
+
+-- what a fleet answers to a plan's text and a script's file
+abbrev pub FleetsTo : File → List ℕ → Answer → Type 0
+FleetsTo = BothAnswer TellsFleetOf
 
 -- the name of a job's script, empty where there is none
 abbrev pub script_name : Job → List ℕ

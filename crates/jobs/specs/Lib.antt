@@ -4,6 +4,7 @@ pub mod Streams
 pub mod Verdict
 pub mod Told
 pub mod ToldLines
+pub mod ToldFleet
 pub mod Answers
 pub mod Read
 pub mod Unfound

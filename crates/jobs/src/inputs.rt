@@ -1,17 +1,25 @@
-//! What is read of a job's files.
+//! What is read of a job's files: their texts, the plan and the script.
 
-ghost use Rattle.std.specs.Prelude.{◌≡◌, Err, IfErr, IfOk, Ok};
+ghost use Rattle.std.specs.Prelude.{◌≡◌, Err, IfErr, IfOk, None, Ok, Some};
+ghost use Rattle.std.specs.Arc.{arc_value};
+ghost use Rattle.volume_model.specs.Plan.{IsCertified};
+ghost use Rattle.plan.specs.CheckedModel.{checked_model};
 ghost use Rattle.plan.specs.Plan.{plan_data};
+ghost use Rattle.plan.specs.PlanFaults.{plan_fault};
 ghost use Rattle.plan.specs.PlanText.{plan_of};
-ghost use Rattle.jobs.specs.Answers.{AnswersOf, file_of};
-ghost use Rattle.jobs.specs.Read.{IsRead};
-ghost use Rattle.jobs.specs.Stops.{StopsBy, stop_answer};
+ghost use Rattle.jobs.specs.Answers.{AnswersOf, BothAnswer, IsBadScript, PlanAnswers, file_of, script_name};
+ghost use Rattle.jobs.specs.Read.{IsPlanOf, IsRead, IsScriptOf};
+ghost use Rattle.jobs.specs.Stops.{StopsAtLine, StopsBy, stop_answer};
+ghost use Rattle.jobs.specs.Verdict.{text_fault};
 
 use crate::files::{ReadFault, Source};
 use crate::reply::Stop;
-use plan::{Plan, read_plan};
+use command_line::Job;
+use plan::{CheckedPlan, Plan, check_plan, read_plan};
+use script::{Script, read_script};
 use std::alloc::Global;
 use std::io::Read;
+use std::sync::Arc;
 
 /// The most bytes that are read of a file: one more than a plan's text or a script may have.
 const FILE_BYTES: u64 = 16_777_217;
@@ -40,5 +48,117 @@ pub fn plan_in(alloc: Global, text: &[u8]) -> Result<Plan, Stop<'static>>
     match read_plan(alloc, text) {
         Ok(plan) => Ok(plan),
         Err(fault) => Err(Stop::of_plan(fault)),
+    }
+}
+
+/// The plan, where it has no fault.
+fn checked_plan(alloc: Global, plan: Plan) -> Result<CheckedPlan, Stop<'static>>
+    ensures plan { IfOk result (λ checked. checked.plan ≡ plan) }
+    ensures faultless { IfOk result (λ checked. plan_fault (plan_data plan) ≡ None) }
+    ensures certified { IfOk result (λ checked. IsCertified (checked_model checked)) }
+    ensures stop { IfErr result (StopsBy (λ fault. plan_fault (plan_data plan) ≡ Some fault)) }
+{
+    match check_plan(alloc, plan) {
+        Ok(plan) => {
+            plan.certified();
+            Ok(plan)
+        }
+        Err(refused) => Err(Stop::of_plan(refused.0)),
+    }
+}
+
+/// The plan that a text spells, where it has no fault.
+fn checked_text(alloc: Global, text: &[u8]) -> Result<CheckedPlan, Stop<'static>>
+    ensures plan { IfOk result (IsPlanOf text.now) }
+    ensures stop { IfErr result (StopsBy (λ fault. text_fault text.now ≡ Some fault)) }
+{
+    let plan = plan_in(alloc, text)?;
+    checked_plan(alloc, plan)
+}
+
+/// The plan of a file, where it is read and has no fault.
+pub fn checked<'a, P: Read>(
+    alloc: Global,
+    name: &'a str,
+    plan: &mut Source<P>,
+) -> Result<CheckedPlan, Stop<'a>>
+    ensures plan { IfOk result (λ checked. IsRead (file_of P.remaining name.entry.now plan.old plan.new) (λ text. IsPlanOf text checked)) }
+    ensures stop { IfErr result (λ stop. AnswersOf (file_of P.remaining name.entry.now plan.old plan.new) (λ text. PlanAnswers text (λ _ _. ⊥)) (stop_answer stop)) }
+{
+    let text = contents(alloc, name, plan)?;
+    checked_text(alloc, text.as_slice())
+}
+
+/// The script that a text spells.
+fn script_in(alloc: Global, text: &[u8]) -> Result<Script, Stop<'static>>
+    ensures script { IfOk result (IsScriptOf text.now) }
+    ensures stop { IfErr result (StopsAtLine text.now) }
+{
+    match read_script(alloc, text) {
+        Ok(script) => Ok(script),
+        Err(fault) => Err(Stop::of_script(fault)),
+    }
+}
+
+/// The script of a file, where it is read and is one.
+fn script_of<'a, S: Read>(
+    alloc: Global,
+    name: &'a str,
+    script: &mut Source<S>,
+) -> Result<Script, Stop<'a>>
+    ensures script { IfOk result (λ read. IsRead (file_of S.remaining name.entry.now script.old script.new) (λ text. IsScriptOf text read)) }
+    ensures stop { IfErr result (λ stop. AnswersOf (file_of S.remaining name.entry.now script.old script.new) IsBadScript (stop_answer stop)) }
+{
+    let text = contents(alloc, name, script)?;
+    script_in(alloc, text.as_slice())
+}
+
+/// A plan without a fault, and a script to be run over it.
+#[derive(Drop)]
+pub struct PlanAndScript {
+    pub plan: Arc<CheckedPlan>,
+    pub script: Script,
+}
+
+/// The name of the script's file, empty where the job has none.
+fn script_name<'a>(job: &Job<'a>) -> &'a str
+    ensures { result.now ≡ script_name job.now }
+{
+    match job.script {
+        Some(name) => name,
+        None => "",
+    }
+}
+
+/// The script of a job's file, where it is read and is one, with its plan.
+fn with_script<'a, S: Read>(
+    alloc: Global,
+    plan: CheckedPlan,
+    job: &Job<'a>,
+    script: &mut Source<S>,
+) -> Result<PlanAndScript, Stop<'a>>
+    ensures plan { IfOk result (λ both. arc_value both.plan ≡ plan) }
+    ensures script { IfOk result (λ both. IsRead (file_of S.remaining (script_name job.now) script.old script.new) (λ text. IsScriptOf text both.script)) }
+    ensures stop { IfErr result (λ stop. AnswersOf (file_of S.remaining (script_name job.now) script.old script.new) IsBadScript (stop_answer stop)) }
+{
+    let plan = Arc::new(alloc, plan)?;
+    let script = script_of(alloc, script_name(job), script)?;
+    Ok(PlanAndScript { plan, script })
+}
+
+/// The plan of a job's file, where it is read and has no fault, and then the script of the other, where it is read and is one.
+pub fn plan_and_script<'a, P: Read, S: Read>(
+    alloc: Global,
+    job: &Job<'a>,
+    plan: &mut Source<P>,
+    script: &mut Source<S>,
+) -> Result<PlanAndScript, Stop<'a>>
+    ensures plan { IfOk result (λ both. IsRead (file_of P.remaining job.now.plan.now plan.old plan.new) (λ text. IsPlanOf text (arc_value both.plan))) }
+    ensures script { IfOk result (λ both. IsRead (file_of S.remaining (script_name job.now) script.old script.new) (λ text. IsScriptOf text both.script)) }
+    ensures stop { IfErr result (λ stop. AnswersOf (file_of P.remaining job.now.plan.now plan.old plan.new) (BothAnswer (λ _ _ _ _. ⊥) (file_of S.remaining (script_name job.now) script.old script.new)) (stop_answer stop)) }
+{
+    match checked(alloc, job.plan, plan) {
+        Ok(plan) => with_script(alloc, plan, job, script),
+        Err(stop) => Err(stop),
     }
 }

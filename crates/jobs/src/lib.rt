@@ -6,6 +6,7 @@ mod inputs;
 mod outputs;
 mod performing;
 mod reply;
+mod running;
 mod search;
 mod told;
 

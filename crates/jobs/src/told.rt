@@ -9,9 +9,11 @@ ghost use Rattle.writer_core.specs.Logs.{log_of};
 ghost use Rattle.world.specs.Outcomes.{find_of, opened_of};
 ghost use Rattle.plan.specs.Sums.{sum_below};
 ghost use Rattle.jobs.specs.Told.{TellsOf, counts_line, each_line, find_line, first_if, next_lsn, plan_line, refused_line, rest_if, writer_line};
+ghost use Rattle.jobs.specs.ToldFleet.{TellsDriven, journal_line, numbers_lines};
 ghost use Rattle.jobs.specs.ToldLines.{AppendsLine, AppendsLines};
 
 use crate::reply::Reply;
+use drivers::Driven;
 use plan::CheckedPlan;
 use redo_record::Record;
 use script::Step;
@@ -199,5 +201,42 @@ pub fn run_lines(alloc: Global, steps: &[Step], outcome: &Outcome) -> Result<Rep
     add_writers(&mut text, outcome.writers.as_slice())?;
     add_finds(&mut text, outcome.finds.as_slice())?;
     let status = u8::from(has_refusal(outcome.results.as_slice()));
+    Ok(Reply { status, text })
+}
+
+/// The lines of how many events were made and refused.
+fn numbers(alloc: Global, steps: usize, refused: usize) -> Result<String, AllocError>
+    ensures { IfOk result (λ text. string_bytes text ≡ numbers_lines steps refused) }
+{
+    let mut text = String::new(alloc);
+    write!(text, "steps {steps}\nrefused {refused}\n")?;
+    Ok(text)
+}
+
+/// The line of whether the journal, run again, refuses nothing and has as many steps.
+fn journal_line(agrees: bool) -> &'static str
+    ensures { result.now ≡ journal_line agrees }
+{
+    if agrees {
+        "journal yes\n"
+    } else {
+        "journal no\n"
+    }
+}
+
+/// What is told of a script's run on threads: how many events were made and refused, a line for each opened writer, then one for
+/// each recovery that has cut, and whether the journal agrees. The status is 0 where no event was refused and it does, else 1.
+pub fn fleet_lines(alloc: Global, driven: &Driven) -> Result<Reply, AllocError>
+    ensures { IfOk result (λ reply. TellsDriven driven.now reply.status (string_bytes reply.text)) }
+{
+    let mut text = numbers(alloc, driven.steps, driven.refused)?;
+    add_writers(&mut text, driven.outcome.writers.as_slice())?;
+    add_finds(&mut text, driven.outcome.finds.as_slice())?;
+    text.push_str(journal_line(driven.agrees))?;
+    let status = if driven.refused == 0 && driven.agrees {
+        0
+    } else {
+        1
+    };
     Ok(Reply { status, text })
 }

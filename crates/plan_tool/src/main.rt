@@ -66,7 +66,8 @@ fn explain<O: Write, E: Write>(
     }
 }
 
-/// Reads the words of the command line, and does what they ask for; a search starts its threads by the second handle.
+/// Reads the words of the command line, and does what they ask for; a search and a fleet start their threads by
+/// the second handle.
 fn run<H: Threads + Wait + Sync>(rt: &HostRuntime, threads: &H) -> u8
     ensures { result ≤ 2 }
 {

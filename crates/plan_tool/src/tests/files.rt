@@ -74,22 +74,18 @@ fn files_that_fail(rt: HostRuntime) -> Result<(), AllocError> {
         let end = said(&rt, alloc, Action::Run, plan, Breaks(&script[..k]));
         assert!(rt; end.is(2, no_script), "{k}");
     }
-    for action in [Action::Check, Action::Run, Action::Search] {
+    for action in [Action::Check, Action::Run, Action::Fleet, Action::Search] {
         let end = done(&rt, alloc, &job(action), missing(), opened(script));
         assert!(rt; end.is(2, no_plan));
         let end = done(&rt, alloc, &job(action), without_memory(), opened(script));
         assert!(rt; end.is(2, "input: 9 NoMemory\n"));
     }
-    let end = done(&rt, alloc, &job(Action::Run), opened(plan), missing());
-    assert!(rt; end.is(2, no_script));
-    let end = done(
-        &rt,
-        alloc,
-        &job(Action::Run),
-        opened(plan),
-        without_memory(),
-    );
-    assert!(rt; end.is(2, "input: 9 NoMemory\n"));
+    for action in [Action::Run, Action::Fleet] {
+        let end = done(&rt, alloc, &job(action), opened(plan), missing());
+        assert!(rt; end.is(2, no_script));
+        let end = done(&rt, alloc, &job(action), opened(plan), without_memory());
+        assert!(rt; end.is(2, "input: 9 NoMemory\n"));
+    }
     let end = said(&rt, alloc, Action::Run, b"{}".as_slice(), Breaks(b""));
     assert!(rt; end.is(2, "input: 13 Malformed\n"));
     let end = said(&rt, alloc, Action::Check, io::repeat(b' '), script);
@@ -132,7 +128,7 @@ fn outputs_that_fail(rt: HostRuntime) {
 fn empty_names(rt: HostRuntime) {
     let alloc = rt.alloc();
     let no_file = "input: cannot read \n";
-    for action in [Action::Check, Action::Run, Action::Search] {
+    for action in [Action::Check, Action::Run, Action::Fleet, Action::Search] {
         let job = Job {
             action,
             plan: "",

@@ -7,7 +7,7 @@ use std::sync::Wait;
 use std::thread::Threads;
 
 /// Three bytes, written to four of six segments.
-const WRITTEN: &str =
+pub const WRITTEN: &str =
     "issue 1 0:0:0:61 0:0:1:62 0:0:2:63\ndeliver 0 0 1.1\ndeliver 0 1 1.1\ndeliver 0 2 1.1\n\
 deliver 0 3 1.1\nwait\ndeliver 0 0 1.2\ndeliver 0 1 1.2\ndeliver 0 2 1.2\ndeliver 0 3 1.2\nwait\n\
 deliver 0 0 1.3\ndeliver 0 1 1.3\ndeliver 0 2 1.3\ndeliver 0 3 1.3\ntake 1 12.1\ntake 1 13.1\n\
@@ -17,7 +17,7 @@ take 1 14.1\ntake 1 15.1\n";
 const WRITTEN_TOLD: &str = "3,1,1,1,1,0,1,1,1,1,0,1,1,1,1,0,0,0,0";
 
 /// Two bytes more reach one segment, and a recovery reads three others.
-const RECOVERED: &str =
+pub const RECOVERED: &str =
     "issue 1 0:0:3:64 0:0:4:65\ndeliver 0 0 20.1\ndeliver 0 0 20.2\nassign\ntake 2 23.1\n\
 deliver 0 1 24.1\ndeliver 0 2 24.1\ndeliver 0 3 24.1\ntake 2 25.1\ntake 2 26.1\ntake 2 27.1\ncut 2\n";
 
@@ -35,7 +35,7 @@ const REOPENED: &str =
 take 2 34.1\ntake 2 35.1\nopen 2\nissue 2 0:0:0:66\nresend 2 14\nresend 2 4\n";
 
 /// A member joins and is made whole, while an old write still reaches segments of the step before.
-const EARLY_ACKNOWLEDGEMENT: &str =
+pub const EARLY_ACKNOWLEDGEMENT: &str =
     "issue 1 0:0:0:61\nadvance 0 1\ndeliver 0 0 2.1\ndeliver 0 1 2.1\ndeliver 0 2 2.1\ndeliver 0 6 2.1\n\
 deliver 0 0 6.1\ndeliver 0 1 6.1\ndeliver 0 2 6.1\ndeliver 0 6 7.1\ndeliver 0 6 8.1\n\
 deliver 0 6 9.1\nhydrate 0 6\ndeliver 0 3 1.1\ndeliver 0 4 1.1\ndeliver 0 5 1.1\ndeliver 0 3 2.1\n\
@@ -44,7 +44,7 @@ take 2 24.1\ndeliver 0 1 25.1\ndeliver 0 2 25.1\ndeliver 0 6 25.1\ntake 2 26.1\n
 take 2 28.1\ncut 2\n";
 
 /// A member that isn't whole answers no fence, loses its copies at a restart, and becomes whole.
-const MADE_WHOLE: &str =
+pub const MADE_WHOLE: &str =
     "advance 0 1\ndeliver 0 6 1.1\ndeliver 0 0 1.1\ndeliver 0 1 1.1\ndeliver 0 2 1.1\nassign\n\
 refresh 1\ntake 2 6.1\ndeliver 0 6 8.1\ndeliver 0 0 2.1\ndeliver 0 6 10.1\nrestart 0 6\n\
 deliver 0 1 2.1\ndeliver 0 2 2.1\ndeliver 0 6 13.1\ndeliver 0 6 14.1\nhydrate 0 6\n\

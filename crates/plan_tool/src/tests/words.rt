@@ -19,6 +19,18 @@ fn words(rt: HostRuntime) {
             4,
         ),
         (
+            ["plan_tool", "fleet", "p", "s"].as_slice(),
+            Action::Fleet,
+            Some("s"),
+            4,
+        ),
+        (
+            ["plan_tool", "fleet", "p", "-w", "16", "s"].as_slice(),
+            Action::Fleet,
+            Some("s"),
+            16,
+        ),
+        (
             ["plan_tool", "search", "p"].as_slice(),
             Action::Search,
             None,
@@ -68,8 +80,12 @@ fn words(rt: HostRuntime) {
             ["plan_tool", "search", "p", "-w", "1", "-w", "1"].as_slice(),
             false,
         ),
-        (["plan_tool", "fleet", "p", "s"].as_slice(), false),
+        (["plan_tool", "run", "p", "s", "-w", "4"].as_slice(), false),
+        (["plan_tool", "fleet", "p"].as_slice(), false),
+        (["plan_tool", "fleet", "p", "s", "-w"].as_slice(), false),
+        (["plan_tool", "fleets", "p", "s"].as_slice(), false),
         (["plan_tool", "--help"].as_slice(), true),
+        (["plan_tool", "fleet", "--help"].as_slice(), true),
         (["plan_tool", "search", "--help"].as_slice(), true),
         (["plan_tool", "--version"].as_slice(), true),
     ] {
@@ -77,9 +93,9 @@ fn words(rt: HostRuntime) {
     }
 }
 
-/// What is printed of a search by so many workers, where its words are refused.
-fn refused(alloc: Global, workers: &str) -> Result<String, Fail> {
-    match job(alloc, &["plan_tool", "search", "p", "-w", workers]) {
+/// What is printed of these words, where they are refused.
+fn refused(alloc: Global, words: &[&str]) -> Result<String, Fail> {
+    match job(alloc, words) {
         Ok(_) => Err(Fail::from("the words were taken")),
         Err(usage) => Ok(format!(in alloc; "{usage}")?),
     }
@@ -98,7 +114,10 @@ fn numbers_of_workers(rt: HostRuntime) -> Result<(), Fail> {
         let text = format!(in alloc;
             "error: invalid value '{workers}' for '--workers <N>': {why}\n\nFor more information, try '--help'.\n"
         )?;
-        assert_eq!(rt; refused(alloc, workers)?, text);
+        let search = ["plan_tool", "search", "p", "-w", workers];
+        assert_eq!(rt; refused(alloc, &search)?, text);
+        let fleet = ["plan_tool", "fleet", "p", "s", "-w", workers];
+        assert_eq!(rt; refused(alloc, &fleet)?, text);
     }
     Ok(())
 }

@@ -1,4 +1,3 @@
-use Rattle.std.proofs.Common.{List, ℕ, subst}
 use Rattle.jobs.specs.Answer.{IsSaid}
 use Rattle.jobs.specs.Answers.{AnswersOf, RunsTo, file_of, script_name}
 use Rattle.jobs.specs.Stops.{answer_of}
@@ -9,8 +8,6 @@ use Rattle.jobs.proofs.performing.perform_run.Goals as goal
 pub returns-clause-ends : goal.returns-clause-ends
 returns-clause-ends g c =
     let file = file_of g.P.Read.remaining c.args.job.now.plan.now c.args.plan.now c.run-answer.new.plan in
-    let script_by = λ (name : List ℕ). file_of g.S.Read.remaining name c.args.script.now c.run-answer.new.script in
-    let script = script_by (script_name c.args.job.now) in
-    let ran = subst (λ (name : List ℕ). AnswersOf file (RunsTo (script_by name)) (answer_of c.run-answer.result)) c.script_name.ensures c.run-answer.ensures in
+    let script = file_of g.S.Read.remaining (script_name c.args.job.now) c.args.script.now c.run-answer.new.script in
     ends_by g.O.Write.contents g.E.Write.contents (IsSaid (answer_of c.run-answer.result)) (AnswersOf file (RunsTo script)) c.finish.result c.args.out.now c.finish.new.out c.args.err.now c.finish.new.err
-    (λ a said. said_due (RunsTo script) file (answer_of c.run-answer.result) a ran said) c.finish.ensures.ends
+    (λ a said. said_due (RunsTo script) file (answer_of c.run-answer.result) a c.run-answer.ensures said) c.finish.ensures.ends

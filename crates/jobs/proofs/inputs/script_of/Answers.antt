@@ -1,6 +1,6 @@
 use Rattle.jobs.specs.Answers.{file_of}
 use Rattle.jobs.proofs.Due.{script_stops}
-use Rattle.jobs.proofs.performing.script_of.Goals as goal
+use Rattle.jobs.proofs.inputs.script_of.Goals as goal
 
 pub returns-clause-stop : goal.returns-clause-stop
 returns-clause-stop g c =

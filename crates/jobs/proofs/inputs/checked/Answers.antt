@@ -1,6 +1,6 @@
 use Rattle.jobs.specs.Answers.{file_of}
 use Rattle.jobs.proofs.Due.{text_stops}
-use Rattle.jobs.proofs.performing.checked.Goals as goal
+use Rattle.jobs.proofs.inputs.checked.Goals as goal
 
 pub returns-clause-stop : goal.returns-clause-stop
 returns-clause-stop g c =

@@ -1,0 +1,83 @@
+//! A script over a plan: `run`, and `fleet` on threads.
+
+ghost use Rattle.std.specs.Prelude.{◌≡◌, ◌≤◌, IfErr, IfOk, string_bytes, vec_len};
+ghost use Rattle.std.specs.Arc.{arc_value};
+ghost use Rattle.plan.specs.CheckedModel.{checked_model};
+ghost use Rattle.jobs.specs.Answers.{AnswersOf, FleetsTo, RunsTo, TellsOrders, file_of, script_name};
+ghost use Rattle.jobs.specs.Stops.{answer_of};
+ghost use Rattle.jobs.specs.ToldFleet.{TellsFleet};
+ghost use Rattle.jobs.specs.declared.reply.Stop.TheVariants.{NoMemory};
+
+use crate::files::Source;
+use crate::inputs::plan_and_script;
+use crate::reply::{Reply, Stop};
+use crate::told::{fleet_lines, run_lines};
+use command_line::Job;
+use drivers::drive;
+use plan::CheckedPlan;
+use script::Script;
+use std::alloc::Global;
+use std::io::Read;
+use std::sync::{Arc, Wait};
+use std::thread::Threads;
+use world::run_orders;
+
+/// What is told of a script's run.
+fn ran(alloc: Global, plan: &Arc<CheckedPlan>, script: &Script) -> Result<Reply, Stop<'static>>
+    ensures told { IfOk result (λ reply. TellsOrders (checked_model (arc_value plan.now)) script.now.steps.items script.now.orders.items reply.status (string_bytes reply.text)) }
+    ensures stop { IfErr result (λ stop. stop ≡ NoMemory) }
+{
+    match run_orders(alloc, plan, script.orders.as_slice()) {
+        Ok(outcome) => Ok(run_lines(alloc, script.steps.as_slice(), &outcome)?),
+        Err(_) => Err(Stop::NoMemory),
+    }
+}
+
+/// What `run` says: the plan is checked, then the whole script is read, then it is run.
+pub fn run<'a, P: Read, S: Read>(
+    alloc: Global,
+    job: &Job<'a>,
+    plan: &mut Source<P>,
+    script: &mut Source<S>,
+) -> Result<Reply, Stop<'a>>
+    ensures { AnswersOf (file_of P.remaining job.now.plan.now plan.old plan.new) (RunsTo (file_of S.remaining (script_name job.now) script.old script.new)) (answer_of result) }
+{
+    match plan_and_script(alloc, job, plan, script) {
+        Ok(both) => ran(alloc, &both.plan, &both.script),
+        Err(stop) => Err(stop),
+    }
+}
+
+/// What is told of a script's run on threads, with so many drivers.
+fn driven<H: Threads + Wait + Sync>(
+    rt: &H,
+    alloc: Global,
+    plan: &Arc<CheckedPlan>,
+    script: &Script,
+    workers: u8,
+) -> Result<Reply, Stop<'static>>
+    requires { (1 ≤ workers) × (workers ≤ 16) }
+    ensures told { IfOk result (λ reply. TellsFleet (checked_model (arc_value plan.now)) (vec_len script.now.orders) reply.status (string_bytes reply.text)) }
+    ensures stop { IfErr result (λ stop. stop ≡ NoMemory) }
+{
+    match drive(rt, alloc, plan, script, workers) {
+        Ok(driven) => Ok(fleet_lines(alloc, &driven)?),
+        Err(_) => Err(Stop::NoMemory),
+    }
+}
+
+/// What `fleet` says: the plan is checked, then the whole script is read, then it is run on threads.
+pub fn fleet<'a, H: Threads + Wait + Sync, P: Read, S: Read>(
+    rt: &H,
+    alloc: Global,
+    job: &Job<'a>,
+    plan: &mut Source<P>,
+    script: &mut Source<S>,
+) -> Result<Reply, Stop<'a>>
+    ensures { AnswersOf (file_of P.remaining job.now.plan.now plan.old plan.new) (FleetsTo (file_of S.remaining (script_name job.now) script.old script.new)) (answer_of result) }
+{
+    match plan_and_script(alloc, job, plan, script) {
+        Ok(both) => driven(rt, alloc, &both.plan, &both.script, job.workers),
+        Err(stop) => Err(stop),
+    }
+}
