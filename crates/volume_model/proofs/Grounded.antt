@@ -15,7 +15,7 @@ grounded_in records t (from_none r i e) = i
 grounded_in records t (from_one r before i g e) = i
 
 -- the number that the walk finds grounded is that of a grounded record
-grounded_from : (records : List Redo) (steps n : ℕ) → grounded steps records n ≡ true → IsGroundedNumber records n
+pub grounded_from : (records : List Redo) (steps n : ℕ) → grounded steps records n ≡ true → IsGroundedNumber records n
 grounded_from records zero n h = absurd (true≢false (sym h))
 grounded_from records (suc steps) n h =
     let (r, i, p) = any_passes (λ r. eqb r.lsn n && (eqb r.prev_group 0 || grounded steps records r.prev_group)) records h in
@@ -27,7 +27,7 @@ grounded_from records (suc steps) n h =
     ]
 
 -- and the walk finds each such number, in as many steps
-grounded_to : (records : List Redo) → GroupLinksFall records → (steps : ℕ) (r : Redo) → IsGrounded records r → r.lsn ≤ steps → grounded steps records r.lsn ≡ true
+pub grounded_to : (records : List Redo) → GroupLinksFall records → (steps : ℕ) (r : Redo) → IsGrounded records r → r.lsn ≤ steps → grounded steps records r.lsn ≡ true
 grounded_to records fall zero r g l = absurd (let k : r.prev_group < r.lsn = fall r (grounded_in records r g) in omega arith)
 grounded_to records fall (suc steps) t (from_none r i e) l =
     any_from (λ s. eqb s.lsn r.lsn && (eqb s.prev_group 0 || grounded steps records s.prev_group)) records r i

@@ -4,7 +4,7 @@ use Rattle.std.proofs.lemmas.Bool.{cases_Bool, cases_lt, and_parts, and_from, bo
 use Rattle.volume_model.specs.Lists.{IsIn, any}
 use Rattle.volume_model.specs.Formula.{Members, sat}
 use Rattle.volume_model.specs.Plan.{Plan, has_member, parent_of, is_fresh, IsAbove, IsStep, IsCertified}
-use Rattle.volume_model.specs.Plan.IsAbove.{by_parent, by_ancestor}
+use Rattle.volume_model.specs.Plan.StandsAbove.{by_parent, by_ancestor}
 use Rattle.volume_model.proofs.Basics.{any_passes, any_fails}
 
 -- a run of configurations, one an epoch from 1 to the last, each but the root a child of the one before
@@ -24,10 +24,10 @@ module _ (plan : Plan) (certified : IsCertified plan) (group : ℕ) (there : gro
   above_line i zero li le l = absurd (omega arith)
   above_line i (suc f) li le l =
       elim (cases_lt i (suc f)) [
-        | inl earlier ↦ by_ancestor (line i) (line (suc f)) (line (suc (suc f))) (is_line.child (suc f) (omega arith) l) (sym (is_line.parent (suc f) (omega arith) l)) (above_line i f li (omega arith) (omega arith))
+        | inl earlier ↦ by_ancestor (line i) (line (suc f)) (line (suc (suc f))) (is_line.child (suc f) (omega arith) l, sym (is_line.parent (suc f) (omega arith) l)) (above_line i f li (omega arith) (omega arith))
         | inr last_one ↦ (
             let at : i ≡ suc f = omega arith in
-            by_parent (line i) (line (suc (suc f))) (is_line.child (suc f) (omega arith) l) (ap line at ∙ sym (is_line.parent (suc f) (omega arith) l)))
+            by_parent (line i) (line (suc (suc f))) (is_line.child (suc f) (omega arith) l, ap line at ∙ sym (is_line.parent (suc f) (omega arith) l)))
       ]
 
   -- who is fresh at a later epoch is late

@@ -71,13 +71,14 @@ cut_client plan volume client =
     refuse_if (not (has_read plan client)) NotReady (
     extension parent volume (cut_of records) plan.lal >>= λ lineage. Ok (cut_step plan volume client (log_found records) lineage))))
 
+-- the writer that a recovery becomes
+abbrev pub writing : Plan → Client → Client
+writing plan client = record client { stage = Writing; groups = raised plan client.groups }
+
 -- what an opening leaves
 abbrev pub opened : Plan → Client → ClientAnswer
 opened plan client =
     refuse_if (not (is_born client.stage)) NoActor (
     refuse_if (is_open client.stage) AlreadyDone (
     refuse_if (not (has_cut client.stage && has_installed plan client)) NotReady (
-    Ok (record {
-      made = [];
-      client = record client { stage = Writing; groups = raised plan client.groups };
-    }))))
+    Ok (record { made = []; client = writing plan client }))))

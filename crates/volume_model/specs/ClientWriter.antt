@@ -8,7 +8,7 @@ use Rattle.volume_model.specs.Message.{Place, Message}
 use Rattle.volume_model.specs.Message.Message.{Write, PageAsk}
 use Rattle.volume_model.specs.Refusal.{refuse_if}
 use Rattle.volume_model.specs.declared.fault.Fault.TheVariants.{BadTransaction, LimitReached, LsnSpent, NoActor, NoGroup, NoLogRecord, NotOpen}
-use Rattle.volume_model.specs.Client.{is_born, is_open, place_of, Client, ClientAnswer, label_of}
+use Rattle.volume_model.specs.Client.{is_born, is_open, place_of, Client, ClientStep, ClientAnswer, label_of}
 use Rattle.volume_model.specs.ClientPoints.{durable_point}
 
 -- a change that a transaction asks for
@@ -59,6 +59,13 @@ is_change groups change = nat_lt change.group groups && (nat_le 1 (length change
 abbrev pub is_transaction : ℕ → List Change → Bool
 is_transaction groups changes = nat_le 1 (length changes) && (nat_le (length changes) 32 && every (is_change groups) changes)
 
+-- the step of a transaction that isn't refused
+abbrev pub issue_step : ℕ → Client → List Change → ClientStep
+issue_step volume client changes = record {
+  made = issued_writes volume (place_of client.groups) (last_start client.lineage) changes client.log;
+  client = record client { log = issued_log volume (last_start client.lineage) changes client.log };
+}
+
 -- what a writer does with a transaction
 abbrev pub issued : Plan → ℕ → Client → List Change → ClientAnswer
 issued plan volume client changes =
@@ -69,10 +76,7 @@ issued plan volume client changes =
     refuse_if (not (is_transaction plan.groups changes)) BadTransaction (
     refuse_if (nat_lt (2 ^ 62) last) LsnSpent (
     refuse_if (nat_lt (max (durable_point client) start + plan.lal) last) LimitReached (
-    Ok (record {
-      made = issued_writes volume (place_of client.groups) start changes client.log;
-      client = record client { log = issued_log volume start changes client.log };
-    }))))))
+    Ok (issue_step volume client changes))))))
 
 -- the Write of a record that was found
 abbrev pub write_of : ℕ → Client → Option Redo → ClientAnswer

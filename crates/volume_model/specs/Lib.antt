@@ -30,6 +30,7 @@ pub mod Live
 pub mod Grounded
 pub mod Leading
 pub mod Points
+pub mod Parts
 pub mod Found
 pub mod Finds
 pub mod WorkedPlans

@@ -34,10 +34,18 @@ parent_of plan group c = (plan.configuration group c).parent
 abbrev pub epoch_of : Plan → ℕ → ℕ → ℕ
 epoch_of plan group c = (plan.configuration group c).epoch
 
--- The configuration a stands above c: it is the parent of c, or stands above the parent. Nothing stands above number 0, the root.
-pub data IsAbove (plan : Plan) (group : ℕ) : ℕ → ℕ → Type 0 where
-  by_parent : (a c : ℕ) → 0 < c → a ≡ parent_of plan group c → IsAbove plan group a c
-  by_ancestor : (a p c : ℕ) → 0 < c → p ≡ parent_of plan group c → IsAbove plan group a p → IsAbove plan group a c
+-- Where it is known who is whose parent, a stands above c: it is the parent of c, or stands above the parent.
+pub data StandsAbove (IsParent : ℕ → ℕ → Type 0) : ℕ → ℕ → Type 0 where
+  by_parent : (a c : ℕ) → IsParent a c → StandsAbove IsParent a c
+  by_ancestor : (a p c : ℕ) → IsParent p c → StandsAbove IsParent a p → StandsAbove IsParent a c
+
+-- the configuration is the parent of another one; number 0, the root, has none
+abbrev pub IsParent : Plan → ℕ → ℕ → ℕ → Type 0
+IsParent plan group p c = (0 < c) × (p ≡ parent_of plan group c)
+
+-- the configuration a stands above c
+abbrev pub IsAbove : Plan → ℕ → ℕ → ℕ → Type 0
+IsAbove plan group a c = StandsAbove (IsParent plan group) a c
 
 -- the group has a configuration of this number, and it has this epoch
 abbrev pub is_configuration : Plan → ℕ → ℕ → ℕ → Bool

@@ -77,13 +77,18 @@ assigned plan authority =
       authority = record authority { last_volume = suc authority.last_volume };
     }))
 
+-- the step that leads a group to a configuration
+abbrev pub advance_step : Plan → Authority → ℕ → ℕ → AuthorityStep
+advance_step plan authority group c =
+    let now = record authority { configurations = slice_set authority.configurations group c } in
+    record { made = StepTo group (place_now plan now group); authority = now }
+
 -- what the authority does when a group goes to a child of its configuration
 abbrev pub advanced : Plan → Authority → ℕ → ℕ → Result AuthorityStep Fault
 advanced plan authority group c =
-    let now = record authority { configurations = slice_set authority.configurations group c } in
     refuse_if (not (nat_lt group plan.groups)) NoGroup (
     refuse_if (not (nat_lt 0 c && (nat_lt c (plan.configurations group) && parent_of plan group c == configuration_of authority group))) NotInPlan (
-    Ok (record { made = StepTo group (place_now plan now group); authority = now })))
+    Ok (advance_step plan authority group c)))
 
 -- what the authority does when a client asks for the places again
 abbrev pub refreshed : Plan → Authority → ℕ → Result AuthorityStep Fault

@@ -4,6 +4,7 @@ ghost use Rattle.volume_model.specs.Live.{RecordsLive};
 ghost use Rattle.volume_model.specs.Grounded.{CompletePointIsGreatest};
 ghost use Rattle.volume_model.specs.Leading.{RecordAtIsFirst, CutIsGreatest, LogFoundLeadsDown};
 ghost use Rattle.volume_model.specs.Points.{GroupPointIsGreatest, CompleteAndDurablePointsAreGreatest};
+ghost use Rattle.volume_model.specs.Parts.{PartsOfLogs};
 ghost use Rattle.volume_model.specs.Finds.{FindsLast, OneLineageAnEpoch};
 ghost use Rattle.volume_model.specs.Found.{FoundIsReported, NewestIsNewest};
 ghost use Rattle.volume_model.specs.Opens.{OpensAtItsCut};
@@ -49,6 +50,12 @@ pub fn group_point_is_greatest()
 /// durable point the greatest consistency point up to there; the numbers of each client's log grow, in every run.
 pub fn complete_and_durable_points_are_greatest()
     ensures { CompleteAndDurablePointsAreGreatest }
+{}
+
+/// The part of a log up to a number, and a group's part of it, have exactly the records that their names say; the last number of a log,
+/// of a group, on a block and of a group up to a limit is the greatest there.
+pub fn parts_of_logs()
+    ensures { PartsOfLogs }
 {}
 
 /// What a recovery or a hydration unites are exactly the live records of all reports.
