@@ -15,6 +15,10 @@ use clap::error::ErrorKind;
 use std::alloc::{AllocError, Global};
 
 /// The job that the words of a command line name; the first is the program's own name.
+///
+/// # Errors
+/// What clap says of words that it doesn't take, or the help or version that they ask for; that clap's reading names no job; or want of
+/// memory.
 pub fn job<'a>(alloc: Global, words: &'a [&'a str]) -> Result<Job<'a>, Usage>
     ensures job { IfOk result (IsJob (subcommand_of tool (map (λ w. w.now) words.entry.now))) }
     ensures refused { IfErr result (IsRightFor (map (λ w. w.now) words.entry.now)) }

@@ -1,10 +1,8 @@
 -- What an authority is, as the model's, and what it answers.
-use Rattle.std.specs.Prelude.{ℕ, slice_set}
 use Rattle.std.specs.Arc.{arc_value}
 use Rattle.volume_model.specs.Plan.{Plan}
 use Rattle.volume_model.specs.World as model
-use Rattle.volume_model.specs.World.{AuthorityStep, place_now}
-use Rattle.volume_model.specs.Message.Message.{StepTo}
+use Rattle.volume_model.specs.World.{AuthorityStep}
 use Rattle.plan.specs.CheckedModel.{checked_model}
 use Rattle.wire.specs.declared.message.Message.{Message}
 use Rattle.wire.specs.Message.{message_of}
@@ -21,9 +19,3 @@ authority_of a = record { last_volume = a.last_volume; configurations = a.config
 -- the step of an authority that makes this message and is then this
 abbrev pub told : Message → model.Authority → AuthorityStep
 told message authority = record { made = message_of message; authority = authority }
-
--- the step that leads a group to a configuration
-abbrev pub advance_of : Plan → model.Authority → ℕ → ℕ → AuthorityStep
-advance_of plan authority group configuration =
-    let now = record authority { configurations = slice_set authority.configurations group configuration } in
-    record { made = StepTo group (place_now plan now group); authority = now }

@@ -24,11 +24,11 @@ pub struct Authority {
 impl Authority {
     ghost use Rattle.std.specs.Prelude.{◌<◌, Err, Ok, IfErr, IfOk, OnOk, map};
     ghost use Rattle.volume_model.specs.Answer.{refusal_of, Answers, AnswersAlways, AnswersNew};
-    ghost use Rattle.volume_model.specs.World.{opening, places_now, place_now, assigned, advanced, refreshed};
+    ghost use Rattle.volume_model.specs.World.{opening, places_now, place_now, assigned, advance_step, advanced, refreshed};
     ghost use Rattle.wire.specs.Message.{place_of};
-    ghost use Rattle.epochs.specs.Authority.{advance_of, authority_of, authority_plan, told};
+    ghost use Rattle.epochs.specs.Authority.{authority_of, authority_plan, told};
 
-    /// The authority of a new volume: volume epoch 1 is assigned, and each group stands at its root.
+    /// The authority of a new volume: volume epoch 1 is assigned, and each group stands at its root. Fails for want of memory alone.
     pub fn new(alloc: Global, plan: Arc<CheckedPlan>) -> Result<Authority, Fault>
         ensures authority { AnswersNew authority_of (Ok (opening (checked_model (arc_value plan))).authority) result }
         ensures plan { IfOk result (λ a. authority_plan a ≡ checked_model (arc_value plan)) }
@@ -108,7 +108,7 @@ impl Authority {
     fn child(&self, group: u8, configuration: u32) -> Result<u8, Fault>
         ensures number { IfOk result (λ child. child ≡ configuration) }
         ensures group { OnOk result (group < (authority_plan self.now).groups) }
-        ensures step { OnOk result (advanced (authority_plan self.now) (authority_of self.now) group configuration ≡ Ok (advance_of (authority_plan self.now) (authority_of self.now) group configuration)) }
+        ensures step { OnOk result (advanced (authority_plan self.now) (authority_of self.now) group configuration ≡ Ok (advance_step (authority_plan self.now) (authority_of self.now) group configuration)) }
         ensures refused { IfErr result (λ fault. advanced (authority_plan self.now) (authority_of self.now) group configuration ≡ Err fault) }
     {
         let Some(present) = self.configurations.get(usize::from(group)) else {

@@ -1,17 +1,16 @@
 -- Copies, one after the other.
-use Rattle.std.proofs.Common.{◌≡◌, ℕ, ◌+◌, ◌<◌, Bool, List, [], ◌∷◌, length, drop, get_or, nat_eq, refl, sym, ap, ap₂, ◌∙◌, arith, drop-cons, add-one}
+use Rattle.std.proofs.Common.{◌≡◌, ℕ, ◌+◌, ◌<◌, Bool, List, ◌∷◌, length, drop, get_or, nat_eq, sym, ap, ap₂, ◌∙◌, arith, drop-cons, add-one}
 use Rattle.std.specs.Prelude.{◌||◌, Result, Ok, Err, IfOk, MatchResult}
 use Rattle.std.proofs.lemmas.Bool.Decides.{nat_tests}
 use Rattle.std.specs.Ordering.{nat_cmp}
 use Rattle.std.specs.FinSet.{FinSet, contains, insert}
 use Rattle.volume_model.proofs.Sets.{contains-put}
 use Rattle.volume_model.specs.Lineage as model
-use Rattle.volume_model.specs.Lineage.{newer, newest, found_in, with_live}
 use Rattle.volume_model.specs.Node.{senders}
 use Rattle.lineage.specs.declared.lineage.Lineage.{Lineage}
 use Rattle.lineage.specs.Lineage.{lineage_of}
 use Rattle.hydration.specs.declared.copied.Copied.{Copied}
-use Rattle.hydration.specs.Copies.{copy_of, copies_in, newest_with, with_found}
+use Rattle.hydration.specs.Copies.{copy_of, copies_in}
 
 -- the copy at hand, before the rest
 rest_is : (copies : List Copied) (i : ℕ) (c : Copied) → i < length copies → c ≡ get_or copies i c → copies_in (drop i copies) ≡ copy_of c ∷ copies_in (drop (i + 1) copies)
@@ -28,16 +27,6 @@ senders-more copies i c s whole within is h x =
     ap (λ b. b || senders (copies_in (drop (i + 1) copies)) x) (contains-put s c.from x)
     ∙ joins x c.from (contains s x) (senders (copies_in (drop (i + 1) copies)) x)
     ∙ sym (ap (λ l. contains s x || senders l x) (rest_is copies i c within is)) ∙ h x
-
--- the newest lineage is the newest of all and of none
-pub newest-from_none : (copies : List model.Contents) → newest copies ≡ newest_with [] copies
-newest-from_none [] = refl
-newest-from_none (c ∷ rest) = ap (newer c.lineage) (newest-from_none rest)
-
--- what is found is what is added to no record
-pub found-from_none : (lineage : model.Lineage) (copies : List model.Contents) → found_in lineage copies ≡ with_found lineage copies []
-found-from_none lineage [] = refl
-found-from_none lineage (c ∷ rest) = ap (with_live lineage c.records) (found-from_none lineage rest)
 
 -- what a copy of a lineage is, where it could be made
 pub copied : {E : Type 0} {lineage of : model.Lineage} (P : E → Type 0) (r : Result Lineage E) → lineage ≡ of → MatchResult r (λ copy. lineage_of copy ≡ lineage) P → IfOk r (λ copy. lineage_of copy ≡ of)

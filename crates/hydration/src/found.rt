@@ -2,11 +2,11 @@
 
 ghost use Rattle.std.specs.Prelude.{◌≡◌, IfOk};
 ghost use Rattle.std.specs.FinSet as set;
-ghost use Rattle.volume_model.specs.Lineage.{found_in, newest};
+ghost use Rattle.volume_model.specs.Lineage.{found_in, newest, newest_with, with_found};
 ghost use Rattle.volume_model.specs.Node.{contents_of, senders};
 ghost use Rattle.lineage.specs.Lineage.{lineage_of};
 ghost use Rattle.redo_record.specs.RecordSet.{records_of};
-ghost use Rattle.hydration.specs.Copies.{copies_in, newest_with, with_found};
+ghost use Rattle.hydration.specs.Copies.{copies_in};
 
 use crate::copied::Copied;
 use lineage::Lineage;
@@ -43,7 +43,7 @@ pub(crate) fn newest_lineage(alloc: Global, copies: &[Copied]) -> Result<Lineage
     newest_with(copies, &none).clone()
 }
 
-/// A set of records with all those of the copies that are live in the lineage.
+/// A set of records with all those of the copies that are live in the lineage. Fails for want of memory alone.
 pub fn with_found(
     alloc: Global,
     lineage: &Lineage,

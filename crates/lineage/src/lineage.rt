@@ -33,7 +33,7 @@ impl Lineage {
         }
     }
 
-    /// The lineage that a volume is born with.
+    /// The lineage that a volume is born with. Fails for want of memory alone.
     pub fn birth(alloc: Global) -> Result<Lineage, AllocError>
         ensures { IfOk result (λ lineage. lineage_of lineage ≡ birth) }
     {

@@ -24,7 +24,7 @@ fn live_in(alloc: Global, lineage: &Lineage, records: &RecordSet) -> Result<Reco
 }
 
 impl Lineage {
-    /// A set of records with those of another that are live in the lineage.
+    /// A set of records with those of another that are live in the lineage. Fails for want of memory alone.
     pub fn with_live(
         &self,
         alloc: Global,

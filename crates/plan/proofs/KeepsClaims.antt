@@ -11,7 +11,7 @@ use Rattle.volume_model.specs.Lists.{any}
 use Rattle.volume_model.specs.Sets.{listed}
 use Rattle.volume_model.specs.Meets.{Meets}
 use Rattle.volume_model.specs.Plan.{has_member, is_fresh, IsAbove, IsCertified}
-use Rattle.volume_model.specs.Plan.IsAbove.{by_parent as by_model_parent, by_ancestor}
+use Rattle.volume_model.specs.Plan.StandsAbove.{by_parent as is_parent, by_ancestor as is_ancestor}
 use Rattle.volume_model.specs.Claims.{KeepsClaim, KeepsStepClaim, ClaimsCertify}
 use Rattle.quorum_expr.specs.MemberSet.{all_members}
 use Rattle.quorum_expr.proofs.MemberSetLaws.{contains-all_members}
@@ -32,8 +32,7 @@ use Rattle.plan.specs.PlanFaults.{or_then, first_below, is_good_parent, parent_f
 use Rattle.plan.proofs.Lookups.{any-listed}
 use Rattle.plan.proofs.Named.{root-of}
 use Rattle.plan.proofs.Epochs.{epoch-next}
-use Rattle.plan.specs.Reused.{StandsAbove}
-use Rattle.plan.specs.Reused.StandsAbove.{is_parent, is_ancestor}
+use Rattle.plan.specs.Reused.{IsAboveIn}
 use Rattle.plan.proofs.FreshMembers.{GoodParents, in-difference, parent-there, parent_at-is}
 use Rattle.plan.proofs.Reused.{reuse_is_found}
 
@@ -113,11 +112,11 @@ same-some : (m n : ℕ) → ◌≡◌ {A = Option ℕ} (Some m) (Some n) → m �
 same-some m n h = cc
 
 -- what stands above a configuration in the model stands above it in the plan
-stands-above : (plan : PlanData) (g a c : ℕ) → GoodParents (group_at plan g) c → IsAbove (model_of plan) g a c → StandsAbove (group_at plan g) a c
-stands-above plan g a c good (by_model_parent b d low is) =
+stands-above : (plan : PlanData) (g a c : ℕ) → GoodParents (group_at plan g) c → IsAbove (model_of plan) g a c → IsAboveIn (group_at plan g) a c
+stands-above plan g a c good (is_parent b d (low, is)) =
     let (p, there, before) = parent-there d (configuration_at (group_at plan g) d).parent low (good d (omega arith)) in
     is_parent b d (parent_at-is (group_at plan g) d p there before ∙ ap Some (sym (is ∙ ap or_zero there)))
-stands-above plan g a c good (by_ancestor b q d low is up) =
+stands-above plan g a c good (is_ancestor b q d (low, is) up) =
     let (p, there, before) = parent-there d (configuration_at (group_at plan g) d).parent low (good d (omega arith)) in
     let same : q ≡ p = is ∙ ap or_zero there in
     is_ancestor b q d (parent_at-is (group_at plan g) d p there before ∙ ap Some (sym same)) (stands-above plan g b q (λ k le. good k (omega (arith, same, before, le))) up)

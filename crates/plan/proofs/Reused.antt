@@ -11,8 +11,8 @@ use Rattle.quorum_expr.proofs.MemberLists.{first_listed}
 use Rattle.plan.specs.declared.fault.PlanFault.TheVariants.{MemberReused}
 use Rattle.plan.specs.PlanData.{ConfigurationData, configuration_at, earlier, parent_at, by_parent}
 use Rattle.plan.specs.PlanFaults.{fresh_at, unused_within, reused_at, reused_member, reuse_fault}
-use Rattle.plan.specs.Reused.{StandsAbove, IsReused, IsLeastReused, ReuseIsFound}
-use Rattle.plan.specs.Reused.StandsAbove.{is_parent, is_ancestor}
+use Rattle.plan.specs.Reused.{IsAboveIn, IsReused, IsLeastReused, ReuseIsFound}
+use Rattle.volume_model.specs.Plan.StandsAbove.{by_parent as is_parent, by_ancestor as is_ancestor}
 use Rattle.plan.proofs.Epochs.{earlier-below}
 use Rattle.plan.proofs.FreshMembers.{in-difference, unused-within, nobody, nobody_below}
 
@@ -20,14 +20,14 @@ use Rattle.plan.proofs.FreshMembers.{in-difference, unused-within, nobody, nobod
 
 -- who is left out of a set stands in a configuration above
 left_out : (n : ℕ) (group : List ConfigurationData) (c : ℕ) (s : FinSet nat_cmp) (x : ℕ) → contains s x ≡ true → contains (unused_within n group c s) x ≡ false
-    → (a : ℕ) × StandsAbove group a c × (contains (configuration_at group a).members x ≡ true)
+    → (a : ℕ) × IsAboveIn group a c × (contains (configuration_at group a).members x ≡ true)
 left_out zero group c s x there out = absurd (both_ways (contains s x) out there)
 left_out (suc n) group c s x there out =
     elim (parent_at group c) as (λ q. parent_at group c ≡ q → contains (by_parent q s (λ p. unused_within n group p (difference s (configuration_at group p).members))) x ≡ false
-    → (a : ℕ) × StandsAbove group a c × (contains (configuration_at group a).members x ≡ true)) [
+    → (a : ℕ) × IsAboveIn group a c × (contains (configuration_at group a).members x ≡ true)) [
       | None ↦ λ is none. absurd (both_ways (contains s x) none there)
       | Some p ↦ λ is some.
-          elim (contains (configuration_at group p).members x) as (λ b. contains (configuration_at group p).members x ≡ b → (a : ℕ) × StandsAbove group a c × (contains (configuration_at group a).members x ≡ true)) [
+          elim (contains (configuration_at group p).members x) as (λ b. contains (configuration_at group p).members x ≡ b → (a : ℕ) × IsAboveIn group a c × (contains (configuration_at group a).members x ≡ true)) [
             | true ↦ λ has. (p, is_parent p c is, has)
             | false ↦ λ lacks. (
                 let kept : contains (difference s (configuration_at group p).members) x ≡ true =
@@ -38,7 +38,7 @@ left_out (suc n) group c s x there out =
     ] refl out
 
 -- and who stands in a configuration above is left out
-taken_out : (n : ℕ) (group : List ConfigurationData) (s : FinSet nat_cmp) (x a c : ℕ) → c ≤ n → StandsAbove group a c → contains (configuration_at group a).members x ≡ true → contains (unused_within n group c s) x ≡ false
+taken_out : (n : ℕ) (group : List ConfigurationData) (s : FinSet nat_cmp) (x a c : ℕ) → c ≤ n → IsAboveIn group a c → contains (configuration_at group a).members x ≡ true → contains (unused_within n group c s) x ≡ false
 taken_out zero group s x a c within (is_parent b d is) has = absurd (let lt : b < d = earlier-below d (configuration_at group d).parent b is in omega arith)
 taken_out zero group s x a c within (is_ancestor b p d is up) has = absurd (let lt : p < d = earlier-below d (configuration_at group d).parent p is in omega arith)
 taken_out (suc n) group s x a c within (is_parent b d is) has =
@@ -58,7 +58,7 @@ earlier-is c (Some r) p h =
     elim (nat_lt r c) as (λ b. (if b then Some r else None) ≡ Some p → Some r ≡ Some p) [ true ↦ λ is. is | false ↦ λ is. absurd cc ] h
 
 -- what has a configuration above has a parent
-parent-under : (group : List ConfigurationData) (a c : ℕ) → StandsAbove group a c → (p : ℕ) × ((configuration_at group c).parent ≡ Some p)
+parent-under : (group : List ConfigurationData) (a c : ℕ) → IsAboveIn group a c → (p : ℕ) × ((configuration_at group c).parent ≡ Some p)
 parent-under group a c (is_parent b d is) = (b, earlier-is d (configuration_at group d).parent b is)
 parent-under group a c (is_ancestor b p d is up) = (p, earlier-is d (configuration_at group d).parent p is)
 

@@ -1,21 +1,21 @@
 -- When a fresh member is used again, in the words of the configurations above.
 use Rattle.std.specs.Prelude.{◌≡◌, ◌↔◌, ℕ, ◌<◌, ◌≤◌, true, false, List, Some, None}
 use Rattle.std.specs.FinSet.{contains}
+use Rattle.volume_model.specs.Plan.{StandsAbove}
 use Rattle.plan.specs.declared.fault.PlanFault.TheVariants.{MemberReused}
 use Rattle.plan.specs.PlanData.{ConfigurationData, configuration_at, parent_at}
 use Rattle.plan.specs.PlanFaults.{reuse_fault}
 
--- The configuration a stands above c: it is the parent of c, or stands above the parent. A parent stands before its children.
-pub data StandsAbove (group : List ConfigurationData) : ℕ → ℕ → Type 0 where
-  is_parent : (a c : ℕ) → parent_at group c ≡ Some a → StandsAbove group a c
-  is_ancestor : (a p c : ℕ) → parent_at group c ≡ Some p → StandsAbove group a p → StandsAbove group a c
+-- the configuration a stands above c; a parent stands before its children
+abbrev pub IsAboveIn : List ConfigurationData → ℕ → ℕ → Type 0
+IsAboveIn group a c = StandsAbove (λ p child. parent_at group child ≡ Some p) a c
 
 -- the configuration has the member, its parent lacks it, and a configuration above has it
 pub record IsReused (group : List ConfigurationData) (c x : ℕ) : Type 0 where
   pub member : x < 64
   pub has : contains (configuration_at group c).members x ≡ true
   pub lacked : (p : ℕ) → (configuration_at group c).parent ≡ Some p → contains (configuration_at group p).members x ≡ false
-  pub above : (a : ℕ) × StandsAbove group a c × (contains (configuration_at group a).members x ≡ true)
+  pub above : (a : ℕ) × IsAboveIn group a c × (contains (configuration_at group a).members x ≡ true)
 
 -- the least such member
 pub record IsLeastReused (group : List ConfigurationData) (c x : ℕ) : Type 0 where

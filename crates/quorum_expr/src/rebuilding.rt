@@ -53,7 +53,8 @@ fn dual_formula<A: Allocator, B: Allocator + Clone>(
     }
 }
 
-/// The expression that holds in a set exactly where the given one, which is valid, doesn't hold in the complement.
+/// The expression that holds in a set exactly where the given one, which is valid, doesn't hold in the complement. Fails for want of memory
+/// alone.
 pub fn dual_in<A: Allocator, B: Allocator + Clone>(
     expr: &Expr<A>,
     alloc: B,

@@ -4,11 +4,11 @@ use Rattle.std.proofs.lemmas.List.{map-append, take_all}
 use Rattle.volume_model.specs.Lists.{each_below}
 use Rattle.volume_model.specs.Message as model
 use Rattle.volume_model.specs.Message.{place_in}
-use Rattle.volume_model.specs.Lineage.{Contents, Lineage, found_in, newer, with_live}
+use Rattle.volume_model.specs.Lineage.{Contents, Lineage, found_in, newer, newest_with, with_found, with_live}
 use Rattle.volume_model.specs.Node.{contents_of}
 use Rattle.volume_model.specs.Client.{ClientGroup, place_of}
 use Rattle.volume_model.specs.ClientMessages.{later_in}
-use Rattle.hydration.specs.Copies.{copies_in, newest_with, with_found}
+use Rattle.hydration.specs.Copies.{copies_in}
 use Rattle.wire.specs.declared.label.Place.{Place}
 use Rattle.wire.specs.declared.message.Message.{Message}
 use Rattle.wire.specs.Message as wire

@@ -10,7 +10,7 @@ use Rattle.volume_model.specs.Message.Message.{View, StepTo, Fence, Report, Inst
 use Rattle.volume_model.specs.Client.{Client, ClientGroup, ClientStep, ClientAnswer, unborn}
 use Rattle.volume_model.specs.ClientRecovery.{cut_step}
 use Rattle.volume_model.specs.ClientMessages.{taken}
-use Rattle.volume_model.specs.Client.Stage.{Reading, Installing}
+use Rattle.volume_model.specs.Client.Stage.{Reading}
 use Rattle.lineage.specs.Lineage.{lineage_of}
 use Rattle.wire.specs.declared.message.Message.{Message}
 use Rattle.wire.specs.Message.{messages_of}
@@ -36,7 +36,7 @@ recovery_groups r = groups_in r.standings
 -- the client that keeps these of its groups: before its cut, and after it
 abbrev pub client_with : List ClientGroup → Option Found → Client
 client_with groups None = record unborn { stage = Reading; groups = groups }
-client_with groups (Some found) = record { stage = Installing; groups = groups; lineage = lineage_of found.lineage; found = log_of found.log.items; log = log_of found.log.items }
+client_with groups (Some found) = writers.installing groups (lineage_of found.lineage) (log_of found.log.items)
 
 -- the client that it is
 abbrev pub client_of : Recovery → Client

@@ -29,7 +29,7 @@ impl Found {
     ghost use Rattle.recovery.specs.Finds.{IsFindOf};
 
     /// What the recovery had found that has become this writer. The writer that a volume is born with was none: of it that is no record,
-    /// and its lineage.
+    /// and its lineage. Fails for want of memory alone.
     pub fn of_writer(alloc: Global, writer: &Writer) -> Result<Found, AllocError>
         ensures { IfOk result (IsFindOf (client_of writer.now)) }
     {

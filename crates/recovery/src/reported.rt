@@ -1,10 +1,9 @@
 //! What the reports of all groups hold together.
 
 ghost use Rattle.std.specs.Prelude.{◌≡◌, IfOk};
-ghost use Rattle.volume_model.specs.Lineage.{found_in, newest};
+ghost use Rattle.volume_model.specs.Lineage.{found_in, newest, newest_with};
 ghost use Rattle.lineage.specs.Lineage.{lineage_of};
 ghost use Rattle.redo_record.specs.RecordSet.{records_of};
-ghost use Rattle.hydration.specs.Copies.{newest_with};
 ghost use Rattle.writer_core.specs.Standings.{groups_of};
 ghost use Rattle.recovery.specs.Reported.{reports_in};
 

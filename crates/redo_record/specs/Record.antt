@@ -1,4 +1,3 @@
-use Rattle.std.specs.Prelude.{ℕ, List, [], ◌∷◌, length, if◌then◌else◌}
 use Rattle.volume_model.specs.Redo.{Redo}
 use Rattle.redo_record.specs.declared.«record».Record.{Record}
 use Rattle.redo_record.specs.Payload.{payload_bytes}
@@ -17,7 +16,3 @@ redo_of r = record {
   bytes = payload_bytes r.bytes;
   point = r.point;
 }
-
--- the numbers of a record before its bytes
-abbrev pub heading : Redo → List ℕ
-heading r = r.lsn ∷ r.volume ∷ r.prev_volume ∷ r.prev_group ∷ r.prev_block ∷ r.group ∷ r.block ∷ r.offset ∷ (if r.point then 1 else 0) ∷ length r.bytes ∷ []

@@ -179,7 +179,7 @@ fn branches_json<A: Allocator>(
     Ok(list)
 }
 
-/// The JSON of a certificate, which is read back as that certificate. It nests at most 81 deep.
+/// The JSON of a certificate, which is read back as that certificate. It nests at most 81 deep. Fails for want of memory alone.
 pub fn write_certificate<A: Allocator>(
     alloc: Global,
     certificate: &Certificate<A>,

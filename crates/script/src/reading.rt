@@ -102,7 +102,7 @@ fn stop_at(fault: Fault, line: usize) -> ScriptFault
 }
 
 /// What a text does as a script, or its first line that isn't one of a script: at most 100,000 lines in 16,777,216 bytes,
-/// each of them UTF-8.
+/// each of them UTF-8. Want of memory may be told in the place of a bad line.
 pub fn read_script(alloc: Global, text: &[u8]) -> Result<Script, ScriptFault>
     ensures { ReadsScript text.now result }
 {

@@ -5,10 +5,9 @@ use Rattle.std.specs.Global.{Global}
 use Rattle.volume_model.specs.Plan.{Plan}
 use Rattle.volume_model.specs.Redo.{Redo, last_lsn}
 use Rattle.volume_model.specs.Lineage.{Lineage, last_start}
-use Rattle.volume_model.specs.Client.{Client, ClientGroup, ClientStep, place_of}
-use Rattle.volume_model.specs.ClientPoints.{raised}
-use Rattle.volume_model.specs.ClientWriter.{Change, is_transaction, issued_log, issued_writes}
-use Rattle.volume_model.specs.Client.Stage.{Writing}
+use Rattle.volume_model.specs.Client.{Client, ClientGroup, ClientStep}
+use Rattle.volume_model.specs.ClientWriter.{Change, is_transaction}
+use Rattle.volume_model.specs.Client.Stage.{Installing, Writing}
 use Rattle.lineage.specs.Lineage.{lineage_of}
 use Rattle.wire.specs.declared.message.Message.{Message}
 use Rattle.wire.specs.Message.{message_of, messages_of}
@@ -28,16 +27,9 @@ writer_volume w = w.volume
 abbrev pub client_of : Writer → Client
 client_of w = record { stage = Writing; groups = groups_in w.standings; lineage = lineage_of w.lineage; found = log_of (take w.found w.log.items); log = log_of w.log.items }
 
--- the writer that a recovery becomes that keeps these of its groups, with its lineage and the log that it found
-abbrev pub opened_of : Plan → List ClientGroup → Lineage → List Redo → Client
-opened_of plan groups lineage log = record { stage = Writing; groups = raised plan groups; lineage = lineage; found = log; log = log }
-
--- what a transaction leaves that isn't refused
-abbrev pub issue_of : ℕ → Client → List Change → ClientStep
-issue_of volume client changes = record {
-  made = issued_writes volume (place_of client.groups) (last_start client.lineage) changes client.log;
-  client = record client { log = issued_log volume (last_start client.lineage) changes client.log };
-}
+-- a recovery that has cut, with what it keeps of its groups, its lineage and the log that it found
+abbrev pub installing : List ClientGroup → Lineage → List Redo → Client
+installing groups lineage log = record { stage = Installing; groups = groups; lineage = lineage; found = log; log = log }
 
 -- a transaction for which there are log sequence numbers
 pub record CanIssue (plan : Plan) (client : Client) (changes : List Change) : Type 0 where

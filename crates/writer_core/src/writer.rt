@@ -52,17 +52,18 @@ impl Writer {
     ghost use Rattle.volume_model.specs.Answer.{Answers, AnswersAlways, AnswersNew, refusal_of};
     ghost use Rattle.volume_model.specs.Client.{first_writer};
     ghost use Rattle.volume_model.specs.ClientPoints.{acknowledged, complete_point, durable_point};
-    ghost use Rattle.volume_model.specs.ClientWriter.{issued, resent, page_asked};
+    ghost use Rattle.volume_model.specs.ClientRecovery.{writing};
+    ghost use Rattle.volume_model.specs.ClientWriter.{issue_step, issued, resent, page_asked};
     ghost use Rattle.volume_model.specs.ClientMessages.{are_places, is_for, taken};
     ghost use Rattle.volume_model.specs.declared.fault.Fault.TheVariants.{NoGroup, NoMemory};
     ghost use Rattle.wire.specs.Message.{message_of, place_of};
     ghost use Rattle.volume_model.specs.Lineage.{last_start};
     ghost use Rattle.writer_core.specs.Changes.{changes_of};
-    ghost use Rattle.writer_core.specs.Writers.{client_of, writer_plan, writer_volume, issue_of, opened_of, CanIssue, acted, silent, asked};
+    ghost use Rattle.writer_core.specs.Writers.{client_of, writer_plan, writer_volume, installing, CanIssue, acted, silent, asked};
     ghost use Rattle.writer_core.specs.Groups.{standings_plan};
     ghost use Rattle.lineage.specs.Lineage.{lineage_of};
 
-    /// The writer that a volume is born with: volume epoch 1, each group at its root, no record.
+    /// The writer that a volume is born with: volume epoch 1, each group at its root, no record. Fails for want of memory alone.
     pub fn first(alloc: Global, plan: Arc<CheckedPlan>) -> Result<Writer, Fault>
         ensures client { AnswersNew client_of (Ok (first_writer (checked_model (arc_value plan)))) result }
         ensures plan { IfOk result (λ w. writer_plan w ≡ checked_model (arc_value plan)) }
@@ -84,7 +85,7 @@ impl Writer {
     pub fn opened(standings: Standings, volume: u32, lineage: Lineage, log: Vec<Record>) -> Writer
         requires assigned { 1 ≤ volume }
         requires growing { is_growing (log_of log.items) ≡ true }
-        ensures client { client_of result ≡ opened_of (standings_plan standings) (groups_in standings) (lineage_of lineage) (log_of log.items) }
+        ensures client { client_of result ≡ writing (standings_plan standings) (installing (groups_in standings) (lineage_of lineage) (log_of log.items)) }
         ensures plan { writer_plan result ≡ standings_plan standings }
         ensures volume { writer_volume result ≡ volume }
     {
@@ -274,7 +275,7 @@ impl Writer {
     /// and the start than the plan allows. Takes no memory.
     pub fn admits(&self, changes: &[Change]) -> Result<(), Fault>
         ensures refusal { result ≡ refusal_of (issued (writer_plan self.now) (writer_volume self.now) (client_of self.now) (changes_of changes.now)) }
-        ensures ok { OnOk result (issued (writer_plan self.now) (writer_volume self.now) (client_of self.now) (changes_of changes.now) ≡ Ok (issue_of (writer_volume self.now) (client_of self.now) (changes_of changes.now))) }
+        ensures ok { OnOk result (issued (writer_plan self.now) (writer_volume self.now) (client_of self.now) (changes_of changes.now) ≡ Ok (issue_step (writer_volume self.now) (client_of self.now) (changes_of changes.now))) }
         ensures can { OnOk result (CanIssue (writer_plan self.now) (client_of self.now) (changes_of changes.now)) }
         ensures own { IfErr result (λ fault. fault ≢ NoMemory) }
     {
@@ -311,7 +312,7 @@ impl Writer {
             volume: self.volume,
             start: self.lineage.last_start(),
         };
-        let mut messages = Vec::new(alloc);
+        let mut messages = Vec::with_capacity(alloc, changes.len())?;
         let length = self.log.len();
         match append(
             span,

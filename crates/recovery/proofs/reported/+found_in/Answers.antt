@@ -1,11 +1,11 @@
 use Rattle.std.proofs.Common.{◌≡◌, List, length, take, drop, ◌-◌, ap, sym, ◌∙◌}
 use Rattle.std.specs.Prelude.{Ok, Err, IfOk}
-use Rattle.volume_model.specs.Lineage.{found_in}
+use Rattle.volume_model.specs.Lineage.{found_in, with_found}
 use Rattle.volume_model.specs.Node.{contents_of}
 use Rattle.lineage.specs.Lineage.{lineage_of}
 use Rattle.redo_record.specs.RecordSet.{records_of}
 use Rattle.hydration.specs.declared.copied.Copied.{Copied}
-use Rattle.hydration.specs.Copies.{copies_in, with_found}
+use Rattle.hydration.specs.Copies.{copies_in}
 use Rattle.writer_core.specs.declared.standing.Standing.{Standing}
 use Rattle.writer_core.specs.Standings.{groups_of}
 use Rattle.recovery.specs.Reported.{reports_in}

@@ -1,8 +1,7 @@
-use Rattle.std.proofs.Common.{◌≡◌, ap, sym, ◌∙◌}
-use Rattle.volume_model.specs.Lineage.{newest}
+use Rattle.std.proofs.Common.{◌≡◌, ap, ◌∙◌}
+use Rattle.volume_model.specs.Lineage.{newest, newest_with}
 use Rattle.lineage.specs.Lineage.{lineage_of}
-use Rattle.hydration.specs.Copies.{newest_with}
-use Rattle.hydration.proofs.CopiesMore.{copied, newest-from_none}
+use Rattle.hydration.proofs.CopiesMore.{copied}
 use Rattle.writer_core.specs.Standings.{groups_of}
 use Rattle.recovery.specs.Reported.{reports_in}
 use Rattle.recovery.proofs.reported.newest_lineage.Goals as goal
@@ -10,5 +9,5 @@ use Rattle.recovery.proofs.reported.newest_lineage.Goals as goal
 pub returns : goal.returns
 returns c =
     let reports = reports_in (groups_of c.args.standings.now) in
-    let is : lineage_of c.newest_reported.result.now ≡ newest reports = c.newest_reported.ensures ∙ ap (λ l. newest_with l reports) c.empty-none.ensures ∙ sym (newest-from_none reports) in
+    let is : lineage_of c.newest_reported.result.now ≡ newest reports = c.newest_reported.ensures ∙ ap (λ l. newest_with l reports) c.empty-none.ensures in
     copied _ c.clone.result is c.clone.ensures.cases
