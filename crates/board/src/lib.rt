@@ -19,7 +19,7 @@ pub enum BoardStep {
 // What a seat did, oldest first. In a clause it is a list, and no value of it is made.
 type Steps = LinkedList<BoardStep>;
 
-// The rule of the word and the steps of all seats.
+/// The rule of the word and the steps of all seats.
 pub struct Durable;
 
 impl TableRule<(), Steps, ()> for Durable {
@@ -31,7 +31,7 @@ impl TableRule<(), Steps, ()> for Durable {
     ghost first = { λ _. [] };
 }
 
-// The new seat has made no step.
+/// The new seat has made no step.
 pub struct NewSeat;
 
 impl Split<Steps> for NewSeat {
@@ -42,7 +42,7 @@ impl Split<Steps> for NewSeat {
     ghost right = { λ _. [] };
 }
 
-// A seat raises the number.
+/// A seat raises the number.
 pub struct Raise;
 
 impl Play<(), Steps> for Raise {
@@ -52,7 +52,7 @@ impl Play<(), Steps> for Raise {
     ghost then = { λ step before found after. (after.0 ≡ before.0 ++ Raised step.first ∷ []) × (after.1 ≡ before.1) };
 }
 
-// A seat reads the number.
+/// A seat reads the number.
 pub struct Look;
 
 impl Play<(), Steps> for Look {

@@ -8,27 +8,27 @@ use atomic_table::{Join, Play, Seat, Split, Table, TableRule};
 use std::alloc::{AllocError, Global};
 use std::mem;
 
-// What a seat knows: whether it keeps the height, a height that was reached, and one that it compares. No value of it
-// is made.
+/// What a seat knows: whether it keeps the height, a height that was reached, and one that it compares. No value of it
+/// is made.
 pub struct Level {
     pub keeps: bool,
     pub floor: u64,
     pub claim: u64,
 }
 
-// The rule: the word is the keeper's number, and no seat knows of a greater one.
+/// The rule: no seat knows of a greater number than the keeper's.
 pub struct Reached;
 
 impl TableRule<(), Level, ()> for Reached {
     ghost use Rattle.std.specs.Prelude.{true};
     ghost use Rattle.height.specs.Level.{level, Stands};
 
-    ghost holds = { λ _ s. Stands s.words s.views };
+    ghost holds = { λ _ s. Stands s.views };
 
     ghost first = { λ _. level true 0 0 };
 }
 
-// A new seat knows of what was reached, and keeps nothing.
+/// A new seat knows of what was reached, and keeps nothing.
 pub struct Floors;
 
 impl Split<Level> for Floors {
@@ -49,17 +49,17 @@ impl Join<Level> for Floors {
     ghost spent = { level false 0 0 };
 }
 
-// The keeper raises the number.
+/// The keeper raises the number.
 pub struct Rise;
 
 impl Play<(), Level> for Rise {
-    ghost use Rattle.std.specs.Prelude.{◌≡◌};
+    ghost use Rattle.std.specs.Prelude.{◌≡◌, ◌+◌};
     ghost use Rattle.height.specs.Level.{level};
 
-    ghost then = { λ step before found after. (after.0 ≡ level before.0.keeps step.first 0) × (after.1 ≡ before.1) };
+    ghost then = { λ step before found after. (after.0 ≡ level before.0.keeps (before.0.floor + 1) 0) × (after.1 ≡ before.1) };
 }
 
-// The keeper finds that what it compares was reached.
+/// The keeper finds that what it compares was reached.
 pub struct Compare;
 
 impl Play<(), Level> for Compare {
@@ -106,13 +106,14 @@ impl Height {
         Ok((Height { table }, Top { seat, height: 0 }))
     }
 
-    /// Raises the height by one.
+    /// Raises the height by one. No thread reads it off the word, which is never written: what floors show is kept by the
+    /// rule alone.
     pub fn rise(&self, top: &mut Top)
         requires { (top_table top.old ≡ table_of self.now) × (height_of top.old + 1 < 2 ^ 64) }
         ensures { (top_table top.new ≡ top_table top.old) × (height_of top.new ≡ height_of top.old + 1) }
     {
         let Top { seat, height } = top;
-        self.table.shared.store::<Rise>(seat, 0, *height + 1);
+        self.table.shared.load::<Rise>(seat, 0);
         *height += 1;
     }
 

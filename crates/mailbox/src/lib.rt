@@ -25,7 +25,7 @@ pub enum MailStep {
 // What a seat did, oldest first. In a clause it is a list, and no value of it is made.
 type Steps = LinkedList<MailStep>;
 
-// The rule of the letters that wait and the steps of all seats.
+/// The rule of the letters that wait and the steps of all seats.
 pub struct Places;
 
 impl Protocol<Letter, Steps> for Places {
@@ -37,7 +37,7 @@ impl Protocol<Letter, Steps> for Places {
     ghost first = { [] };
 }
 
-// The new seat has made no step.
+/// The new seat has made no step.
 pub struct NewSeat;
 
 impl Split<Steps> for NewSeat {
@@ -48,7 +48,7 @@ impl Split<Steps> for NewSeat {
     ghost right = { λ _. [] };
 }
 
-// A seat posts a letter.
+/// A seat posts a letter.
 pub struct Posts;
 
 impl Outcome<Letter, Steps> for Posts {
@@ -61,7 +61,7 @@ impl Lesson<Letter, Steps> for Posts {
     ghost fact = { λ _ _. Unit {0} };
 }
 
-// A seat collects the oldest letter.
+/// A seat collects the oldest letter.
 pub struct Collects;
 
 impl Outcome<Letter, Steps> for Collects {
@@ -74,7 +74,7 @@ impl Lesson<Letter, Steps> for Collects {
     ghost fact = { λ _ _. Unit {0} };
 }
 
-// What a seat learns of the steps of all seats.
+/// What a seat learns of the steps of all seats.
 pub struct History;
 
 impl Lesson<Letter, Steps> for History {
