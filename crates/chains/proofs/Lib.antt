@@ -1,0 +1,6 @@
+pub mod Waking
+pub mod Wakes
+pub mod Rise
+pub mod Woken
+pub mod Chained
+pub mod Telling

@@ -1,0 +1,74 @@
+-- How the numbers that one wakes are gathered.
+use Rattle.std.proofs.Common.{◌≡◌, ℕ, suc, ◌<◌, ◌≤◌, ◌+◌, ◌⊎◌, List, [], ◌∷◌, length, get_or, refl, sym, ap, ◌∙◌, subst, inl, inr, arith}
+use Rattle.std.proofs.lemmas.Bool.{cases_lt}
+use Rattle.volume_model.specs.Lists.{IsIn}
+use Rattle.chains.specs.Rising.{AreGrowing, with_number}
+use Rattle.chains.specs.Waiting.{IsWoken}
+use Rattle.chains.specs.Waiting.IsWoken.{itself, next}
+use Rattle.chains.proofs.Rise.{is_in, with_number-keeps, with_number-from, with_number-growing, with_number-longer, with_number-front}
+
+-- numbers in growing order, all woken by the first
+pub record AreSome (waits : ℕ → ℕ → Type 0) (n : ℕ) (xs : List ℕ) : Type 0 where
+  pub growing : AreGrowing xs
+  pub only : (m : ℕ) → IsIn m xs → IsWoken waits n m
+  pub start : IsIn n xs
+
+-- whoever waits for one of the first so many is among them
+abbrev pub AreClosed : (ℕ → ℕ → Type 0) → List ℕ → ℕ → Type 0
+AreClosed waits xs k = (i d m : ℕ) → i < k → waits (get_or xs i d) m → IsIn m xs
+
+-- the later numbers begin as the earlier ones, up to a place, and have all of them
+pub record AreMore (xs ys : List ℕ) (k : ℕ) : Type 0 where
+  pub longer : k < length ys
+  pub front : (i d : ℕ) → i ≤ k → get_or ys i d ≡ get_or xs i d
+  pub keeps : (m : ℕ) → IsIn m xs → IsIn m ys
+
+-- where a number stands
+pub place_of : (ys : List ℕ) (x : ℕ) → IsIn x ys → (i : ℕ) × (i < length ys) × (get_or ys i 0 ≡ x)
+place_of [] x i = absurd i
+place_of (y ∷ ys) x (inl e) = (0, omega arith, sym e)
+place_of (y ∷ ys) x (inr i) = let (j, l, e) = place_of ys x i in (suc j, omega arith, e)
+
+module _ (waits : ℕ → ℕ → Type 0) (n : ℕ) where
+  pub one : AreSome waits n (n ∷ [])
+  one = record { growing = ((λ y i. absurd i), tt); only = λ m i. first m i; start = inl refl }
+    where
+      first : (m : ℕ) → IsIn m (n ∷ []) → IsWoken waits n m
+      first m (inl e) = subst (IsWoken waits n) (sym e) itself
+      first m (inr i) = absurd i
+
+  pub one_more : (xs : List ℕ) (k m d : ℕ) → AreSome waits n xs → k < length xs → waits (get_or xs k d) m → AreSome waits n (with_number m xs)
+  one_more xs k m d some l w = record {
+    growing = with_number-growing m xs some.growing;
+    only = λ y i. elim (with_number-from m xs y i) [
+      | inl e ↦ subst (IsWoken waits n) (sym e) (next (get_or xs k d) m (some.only (get_or xs k d) (is_in xs k d l)) w)
+      | inr j ↦ some.only y j
+    ];
+    start = with_number-keeps m xs n some.start;
+  }
+
+  -- once each is closed all that are woken are there
+  pub all_there : (xs : List ℕ) → AreSome waits n xs → AreClosed waits xs (length xs) → (m : ℕ) → IsWoken waits n m → IsIn m xs
+  all_there xs some closed m itself = some.start
+  all_there xs some closed m (next k j w h) = let (i, l, e) = place_of xs k (all_there xs some closed k w) in closed i 0 m l (subst (λ z. waits z m) (sym e) h)
+
+pub same_so_far : (xs : List ℕ) (k : ℕ) → k < length xs → AreMore xs xs k
+same_so_far xs k l = record { longer = l; front = λ i d m. refl; keeps = λ m i. i }
+
+pub longer_by : (xs ys : List ℕ) (k m d : ℕ) → AreMore xs ys k → AreGrowing ys → get_or ys k d < m → AreMore xs (with_number m ys) k
+longer_by xs ys k m d more growing b = record {
+  longer = (let l : length ys ≤ length (with_number m ys) = with_number-longer m ys in let a : k < length ys = more.longer in omega arith);
+  front = λ i e l. with_number-front m ys k d growing more.longer b i e l ∙ more.front i e l;
+  keeps = λ y i. with_number-keeps m ys y (more.keeps y i);
+}
+
+-- numbers after those that were closed
+pub closed_more : (waits : ℕ → ℕ → Type 0) (xs ys : List ℕ) (k : ℕ) → AreClosed waits xs k → AreMore xs ys k → ((d m : ℕ) → waits (get_or xs k d) m → IsIn m ys) → AreClosed waits ys (k + 1)
+closed_more waits xs ys k closed more this i d m l w =
+    elim (split i l) [
+      | inl a ↦ more.keeps m (closed i d m a (subst (λ z. waits z m) (more.front i d (omega arith)) w))
+      | inr e ↦ this d m (subst (λ z. waits z m) (ap (λ j. get_or ys j d) e ∙ more.front k d (omega arith)) w)
+    ]
+  where
+    split : (i : ℕ) → i < k + 1 → (i < k) ⊎ (i ≡ k)
+    split i l = elim (cases_lt i k) [ inl a ↦ inl a | inr a ↦ inr (omega arith) ]

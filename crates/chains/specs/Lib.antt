@@ -1,0 +1,5 @@
+pub mod Waiting
+pub mod Listed
+pub mod Waits
+pub mod Rising
+pub mod Chains

@@ -1,0 +1,22 @@
+-- Who waits for whom, in a set of records.
+use Rattle.std.specs.Prelude.{◌≡◌, ◌⊎◌, ℕ, List}
+use Rattle.volume_model.specs.Lists.{IsIn}
+use Rattle.volume_model.specs.Redo.{Redo}
+use Rattle.volume_model.specs.Grounded.{IsGroundedNumber}
+
+-- the number is 0, which stands before every record, or that of a grounded record
+abbrev pub IsReached : List Redo → ℕ → Type 0
+IsReached records n = (n ≡ 0) ⊎ IsGroundedNumber records n
+
+-- some record has the second number, and before it in its group the first
+abbrev pub IsLink : List Redo → ℕ → ℕ → Type 0
+IsLink records k m = (r : Redo) × IsIn r records × (r.prev_group ≡ k) × (r.lsn ≡ m)
+
+-- the second number waits for the first: a record leads from it there, and the first isn't reached
+abbrev pub IsWaiting : List Redo → ℕ → ℕ → Type 0
+IsWaiting records k m = (IsReached records k → ⊥) × IsLink records k m
+
+-- The numbers that one number wakes: itself, and those that wait for a number that is woken.
+pub data IsWoken (waits : ℕ → ℕ → Type 0) (n : ℕ) : ℕ → Type 0 where
+  itself : IsWoken waits n n
+  next : (k m : ℕ) → IsWoken waits n k → waits k m → IsWoken waits n m

@@ -1,0 +1,11 @@
+//! How far the records of a group hang together, in whatever order they come.
+#![tactic(auto)]
+
+mod chains;
+mod numbers;
+mod waits;
+
+pub use chains::Chains;
+
+#[cfg(test)]
+mod tests;
