@@ -12,13 +12,13 @@ use Rattle.volume_model.specs.ClientPoints.{durable_point, is_consistency_point}
 use Rattle.volume_model.specs.World.{World, Event, opening, run}
 use Rattle.volume_model.specs.Headline.{Acknowledges, HasFound, KeepsCommits}
 use Rattle.volume_model.specs.Outcome as model
-use Rattle.volume_model.specs.Outcome.{writers_in, finds_in}
+use Rattle.volume_model.specs.Outcome.{found_client, opened_client, writers_in, finds_in}
 use Rattle.volume_model.proofs.Basics.{IsIn-append}
 use Rattle.writer_core.specs.Logs.{log_of}
 use Rattle.world.specs.declared.outcome.FindEnd.{FindEnd}
 use Rattle.world.specs.declared.outcome.WriterEnd.{WriterEnd}
 use Rattle.world.specs.declared.outcome.Outcome.{Outcome}
-use Rattle.world.specs.Outcomes.{opened_client, opened_of, found_client, find_of, covered_by, HasAcknowledged, KeepsReturned, PromisesRuns, TellsRun}
+use Rattle.world.specs.Outcomes.{opened_of, find_of, covered_by, HasAcknowledged, KeepsReturned, PromisesRuns, TellsRun}
 
 is_in-map : {A B : Type 0} (f : A → B) (x : A) (xs : List A) → IsIn x xs → IsIn (f x) (map f xs)
 is_in-map f x (y ∷ xs) (inl e) = inl (ap f e)

@@ -32,6 +32,12 @@ authority_acted plan now authority.Assign = assigned plan now
 authority_acted plan now (authority.Advance group configuration) = advanced plan now group configuration
 authority_acted plan now (authority.Refresh volume) = refreshed plan now volume
 
+-- what is said of the authority's act that leads a group on, which makes no growth
+abbrev pub OfAdvance : AuthorityAct → Type 0 → Type 0
+OfAdvance authority.Assign P = Unit {0}
+OfAdvance (authority.Advance group configuration) P = P
+OfAdvance (authority.Refresh volume) P = Unit {0}
+
 -- what the node of a member of a group does, where these messages were made
 abbrev pub node_acted : List model.Message → NodeAct → Plan → ℕ → ℕ → Node → NodeAnswer
 node_acted made (node.Deliver message) plan group member now = deliver plan group member now (numbered made message)

@@ -1,11 +1,10 @@
 -- What a program's outcome tells.
 use Rattle.std.specs.Prelude.{◌≡◌, ℕ, ◌<◌, true, ◌&&◌, nat_le, List, ◌++◌, ◌∷◌, Ok, map}
 use Rattle.volume_model.specs.Plan.{Plan}
-use Rattle.volume_model.specs.Lineage.{last_cut, last_start}
 use Rattle.volume_model.specs.Lists.{IsIn, IsBeginningOf}
 use Rattle.volume_model.specs.Redo.{Redo, up_to}
-use Rattle.volume_model.specs.Client.{Client, has_cut}
-use Rattle.volume_model.specs.ClientPoints.{durable_point, is_consistency_point}
+use Rattle.volume_model.specs.Client.{has_cut}
+use Rattle.volume_model.specs.ClientPoints.{is_consistency_point}
 use Rattle.volume_model.specs.World.{Event, Step, opening, run, results, step}
 use Rattle.volume_model.specs.World.Event.{Open}
 use Rattle.volume_model.specs.Headline.{KeepsCommits, SaysTruePages, StaysSo}
@@ -20,17 +19,9 @@ use Rattle.world.specs.declared.outcome.FindEnd.{FindEnd}
 use Rattle.world.specs.declared.outcome.WriterEnd.{WriterEnd}
 use Rattle.world.specs.declared.outcome.Outcome.{Outcome}
 
--- what is told of a writer
-abbrev pub opened_client : ℕ → Client → model.Opened
-opened_client volume client = record { volume = volume; start = last_start client.lineage; log = client.log; durable = durable_point client }
-
 -- the opened writer that this is
 abbrev pub opened_of : WriterEnd → model.Opened
 opened_of w = record { volume = w.volume; start = w.start; log = log_of w.log.items; durable = w.durable }
-
--- what is told of a recovery that has cut
-abbrev pub found_client : ℕ → Client → model.Find
-found_client volume client = record { volume = volume; found = client.found; cut = last_cut client.lineage; lineage = client.lineage }
 
 -- the recovery that this is
 abbrev pub find_of : FindEnd → model.Find

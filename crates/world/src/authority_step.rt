@@ -1,11 +1,11 @@
 //! What the authority does.
 
 ghost use Rattle.std.specs.Prelude.{◌≡◌, []};
-ghost use Rattle.volume_model.specs.Answer.{refusal_of, Answers};
+ghost use Rattle.volume_model.specs.Answer.{refusal_of, Answers, AnswersAlways};
 ghost use Rattle.volume_model.specs.Lists.{added};
 ghost use Rattle.wire.specs.Message.{messages_of};
 ghost use Rattle.epochs.specs.Authority.{authority_of, authority_plan, told};
-ghost use Rattle.world.specs.Acts.{authority_acted};
+ghost use Rattle.world.specs.Acts.{authority_acted, OfAdvance};
 ghost use Rattle.world.specs.Moves.{AuthorityMoves};
 
 use crate::acts::AuthorityAct;
@@ -36,9 +36,10 @@ impl AuthorityAct {
     /// Lets the authority do it, and answers the message that it makes. Where it refuses, or memory runs out, it is what it was.
     ///
     /// # Errors
-    /// As [`AuthorityAct::admitted_by`] says, and `NoMemory` where a growth was refused.
+    /// As [`AuthorityAct::admitted_by`] says, and `NoMemory` where a growth was refused; to lead a group on takes no memory.
     pub fn done_by(self, alloc: Global, authority: &mut Authority) -> Result<Message, Fault>
         ensures answers { Answers told (authority_acted (authority_plan authority.old) (authority_of authority.old) self) (authority_of authority.old) result (authority_of authority.new) }
+        ensures always { OfAdvance self (AnswersAlways told (authority_acted (authority_plan authority.old) (authority_of authority.old) self) (authority_of authority.old) result (authority_of authority.new)) }
         ensures plan { authority_plan authority.new ≡ authority_plan authority.old }
     {
         match self {

@@ -56,7 +56,7 @@ impl Client {
         }
     }
 
-    /// The client of volume epoch 1, which is the writer that a volume is born with.
+    /// The client of volume epoch 1, which is the writer that a volume is born with. Fails for want of memory alone.
     pub fn first(alloc: Global, plan: Arc<CheckedPlan>) -> Result<Client, Fault>
         ensures client { AnswersNew seen_client (Ok (first_writer (checked_model (arc_value plan)))) result }
         ensures own { IfOk result (IsClientOf (checked_model (arc_value plan)) 1) }

@@ -3,7 +3,8 @@
 ghost use Rattle.std.specs.Prelude.{◌≡◌, ◌++◌, ◌∷◌, [], ◌&&◌, IfOk, Some, None, if◌then◌else◌, map, nat_lt, option_map};
 ghost use Rattle.volume_model.specs.Client.{has_cut, is_open};
 ghost use Rattle.world.specs.Clients.{seen_client};
-ghost use Rattle.world.specs.Outcomes.{find_of, found_client, opened_of, opened_client};
+ghost use Rattle.volume_model.specs.Outcome.{found_client, opened_client};
+ghost use Rattle.world.specs.Outcomes.{find_of, opened_of};
 
 use crate::actors::Actors;
 use crate::client::{Client, ClientState};

@@ -1,8 +1,9 @@
 //! What a recovery does.
 
-ghost use Rattle.std.specs.Prelude.{◌≡◌};
+ghost use Rattle.std.specs.Prelude.{◌≡◌, Err};
 ghost use Rattle.volume_model.specs.Answer.{refusal_of, Answers, AnswersLate};
 ghost use Rattle.volume_model.specs.ClientMessages.{taken};
+ghost use Rattle.volume_model.specs.declared.fault.Fault.TheVariants.{NotOpen};
 ghost use Rattle.wire.specs.Message.{message_of};
 ghost use Rattle.writer_core.specs.Writers.{acted};
 ghost use Rattle.recovery.specs.Recoveries.{client_of, admitted, recovery_plan, recovery_volume};
@@ -25,6 +26,13 @@ fn admits_message(recovery: &Recovery, message: &Message) -> Result<(), Fault>
     }
 }
 
+/// The answer of a recovery to what a writer alone does.
+fn not_open<T>() -> Result<T, Fault>
+    ensures { result ≡ Err NotOpen }
+{
+    Err(Fault::NotOpen)
+}
+
 /// Whether a recovery would act. `NotOpen` where a writer alone could.
 pub fn admits(alloc: Global, recovery: &Recovery, act: ClientAct<'_>) -> Result<(), Fault>
     ensures answers { AnswersLate (client_late act.entry) admitted (refusal_of (client_acted act.entry (recovery_plan recovery.now) (recovery_volume recovery.now) (client_of recovery.now))) tt result tt }
@@ -33,9 +41,7 @@ pub fn admits(alloc: Global, recovery: &Recovery, act: ClientAct<'_>) -> Result<
     match act {
         ClientAct::Take(message) => admits_message(recovery, message),
         ClientAct::Cut => recovery.admits_cut(alloc),
-        ClientAct::Issue(_) | ClientAct::Resend { .. } | ClientAct::Read { .. } => {
-            Err(Fault::NotOpen)
-        }
+        ClientAct::Issue(_) | ClientAct::Resend { .. } | ClientAct::Read { .. } => not_open(),
     }
 }
 
@@ -67,8 +73,6 @@ pub fn act(
     match act {
         ClientAct::Take(message) => take(alloc, recovery, message),
         ClientAct::Cut => recovery.cut(alloc),
-        ClientAct::Issue(_) | ClientAct::Resend { .. } | ClientAct::Read { .. } => {
-            Err(Fault::NotOpen)
-        }
+        ClientAct::Issue(_) | ClientAct::Resend { .. } | ClientAct::Read { .. } => not_open(),
     }
 }

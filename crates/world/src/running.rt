@@ -117,7 +117,7 @@ pub fn run(alloc: Global, plan: &Arc<CheckedPlan>, events: &[Event]) -> Result<O
     outcome_of(alloc, plan, events)
 }
 
-/// `run`, of events whose messages may be named by the events that made them.
+/// `run`, of events whose messages may be named by the events that made them. Want of memory ends it too.
 pub fn run_orders(
     alloc: Global,
     plan: &Arc<CheckedPlan>,
