@@ -1,5 +1,5 @@
 -- What a script's run on threads leaves.
-use Rattle.std.specs.Prelude.{◌≡◌, ℕ, Bool, ◌+◌, ◌==◌, ◌&&◌, not, length, List, vec_len, is_err}
+use Rattle.std.specs.Prelude.{◌≡◌, ℕ, Bool, ◌+◌, ◌==◌, ◌&&◌, not, length, List, is_err}
 use Rattle.std.specs.List.{list_any}
 use Rattle.volume_model.specs.Plan.{Plan}
 use Rattle.volume_model.specs.World.{Event}

@@ -213,7 +213,7 @@ fn drive_over<'a, L: Site + Send + Sync, R: Threads + Wait + Sync>(
 fn drive_fleet<L: Site + Send + Sync, R: Threads + Wait + Sync>(
     rt: &R,
     alloc: Global,
-    row: &Row,
+    row: &mut Row,
     base: Base,
     plan: &Arc<CheckedPlan>,
     script: &Script,
@@ -222,7 +222,7 @@ fn drive_fleet<L: Site + Send + Sync, R: Threads + Wait + Sync>(
 ) -> Result<Driven, Fault>
     requires workers { 1 ≤ workers }
     requires plan { checked_model (arc_value plan.now) ≡ L.plan }
-    requires cells { ids_of row.now ≡ L.cells }
+    requires cells { ids_of row.old ≡ L.cells }
     requires slots { L.slots ≡ 64 }
     requires base { IsBaseOf L.table L.board L.history L.name L.parts base }
     requires passes { 0 < passes_of base }
@@ -257,12 +257,12 @@ pub fn drive<H: Threads + Wait + Sync>(
     ensures memory { IfErr result (λ fault. fault ≡ NoMemory) }
 {
     let nodes = receivers(alloc, plan, script.orders.as_slice())?;
-    let row = Row::new(alloc, script.orders.len().max(1))?;
+    let mut row = Row::new(alloc, script.orders.len().max(1))?;
     let base = Base::new(alloc, usize::from(workers) + nodes.len())?;
     drive_fleet::<Brand, H>(
         rt,
         alloc,
-        &row,
+        &mut row,
         base,
         plan,
         script,

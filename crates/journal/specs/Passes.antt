@@ -27,7 +27,7 @@ use Rattle.journal.specs.Tokens.{shown}
 
 -- a step that a pass holds
 abbrev pub made_of : {X : Type 0} → Held X → Made
-made_of h = made h.cell (entry_of h.token.value) h.durable
+made_of h = made h.cell (entry_of h.entry.now) h.durable
 
 module _ {X : Type 0} {s : SiteGhosts X} where
   -- the steps of a pass
@@ -53,7 +53,7 @@ module _ {X : Type 0} {s : SiteGhosts X} where
 module _ {X : Type 0} {s : SiteGhosts X} {l : LedgerGhosts X} where
   -- the entries of the journal, in order, as the program keeps them
   abbrev pub kept_in : Log X s l → List Entry
-  kept_in log = shown log.tokens.items
+  kept_in log = shown log.entries.items
 
   -- the entries of the journal, in order
   abbrev pub journal_of : Log X s l → List model.Entry
@@ -65,7 +65,7 @@ module _ {X : Type 0} {s : SiteGhosts X} {l : LedgerGhosts X} where
 
   -- it has room for one entry more
   abbrev pub HasRoom : Log X s l → Type 0
-  HasRoom log = (vec_len log.tokens < vec_capacity log.tokens) × (vec_len log.firsts < vec_capacity log.firsts)
+  HasRoom log = (vec_len log.entries < vec_capacity log.entries) × (vec_len log.firsts < vec_capacity log.firsts)
 
   -- it keeps a last number of the actor
   abbrev pub HasPlace : Log X s l → Actor → Type 0

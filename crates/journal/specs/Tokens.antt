@@ -1,17 +1,13 @@
--- Tokens of the cells of a row.
-use Rattle.std.specs.Prelude.{◌≡◌, ℕ, List, map, Some, slice_get}
-use Rattle.boxcar.specs.declared.slot.Written.{Written}
+-- The cells of a row, and the entries that stand in them.
+use Rattle.std.specs.Prelude.{ℕ, List, map, replicate, vec_len}
+use Rattle.std.specs.Borrow.{Bor}
 use Rattle.journal.specs.declared.entry.Entry.{Entry}
 use Rattle.journal.specs.declared.row.Row.{Row}
 
 -- the row's cells
 abbrev pub ids_of : Row → List ℕ
-ids_of row = map (λ c. c.id) row.cells.items
+ids_of row = replicate (vec_len row.cells) 0
 
--- the entries that the tokens show
-abbrev pub shown : List (Written Entry) → List Entry
-shown tokens = map (λ t. t.value) tokens
-
--- each token is of its cell
-abbrev pub Shows : List ℕ → List (Written Entry) → Type 0
-Shows cells tokens = (k : ℕ) (t : Written Entry) → slice_get tokens k ≡ Some t → slice_get cells k ≡ Some t.of
+-- the entries that are lent
+abbrev pub shown : List (Bor Entry) → List Entry
+shown entries = map (λ t. t.now) entries

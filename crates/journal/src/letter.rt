@@ -2,10 +2,12 @@
 
 ghost use Rattle.std.specs.Prelude.{◌≡◌, ◌+◌, ◌<◌, length, slice_get, Some};
 ghost use Rattle.std.proofs.Props.{props};
+ghost use Rattle.std.specs.Coded.{Coded-set};
+ghost use Rattle.logbook.specs.Pages.{book_coded};
 
 use crate::entry::Entry;
+use crate::history::Front;
 use crate::row::Site;
-use boxcar::slot::Written;
 use std::marker::PhantomData;
 use wire::Message;
 
@@ -16,10 +18,10 @@ pub struct Letter<'a, L: Site> {
     pub(crate) cell: usize,
     pub(crate) index: usize,
     pub(crate) entry: &'a Entry,
-    pub(crate) token: Written<Entry>,
+    pub(crate) seen: Front,
     pub(crate) site: PhantomData<L>,
-    ghost of: { slice_get L.cells cell ≡ Some token.of } by { Prim.hlevel props },
-    ghost is: { entry.now ≡ token.value } by { Prim.hlevel props },
+    ghost history: { seen.book ≡ L.history } by { Coded-set book_coded seen.book L.history },
+    ghost is: { slice_get seen.log cell ≡ Some entry.now } by { Prim.hlevel props },
     ghost inside: { index < length entry.now.made.items },
     ghost number_is: { number ≡ entry.now.first + index + 1 },
 }

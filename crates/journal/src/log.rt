@@ -9,7 +9,7 @@ ghost use Rattle.volume_model.specs.Actor.{Actor};
 ghost use Rattle.volume_model.specs.Journal.{world_at, last_of, IsRun};
 ghost use Rattle.journal.specs.Entries.{entries_of};
 ghost use Rattle.journal.specs.Lasts.{last_in, last_known};
-ghost use Rattle.journal.specs.Tokens.{ids_of, shown, Shows};
+ghost use Rattle.journal.specs.Tokens.{ids_of, shown};
 
 use crate::entry::{Entry, Receipt};
 use crate::history::{Front, History};
@@ -17,9 +17,8 @@ use crate::lasts::Lasts;
 use crate::letter::Letter;
 use crate::mark::Mark;
 use crate::pass::{Held, Pass};
-use crate::row::{AnyEntry, Row, Site};
+use crate::row::{Row, Site};
 use crate::who::Who;
-use boxcar::slot::{OnceSlot, Written};
 use height::{Height, Top};
 use std::alloc::{AllocError, Global};
 use std::marker::PhantomData;
@@ -29,28 +28,27 @@ use volume_model::Fault;
 use wire::Message;
 use world::Event;
 
-/// The entries so far, each with its token, how many messages were made before each, and the last entry of each actor.
+/// The cells that aren't written, the entries so far, how many messages were made before each, and the last entry of each
+/// actor.
 #[derive(Drop)]
 pub struct Log<'a, L: Site> {
-    row: &'a Vec<OnceSlot<Entry, AnyEntry>>,
-    tokens: Vec<Written<Entry>>,
+    rest: &'a mut [Option<Entry>],
+    entries: Vec<&'a Entry>,
     firsts: Vec<u64>,
     messages: u64,
     lasts: Lasts,
     book: Book<L>,
     top: Top,
     history: History<L>,
-    ghost same: { shown tokens.items ≡ history.seen.log } by { Prim.hlevel props },
+    ghost same: { shown entries.items ≡ history.seen.log } by { Prim.hlevel props },
     ghost table: { top_table top ≡ L.table } by { Coded-set table_id_coded (top_table top) L.table },
-    ghost risen: { height_of top ≡ vec_len tokens },
-    ghost cells: { map (λ c. c.id) row.now.items ≡ L.cells },
-    ghost room: { vec_len tokens ≤ length L.cells },
-    ghost of: { Shows L.cells tokens.items } by { Prim.hlevel props },
-    ghost run: { IsRun L.plan (entries_of (shown tokens.items)) } by { Prim.hlevel props },
-    ghost firsts_are: { firsts.items ≡ map (λ e. e.first) (shown tokens.items) },
-    ghost messages_are: { messages ≡ length (world_at L.plan (entries_of (shown tokens.items))).messages },
-    ghost newest: { (actor : Actor) → last_known lasts actor ≡ last_of actor (entries_of (shown tokens.items)) } by { Prim.hlevel props },
-    ghost counted: { book.total ≡ vec_len tokens },
+    ghost risen: { height_of top ≡ vec_len entries },
+    ghost cells: { vec_len entries + length rest.now ≡ length L.cells },
+    ghost run: { IsRun L.plan (entries_of (shown entries.items)) } by { Prim.hlevel props },
+    ghost firsts_are: { firsts.items ≡ map (λ e. e.first) (shown entries.items) },
+    ghost messages_are: { messages ≡ length (world_at L.plan (entries_of (shown entries.items))).messages },
+    ghost newest: { (actor : Actor) → last_known lasts actor ≡ last_of actor (entries_of (shown entries.items)) } by { Prim.hlevel props },
+    ghost counted: { book.total ≡ vec_len entries },
 }
 
 // Waits for good, which no step brings about.
@@ -61,14 +59,16 @@ fn never<R: Wait, T>(rt: &R) -> T
     unreachable!()
 }
 
-// Writes a cell that nobody has written. Else it waits for good.
-fn write<R: Wait>(rt: &R, place: &OnceSlot<Entry, AnyEntry>, entry: Entry) -> Written<Entry>
-    ensures { (result.of ≡ place.now.id) × (result.value ≡ entry) }
+// The entry, as it stands in the first of these cells from then on.
+fn write<'a>(rest: &mut &'a mut [Option<Entry>], entry: Entry) -> &'a Entry
+    requires { 0 < length rest.old.now }
+    ensures value { result.now ≡ entry }
+    ensures rest { length rest.new.now + 1 ≡ length rest.old.now }
 {
-    match place.set_written(entry) {
-        Ok(token) => token,
-        Err(_) => never(rt),
-    }
+    let Some(cell) = rest.split_off_first_mut() else {
+        unreachable!()
+    };
+    cell.insert(entry)
 }
 
 // The number after so many messages more. Past 2^64 it waits for good.
@@ -106,14 +106,14 @@ impl<'a, L: Site> Log<'a, L> {
     /// Where a growth was refused.
     pub fn new(
         alloc: Global,
-        row: &'a Row,
+        row: &'a mut Row,
         slots: u32,
         groups: u8,
         book: Book<L>,
         top: Top,
         history: History<L>,
     ) -> Result<Log<'a, L>, AllocError>
-        requires cells { ids_of row.now ≡ L.cells }
+        requires cells { ids_of row.old ≡ L.cells }
         requires top { (top_table top ≡ L.table) × (height_of top ≡ 0) }
         requires history { history.seen.log ≡ [] }
         requires book { book.total ≡ 0 }
@@ -123,9 +123,9 @@ impl<'a, L: Site> Log<'a, L> {
     {
         let lasts = Lasts::new(alloc, slots, groups)?;
         Ok(Log {
-            row: &row.cells,
-            tokens: Vec::new(alloc),
+            entries: Vec::with_capacity(alloc, row.cells.len())?,
             firsts: Vec::with_capacity(alloc, row.cells.len())?,
+            rest: row.cells.as_mut_slice(),
             messages: 0,
             lasts,
             book,
@@ -159,7 +159,7 @@ impl<'a, L: Site> Log<'a, L> {
     /// Shows that the journal has come past all that the pass has seen. From then on the pass has seen the whole of it.
     pub fn settle(&mut self, height: &Height, pass: &mut Pass<'a, L>)
         requires { table_of height.now ≡ L.table }
-        ensures log { (self.new.tokens ≡ self.old.tokens) × (self.new.firsts ≡ self.old.firsts) × (self.new.lasts ≡ self.old.lasts) }
+        ensures log { (self.new.entries ≡ self.old.entries) × (self.new.firsts ≡ self.old.firsts) × (self.new.lasts ≡ self.old.lasts) }
         ensures seen { SeesAll pass.new self.new }
         ensures pass { (pass.new.steps ≡ pass.old.steps) × (pass.new.notes ≡ pass.old.notes) × (seat_of pass.new ≡ seat_of pass.old) }
     {
@@ -177,7 +177,7 @@ impl<'a, L: Site> Log<'a, L> {
         ensures same { (kept_in self.new ≡ kept_in self.old) × (self.new.lasts ≡ self.old.lasts) }
         ensures room { IfOk result (λ _. HasRoom self.new) }
     {
-        self.tokens.reserve(1)?;
+        self.entries.reserve(1)?;
         self.firsts.reserve(1)
     }
 
@@ -185,14 +185,14 @@ impl<'a, L: Site> Log<'a, L> {
     pub fn is_full(&self) -> bool
         ensures { MatchBool result (length (journal_of self.now) ≡ length L.cells) (length (journal_of self.now) < length L.cells) }
     {
-        self.row.len() == self.tokens.len()
+        self.rest.is_empty()
     }
 
     /// How many entries the journal has, which is the number of the last one.
     pub fn len(&self) -> usize
         ensures { result ≡ length (journal_of self.now) }
     {
-        self.tokens.len()
+        self.entries.len()
     }
 
     // The history has one entry more.
@@ -205,33 +205,31 @@ impl<'a, L: Site> Log<'a, L> {
         }
     }
 
-    // Enters the entry of a token.
+    // Enters an entry.
     fn append<R: Wait>(
         &mut self,
         rt: &R,
         height: &Height,
-        token: &Written<Entry>,
-        entry: &Entry,
+        entry: Entry,
         durable: u64,
         pass: &mut Pass<'a, L>,
     )
-        requires entry { entry.now ≡ token.now.value }
         requires height { table_of height.now ≡ L.table }
-        requires cell { slice_get L.cells (vec_len self.old.tokens) ≡ Some token.now.of }
+        requires cell { 0 < length self.old.rest.now }
         requires settled { SeesAll pass.old self.old }
-        requires who { IsSome (last_in self.old.lasts (actor_of (event_of token.now.value.event))) }
-        requires goes { makes (step L.plan (world_of self.old) (event_of token.now.value.event)) ≡ Some (messages_of token.now.value.made.items) }
-        requires first { token.now.value.first ≡ self.old.messages }
-        requires durable { durable ≡ durable_in (after L.plan (world_of self.old) (event_of token.now.value.event)) (event_of token.now.value.event) }
+        requires who { IsSome (last_in self.old.lasts (actor_of (event_of entry.event))) }
+        requires goes { makes (step L.plan (world_of self.old) (event_of entry.event)) ≡ Some (messages_of entry.made.items) }
+        requires first { entry.first ≡ self.old.messages }
+        requires durable { durable ≡ durable_in (after L.plan (world_of self.old) (event_of entry.event)) (event_of entry.event) }
         requires room { HasRoom self.old × HasStepRoom pass.old }
-        ensures entries { kept_in self.new ≡ kept_in self.old ++ token.now.value ∷ [] }
+        ensures entries { kept_in self.new ≡ kept_in self.old ++ entry ∷ [] }
         ensures seen { SeesAll pass.new self.new }
-        ensures steps { steps_of pass.new ≡ steps_of pass.old ++ made (length (kept_in self.old)) (entry_of token.now.value) durable ∷ [] }
+        ensures steps { steps_of pass.new ≡ steps_of pass.old ++ made (length (kept_in self.old)) (entry_of entry) durable ∷ [] }
         ensures notes { (notes_of pass.new ≡ notes_of pass.old) × (seat_of pass.new ≡ seat_of pass.old) }
     {
         let Log {
-            row: _,
-            tokens,
+            rest,
+            entries,
             firsts,
             messages,
             lasts,
@@ -247,7 +245,8 @@ impl<'a, L: Site> Log<'a, L> {
             seen,
             seat: _,
         } = pass;
-        let cell = tokens.len();
+        let cell = entries.len();
+        let entry = write(rest, entry);
         Self::add(rt, history, entry, cell);
         height.rise(top);
         *floor = height.floor(top);
@@ -256,13 +255,13 @@ impl<'a, L: Site> Log<'a, L> {
         steps.push_reserved(Held {
             cell,
             durable,
-            token: token.again(),
+            entry,
             site: PhantomData,
         });
         lasts.set(Who::of(&entry.event), cell + 1);
         firsts.push_reserved(*messages);
         *messages = total(rt, *messages, entry.made.len());
-        tokens.push_reserved(token.again());
+        entries.push_reserved(entry);
     }
 
     // All that was seen.
@@ -299,15 +298,12 @@ impl<'a, L: Site> Log<'a, L> {
         ensures mark { (marked mark.new ≡ marked mark.old) × (seen_at mark.new ≡ journal_of self.new) }
         ensures seen { SeesAll pass.new self.new }
     {
-        let row = self.row;
-        let cell = self.tokens.len();
-        let place = &row[cell];
+        let cell = self.entries.len();
         let first = self.messages;
         let count = made.len();
         let entry = Entry { event, made, first };
-        let token = write(rt, place, entry);
-        self.append(rt, height, &token, place.value(&token), durable, pass);
-        mark.advance(self.front(), self.tokens.len());
+        self.append(rt, height, entry, durable, pass);
+        mark.advance(self.front(), self.entries.len());
         Receipt {
             number: cell + 1,
             first_message: total(rt, first, 1),
@@ -318,11 +314,10 @@ impl<'a, L: Site> Log<'a, L> {
 
     // The entry at a place.
     fn entry(&self, cell: usize) -> &'a Entry
-        requires { cell < vec_len self.now.tokens }
+        requires { cell < vec_len self.now.entries }
         ensures { slice_get (kept_in self.now) cell ≡ Some result.now }
     {
-        let row = self.row;
-        row[cell].value(&self.tokens[cell])
+        self.entries[cell]
     }
 
     /// A copy of what happened, in order.
@@ -332,8 +327,8 @@ impl<'a, L: Site> Log<'a, L> {
     pub fn events(&self, alloc: Global) -> Result<Vec<Event>, AllocError>
         ensures { IfOk result (λ made. events_of made.items ≡ events (journal_of self.now)) }
     {
-        let mut made = Vec::with_capacity(alloc, self.tokens.len())?;
-        for cell in 0..self.tokens.len() {
+        let mut made = Vec::with_capacity(alloc, self.entries.len())?;
+        for cell in 0..self.entries.len() {
             made.push(self.entry(cell).event.clone()?)?;
         }
         Ok(made)
@@ -342,7 +337,7 @@ impl<'a, L: Site> Log<'a, L> {
     // The place of the step that made a message, looked for from the end on, in steps that double.
     fn maker(&self, number: u64) -> usize
         requires { (0 < number) × (number ≤ self.now.messages) }
-        ensures { (result < vec_len self.now.tokens) × (before L.plan (journal_of self.now) result < number) × (number ≤ before L.plan (journal_of self.now) (result + 1)) }
+        ensures { (result < vec_len self.now.entries) × (before L.plan (journal_of self.now) result < number) × (number ≤ before L.plan (journal_of self.now) (result + 1)) }
     {
         let mut low = 0;
         let mut high = self.firsts.len();
@@ -376,7 +371,7 @@ impl<'a, L: Site> Log<'a, L> {
             cell,
             index: (number - 1 - entry.first) as usize,
             entry,
-            token: self.tokens[cell].again(),
+            seen: self.front(),
             site: PhantomData,
         })
     }
@@ -386,10 +381,11 @@ impl<'a, L: Site> Log<'a, L> {
     pub fn has(&self, letter: &Letter<'a, L>) -> bool
         ensures { MatchBool result (numbered (world_of self.now).messages (letter_number letter.now) ≡ letter_message letter.now) (length (journal_of self.now) ≤ letter_step letter.now) }
     {
-        if letter.cell >= self.tokens.len() {
+        if letter.cell >= self.entries.len() {
             return false;
         }
-        self.tokens[letter.cell].agrees(&letter.token);
+        let mut both = self.history.seen.again();
+        both.learn(&letter.seen);
         true
     }
 
@@ -402,7 +398,7 @@ impl<'a, L: Site> Log<'a, L> {
         number: u64,
     ) -> Option<Letter<'a, L>>
         requires { table_of height.now ≡ L.table }
-        ensures log { (self.new.tokens ≡ self.old.tokens) × (self.new.firsts ≡ self.old.firsts) × (self.new.lasts ≡ self.old.lasts) }
+        ensures log { (self.new.entries ≡ self.old.entries) × (self.new.firsts ≡ self.old.firsts) × (self.new.lasts ≡ self.old.lasts) }
         ensures seen { SeesAll pass.new self.new }
         ensures pass { (pass.new.steps ≡ pass.old.steps) × (pass.new.notes ≡ pass.old.notes) × (seat_of pass.new ≡ seat_of pass.old) }
         ensures some { IfSome result (λ l. letter_number l ≡ number) }
@@ -437,13 +433,13 @@ impl<'a, L: Site> Log<'a, L> {
         ensures same { (steps_of pass.new ≡ steps_of pass.old) × (seat_of pass.new ≡ seat_of pass.old) }
         ensures note { AddsRefusal (event_of event) fault (steps_of pass.old) (notes_of pass.old) (notes_of pass.new) }
     {
-        pass.note(event, fault, self.tokens.len());
+        pass.note(event, fault, self.entries.len());
     }
 
     // Each step and each note of the pass is told by the journal.
     fn check(&mut self, height: &Height, pass: &mut Pass<'a, L>)
         requires { table_of height.now ≡ L.table }
-        ensures log { self.new.tokens ≡ self.old.tokens }
+        ensures log { self.new.entries ≡ self.old.entries }
         ensures stands { All (Stands L.plan (journal_of self.old)) (steps_of pass.old) }
         ensures refused { All (IsRefused L.plan L.slots (length L.cells) (journal_of self.old)) (notes_of pass.old) }
         ensures count { length (steps_of pass.old) ≡ pass.new.share.amount }
@@ -455,7 +451,7 @@ impl<'a, L: Site> Log<'a, L> {
     /// Shows that each step and each note of each pass is told by the journal, which has no other steps.
     pub fn audit(&mut self, height: &Height, mut passes: Vec<Pass<'a, L>>)
         requires { (table_of height.now ≡ L.table) × (vec_len passes ≡ L.parts) × (0 < vec_len passes) }
-        ensures log { self.new.tokens ≡ self.old.tokens }
+        ensures log { self.new.entries ≡ self.old.entries }
         ensures stands { All (λ p. All (Stands L.plan (journal_of self.old)) (steps_of p)) passes.entry.items }
         ensures refused { All (λ p. All (IsRefused L.plan L.slots (length L.cells) (journal_of self.old)) (notes_of p)) passes.entry.items }
         ensures count { sum_by (λ p. length (steps_of p)) passes.entry.items ≡ length (journal_of self.old) }
@@ -481,6 +477,6 @@ impl<'a, L: Site> Log<'a, L> {
         ensures run { IsRun L.plan (journal_of self.now) }
         ensures before { NamesEarlier L.plan (journal_of self.now) }
     {
-        let _ = &self.tokens;
+        let _ = &self.entries;
     }
 }

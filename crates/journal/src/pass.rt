@@ -15,7 +15,6 @@ use crate::entry::{Entry, Note};
 use crate::history::{Front, History};
 use crate::row::Site;
 use board::{Board, BoardSeat, BoardStep};
-use boxcar::slot::Written;
 use height::Floor;
 use std::alloc::{AllocError, Global};
 use std::marker::PhantomData;
@@ -23,13 +22,13 @@ use std::sync::ledger::Share;
 use volume_model::Fault;
 use world::Event;
 
-/// A step that a pass made: the token of its cell, and the durable point that it showed.
+/// A step that a pass made: its entry, and the durable point that it showed.
 #[derive(Drop)]
 pub struct Held<'a, L: Site> {
     pub(crate) cell: usize,
     pub(crate) durable: u64,
-    pub(crate) token: Written<Entry>,
-    pub(crate) site: PhantomData<(&'a Entry, L)>,
+    pub(crate) entry: &'a Entry,
+    pub(crate) site: PhantomData<L>,
 }
 
 /// What one caller did, and was refused. All of it is told by a beginning of the history, as long as the floor is high.
@@ -47,7 +46,7 @@ pub struct Pass<'a, L: Site> {
     ghost history: { seen.book ≡ L.history } by { Coded-set book_coded seen.book L.history },
     ghost long: { length seen.log ≡ floor_of floor },
     ghost room: { length seen.log ≤ length L.cells },
-    ghost stand: { All (λ h. Stands L.plan (entries_of seen.log) (made h.cell (entry_of h.token.value) h.durable)) steps.items } by { Prim.hlevel props },
+    ghost stand: { All (λ h. Stands L.plan (entries_of seen.log) (made h.cell (entry_of h.entry.now) h.durable)) steps.items } by { Prim.hlevel props },
     ghost refused: { All (λ n. IsRefused L.plan L.slots (length L.cells) (entries_of seen.log) (note_of n)) notes.items } by { Prim.hlevel props },
     ghost part: { share.parts ≡ 1 },
     ghost counted: { share.amount ≡ vec_len steps },

@@ -1,8 +1,6 @@
-//! The cells in which the entries of a journal stand, each written once.
+//! The cells in which the entries of a journal stand.
 
 use crate::entry::Entry;
-use boxcar::slot::{OnceSlot, SlotRule};
-use boxcar::tag::Tag;
 use std::alloc::{AllocError, Global};
 use std::marker::Brand;
 use std::sync::ledger::Ledger;
@@ -51,19 +49,10 @@ impl Site for Brand {
     ghost slots = { 0 };
 }
 
-/// The rule of a cell: it may hold any entry.
-pub struct AnyEntry;
-
-impl SlotRule<Entry> for AnyEntry {
-    ghost use Rattle.std.specs.Prelude.{⊤};
-
-    ghost holds = { λ _ _. ⊤ };
-}
-
 /// Cells for the entries of a journal.
 #[derive(Drop)]
 pub struct Row {
-    pub(crate) cells: Vec<OnceSlot<Entry, AnyEntry>>,
+    pub(crate) cells: Vec<Option<Entry>>,
 }
 
 impl Row {
@@ -78,17 +67,8 @@ impl Row {
     {
         let mut made = Vec::with_capacity(alloc, cells)?;
         for _ in 0..cells {
-            made.push(OnceSlot::new(&Tag::empty()))?;
+            made.push(None)?;
         }
         Ok(Row { cells: made })
-    }
-
-    /// Makes all cells anew, none of them written.
-    pub fn renew(&mut self)
-        ensures { vec_len self.new.cells ≡ vec_len self.old.cells }
-    {
-        for cell in &mut self.cells {
-            *cell = OnceSlot::new(&Tag::empty());
-        }
     }
 }

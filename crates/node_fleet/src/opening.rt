@@ -137,13 +137,13 @@ impl<'a, L: Site> Fleet<'a, L> {
     /// `NoMemory` where a growth was refused.
     pub fn new(
         alloc: Global,
-        row: &'a Row,
+        row: &'a mut Row,
         base: Base,
         plan: Arc<CheckedPlan>,
         slots: u32,
     ) -> Result<(Fleet<'a, L>, Vec<Pass<'a, L>>), Fault>
         requires plan { checked_model (arc_value plan) ≡ L.plan }
-        requires cells { ids_of row.now ≡ L.cells }
+        requires cells { ids_of row.old ≡ L.cells }
         requires slots { slots ≡ L.slots }
         requires base { IsBaseOf L.table L.board L.history L.name L.parts base }
         ensures count { IfOk result (λ f. vec_len f.1 ≡ passes_of base) }

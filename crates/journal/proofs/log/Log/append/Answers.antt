@@ -11,12 +11,12 @@ use Rattle.journal.specs.Actors.{seen_who}
 use Rattle.journal.specs.Entries.{entry_of, entries_of, note_of}
 use Rattle.journal.specs.Lasts.{last_known, or_zero}
 use Rattle.journal.specs.Standing.{made, Stands}
-use Rattle.journal.specs.Tokens.{shown, Shows}
+use Rattle.journal.specs.Tokens.{shown}
 use Rattle.world.specs.Events.{event_of}
 use Rattle.journal.proofs.Entered.{entries_begin, entries_messages, entries_push, entries_run, firsts_push, length-entries}
 use Rattle.journal.proofs.Each.{all_push}
 use Rattle.journal.proofs.Steps.{stands_longer, stands_new, newest_push}
-use Rattle.journal.proofs.Tokens.{length-shown, shown_push, shows_push}
+use Rattle.journal.proofs.Tokens.{length-shown, shown_push}
 use Rattle.journal.proofs.log.Log.append.Goals as goal
 
 length_more : (es now : List Entry) (x : Entry) → now ≡ es ++ x ∷ [] → length now ≡ length es + 1
@@ -31,21 +31,20 @@ invariant_of-pass g c =
     let log = c.args.self.now in
     let pass = c.args.pass.now in
     let plan = g.L.Site.plan in
-    let es = shown log.tokens.items in
-    let x = c.args.token.now.value in
+    let es = shown log.entries.items in
+    let x = c.args.entry in
     let now = c.again.result.log in
     let old : log.history.seen.log ≡ es = sym log.same in
-    let longer : now ≡ es ++ x ∷ [] = ap (λ s. s.log) c.again.ensures ∙ c.add.ensures ∙ (λ i. old i ++ c.requires.entry i ∷ []) in
+    let longer : now ≡ es ++ x ∷ [] = ap (λ s. s.log) c.again.ensures ∙ c.add.ensures ∙ (λ i. old i ++ c.write-entry.ensures.value i ∷ []) in
     let p : IsPrefix pass.seen.log now = (x ∷ [], ap (λ (l : List Entry). l ++ x ∷ []) c.requires.settled ∙ sym longer) in
     let begin = entries_begin pass.seen.log now p in
-    let long : length es ≡ vec_len log.tokens = length-shown log.tokens.items ∙ search rules in
-    let count : length now ≡ vec_len log.tokens + 1 = omega (arith, length_more es now x longer, long) in
-    let within = get_within g.L.Site.cells c.args.token.now.of (vec_len log.tokens) c.requires.cell in
-    let room : length now ≤ length g.L.Site.cells = omega (arith, count, within) in
+    let long : length es ≡ vec_len log.entries = length-shown log.entries.items ∙ search rules in
+    let count : length now ≡ vec_len log.entries + 1 = omega (arith, length_more es now x longer, long) in
+    let room : length now ≤ length g.L.Site.cells = omega (arith, count, log.cells, c.requires.cell) in
     let few : length (entries_of now) ≤ length g.L.Site.cells = omega (arith, length-entries now, room) in
     let at : c.len-cell.result ≡ length (entries_of es) = omega (arith, long, length-entries es, c.len-cell.ensures) in
-    let here = stands_new plan (entries_of es) (entries_of now) (entry_of x) (entry_of c.again-2.result.value) c.len-cell.result c.args.durable (entries_push es now x longer) at (ap entry_of c.again-2.ensures.1) c.requires.durable in
-    let told = λ (h : Held g.row.L.Denot). Stands plan (entries_of now) (made h.cell (entry_of h.token.value) h.durable) in
+    let here = stands_new plan (entries_of es) (entries_of now) (entry_of x) (entry_of c.write-entry.result.now) c.len-cell.result c.args.durable (entries_push es now x longer) at (ap entry_of c.write-entry.ensures.value) c.requires.durable in
+    let told = λ (h : Held g.row.L.Denot). Stands plan (entries_of now) (made h.cell (entry_of h.entry.now) h.durable) in
     record {
       table = c.floor.ensures.floor.0 ∙ c.requires.height;
       board = pass.board;
@@ -54,7 +53,7 @@ invariant_of-pass g c =
       long = omega (arith, count, c.floor.ensures.floor.1, c.rise.ensures.1, log.risen);
       room = room;
       stand = subst (All told) (sym c.push_reserved.ensures.items)
-          (all_push told pass.steps.items _ (λ k d lt. let h = get_or pass.steps.items k d in stands_longer plan (entries_of pass.seen.log) (entries_of now) (made h.cell (entry_of h.token.value) h.durable) begin (pass.stand k d lt)) here);
+          (all_push told pass.steps.items _ (λ k d lt. let h = get_or pass.steps.items k d in stands_longer plan (entries_of pass.seen.log) (entries_of now) (made h.cell (entry_of h.entry.now) h.durable) begin (pass.stand k d lt)) here);
       refused = λ k d lt. refused_longer plan g.L.Site.slots (length g.L.Site.cells) (entries_of pass.seen.log) (entries_of now) (note_of (get_or pass.notes.items k d)) begin few (pass.refused k d lt);
       part = c.add-2.ensures.parts ∙ pass.part;
       counted = omega (arith, c.add-2.ensures.amount, pass.counted, c.push_reserved.ensures.len);
@@ -64,28 +63,25 @@ pub invariant_of-self : goal.invariant_of-self
 invariant_of-self g c =
     let log = c.args.self.now in
     let plan = g.L.Site.plan in
-    let es = shown log.tokens.items in
-    let x = c.args.token.now.value in
+    let es = shown log.entries.items in
+    let x = c.args.entry in
     let e = c.push_reserved-3.ensures.items in
     let ts = c.push_reserved-3.new.self.items in
-    let n : vec_len c.push_reserved-3.new.self ≡ vec_len log.tokens + 1 = omega (arith, c.push_reserved-3.ensures.len) in
-    let longer : shown ts ≡ es ++ x ∷ [] = ap shown e ∙ shown_push log.tokens.items c.again-3.result ∙ ap (λ (y : Entry). es ++ y ∷ []) c.again-3.ensures.1 in
-    let long : length es ≡ vec_len log.tokens = length-shown log.tokens.items ∙ search rules in
-    let within = get_within g.L.Site.cells c.args.token.now.of (vec_len log.tokens) c.requires.cell in
+    let n : vec_len c.push_reserved-3.new.self ≡ vec_len log.entries + 1 = omega (arith, c.push_reserved-3.ensures.len) in
+    let longer : shown ts ≡ es ++ x ∷ [] = ap shown e ∙ shown_push log.entries.items c.write-entry.result ∙ ap (λ (y : Entry). es ++ y ∷ []) c.write-entry.ensures.value in
+    let long : length es ≡ vec_len log.entries = length-shown log.entries.items ∙ search rules in
     let old : log.history.seen.log ≡ es = sym log.same in
     let first : x.first ≡ length (world_at plan (entries_of es)).messages = c.requires.first ∙ log.messages_are in
     let goes : Goes plan (world_at plan (entries_of es)) (entry_of x) = (c.requires.goes, first) in
     let at : c.len-cell.result ≡ length (entries_of es) = omega (arith, long, length-entries es, c.len-cell.ensures) in
-    let actor = c.of.ensures ∙ ap (λ (y : Entry). actor_of (event_of y.event)) c.requires.entry in
-    let counted_made : vec_len c.args.entry.now.made ≡ length c.args.entry.now.made.items = search rules in
-    let more : c.len.result ≡ length x.made.items = c.len.ensures ∙ counted_made ∙ ap (λ (y : Entry). length y.made.items) c.requires.entry in
+    let actor = c.of.ensures ∙ ap (λ (y : Entry). actor_of (event_of y.event)) c.write-entry.ensures.value in
+    let counted_made : vec_len c.write-entry.result.now.made ≡ length c.write-entry.result.now.made.items = search rules in
+    let more : c.len.result ≡ length x.made.items = c.len.ensures ∙ counted_made ∙ ap (λ (y : Entry). length y.made.items) c.write-entry.ensures.value in
     record {
-      same = longer ∙ sym (c.add.ensures ∙ (λ i. old i ++ c.requires.entry i ∷ []));
+      same = longer ∙ sym (c.add.ensures ∙ (λ i. old i ++ c.write-entry.ensures.value i ∷ []));
       table = c.floor.ensures.same.0 ∙ c.rise.ensures.0 ∙ log.table;
       risen = omega (arith, c.floor.ensures.same.1, c.rise.ensures.1, log.risen, n);
-      cells = log.cells;
-      room = omega (arith, within, n);
-      of = subst (Shows g.L.Site.cells) (sym e) (shows_push g.L.Site.cells log.tokens.items c.again-3.result log.of (ap (slice_get g.L.Site.cells) (sym (length-shown log.tokens.items) ∙ long) ∙ c.requires.cell ∙ ap Some (sym c.again-3.ensures.0)));
+      cells = omega (arith, log.cells, c.write-entry.ensures.rest, n);
       run = entries_run plan es (shown ts) x longer log.run goes;
       firsts_are = c.push_reserved-2.ensures.items ∙ (λ i. log.firsts_are i ++ sym c.requires.first i ∷ []) ∙ sym (firsts_push es x) ∙ ap (map (λ (y : Entry). y.first)) (sym longer);
       messages_are = omega (arith, c.total.ensures, c.requires.first, more, entries_messages plan es (shown ts) x longer goes);

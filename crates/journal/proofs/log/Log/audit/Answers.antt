@@ -21,12 +21,12 @@ loop-pass-preserved g c =
     let Q = λ (p : Pass g.row.L.Denot g.L.Site). All (IsRefused plan g.L.Site.slots (length g.L.Site.cells) (journal_of c.check.new.self)) (notes_of p) in
     let split = c.in-Some-pop.ensures.items in
     let sums = ap (sum_by f) split ∙ sum_by-append f rest.items (pass ∷ []) in
-    let here = subst (λ ts. All (Stands plan (entries_of (shown ts.items))) (steps_of pass)) inv.tokens c.check-in-Some-pop.ensures.stands in
-    let told = subst (λ ts. All (IsRefused plan g.L.Site.slots (length g.L.Site.cells) (entries_of (shown ts.items))) (notes_of pass)) inv.tokens c.check-in-Some-pop.ensures.refused in
+    let here = subst (λ ts. All (Stands plan (entries_of (shown ts.items))) (steps_of pass)) inv.entries c.check-in-Some-pop.ensures.stands in
+    let told = subst (λ ts. All (IsRefused plan g.L.Site.slots (length g.L.Site.cells) (entries_of (shown ts.items))) (notes_of pass)) inv.entries c.check-in-Some-pop.ensures.refused in
     record {
       parts = omega (arith, c.merge.ensures.parts, c.check-in-Some-pop.ensures.part, inv.parts, c.in-Some-pop.ensures.len);
       amount = omega (arith, c.merge.ensures.amount, c.check-in-Some-pop.ensures.count, inv.amount, sums);
-      tokens = c.check-in-Some-pop.ensures.log ∙ inv.tokens;
+      entries = c.check-in-Some-pop.ensures.log ∙ inv.entries;
       stand = λ rest_stands. inv.stand (subst (All P) (sym split) (all_push P rest.items pass rest_stands here));
       refused = λ rest_told. inv.refused (subst (All Q) (sym split) (all_push Q rest.items pass rest_told told));
     }

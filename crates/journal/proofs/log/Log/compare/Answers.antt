@@ -13,7 +13,7 @@ pub returns-clause-agree : goal.returns-clause-agree
 returns-clause-agree g c =
     let log = c.args.self.now in
     let mark = c.args.mark.now in
-    let es = shown log.tokens.items in
+    let es = shown log.entries.items in
     let actor = seen_who mark.who in
     let there : last_in log.lasts actor ≡ Some mark.number = search rules in
     let both = c.learn.new.self.log in
@@ -33,7 +33,7 @@ pub returns-clause-seen : goal.returns-clause-seen
 returns-clause-seen g c =
     let log = c.args.self.now in
     let mark = c.args.mark.now in
-    let es = shown log.tokens.items in
+    let es = shown log.entries.items in
     let actor = seen_who mark.who in
     let there : last_in log.lasts actor ≡ Some mark.number = search rules in
     let both = c.learn.new.self.log in

@@ -20,28 +20,26 @@ pub returns-clause-step : goal.returns-clause-step
 returns-clause-step g c =
     let log = c.args.self.now in
     let pass = c.args.pass.now in
-    let es = shown log.tokens.items in
-    let token = c.write-token.result in
-    let long : length es ≡ c.len-cell.result = length-shown log.tokens.items ∙ search rules in
-    let is : token.value ≡ record { event = c.args.event; made = c.args.made; first = log.messages } = c.write-token.ensures.1 in
-    let count : length (entry_of token.value).made ≡ c.len-count.result =
-    map-length message_of token.value.made.items ∙ ap (λ (e : Entry). length e.made.items) is ∙ (let n : length c.args.made.items ≡ vec_len c.args.made = search rules in n) ∙ sym c.len-count.ensures in
+    let es = shown log.entries.items in
+    let long : length es ≡ c.len-cell.result = length-shown log.entries.items ∙ search rules in
+    let entry : Entry = record { event = c.args.event; made = c.args.made; first = log.messages } in
+    let count : length (entry_of entry).made ≡ c.len-count.result =
+    map-length message_of entry.made.items ∙ (let n : length c.args.made.items ≡ vec_len c.args.made = search rules in n) ∙ sym c.len-count.ensures in
     let below : All (λ (s : Made). s.at + 1 < c.len-cell.result + 1) (steps_of pass) = all_map (λ (h : Held g.row.L.Denot). made_of h) (λ (s : Made). s.at + 1 < c.len-cell.result + 1) pass.steps.items
-    (λ k d lt. let h = get_or pass.steps.items k d in let s = pass.stand k d lt in let w = get_within (entries_of pass.seen.log) (entry_of h.token.value) h.cell s.stands in let same = ap length c.requires.settled in omega (arith, w, same, length-entries pass.seen.log, long)) in
-    (made (length es) (entry_of token.value) c.args.durable, c.append.ensures.steps, omega (arith, long), ap (λ (e : Entry). event_of e.event) is, count, ap (λ (e : Entry). e.first + 1) is ∙ sym c.total.ensures, refl, below)
+    (λ k d lt. let h = get_or pass.steps.items k d in let s = pass.stand k d lt in let w = get_within (entries_of pass.seen.log) (entry_of h.entry.now) h.cell s.stands in let same = ap length c.requires.settled in omega (arith, w, same, length-entries pass.seen.log, long)) in
+    (made (length es) (entry_of entry) c.args.durable, c.append.ensures.steps, omega (arith, long), refl, count, sym c.total.ensures, refl, below)
 
 pub returns-clause-entry : goal.returns-clause-entry
 returns-clause-entry g c =
     let log = c.args.self.now in
-    let es = shown log.tokens.items in
-    let token = c.write-token.result in
-    entries_push es (shown c.append.new.self.tokens.items) token.value c.append.ensures.entries ∙ ap (λ (e : Entry). entries_of es ++ entry_of e ∷ []) c.write-token.ensures.1
+    let es = shown log.entries.items in
+    let entry : Entry = record { event = c.args.event; made = c.args.made; first = log.messages } in
+    entries_push es (shown c.append.new.self.entries.items) entry c.append.ensures.entries
     ∙ ap (λ n. entries_of es ++ record { event = event_of c.args.event; made = messages_of c.args.made.items; first = n } ∷ []) log.messages_are
 
 pub returns-clause-world : goal.returns-clause-world
 returns-clause-world g c =
     let log = c.args.self.now in
-    let es = shown log.tokens.items in
-    let plan = g.L.Site.plan in
-    let token = c.write-token.result in
-    entries_world plan es (shown c.append.new.self.tokens.items) token.value c.append.ensures.entries ∙ ap (λ (e : Entry). after plan (world_at plan (entries_of es)) (event_of e.event)) c.write-token.ensures.1
+    let es = shown log.entries.items in
+    let entry : Entry = record { event = c.args.event; made = c.args.made; first = log.messages } in
+    entries_world g.L.Site.plan es (shown c.append.new.self.entries.items) entry c.append.ensures.entries

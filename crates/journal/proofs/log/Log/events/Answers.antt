@@ -12,7 +12,7 @@ use Rattle.journal.proofs.log.Log.events.Goals as goal
 pub loop-cell-preserved : goal.loop-cell-preserved
 loop-cell-preserved g c =
     let log = c.args.self.now in
-    let es = shown log.tokens.items in
+    let es = shown log.entries.items in
     let cell = c.loop-cell.cell in
     let e = c.entry.result.now in
     let all = events (entries_of es) in

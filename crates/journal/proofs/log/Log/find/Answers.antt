@@ -1,19 +1,18 @@
-use Rattle.std.proofs.Common.{◌≡◌, ◌-◌, ◌<◌, length, vec_len, Some, sym, ap, ◌∙◌, arith, inl, inr, rules}
-use Rattle.boxcar.specs.declared.slot.Written.{Written}
+use Rattle.std.proofs.Common.{◌≡◌, ◌-◌, ◌<◌, List, length, vec_len, Some, sym, ap, ◌∙◌, arith, inl, inr, rules}
+use Rattle.std.specs.Prelude.{slice_get}
 use Rattle.volume_model.specs.Journal.{world_at}
 use Rattle.volume_model.proofs.ListFacts.{numbered_none}
 use Rattle.journal.specs.declared.entry.Entry.{Entry}
 use Rattle.journal.specs.Entries.{entries_of}
 use Rattle.journal.specs.Tokens.{shown}
 use Rattle.journal.proofs.Entered.{letter_numbered, made_within}
-use Rattle.journal.proofs.Tokens.{shown_at, get_some}
 use Rattle.journal.proofs.log.Log.find.Goals as goal
 use Rattle.journal.proofs.log.Log.find.Goals.{then-number-eq0-via-then-number-eq0, then-number-eq0-via-else-number-eq0+then-number-self}
 
 pub returns-then-number-eq0-clause-none : goal.returns-then-number-eq0-clause-none
 returns-then-number-eq0-clause-none g c =
     let log = c.args.self.now in
-    let ms = (world_at g.L.Site.plan (entries_of (shown log.tokens.items))).messages in
+    let ms = (world_at g.L.Site.plan (entries_of (shown log.entries.items))).messages in
     elim c.then-number-eq0.branch [
       | then-number-eq0-via-then-number-eq0 w ↦ numbered_none ms c.args.number (inl w.if-number-eq0.true)
       | then-number-eq0-via-else-number-eq0+then-number-self w ↦ numbered_none ms c.args.number (inr (omega (arith, w.if-number-self.true, log.messages_are)))
@@ -23,7 +22,7 @@ pub overflow_sub-result-2 : goal.overflow_sub-result-2
 overflow_sub-result-2 g c =
     let log = c.args.self.now in
     let m = c.maker-cell.ensures in
-    let made = made_within g.L.Site.plan (shown log.tokens.items) c.maker-cell.result c.args.number c.entry-entry.result.now log.run c.entry-entry.ensures m.1 m.2 in
+    let made = made_within g.L.Site.plan (shown log.entries.items) c.maker-cell.result c.args.number c.entry-entry.result.now log.run c.entry-entry.ensures m.1 m.2 in
     omega (arith, made.0)
 
 pub invariant_of-result : goal.invariant_of-result
@@ -31,18 +30,11 @@ invariant_of-result g c =
     let log = c.args.self.now in
     let m = c.maker-cell.ensures in
     let cell = c.maker-cell.result in
-    let ts = log.tokens.items in
-    let long : vec_len log.tokens ≡ length ts = search rules in
-    let lt : cell < length ts = omega (arith, m.0, long) in
     let e = c.entry-entry.result.now in
-    let t = c.index.result.now in
-    let made = made_within g.L.Site.plan (shown ts) cell c.args.number e log.run c.entry-entry.ensures m.1 m.2 in
-    let other = shown_at ts cell t lt c.index.ensures in
-    let same : e ≡ t.value = cc (c.entry-entry.ensures, other) in
-    let here = log.of cell t (get_some ts cell t lt ∙ ap (λ (x : Written Entry). Some x) (sym c.index.ensures)) in
+    let made = made_within g.L.Site.plan (shown log.entries.items) cell c.args.number e log.run c.entry-entry.ensures m.1 m.2 in
     record {
-      of = here ∙ ap Some (sym c.again.ensures.0);
-      is = same ∙ sym c.again.ensures.1;
+      history = c.front.ensures.1;
+      is = ap (λ (l : List Entry). slice_get l cell) c.front.ensures.0 ∙ c.entry-entry.ensures;
       inside = omega (arith, made);
       number_is = omega (arith, made);
     }
@@ -53,6 +45,6 @@ returns-clause-is g c =
     let m = c.maker-cell.ensures in
     let cell = c.maker-cell.result in
     let e = c.entry-entry.result.now in
-    let made = made_within g.L.Site.plan (shown log.tokens.items) cell c.args.number e log.run c.entry-entry.ensures m.1 m.2 in
+    let made = made_within g.L.Site.plan (shown log.entries.items) cell c.args.number e log.run c.entry-entry.ensures m.1 m.2 in
     let index = c.args.number - 1 - e.first in
-    letter_numbered g.L.Site.plan (shown log.tokens.items) cell index c.args.number e log.run c.entry-entry.ensures (omega (arith, made)) (omega (arith, made))
+    letter_numbered g.L.Site.plan (shown log.entries.items) cell index c.args.number e log.run c.entry-entry.ensures (omega (arith, made)) (omega (arith, made))

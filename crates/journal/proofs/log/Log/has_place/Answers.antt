@@ -22,7 +22,7 @@ returns g c =
     let log = c.args.self.now in
     let plan = g.L.Site.plan in
     let actor = seen_who c.args.who in
-    let es = entries_of (shown log.tokens.items) in
+    let es = entries_of (shown log.entries.items) in
     let Still = Agree actor (opening plan) (world_of log) in
     let absent : last_in log.lasts actor ≡ None → Still = λ none. (known plan actor 0 [] es es (sym (ap or_zero none) ∙ log.newest actor) refl (es, refl) (prefix_self es)).0 in
     subst (λ b. MatchBool b (IsSome (last_in log.lasts actor)) Still) (sym (c.is_some.ensures ∙ ap is_some c.get.ensures)) (on_none (last_in log.lasts actor) absent)

@@ -7,10 +7,10 @@ use Rattle.journal.proofs.log.Log.maker.Goals as goal
 pub loop-low-preserved-then-index-number : goal.loop-low-preserved-then-index-number
 loop-low-preserved-then-index-number g c =
     let log = c.args.self.now in
-    let es = shown log.tokens.items in
+    let es = shown log.entries.items in
     let inv = c.loop-low.invariant in
     let k = c.loop-low.high - c.min-step.result in
-    let long : length es ≡ vec_len log.tokens = length-shown log.tokens.items ∙ search rules in
+    let long : length es ≡ vec_len log.entries = length-shown log.entries.items ∙ search rules in
     let lt : k < length es = omega (arith, inv.within, inv.back, long, c.min-step.ensures, c.loop-low-test.true) in
     let b = before_at g.L.Site.plan es log.firsts.items k c.index.result.now log.run log.firsts_are lt c.index.ensures in
     record { within = (omega (arith, inv.within, inv.back, c.min-step.ensures, c.loop-low-test.true), inv.within.1); back = inv.back; low = omega (arith, b, c.if-index-number.true); high = inv.high }
@@ -18,10 +18,10 @@ loop-low-preserved-then-index-number g c =
 pub loop-low-preserved : goal.loop-low-preserved
 loop-low-preserved g c =
     let log = c.args.self.now in
-    let es = shown log.tokens.items in
+    let es = shown log.entries.items in
     let inv = c.loop-low.invariant in
     let k = c.loop-low.high - c.min-step.result in
-    let long : length es ≡ vec_len log.tokens = length-shown log.tokens.items ∙ search rules in
+    let long : length es ≡ vec_len log.entries = length-shown log.entries.items ∙ search rules in
     let lt : k < length es = omega (arith, inv.within, inv.back, long, c.min-step.ensures, c.loop-low-test.true) in
     let b = before_at g.L.Site.plan es log.firsts.items k c.index.result.now log.run log.firsts_are lt c.index.ensures in
     record { within = (omega (arith, inv.within, inv.back, c.min-step.ensures, c.loop-low-test.true), omega (arith, inv.within, c.loop-low-test.true)); back = omega (arith, inv.within, inv.back, c.min-step.ensures, c.loop-low-test.true); low = inv.low; high = omega (arith, b, c.if-index-number.false) }

@@ -5,7 +5,7 @@ use Rattle.journal.proofs.log.Log.maker.Given as goal
 
 abbrev pub invariant-loop-low : goal.invariant-loop-low
 invariant-loop-low g l = record {
-  within : (l.low < l.high) × (l.high ≤ vec_len l.self.tokens);
+  within : (l.low < l.high) × (l.high ≤ vec_len l.self.entries);
   back : 0 < l.back;
   low : before g.L.Site.plan (journal_of l.self) l.low < l.number;
   high : l.number ≤ before g.L.Site.plan (journal_of l.self) l.high;

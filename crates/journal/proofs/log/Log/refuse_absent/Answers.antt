@@ -18,9 +18,9 @@ pub note-requires-clause-refused : goal.note-requires-clause-refused
 note-requires-clause-refused g c =
     let log = c.args.self.now in
     let plan = g.L.Site.plan in
-    let es = shown log.tokens.items in
+    let es = shown log.entries.items in
     let event = event_of c.args.event in
-    let long : c.len.result ≡ length (entries_of es) = c.len.ensures ∙ search rules ∙ sym (length-shown log.tokens.items) ∙ sym (length-entries es) in
+    let long : c.len.result ≡ length (entries_of es) = c.len.ensures ∙ search rules ∙ sym (length-shown log.entries.items) ∙ sym (length-entries es) in
     let most = last_at_most (actor_of event) 0 0 (entries_of es) (omega arith) in
     subst (λ (l : List Entry). IsRefused plan g.L.Site.slots (length g.L.Site.cells) (entries_of l) (record { event = event; fault = c.args.fault; number = c.len.result })) (sym c.requires.settled)
     (noted_at_last plan g.L.Site.slots (length g.L.Site.cells) c.len.result (entries_of es) event c.args.fault c.requires.noted (omega (arith, long)) (omega (arith, most, long)) c.requires.exact)
@@ -30,8 +30,8 @@ returns-clause-note g c =
     let log = c.args.self.now in
     let pass = c.args.pass.now in
     let plan = g.L.Site.plan in
-    let es = shown log.tokens.items in
+    let es = shown log.entries.items in
     let event = event_of c.args.event in
-    let long : c.len.result ≡ length (entries_of es) = c.len.ensures ∙ search rules ∙ sym (length-shown log.tokens.items) ∙ sym (length-entries es) in
-    let stand = subst (λ (l : List Entry). All (λ (h : Held g.row.L.Denot). Stands plan (entries_of l) (made h.cell (entry_of h.token.value) h.durable)) pass.steps.items) c.requires.settled pass.stand in
+    let long : c.len.result ≡ length (entries_of es) = c.len.ensures ∙ search rules ∙ sym (length-shown log.entries.items) ∙ sym (length-entries es) in
+    let stand = subst (λ (l : List Entry). All (λ (h : Held g.row.L.Denot). Stands plan (entries_of l) (made h.cell (entry_of h.entry.now) h.durable)) pass.steps.items) c.requires.settled pass.stand in
     (c.len.result, c.note.ensures.note, at_most_all plan (entries_of es) pass.steps.items (actor_of event) c.len.result stand long)

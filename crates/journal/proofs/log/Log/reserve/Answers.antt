@@ -1,9 +1,9 @@
-use Rattle.std.proofs.Common.{◌≡◌, ◌≤◌, length, vec_len, map, List, sym, ap, ◌∙◌, subst}
-use Rattle.boxcar.specs.declared.slot.Written.{Written}
+use Rattle.std.proofs.Common.{◌≡◌, ◌+◌, length, vec_len, map, List, sym, ap, ◌∙◌, subst}
+use Rattle.std.specs.Borrow.{Bor}
 use Rattle.volume_model.specs.Journal.{IsRun, world_at, last_of}
 use Rattle.journal.specs.declared.entry.Entry.{Entry}
 use Rattle.journal.specs.Entries.{entries_of}
-use Rattle.journal.specs.Tokens.{shown, Shows}
+use Rattle.journal.specs.Tokens.{shown}
 use Rattle.journal.proofs.log.Log.reserve.Goals as goal
 
 pub invariant_of-self : goal.invariant_of-self
@@ -11,18 +11,16 @@ invariant_of-self g c =
     let log = c.args.self.now in
     let plan = g.L.Site.plan in
     let e = c.reserve.ensures.items in
-    let n : vec_len c.reserve.new.self ≡ vec_len log.tokens = c.reserve.ensures.len in
+    let n : vec_len c.reserve.new.self ≡ vec_len log.entries = c.reserve.ensures.len in
     record {
       same = ap shown e ∙ log.same;
       table = log.table;
       risen = log.risen ∙ sym n;
-      cells = log.cells;
-      room = subst (λ k. k ≤ length g.L.Site.cells) (sym n) log.room;
-      of = subst (Shows g.L.Site.cells) (sym e) log.of;
-      run = subst (λ (ts : List (Written Entry)). IsRun plan (entries_of (shown ts))) (sym e) log.run;
-      firsts_are = log.firsts_are ∙ ap (λ (ts : List (Written Entry)). map (λ x. x.first) (shown ts)) (sym e);
-      messages_are = log.messages_are ∙ ap (λ (ts : List (Written Entry)). length (world_at plan (entries_of (shown ts))).messages) (sym e);
-      newest = λ actor. log.newest actor ∙ ap (λ (ts : List (Written Entry)). last_of actor (entries_of (shown ts))) (sym e);
+      cells = ap (λ k. k + length log.rest.now) n ∙ log.cells;
+      run = subst (λ (ts : List (Bor Entry)). IsRun plan (entries_of (shown ts))) (sym e) log.run;
+      firsts_are = log.firsts_are ∙ ap (λ (ts : List (Bor Entry)). map (λ x. x.first) (shown ts)) (sym e);
+      messages_are = log.messages_are ∙ ap (λ (ts : List (Bor Entry)). length (world_at plan (entries_of (shown ts))).messages) (sym e);
+      newest = λ actor. log.newest actor ∙ ap (λ (ts : List (Bor Entry)). last_of actor (entries_of (shown ts))) (sym e);
       counted = log.counted ∙ sym n;
     }
 
@@ -31,17 +29,15 @@ invariant_of-self-2 g c =
     let log = c.args.self.now in
     let plan = g.L.Site.plan in
     let e = c.reserve.ensures.items in
-    let n : vec_len c.reserve.new.self ≡ vec_len log.tokens = c.reserve.ensures.len in
+    let n : vec_len c.reserve.new.self ≡ vec_len log.entries = c.reserve.ensures.len in
     record {
       same = ap shown e ∙ log.same;
       table = log.table;
       risen = log.risen ∙ sym n;
-      cells = log.cells;
-      room = subst (λ k. k ≤ length g.L.Site.cells) (sym n) log.room;
-      of = subst (Shows g.L.Site.cells) (sym e) log.of;
-      run = subst (λ (ts : List (Written Entry)). IsRun plan (entries_of (shown ts))) (sym e) log.run;
-      firsts_are = c.reserve-2.ensures.items ∙ log.firsts_are ∙ ap (λ (ts : List (Written Entry)). map (λ x. x.first) (shown ts)) (sym e);
-      messages_are = log.messages_are ∙ ap (λ (ts : List (Written Entry)). length (world_at plan (entries_of (shown ts))).messages) (sym e);
-      newest = λ actor. log.newest actor ∙ ap (λ (ts : List (Written Entry)). last_of actor (entries_of (shown ts))) (sym e);
+      cells = ap (λ k. k + length log.rest.now) n ∙ log.cells;
+      run = subst (λ (ts : List (Bor Entry)). IsRun plan (entries_of (shown ts))) (sym e) log.run;
+      firsts_are = c.reserve-2.ensures.items ∙ log.firsts_are ∙ ap (λ (ts : List (Bor Entry)). map (λ x. x.first) (shown ts)) (sym e);
+      messages_are = log.messages_are ∙ ap (λ (ts : List (Bor Entry)). length (world_at plan (entries_of (shown ts))).messages) (sym e);
+      newest = λ actor. log.newest actor ∙ ap (λ (ts : List (Bor Entry)). last_of actor (entries_of (shown ts))) (sym e);
       counted = log.counted ∙ sym n;
     }

@@ -19,13 +19,13 @@ pub returns-clause-own : goal.returns-clause-own
 returns-clause-own g c =
     let log = c.args.self.now in
     let plan = g.L.Site.plan in
-    let es = shown log.tokens.items in
+    let es = shown log.entries.items in
     let number = c.args.number in
     let pass = c.settle.new.pass in
     if_none c.find.result (numbered (world_of c.settle.new.self).messages number ≡ None) (All (IsElse number) (map (λ (h : Held g.row.L.Denot). made_of h) c.args.pass.now.steps.items))
     (λ none. subst (λ hs. All (IsElse number) (map (λ (h : Held g.row.L.Denot). made_of h) hs.items)) c.settle.ensures.pass.0
     (all_map (λ (h : Held g.row.L.Denot). made_of h) (IsElse number) pass.steps.items
     (λ k d lt. let h = get_or pass.steps.items k d in
-    none_made plan (entries_of es) number (made h.cell (entry_of h.token.value) h.durable) log.run (subst (λ (l : List Entry). Stands plan (entries_of l) (made h.cell (entry_of h.token.value) h.durable)) (c.settle.ensures.seen ∙ ap (λ ts. shown ts.items) c.settle.ensures.log.0) (pass.stand k d lt))
+    none_made plan (entries_of es) number (made h.cell (entry_of h.entry.now) h.durable) log.run (subst (λ (l : List Entry). Stands plan (entries_of l) (made h.cell (entry_of h.entry.now) h.durable)) (c.settle.ensures.seen ∙ ap (λ ts. shown ts.items) c.settle.ensures.log.0) (pass.stand k d lt))
     (ap (λ ts. numbered (world_at plan (entries_of (shown ts.items))).messages number) (sym c.settle.ensures.log.0) ∙ none))))
     c.find.ensures.none

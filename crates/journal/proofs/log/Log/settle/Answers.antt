@@ -16,17 +16,17 @@ invariant_of-pass g c =
     let log = c.args.self.now in
     let pass = c.args.pass.now in
     let plan = g.L.Site.plan in
-    let es = shown log.tokens.items in
+    let es = shown log.entries.items in
     let both = c.learn.new.self.log in
     let whole : es ≡ c.again-both.result.log = log.same ∙ sym (ap (λ s. s.log) c.again-both.ensures) in
     let now : es ≡ c.again.result.log = log.same ∙ sym (ap (λ s. s.log) c.again.ensures) in
-    let long : length es ≡ vec_len log.tokens = length-shown log.tokens.items ∙ search rules in
+    let long : length es ≡ vec_len log.entries = length-shown log.entries.items ∙ search rules in
     let least : length pass.seen.log ≤ length es = omega (arith, pass.long, c.meet.ensures.at_most, log.risen, long) in
     let p : IsPrefix pass.seen.log es = prefix_shorter pass.seen.log es both c.learn.ensures.3 (subst (λ (l : List Entry). IsPrefix l both) (sym whole) c.learn.ensures.2) least in
     let q : IsPrefix pass.seen.log c.again.result.log = subst (λ (l : List Entry). IsPrefix pass.seen.log l) now p in
     let begin = entries_begin pass.seen.log c.again.result.log q in
-    let count : length c.again.result.log ≡ vec_len log.tokens = ap length (sym now) ∙ long in
-    let room : length c.again.result.log ≤ length g.L.Site.cells = omega (arith, count, log.room) in
+    let count : length c.again.result.log ≡ vec_len log.entries = ap length (sym now) ∙ long in
+    let room : length c.again.result.log ≤ length g.L.Site.cells = omega (arith, count, log.cells) in
     let few : length (entries_of c.again.result.log) ≤ length g.L.Site.cells = omega (arith, length-entries c.again.result.log, room) in
     record {
       table = c.meet.ensures.floor.0 ∙ c.requires;
@@ -35,7 +35,7 @@ invariant_of-pass g c =
       history = ap (λ s. s.book) c.again.ensures ∙ log.history.history;
       long = omega (arith, count, c.meet.ensures.floor.1, log.risen);
       room = room;
-      stand = λ k d lt. let h = get_or pass.steps.items k d in stands_longer plan (entries_of pass.seen.log) (entries_of c.again.result.log) (made h.cell (entry_of h.token.value) h.durable) begin (pass.stand k d lt);
+      stand = λ k d lt. let h = get_or pass.steps.items k d in stands_longer plan (entries_of pass.seen.log) (entries_of c.again.result.log) (made h.cell (entry_of h.entry.now) h.durable) begin (pass.stand k d lt);
       refused = λ k d lt. refused_longer plan g.L.Site.slots (length g.L.Site.cells) (entries_of pass.seen.log) (entries_of c.again.result.log) (note_of (get_or pass.notes.items k d)) begin few (pass.refused k d lt);
       part = pass.part;
       counted = pass.counted;
