@@ -7,7 +7,7 @@ use Rattle.plan.specs.Plan.{plan_data}
 use Rattle.plan.specs.PlanData.{PlanData, model_of}
 use Rattle.plan.specs.declared.checked.CheckedPlan.{CheckedPlan}
 use Rattle.plan.specs.declared.fault.PlanFault.{PlanFault}
-use Rattle.script.specs.Script.{IsFirstBad, ReadsScript, kept_of}
+use Rattle.script.specs.Script.{IsFirstBad, ReadsScript}
 use Rattle.script.specs.Seen.{asked_by}
 use Rattle.script.specs.declared.reading.Script.{Script}
 use Rattle.script.specs.declared.reading.ScriptFault.{ScriptFault}

@@ -3,7 +3,9 @@ use Rattle.std.specs.Prelude.{ℕ, List, ◌++◌, Bool, true, Result, Ok, Err, 
 use Rattle.std.specs.Fmt.{decimal}
 use Rattle.plan.specs.FaultKinds.{is_input}
 use Rattle.plan.specs.PlanFaultText.{plan_fault_text}
+use Rattle.volume_model.specs.declared.fault.Fault.TheVariants as faults
 use Rattle.plan.specs.declared.fault.PlanFault.{PlanFault}
+use Rattle.plan.specs.declared.fault.PlanFault.TheVariants.{Text}
 use Rattle.script.specs.Script.{IsFirstBad}
 use Rattle.script.specs.declared.reading.ScriptFault.{ScriptFault}
 use Rattle.script.specs.declared.reading.ScriptFault.TheVariants as scripts
@@ -33,6 +35,11 @@ stop_answer stop = line_answer (is_input_stop stop) (stop_line stop)
 abbrev pub answer_of : Result Reply Stop → Answer
 answer_of (Ok reply) = printed reply.status (string_bytes reply.text)
 answer_of (Err stop) = stop_answer stop
+
+-- why a job ends whose plan has a fault
+abbrev pub plan_stop : PlanFault → Stop
+plan_stop (Text faults.NoMemory) = NoMemory
+plan_stop fault = Plan fault
 
 -- why a job ends whose script can't be run
 abbrev pub script_stop : ScriptFault → Stop

@@ -81,11 +81,12 @@ impl Stop<'_> {
     ghost use Rattle.std.specs.Prelude.{◌≡◌, ◌≢◌};
     ghost use Rattle.volume_model.specs.declared.fault.Fault.TheVariants.{NoMemory};
     ghost use Rattle.plan.specs.declared.fault.PlanFault.TheVariants.{Text};
-    ghost use Rattle.jobs.specs.Stops.{StopsBy, is_input_stop, script_stop};
+    ghost use Rattle.jobs.specs.Stops.{StopsBy, is_input_stop, plan_stop, script_stop};
 
     /// Why a job ends whose plan has a fault, or for whose plan memory ran out.
     pub fn of_plan(fault: PlanFault) -> Self
-        ensures { StopsBy (λ told. (told ≡ fault) × (fault ≢ Text NoMemory)) result }
+        ensures exact { result ≡ plan_stop fault }
+        ensures told { StopsBy (λ told. (told ≡ fault) × (fault ≢ Text NoMemory)) result }
     {
         if let PlanFault::Text(Fault::NoMemory) = &fault {
             return Stop::NoMemory;

@@ -7,6 +7,7 @@ mod deals;
 mod expressions;
 mod faults;
 mod files;
+mod fleet_lines;
 mod fleet_runs;
 mod fleets;
 mod gates;

@@ -40,7 +40,7 @@ open 2\n\
 deliver 0 3 14.1\n";
 
 /// A script's run on threads by so many drivers.
-fn job(workers: u8) -> Job<'static>
+pub fn job(workers: u8) -> Job<'static>
     requires some { 1 ≤ workers }
     requires few { workers ≤ 16 }
 {
@@ -53,7 +53,7 @@ fn job(workers: u8) -> Job<'static>
 }
 
 /// What is said of a script's run on threads over this plan.
-fn fleet<H: Threads + Wait + Sync>(
+pub fn fleet<H: Threads + Wait + Sync>(
     rt: &H,
     alloc: Global,
     job: &Job<'_>,

@@ -5,3 +5,4 @@ mod drive;
 mod looks;
 mod refusals;
 mod runs;
+mod threads;

@@ -14,25 +14,27 @@ const TURNS: u32 = 1_000_000;
 
 /// A flag, and whether it was seen by the one that waits for it.
 #[derive(Drop)]
-struct Flag {
+pub struct Flag {
     raised: AtomicBool,
     seen: AtomicBool,
 }
 
 impl Flag {
-    fn new() -> Flag {
+    /// It isn't raised yet.
+    pub fn new() -> Flag {
         Flag {
             raised: AtomicBool::new(false),
             seen: AtomicBool::new(false),
         }
     }
 
-    fn raise(&self) {
+    /// Raises it.
+    pub fn raise(&self) {
         self.raised.store(true, Ordering::SeqCst);
     }
 
     /// Waits until the flag is raised, for so many turns at most.
-    fn wait(&self) {
+    pub fn wait(&self) {
         for _ in 0..TURNS {
             if self.raised.load(Ordering::SeqCst) {
                 self.seen.store(true, Ordering::SeqCst);
@@ -42,7 +44,8 @@ impl Flag {
         }
     }
 
-    fn was_seen(&self) -> bool {
+    /// Whether the one that waited for it saw it raised.
+    pub fn was_seen(&self) -> bool {
         self.seen.load(Ordering::SeqCst)
     }
 }

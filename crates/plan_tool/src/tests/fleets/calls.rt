@@ -89,22 +89,18 @@ impl Call {
             }),
         }
     }
+}
 
-    /// What is told of it.
-    fn told<'a, L: Site, R: Wait>(
-        self,
-        rt: &R,
-        alloc: Global,
-        fleet: &Fleet<'a, L>,
-        pass: &mut Pass<'a, L>,
-        look: &Look,
-    ) -> Told {
-        let receipt = self.made(rt, alloc, fleet, pass, look)?;
-        Ok((receipt.made, receipt.durable))
+/// What is told of a call.
+fn told_of(made: &Result<Receipt, Fault>) -> Told {
+    match made {
+        Ok(receipt) => Ok((receipt.made, receipt.durable)),
+        Err(fault) => Err(*fault),
     }
 }
 
-/// The first place where another thing is told than is to be. The passes make the calls in turn.
+/// The first place where another thing is told than is to be, or where a step's number isn't above those before it. The
+/// passes make the calls in turn.
 pub fn first_wrong<'a, L: Site, R: Wait>(
     rt: &R,
     alloc: Global,
@@ -117,10 +113,17 @@ pub fn first_wrong<'a, L: Site, R: Wait>(
     if count == 0 {
         return None;
     }
+    let mut last = 0;
     for (i, (call, told)) in steps.iter().enumerate() {
-        if call.told(rt, alloc, fleet, &mut passes[i % count], look) != *told {
+        let made = call.made(rt, alloc, fleet, &mut passes[i % count], look);
+        if told_of(&made) != *told {
             return Some(i);
         }
+        let number = made.map_or(0, |receipt| receipt.number);
+        if number != 0 && number <= last {
+            return Some(i);
+        }
+        last = last.max(number);
     }
     None
 }

@@ -66,7 +66,7 @@ pub fn ended<'a, L: Site>(
 fn drive<L: Site, R: Wait>(
     rt: &R,
     alloc: Global,
-    row: &Row,
+    row: &mut Row,
     base: Base,
     plan: Arc<CheckedPlan>,
     slots: u32,
@@ -74,7 +74,7 @@ fn drive<L: Site, R: Wait>(
     look: &Look,
 ) -> Result<Ending, Fail>
     requires plan { checked_model (arc_value plan) ≡ L.plan }
-    requires cells { ids_of row.now ≡ L.cells }
+    requires cells { ids_of row.old ≡ L.cells }
     requires slots { slots ≡ L.slots }
     requires base { IsBaseOf L.table L.board L.history L.name L.parts base }
     requires passes { 0 < passes_of base }
@@ -99,7 +99,7 @@ pub fn run_table<R: Wait>(
     requires { 0 < passes }
 {
     let plan = checked(alloc, text)?;
-    let row = Row::new(alloc, cells)?;
+    let mut row = Row::new(alloc, cells)?;
     let base = Base::new(alloc, passes)?;
-    drive::<Brand, R>(rt, alloc, &row, base, plan, slots, steps, look)
+    drive::<Brand, R>(rt, alloc, &mut row, base, plan, slots, steps, look)
 }

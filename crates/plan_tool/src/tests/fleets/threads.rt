@@ -1,0 +1,245 @@
+//! Fleets whose passes step on threads of their own.
+
+ghost use Rattle.std.specs.Prelude.{◌≡◌, ◌<◌};
+ghost use Rattle.std.specs.Arc.{arc_value};
+ghost use Rattle.plan.specs.CheckedModel.{checked_model};
+ghost use Rattle.journal.specs.Tokens.{ids_of};
+ghost use Rattle.node_fleet.specs.Bases.{passes_of, IsBaseOf};
+
+use super::super::gates::Flag;
+use super::super::texts::{SIX, checked};
+use super::calls::{Call, Step, first_wrong};
+use super::drive::{Ending, ended};
+use super::looks::Look;
+use journal::{Pass, Row, Site};
+use node_fleet::{Base, ClientDeed, Fleet, NodeDeed, StepGate};
+use plan::CheckedPlan;
+use std::alloc::{AllocError, Global};
+use std::marker::Brand;
+use std::sync::{Arc, Wait};
+use std::test::*;
+use std::thread;
+use std::thread::{JoinHandle, Scope, Threads};
+use wire::Message;
+
+/// One record is issued.
+const ISSUED: [Step; 1] = [(Call::Issue(1, "a"), Ok((1, 0)))];
+
+/// Holds each of members 0 and 1, when it acknowledges the first record, until the other does.
+#[derive(Drop)]
+struct Meeting {
+    first: Flag,
+    second: Flag,
+}
+
+impl StepGate for Meeting {
+    fn prepared(&self, answers: &[Message]) {
+        let [Message::Ack(ack)] = answers else {
+            return;
+        };
+        if ack.scl == 1 && ack.from == 0 {
+            self.first.raise();
+            self.second.wait();
+        } else if ack.scl == 1 && ack.from == 1 {
+            self.second.raise();
+            self.first.wait();
+        }
+    }
+}
+
+/// What all threads share, and how often each goes round.
+#[derive(Drop)]
+struct Scene<'f, 'a, L: Site> {
+    fleet: &'f Fleet<'a, L>,
+    gate: &'f Meeting,
+    rounds: u32,
+}
+
+impl<'f, 'a, L: Site> Scene<'f, 'a, L> {
+    /// The same once more.
+    fn again(&self) -> Scene<'f, 'a, L> {
+        Scene {
+            fleet: self.fleet,
+            gate: self.gate,
+            rounds: self.rounds,
+        }
+    }
+
+    /// Delivers the first message to a member. Gives the number of what that answers, 0 where it refuses.
+    fn deliver<R: Wait>(&self, rt: &R, pass: &mut Pass<'a, L>, member: u8) -> u64 {
+        match self.fleet.deliver(rt, pass, 0, member, 1, self.gate) {
+            Ok(receipt) => receipt.first_message,
+            Err(_) => 0,
+        }
+    }
+
+    /// Delivers the first message to a member, has the writer take the answer, and restarts the member.
+    fn go_round<R: Wait>(&self, rt: &R, pass: &mut Pass<'a, L>, member: u8) {
+        let message = self.deliver(rt, pass, member);
+        let deed = ClientDeed::Take { message };
+        let _ = self.fleet.client_step(rt, pass, 1, &deed);
+        let _ = self.fleet.node_step(rt, pass, 0, member, NodeDeed::Restart);
+    }
+}
+
+/// A thread's part, with its pass.
+#[derive(Drop)]
+struct Hand<'f, 'a, L: Site> {
+    scene: Scene<'f, 'a, L>,
+    pass: Pass<'a, L>,
+    number: u8,
+}
+
+impl<'f, 'a, L: Site> Hand<'f, 'a, L> {
+    /// Delivers the first message to the member of its own number, goes round over all six, and gives its pass back.
+    fn work<R: Wait>(self, rt: &R) -> Pass<'a, L> {
+        let Hand {
+            scene,
+            mut pass,
+            number,
+        } = self;
+        scene.deliver(rt, &mut pass, number);
+        for round in 0..scene.rounds {
+            let member = (u64::from(number) + u64::from(round)) % 6;
+            scene.go_round(rt, &mut pass, member as u8);
+        }
+        pass
+    }
+}
+
+/// A part for each pass.
+fn hands<'f, 'a, L: Site>(
+    alloc: Global,
+    scene: &Scene<'f, 'a, L>,
+    passes: Vec<Pass<'a, L>>,
+) -> Result<Vec<Hand<'f, 'a, L>>, AllocError> {
+    let mut hands = Vec::with_capacity(alloc, passes.len())?;
+    for pass in passes {
+        let number = u8::try_from(hands.len()).unwrap_or(0);
+        hands.push(Hand {
+            scene: scene.again(),
+            pass,
+            number,
+        })?;
+    }
+    Ok(hands)
+}
+
+/// Starts a thread for each part, and takes the passes back.
+fn work_in<'s, 'f: 's, 'a: 's, E, L: Site + Send + Sync + 's, R: Threads + Wait + Sync>(
+    scope: &Scope<'s, E>,
+    rt: &'f R,
+    alloc: Global,
+    hands: Vec<Hand<'f, 'a, L>>,
+) -> Result<Vec<Pass<'a, L>>, AllocError> {
+    let mut threads: Vec<JoinHandle<Pass<'a, L>>> = Vec::with_capacity(alloc, hands.len())?;
+    for hand in hands {
+        threads.push(scope.spawn(move || hand.work(rt))?)?;
+    }
+    let mut passes = Vec::with_capacity(alloc, threads.len())?;
+    for thread in threads {
+        passes.push(thread.join(rt))?;
+    }
+    Ok(passes)
+}
+
+/// Does all parts on threads, and takes the passes back.
+fn work_all<'f, 'a, L: Site + Send + Sync, R: Threads + Wait + Sync>(
+    rt: &'f R,
+    alloc: Global,
+    hands: Vec<Hand<'f, 'a, L>>,
+) -> Result<Vec<Pass<'a, L>>, AllocError> {
+    thread::scope(thread::scope_env(), rt, move |scope| {
+        work_in(scope, rt, alloc, hands)
+    })
+}
+
+/// Has the passes work on threads, and takes them back.
+fn worked<'f, 'a, L: Site + Send + Sync, R: Threads + Wait + Sync>(
+    rt: &'f R,
+    alloc: Global,
+    fleet: &'f Fleet<'a, L>,
+    gate: &'f Meeting,
+    rounds: u32,
+    passes: Vec<Pass<'a, L>>,
+) -> Result<Vec<Pass<'a, L>>, AllocError> {
+    let scene = Scene {
+        fleet,
+        gate,
+        rounds,
+    };
+    let hands = hands(alloc, &scene, passes)?;
+    work_all(rt, alloc, hands)
+}
+
+/// What a fleet leaves in which one record was issued and its passes worked on threads.
+fn work_over<L: Site + Send + Sync, R: Threads + Wait + Sync>(
+    rt: &R,
+    alloc: Global,
+    row: &mut Row,
+    base: Base,
+    plan: Arc<CheckedPlan>,
+    gate: &Meeting,
+    rounds: u32,
+) -> Result<Ending, Fail>
+    requires plan { checked_model (arc_value plan) ≡ L.plan }
+    requires cells { ids_of row.old ≡ L.cells }
+    requires slots { L.slots ≡ 1 }
+    requires base { IsBaseOf L.table L.board L.history L.name L.parts base }
+    requires passes { 0 < passes_of base }
+{
+    let copy = plan.clone()?;
+    let (fleet, mut passes) = Fleet::<L>::new(alloc, row, base, copy, 1)?;
+    let (steps, look) = (ISSUED.as_slice(), Look::new());
+    let wrong = first_wrong(rt, alloc, &fleet, passes.as_mut_slice(), steps, &look);
+    let count = passes.len();
+    let passes = worked(rt, alloc, &fleet, gate, rounds, passes)?;
+    if passes.len() != count {
+        return Err(Fail::from("a pass is lost"));
+    }
+    ended(alloc, fleet, passes, &plan, wrong)
+}
+
+/// What a fleet of six nodes leaves after so many passes worked on threads.
+fn run_threads<R: Threads + Wait + Sync>(
+    rt: &R,
+    alloc: Global,
+    passes: usize,
+    cells: usize,
+    gate: &Meeting,
+    rounds: u32,
+) -> Result<Ending, Fail>
+    requires { 0 < passes }
+{
+    let plan = checked(alloc, SIX)?;
+    let mut row = Row::new(alloc, cells)?;
+    let base = Base::new(alloc, passes)?;
+    work_over::<Brand, R>(rt, alloc, &mut row, base, plan, gate, rounds)
+}
+
+/// Nobody has met.
+fn nobody_met() -> Meeting {
+    Meeting {
+        first: Flag::new(),
+        second: Flag::new(),
+    }
+}
+
+#[test]
+fn two_nodes_step_at_a_time(rt: HostRuntime) -> Result<(), Fail> {
+    let gate = nobody_met();
+    let ending = run_threads(&rt, rt.alloc(), 2, 3, &gate, 0)?;
+    assert_eq!(rt; ending.wrong, None);
+    assert!(rt; gate.first.was_seen() && gate.second.was_seen());
+    assert_eq!(rt; (ending.steps, ending.refused), (3, 0));
+    Ok(())
+}
+
+#[test]
+fn ten_thousand_steps_by_each_of_four(rt: HostRuntime) -> Result<(), Fail> {
+    let gate = nobody_met();
+    let ending = run_threads(&rt, rt.alloc(), 4, 40_001, &gate, 3_333)?;
+    assert_eq!(rt; ending.wrong, None);
+    assert_eq!(rt; (ending.steps, ending.refused), (40_001, 0));
+    Ok(())
+}
