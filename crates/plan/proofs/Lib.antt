@@ -4,6 +4,7 @@ pub mod FreshMembers
 pub mod Reused
 pub mod Lookups
 pub mod Named
+pub mod Shown
 pub mod KeepsClaims
 pub mod BothWays
 pub mod OwnMembers
