@@ -3,16 +3,20 @@
 #![tactic(auto)]
 
 mod cases;
+mod closed;
+mod closing;
 mod dealing;
 mod deque;
 mod filling;
 mod gate;
+mod grid;
 mod hand;
 mod leaves;
 mod matching;
 mod members;
 mod one;
 mod own;
+mod parts;
 mod plain;
 mod reach;
 mod rules;

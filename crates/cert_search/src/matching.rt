@@ -53,11 +53,16 @@ impl Mates {
         Some(Mates { mates })
     }
 
+    /// The left child that a right one is matched with.
+    pub fn of(&self, right: u8) -> Option<u8> {
+        match self.mates.get(usize::from(right)) {
+            Some(left) if *left != NOBODY => Some(*left),
+            _ => None,
+        }
+    }
+
     /// Whether two children are mates.
     pub fn are_mates(&self, left: u8, right: u8) -> bool {
-        match self.mates.get(usize::from(right)) {
-            Some(mate) => *mate == left,
-            None => false,
-        }
+        self.of(right) == Some(left)
     }
 }

@@ -11,20 +11,29 @@ ghost use Rattle.cert_search.specs.Answers.{rule_in, IsAnswer};
 ghost use Rattle.cert_search.specs.Plain.{IsPlain};
 
 use crate::cases::split;
+use crate::closed::closed;
+use crate::closing::Closing;
 use crate::leaves::has_counterexample;
 use crate::members::common;
+use crate::parts::parts;
 use crate::plain::plain_tree;
 use crate::rules::{Search, refute};
 use crate::state::{Row, State};
 use bumpalo::Bump;
 use quorum_checker::{Claim, check};
 use quorum_expr::MemberSet;
-use refutation::{Certificate, MAX_DEPTH, Refutation};
+use refutation::{Certificate, MAX_DEPTH, MAX_NODES, Refutation};
 use std::alloc::{AllocError, Allocator, Global};
 use volume_model::Fault;
 
 /// The budget from which on plain claims are found: their trees have at most so many nodes.
 const PLAIN_NODES: u64 = 100;
+
+/// How many states the rules that look at items may try, times the number of subexpressions that each of them looks at.
+const ITEM_WORK: u64 = 700_000;
+
+/// The same of the cases of members, which look at less.
+const CASE_WORK: u64 = 100_000_000;
 
 /// The certificate that a tree is, where it refutes the claim.
 fn certified<A: Allocator, B: Allocator>(
@@ -60,12 +69,27 @@ fn plain<A: Allocator, B: Allocator + Clone>(
     certified(alloc, claim, tree)
 }
 
-/// What refutes a claim, where it is found: first by the rules that look at items, then by the cases of members. Half of the
-/// budget is for either.
-fn tree_of<A: Allocator, B: Allocator + Clone>(
+/// The pairs of subexpressions of a claim that close.
+fn closing_of<A: Allocator, B: Allocator + Clone>(
     arena: &B,
     claim: &Claim<A>,
+) -> Result<Option<Closing<B>>, AllocError> {
+    let Some(lefts) = parts(arena, &claim.left, claim.clear)? else {
+        return Ok(None);
+    };
+    let Some(rights) = parts(arena, &claim.right, MemberSet::empty())? else {
+        return Ok(None);
+    };
+    Ok(Some(Closing::new(arena.clone()?, lefts, rights)?))
+}
+
+/// What refutes a claim that isn't closed by pairs: by the rules that look at items, then by the cases of members. Half of the budget
+/// is for either, and less of it where the expressions are large.
+fn searched<A: Allocator, B: Allocator + Clone>(
+    search: &mut Search<B>,
+    claim: &Claim<A>,
     budget: u64,
+    size: u64,
 ) -> Result<Option<Refutation<B>>, AllocError> {
     let lefts = [&claim.left];
     let rights = [&claim.right];
@@ -81,18 +105,34 @@ fn tree_of<A: Allocator, B: Allocator + Clone>(
             absent: MemberSet::empty(),
         },
     };
-    let mut search = Search {
-        arena: arena.clone()?,
-        budget: budget / 2,
-    };
-    if let Some(tree) = refute(&mut search, &state, MAX_DEPTH)? {
+    search.budget = (budget / 2).min(ITEM_WORK / size.max(1));
+    if let Some(tree) = refute(search, &state, MAX_DEPTH)? {
         return Ok(Some(tree));
     }
     if has_counterexample(&state) {
         return Ok(None);
     }
-    search.budget = budget / 2;
-    split(&mut search, &state, common(&state), 0, MAX_DEPTH)
+    search.budget = (budget / 2).min(CASE_WORK / size.max(1));
+    split(search, &state, common(&state), 0, MAX_DEPTH)
+}
+
+/// What refutes a claim, where it is found: first by the pairs of its subexpressions that close, each by itself.
+fn tree_of<A: Allocator, B: Allocator + Clone>(
+    arena: &B,
+    claim: &Claim<A>,
+    budget: u64,
+) -> Result<Option<Refutation<B>>, AllocError> {
+    let Some(closing) = closing_of(arena, claim)? else {
+        return Ok(None);
+    };
+    let mut search = Search {
+        arena: arena.clone()?,
+        budget: budget.min(u64::from(MAX_NODES)),
+    };
+    match closed(&mut search, &closing, 0, 0, MAX_DEPTH)? {
+        Some(tree) => Ok(Some(tree)),
+        None => searched(&mut search, claim, budget, closing.size() as u64),
+    }
 }
 
 /// The certificate of a claim, by a search whose items and trees lie in an arena.

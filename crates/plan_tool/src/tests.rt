@@ -5,6 +5,7 @@ mod clients;
 mod configurations;
 mod deals;
 mod expressions;
+mod families;
 mod faults;
 mod files;
 mod fleet_lines;

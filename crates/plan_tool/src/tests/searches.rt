@@ -37,7 +37,7 @@ fn text_of(bytes: &[u8]) -> &str {
 }
 
 /// The plan that a search by one worker prints, where four print the same and nothing is unfound.
-fn found<H: Threads + Wait + Sync>(
+pub fn found<H: Threads + Wait + Sync>(
     rt: &H,
     alloc: Global,
     plan: &str,
@@ -47,6 +47,12 @@ fn found<H: Threads + Wait + Sync>(
     let is_whole = alone.status == 0 && alone.err.is_empty();
     let is_same = four.status == 0 && four.err.is_empty() && four.out == alone.out;
     Ok((is_whole && is_same).then_some(alone.out))
+}
+
+/// Whether a search finds no certificate of the first claim, and says so.
+pub fn is_unfound<H: Threads + Wait + Sync>(rt: &H, alloc: Global, plan: &str) -> bool {
+    let end = searched(rt, alloc, &job(1), plan);
+    end.status == 1 && text_of(&end.err) == "unfound: group 0 configuration 0 meets\n"
 }
 
 #[test]

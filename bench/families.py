@@ -1,0 +1,308 @@
+#!/usr/bin/env python3
+"""Measures which of the classical quorum systems the certificate search finds, how large the certificates are and how long it takes.
+
+    python3 bench/families.py
+
+It builds a small program over the crates `plan` and `cert_search` in a folder of its own, which takes some minutes, and then searches each claim of each
+family once, with the budget of the program `plan_tool`. With `--false` it does the same for claims that don't hold, close to those of the families. With
+`--plans FOLDER` it writes the plans there and builds nothing.
+"""
+import itertools
+import json
+import pathlib
+import subprocess
+import sys
+import tempfile
+
+from building import built
+
+PROGRAM = r"""//! Searches each claim of a plan, and prints how many nodes its certificate has, 0 where there is none, and the nanoseconds it took.
+#![tactic(auto)]
+
+ghost use Rattle.std.specs.Prelude.{◌≡◌};
+
+use cert_search::search_one;
+use plan::{Plan, claims, read_plan};
+use refutation::Refutation;
+use std::alloc::{Allocator, Global};
+use std::fs::read;
+use std::process::ExitCode;
+use std::rt::{Clock, Env, Files};
+use std::time::Instant;
+use std::{env, io};
+
+/// How many nodes a tree has.
+fn nodes<A: Allocator>(tree: &Refutation<A>) -> u64 {
+    match tree {
+        Refutation::Dead { .. } | Refutation::Clash { .. } => 1,
+        Refutation::Open { then, .. } => nodes(then).saturating_add(1),
+        Refutation::Pick { then, .. } | Refutation::Match { then, .. } => {
+            let mut sum = 1u64;
+            for branch in then {
+                sum = sum.saturating_add(nodes(branch));
+            }
+            sum
+        }
+        Refutation::Split { left, right, .. } => nodes(left).saturating_add(nodes(right)).saturating_add(1),
+    }
+}
+
+/// Prints what is found of each claim.
+fn searched<R: Clock + Print>(rt: &R, alloc: Global, plan: &Plan) -> io::Result<()> {
+    let Ok(named) = claims(alloc, plan) else {
+        return Ok(());
+    };
+    for one in &named {
+        let start = Instant::now(rt)?;
+        let answer = search_one(alloc, &one.claim, 100_000);
+        let took = start.elapsed(rt)?.as_nanos();
+        let size = match &answer {
+            Ok(Some(certificate)) => nodes(certificate.tree()),
+            _ => 0,
+        };
+        println!(rt; "{size} {took}")?;
+    }
+    Ok(())
+}
+
+fn run<R: Clock + Print + Files + Env>(rt: &R, alloc: Global) -> io::Result<()> {
+    let words: Vec<String> = env::args(&(rt, alloc))?.collect(alloc)?;
+    for file in words.as_slice().iter().skip(1) {
+        let text = read(&(rt, alloc), file.as_str())?;
+        if let Ok(plan) = read_plan(alloc, text.as_slice()) {
+            searched(rt, alloc, &plan)?;
+        }
+    }
+    Ok(())
+}
+
+fn main(rt: HostRuntime) -> ExitCode {
+    match run(&rt, rt.alloc()) {
+        Ok(()) => ExitCode::from(0),
+        Err(_) => ExitCode::from(1),
+    }
+}
+"""
+
+
+def some(k, of):
+    """At least k of a list."""
+    return {"k": k, "of": list(of)}
+
+
+def each(of):
+    return some(len(of), of)
+
+
+def most(of):
+    return some(len(of) // 2 + 1, of)
+
+
+def block(first, size):
+    return list(range(first, first + size))
+
+
+def shapes(least, limit=64):
+    """All pairs of numbers, each at least so much, whose product is at most the limit."""
+    return [(a, b) for a in range(least, limit + 1) for b in range(least, limit // a + 1)]
+
+
+def zones(p, q, z, m):
+    return some(p, [some(q, block(m * i, m)) for i in range(z)])
+
+
+def rows_of(r, c):
+    return [block(c * i, c) for i in range(r)]
+
+
+def columns_of(r, c):
+    return [list(range(j, r * c, c)) for j in range(c)]
+
+
+def one_each(lists):
+    return each([some(1, members) for members in lists])
+
+
+def whole(lists):
+    return some(1, [each(members) for members in lists])
+
+
+def column_and_one_each(r, c):
+    return each([whole(columns_of(r, c)), one_each(columns_of(r, c))])
+
+
+def levels(sizes, first=0, less=0):
+    """Majorities of majorities, at the lowest level of fewer."""
+    if not sizes:
+        return first
+    step = 1
+    for size in sizes[1:]:
+        step *= size
+    of = [levels(sizes[1:], first + i * step, less) for i in range(sizes[0])]
+    return some(max(1, sizes[0] // 2 + 1 - (less if len(sizes) == 1 else 0)), of)
+
+
+def tree(height, root=0, k=2):
+    """A member with one of its subtrees, or both of them."""
+    if height == 1:
+        return root
+    return some(k, [root, tree(height - 1, 2 * root + 1, k), tree(height - 1, 2 * root + 2, k)])
+
+
+def plane_lines(q):
+    """The lines of the projective plane over the integers modulo a prime."""
+    points = [(1, y, z) for y in range(q) for z in range(q)] + [(0, 1, z) for z in range(q)] + [(0, 0, 1)]
+    on = lambda a, b: sum(x * y for x, y in zip(a, b)) % q == 0
+    return [[i for i, point in enumerate(points) if on(line, point)] for line in points]
+
+
+def wall(widths, below=True):
+    """A whole row, and one of each row below it."""
+    starts = [sum(widths[:i]) for i in range(len(widths))]
+    rows = [block(start, width) for start, width in zip(starts, widths)]
+    return some(1, [each([each(row)] + ([some(1, low) for low in rows[i + 1 :]] if below else [])) for i, row in enumerate(rows)])
+
+
+def replaced(base, pending):
+    """All sets that come of a set by doing some of the pending replacements, of which number i puts member base + i in the place of the i-th last."""
+    sets = []
+    for chosen in itertools.product([False, True], repeat=len(pending)):
+        members = block(0, base)
+        for number, done in zip(pending, chosen):
+            if done:
+                members[base - 1 - number] = base + number
+        sets.append(members)
+    return sets
+
+
+WALLS = [[1, 2, 3], [1, 3, 3, 4], [2, 3, 4], [1, 15], [1, 63], [2, 2, 2, 2], [3, 3, 3, 3], [1, 2, 3, 4, 5], [4] * 16, [2] * 32, [8] * 8, [1] + [9] * 7, list(range(1, 11)), [16] * 4]
+LEVELS = [sizes for sizes in itertools.product(range(2, 17), repeat=3) if sizes[0] * sizes[1] * sizes[2] <= 64]
+PENDING = [list(range(n)) for n in range(5)] + [[1], [2], [3], [1, 2], [0, 3], [1, 3], [0, 2, 3]]
+
+
+def true_claims():
+    """Each family with its claims: a name, a read and a write expression."""
+    yield "majorities", [(n, most(block(0, n)), most(block(0, n))) for n in range(1, 65)]
+    yield "2f + 1 of 3f + 1", [(3 * f + 1, some(2 * f + 1, block(0, 3 * f + 1)), some(2 * f + 1, block(0, 3 * f + 1))) for f in range(1, 22)]
+    of_zones = [(p, q, z, m) for z, m in shapes(1) for p in range(1, z + 1) for q in range(1, m + 1)]
+    yield "zones and their duals", [((p, q, z, m), zones(p, q, z, m), zones(z - p + 1, m - q + 1, z, m)) for p, q, z, m in of_zones]
+    yield "grids, one of each row, a row", [((r, c), one_each(rows_of(r, c)), whole(rows_of(r, c))) for r, c in shapes(1)]
+    yield "grids, a row, one of each row", [((r, c), whole(rows_of(r, c)), one_each(rows_of(r, c))) for r, c in shapes(1)]
+    yield "grids, a column and one of each", [((r, c), column_and_one_each(r, c), column_and_one_each(r, c)) for r, c in shapes(1)]
+    yield "grids, one of each, with a column", [((r, c), one_each(columns_of(r, c)), column_and_one_each(r, c)) for r, c in shapes(1)]
+    yield "grids, with a column, one of each", [((r, c), column_and_one_each(r, c), one_each(columns_of(r, c))) for r, c in shapes(1)]
+    yield "majorities of three levels", [(sizes, levels(sizes), levels(sizes)) for sizes in LEVELS]
+    yield "trees", [(2**h - 1, tree(h), tree(h)) for h in range(2, 7)]
+    yield "projective planes", [(q * q + q + 1, whole(plane_lines(q)), whole(plane_lines(q))) for q in (2, 3, 5, 7)]
+    yield "crumbling walls", [(tuple(widths), wall(widths), wall(widths)) for widths in WALLS]
+    yield "full and tail", [
+        ((n, f), each([some(r, block(0, n)), some(1, block(0, f))]), some(1, [some(n + 1 - r, block(0, n)), each(block(0, f))]))
+        for n in range(2, 65, 4) for f in (1, n // 2, n - 1) if f for r in (1, n // 2, n)
+    ]
+
+
+def false_claims():
+    """The same for claims that don't hold."""
+    yield "majorities, one less", [(n, most(block(0, n)), some(n - n // 2 - 1, block(0, n))) for n in range(3, 65)]
+    yield "f + 1 and 2f of 3f + 1", [(3 * f + 1, some(f + 1, block(0, 3 * f + 1)), some(2 * f, block(0, 3 * f + 1))) for f in range(1, 22)]
+    of_zones = [(p, q, z, m) for z, m in shapes(1) for p in range(1, z + 1) for q in range(1, m + 1)]
+    yield "zones, a zone less", [((p, q, z, m), zones(p, q, z, m), zones(z - p, m - q + 1, z, m)) for p, q, z, m in of_zones if p < z]
+    yield "zones, a member less", [((p, q, z, m), zones(p, q, z, m), zones(z - p + 1, m - q, z, m)) for p, q, z, m in of_zones if q < m]
+    yield "grids, one of each row but one, a row", [((r, c), some(r - 1, one_each(rows_of(r, c))["of"]), whole(rows_of(r, c))) for r, c in shapes(2)]
+    yield "grids, a row but one, one of each", [((r, c), some(1, [some(c - 1, row) for row in rows_of(r, c)]), one_each(rows_of(r, c))) for r, c in shapes(2)]
+    yield "grids, a column, a column", [((r, c), whole(columns_of(r, c)), whole(columns_of(r, c))) for r, c in shapes(2)]
+    yield "grids, a column, one of each but one", [((r, c), column_and_one_each(r, c), some(c - 1, [some(1, x) for x in columns_of(r, c)[:-1]] + [each(columns_of(r, c)[-1])])) for r, c in shapes(2)]
+    yield "majorities of three levels, one less", [(sizes, levels(sizes), levels(sizes, less=1)) for sizes in LEVELS if sizes[2] % 2]
+    yield "trees, with one of three", [(2**h - 1, tree(h), tree(h, k=1)) for h in range(2, 7)]
+    yield "planes, a point less", [(q * q + q + 1, whole(plane_lines(q)), some(1, [some(q, x) for x in plane_lines(q)])) for q in (2, 3, 5, 7)]
+    yield "planes, two lines of one point less", [(q * q + q + 1, some(1, [some(q, x) for x in plane_lines(q)]), some(1, [some(q, x) for x in plane_lines(q)])) for q in (2, 3, 5, 7)]
+    yield "walls, rows alone", [(tuple(widths), wall(widths, False), wall(widths, False)) for widths in WALLS if len(widths) > 1]
+    yield "walls, a row alone", [(tuple(widths), wall(widths), wall(widths, False)) for widths in WALLS if len(widths) > 1]
+    yield "full and tail, without a full one", [
+        ((n, f), some(r, block(0, n)), some(1, [some(n + 1 - r, block(0, n)), each(block(0, f))])) for n in range(4, 65, 4) for f in (1, n // 2) for r in (1, n // 2) if r + f <= n
+    ]
+
+
+def configuration(parent, read, write):
+    members = sorted(members_of(read) | members_of(write))
+    return {"parent": parent, "members": members, "full": members, "read": read, "write": write, "meets": None, "step": None}
+
+
+def members_of(expression):
+    if isinstance(expression, int):
+        return {expression}
+    return set().union(*(members_of(child) for child in expression["of"]))
+
+
+def plan_text(groups):
+    return json.dumps({"format": 1, "lal": 10, "groups": groups}, separators=(",", ":"))
+
+
+def plans_of(claims):
+    """Plans of one configuration a group, sixteen groups each."""
+    groups = [{"configurations": [configuration(None, read, write)]} for _, read, write in claims]
+    return [plan_text(groups[i : i + 16]) for i in range(0, len(groups), 16)]
+
+
+def step_plans(base, k, less=0):
+    """Steps among the sets of up to four replacements, where any k of one of the sets read: from the sets of some pending replacements to those of others,
+    and from each set to each other by way of both."""
+    def among(parent, sets):
+        read, write = some(1, [some(k, x) for x in sets]), each([some(base + 1 - k - less, x) for x in sets])
+        return configuration(parent, read, write)
+
+    groups = []
+    for old, new in itertools.permutations(PENDING, 2):
+        groups.append({"configurations": [among(None, replaced(base, old)), among(0, replaced(base, new))]})
+    for old, new in itertools.permutations(replaced(base, PENDING[4]), 2):
+        groups.append({"configurations": [among(None, [old]), among(0, [old, new]), among(1, [new])]})
+    return [plan_text(groups[i : i + 16]) for i in range(0, len(groups), 16)]
+
+
+def families(chosen):
+    """Each family with the texts of its plans, and how many claims they have."""
+    for name, claims in true_claims() if chosen == "true" else false_claims():
+        yield name, plans_of(claims)
+    if chosen == "true":
+        for base, k in (6, 3), (5, 3), (3, 2), (7, 4), (16, 8), (60, 30):
+            yield f"steps, {k} of {base}", step_plans(base, k)
+    else:
+        for base, k in (6, 3), (16, 8):
+            yield f"steps, {k} of {base}, writes one less", step_plans(base, k, 1)
+
+
+def row(program, folder, name, texts):
+    """A line of the table."""
+    files = []
+    for number, text in enumerate(texts):
+        files.append(folder / f"plan_{number}.json")
+        files[-1].write_text(text)
+    out = subprocess.run([program, *map(str, files)], check=True, capture_output=True, text=True).stdout
+    seen = [tuple(map(int, line.split())) for line in out.splitlines()]
+    found = [size for size, _ in seen if size]
+    slowest = max(took for _, took in seen)
+    print(f"| {name} | {len(seen)} | {len(found)} | {max(found, default=0):,} | {slowest / 1e6:,.2f} ms |", flush=True)
+
+
+def main():
+    chosen = "false" if "--false" in sys.argv else "true"
+    if "--plans" in sys.argv:
+        folder = pathlib.Path(sys.argv[sys.argv.index("--plans") + 1])
+        folder.mkdir(parents=True, exist_ok=True)
+        for number, (name, texts) in enumerate(families(chosen)):
+            for part, text in enumerate(texts):
+                (folder / f"{chosen}_{number:02}_{part:04}.json").write_text(text)
+            print(number, name, len(texts))
+        return
+    with tempfile.TemporaryDirectory() as folder:
+        top = pathlib.Path(folder)
+        first = top / "first.json"
+        first.write_text(plans_of([("", most([0, 1, 2]), most([0, 1, 2]))])[0])
+        program = built(top, "family_work", PROGRAM, ["plan", "cert_search", "quorum_checker", "refutation"], [str(first)])
+        print("| Family | Claims | Found | Nodes, at most | Slowest |\n|---|---|---|---|---|")
+        for name, texts in families(chosen):
+            row(program, top, name, texts)
+
+
+if __name__ == "__main__":
+    main()
