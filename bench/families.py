@@ -4,7 +4,7 @@
     python3 bench/families.py
 
 It builds a small program over the crates `plan` and `cert_search` in a folder of its own, which takes some minutes, and then searches each claim of each
-family once, with the budget of the program `plan_tool`. With `--false` it does the same for claims that don't hold, close to those of the families. With
+family three times, with the budget of the program `plan_tool`. With `--false` it does the same for claims that don't hold, close to those of the families. With
 `--plans FOLDER` it writes the plans there and builds nothing.
 """
 import itertools
@@ -218,6 +218,10 @@ def false_claims():
     yield "planes, two lines of one point less", [(q * q + q + 1, some(1, [some(q, x) for x in plane_lines(q)]), some(1, [some(q, x) for x in plane_lines(q)])) for q in (2, 3, 5, 7)]
     yield "walls, rows alone", [(tuple(widths), wall(widths, False), wall(widths, False)) for widths in WALLS if len(widths) > 1]
     yield "walls, a row alone", [(tuple(widths), wall(widths), wall(widths, False)) for widths in WALLS if len(widths) > 1]
+    yield "sets of replacements, writes one less", [
+        ((base, k, pending), some(1, [some(k, x) for x in replaced(base, pending)]), each([some(base - k, x) for x in replaced(base, pending)]))
+        for base, k in ((6, 3), (16, 8), (60, 30)) for pending in PENDING
+    ]
     yield "full and tail, without a full one", [
         ((n, f), some(r, block(0, n)), some(1, [some(n + 1 - r, block(0, n)), each(block(0, f))])) for n in range(4, 65, 4) for f in (1, n // 2) for r in (1, n // 2) if r + f <= n
     ]
@@ -244,18 +248,19 @@ def plans_of(claims):
     return [plan_text(groups[i : i + 16]) for i in range(0, len(groups), 16)]
 
 
-def step_plans(base, k, less=0):
-    """Steps among the sets of up to four replacements, where any k of one of the sets read: from the sets of some pending replacements to those of others,
-    and from each set to each other by way of both."""
-    def among(parent, sets):
-        read, write = some(1, [some(k, x) for x in sets]), each([some(base + 1 - k - less, x) for x in sets])
-        return configuration(parent, read, write)
+def among(parent, sets, k):
+    """Any k of one of the sets read, and as many of each as meet these write."""
+    return configuration(parent, some(1, [some(k, x) for x in sets]), each([some(len(x) + 1 - k, x) for x in sets]))
 
+
+def step_plans(base, k, less=0):
+    """Steps among the sets of up to four replacements, where any k of one of the sets read, less of them after a step: from the sets of some pending
+    replacements to those of others, and from each set to each other by way of both."""
     groups = []
     for old, new in itertools.permutations(PENDING, 2):
-        groups.append({"configurations": [among(None, replaced(base, old)), among(0, replaced(base, new))]})
+        groups.append({"configurations": [among(None, replaced(base, old), k), among(0, replaced(base, new), k - less)]})
     for old, new in itertools.permutations(replaced(base, PENDING[4]), 2):
-        groups.append({"configurations": [among(None, [old]), among(0, [old, new]), among(1, [new])]})
+        groups.append({"configurations": [among(None, [old], k), among(0, [old, new], k - less), among(1, [new], k - 2 * less)]})
     return [plan_text(groups[i : i + 16]) for i in range(0, len(groups), 16)]
 
 
@@ -268,20 +273,25 @@ def families(chosen):
             yield f"steps, {k} of {base}", step_plans(base, k)
     else:
         for base, k in (6, 3), (16, 8):
-            yield f"steps, {k} of {base}, writes one less", step_plans(base, k, 1)
+            yield f"steps, {k} of {base}, then less", step_plans(base, k, 1)
+
+
+def searched(program, files):
+    """How many nodes the certificate of each claim has, and the nanoseconds it took."""
+    out = subprocess.run([program, *map(str, files)], check=True, capture_output=True, text=True).stdout
+    return [tuple(map(int, line.split())) for line in out.splitlines()]
 
 
 def row(program, folder, name, texts):
-    """A line of the table."""
+    """A line of the table: of three searches of a claim the quickest counts."""
     files = []
     for number, text in enumerate(texts):
         files.append(folder / f"plan_{number}.json")
         files[-1].write_text(text)
-    out = subprocess.run([program, *map(str, files)], check=True, capture_output=True, text=True).stdout
-    seen = [tuple(map(int, line.split())) for line in out.splitlines()]
-    found = [size for size, _ in seen if size]
-    slowest = max(took for _, took in seen)
-    print(f"| {name} | {len(seen)} | {len(found)} | {max(found, default=0):,} | {slowest / 1e6:,.2f} ms |", flush=True)
+    seen = [searched(program, files) for _ in range(3)]
+    found = [size for size, _ in seen[0] if size]
+    slowest = max(min(took for _, took in one) for one in zip(*seen))
+    print(f"| {name} | {len(seen[0]):,} | {len(found):,} | {max(found, default=0):,} | {slowest / 1e6:,.2f} ms |", flush=True)
 
 
 def main():
