@@ -308,7 +308,7 @@ def main():
         top = pathlib.Path(folder)
         first = top / "first.json"
         first.write_text(plans_of([("", most([0, 1, 2]), most([0, 1, 2]))])[0])
-        program = built(top, "family_work", PROGRAM, ["plan", "cert_search", "quorum_checker", "refutation"], [str(first)])
+        program = built(top, "family_work", PROGRAM, ["quorum_expr", "refutation", "plan", "cert_search", "quorum_checker"], [str(first)])
         print("| Family | Claims | Found | Nodes, at most | Slowest |\n|---|---|---|---|---|")
         for name, texts in families(chosen):
             row(program, top, name, texts)
