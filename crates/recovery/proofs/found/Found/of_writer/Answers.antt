@@ -2,6 +2,7 @@ use Rattle.std.proofs.Common.{◌≡◌, Bool, true, false, ◌&&◌, ◌++◌, 
 use Rattle.std.proofs.lemmas.List.{take-append-drop}
 use Rattle.volume_model.specs.Lists.{added}
 use Rattle.volume_model.specs.Redo.{Redo}
+use Rattle.volume_model.specs.Lineage.{last_cut}
 use Rattle.redo_record.specs.declared.packet.Packet.{Packet}
 use Rattle.redo_record.specs.Packet.{packet_redo}
 use Rattle.writer_core.specs.Logs.{log_of, is_growing}
@@ -31,3 +32,10 @@ invariant_of-result-clause-growing c =
     let front : is_growing (log_of (take writer.found writer.log.items)) ≡ true =
     older_grows (map packet_redo (drop writer.found writer.log.items)) (log_of (take writer.found writer.log.items)) (ap is_growing (sym whole) ∙ writer.growing) in
     ap is_growing same ∙ front
+
+pub returns : goal.returns
+returns c = record {
+  log_is = log_of-copied c.found.result.now c.in_ok-to_vec.field-0.items c.in_ok-to_vec.ensures.ok ∙ c.found.ensures;
+  cut_is = c.last_cut.ensures ∙ ap last_cut c.lineage.ensures;
+  lineage_is = c.in_ok-clone.ensures.cases ∙ c.lineage-2.ensures;
+}
