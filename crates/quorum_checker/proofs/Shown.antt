@@ -1,0 +1,119 @@
+-- What items stand for, and lists of them.
+use Rattle.std.proofs.Common.{◌≡◌, ℕ, zero, suc, ◌+◌, ◌-◌, ◌<◌, ◌≤◌, List, [], ◌∷◌, ◌++◌, length, take, drop, get_or, map, vec_len, add-one, arith, refl, ap, ◌∙◌, sym, subst}
+use Rattle.std.specs.Prelude.{Bool, true, false, Vec, Some, None, remove, insert, slice_get, slice_index_or, if◌then◌else◌}
+use Rattle.std.proofs.Math.Seq.{take-append_seam}
+use Rattle.std.proofs.lemmas.List.{length-map, map-append}
+use Rattle.std.proofs.lemmas.Simd.{map-map}
+use Rattle.volume_model.specs.Formula.{Formula, member, at_least, each_once, dual_of}
+use Rattle.volume_model.proofs.FormulaLaws.{formulas-each_once}
+use Rattle.quorum_expr.specs.declared.expression.Expr.{Expr}
+use Rattle.quorum_expr.specs.declared.expression.Expr.TheVariants.{Member, KOf}
+use Rattle.quorum_expr.specs.Expr.{formula_of}
+use Rattle.quorum_expr.proofs.ExprLaws.{formula_of-Member, formula_of-KOf}
+use Rattle.quorum_expr.proofs.Rebuilt.{dual_of-KOf}
+use Rattle.refutation.specs.declared.Side.{Side}
+use Rattle.refutation.specs.declared.Side.TheVariants.{Left, Right}
+use Rattle.quorum_checker.specs.Items.{shown_as, IsMember, IsThreshold}
+use Rattle.quorum_checker.specs.Refutes.{State, items_of, absent_of, with_items, with_absent, without, replaced, paired}
+use Rattle.quorum_checker.specs.FirstFault.{children_of, place}
+
+-- how many children a threshold or its dual asks for
+abbrev pub asked : Bool → ℕ → ℕ → ℕ
+asked is_dual k all = (if is_dual then all + 1 - k else k)
+
+pub shown_as-KOf : {A : Type 0} (is_dual : Bool) (e : Expr A) (k : ℕ) (of : Vec (Expr A) A) → e ≡ KOf k of → shown_as is_dual e ≡ at_least (asked is_dual k (vec_len of)) (each_once (map (shown_as is_dual) of.items))
+shown_as-KOf true e k of is = ap (shown_as true) is ∙ dual_of-KOf k of
+shown_as-KOf false e k of is = ap formula_of is ∙ formula_of-KOf k of
+
+pub shown_as-Member : {A : Type 0} (is_dual : Bool) (e : Expr A) (m : ℕ) → e ≡ Member m → shown_as is_dual e ≡ member m
+shown_as-Member {A} true e m is = ap (λ x. dual_of (formula_of x)) is ∙ ap dual_of (formula_of-Member A m)
+shown_as-Member {A} false e m is = ap formula_of is ∙ formula_of-Member A m
+
+pub shown_children : {A : Type 0} (is_dual : Bool) (e : Expr A) (k : ℕ) (of : Vec (Expr A) A) → e ≡ KOf k of → children_of (shown_as is_dual e) ≡ map (shown_as is_dual) of.items
+shown_children is_dual e k of is = ap children_of (shown_as-KOf is_dual e k of is) ∙ formulas-each_once (map (shown_as is_dual) of.items)
+
+pub no_children : {A : Type 0} (is_dual : Bool) (e : Expr A) (m : ℕ) → e ≡ Member m → children_of (shown_as is_dual e) ≡ []
+no_children is_dual e m is = ap children_of (shown_as-Member is_dual e m is)
+
+pub threshold-is : {A : Type 0} (is_dual : Bool) (e : Expr A) (k n all : ℕ) (of : Vec (Expr A) A) → e ≡ KOf k of → n ≡ asked is_dual k (vec_len of) → all ≡ vec_len of → IsThreshold (shown_as is_dual e) n all
+threshold-is is_dual e k n all of is asks many =
+    (map (shown_as is_dual) of.items, shown_as-KOf is_dual e k of is ∙ ap (λ m. at_least m (each_once (map (shown_as is_dual) of.items))) (sym asks), length-map of.items (shown_as is_dual) ∙ sym of.ok.0 ∙ sym many)
+
+-- an element of a list, seen through f
+pub place-map : {P : Type 0} (f : P → Formula) (xs : List P) (i : ℕ) (x : P) → i < length xs → x ≡ get_or xs i x → f x ≡ place (map f xs) i
+place-map f [] i x h is = absurd (omega arith)
+place-map f (y ∷ xs) zero x h is = ap f is
+place-map f (y ∷ xs) (suc i) x h is = place-map f xs i x (omega arith) is
+
+-- ---- an item is taken out and put back
+
+pub put_again : {P : Type 0} (xs : List P) (i : ℕ) (x : P) → slice_get xs i ≡ Some x → insert (remove xs i) i x ≡ xs
+put_again [] i x h = cc
+put_again (y ∷ xs) zero x h = let same : y ≡ x = cc in ap (λ z. z ∷ xs) (sym same)
+put_again (y ∷ xs) (suc i) x h = ap (λ zs. y ∷ zs) (put_again xs i x h)
+
+pub shorter : {P : Type 0} (xs : List P) (i : ℕ) → i < length xs → i ≤ length (remove xs i)
+shorter [] i h = absurd (omega arith)
+shorter (y ∷ xs) zero h = omega arith
+shorter (y ∷ xs) (suc i) h = let rest : i ≤ length (remove xs i) = shorter xs i (omega arith) in omega (arith, rest)
+
+pub map-remove : {P Q : Type 0} (f : P → Q) (xs : List P) (i : ℕ) → map f (remove xs i) ≡ remove (map f xs) i
+map-remove f [] zero = refl
+map-remove f [] (suc i) = refl
+map-remove f (x ∷ xs) zero = refl
+map-remove f (x ∷ xs) (suc i) = ap (λ ys. f x ∷ ys) (map-remove f xs i)
+
+pub map-insert : {P Q : Type 0} (f : P → Q) (xs : List P) (i : ℕ) (y : P) → map f (insert xs i y) ≡ insert (map f xs) i (f y)
+map-insert f [] zero y = refl
+map-insert f [] (suc i) y = refl
+map-insert f (x ∷ xs) zero y = refl
+map-insert f (x ∷ xs) (suc i) y = ap (λ ys. f x ∷ ys) (map-insert f xs i y)
+
+pub map-take : {P Q : Type 0} (f : P → Q) (n : ℕ) (xs : List P) → map f (take n xs) ≡ take n (map f xs)
+map-take f zero xs = refl
+map-take f (suc n) [] = refl
+map-take f (suc n) (x ∷ xs) = ap (λ ys. f x ∷ ys) (map-take f n xs)
+
+pub slice_get-map : {P Q : Type 0} (f : P → Q) (xs : List P) (i : ℕ) (x : P) → slice_get xs i ≡ Some x → slice_get (map f xs) i ≡ Some (f x)
+slice_get-map f [] i x h = cc
+slice_get-map f (y ∷ xs) zero x h = let same : y ≡ x = cc in ap (λ z. Some (f z)) same
+slice_get-map f (y ∷ xs) (suc i) x h = slice_get-map f xs i x h
+
+pub slice_get-none : {P Q : Type 0} (f : P → Q) (xs : List P) (i : ℕ) → slice_get xs i ≡ None → slice_get (map f xs) i ≡ None
+slice_get-none f [] i h = refl
+slice_get-none f (y ∷ xs) zero h = cc
+slice_get-none f (y ∷ xs) (suc i) h = slice_get-none f xs i h
+
+-- ---- states
+
+-- the items of a side are replaced twice
+pub with_again : (side : Side) (fs gs : List Formula) (st : State) → with_items side gs (with_items side fs st) ≡ with_items side gs st
+with_again Left fs gs st = refl
+with_again Right fs gs st = refl
+
+pub items_with : (side : Side) (fs : List Formula) (st : State) → items_of side (with_items side fs st) ≡ fs
+items_with Left fs st = refl
+items_with Right fs st = refl
+
+pub with_same : (side : Side) (st : State) → with_items side (items_of side st) st ≡ st
+with_same Left st = refl
+with_same Right st = refl
+
+-- what was pushed is dropped again
+pub cut_again : (side : Side) (fs gs : List Formula) (n : ℕ) (st : State) → n ≡ length fs → with_items side (take n (items_of side (with_items side (fs ++ gs) st))) (with_items side (fs ++ gs) st) ≡ with_items side fs st
+cut_again side fs gs n st same =
+    with_again side (fs ++ gs) (take n (items_of side (with_items side (fs ++ gs) st))) st
+    ∙ ap (λ hs. with_items side (take n hs) st) (items_with side (fs ++ gs) st)
+    ∙ ap (λ hs. with_items side hs st) (ap (λ m. take m (fs ++ gs)) same ∙ take-append_seam fs gs)
+
+-- what was taken out is put back
+pub back_again : (side : Side) (at : ℕ) (f : Formula) (st : State) → slice_get (items_of side st) at ≡ Some f → with_items side (insert (items_of side (with_items side (remove (items_of side st) at) st)) at f) (with_items side (remove (items_of side st) at) st) ≡ st
+back_again side at f st found =
+    with_again side (remove (items_of side st) at) (insert (items_of side (with_items side (remove (items_of side st) at) st)) at f) st
+    ∙ ap (λ hs. with_items side (insert hs at f) st) (items_with side (remove (items_of side st) at) st)
+    ∙ ap (λ hs. with_items side hs st) (put_again (items_of side st) at f found)
+    ∙ with_same side st
+
+pub absent_again : (side : Side) (x : ℕ) (st : State) → with_absent side (absent_of side st) (without side x st) ≡ st
+absent_again Left x st = refl
+absent_again Right x st = refl
