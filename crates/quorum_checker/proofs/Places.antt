@@ -105,8 +105,38 @@ twice n c seen cs h = seen_before (good_places n (c ∷ cs)) (get_or seen c fals
 
 -- ---- one place after the other, seen through f
 
-pub first_left : {P : Type 0} (f : P → ℕ) (xs : List P) (i : ℕ) (d : P) → i < length xs → map f (drop i xs) ≡ f (get_or xs i d) ∷ map f (drop (i + 1) xs)
+pub next_left : (xs : List ℕ) (i : ℕ) → i < length xs → drop i xs ≡ get_or xs i 0 ∷ drop (i + 1) xs
+next_left xs i h = drop-cons xs i 0 h ∙ ap (λ n. get_or xs i 0 ∷ drop n xs) (sym (add-one i))
+
+first_left : {P : Type 0} (f : P → ℕ) (xs : List P) (i : ℕ) (d : P) → i < length xs → map f (drop i xs) ≡ f (get_or xs i d) ∷ map f (drop (i + 1) xs)
 first_left f xs i d h = ap (map f) (drop-cons xs i d h) ∙ ap (λ n. f (get_or xs i d) ∷ map f (drop n xs)) (sym (add-one i))
 
-pub none_left : {P : Type 0} (f : P → ℕ) (xs : List P) (n i : ℕ) (seen : List Bool) → length xs ≤ i → rest_good n seen (map f (drop i xs)) ≡ true
-none_left f xs n i seen h = ap (λ ys. rest_good n seen (map f ys)) (drop_all i xs h)
+-- the place at hand is good
+pub good_turn : (xs : List ℕ) (n i a : ℕ) (seen : List Bool) (whole : Bool) → i < length xs → a ≡ get_or xs i 0 → a < n → get_or seen a false ≡ false → a < length seen → rest_good n seen (drop i xs) ≡ whole → rest_good n (set seen a true) (drop (i + 1) xs) ≡ whole
+good_turn xs n i a seen whole h is below new room before =
+    sym (marked n a seen (drop (i + 1) xs) below new room) ∙ ap (rest_good n seen) (ap (λ b. b ∷ drop (i + 1) xs) is ∙ sym (next_left xs i h)) ∙ before
+
+pub good_turn_by : {P : Type 0} (f : P → ℕ) (xs : List P) (n i a : ℕ) (d : P) (seen : List Bool) (whole : Bool) → i < length xs → a ≡ f (get_or xs i d) → a < n → get_or seen a false ≡ false → a < length seen → rest_good n seen (map f (drop i xs)) ≡ whole → rest_good n (set seen a true) (map f (drop (i + 1) xs)) ≡ whole
+good_turn_by f xs n i a d seen whole h is below new room before =
+    sym (marked n a seen (map f (drop (i + 1) xs)) below new room) ∙ ap (rest_good n seen) (ap (λ b. b ∷ map f (drop (i + 1) xs)) is ∙ sym (first_left f xs i d h)) ∙ before
+
+-- it is too large
+pub large_turn : (xs : List ℕ) (n i a : ℕ) (seen : List Bool) (whole : Bool) → i < length xs → a ≡ get_or xs i 0 → n ≤ a → rest_good n seen (drop i xs) ≡ whole → false ≡ whole
+large_turn xs n i a seen whole h is far before = sym (beyond n a seen (drop (i + 1) xs) far) ∙ ap (rest_good n seen) (ap (λ b. b ∷ drop (i + 1) xs) is ∙ sym (next_left xs i h)) ∙ before
+
+pub large_turn_by : {P : Type 0} (f : P → ℕ) (xs : List P) (n i a : ℕ) (d : P) (seen : List Bool) (whole : Bool) → i < length xs → a ≡ f (get_or xs i d) → n ≤ a → rest_good n seen (map f (drop i xs)) ≡ whole → false ≡ whole
+large_turn_by f xs n i a d seen whole h is far before = sym (beyond n a seen (map f (drop (i + 1) xs)) far) ∙ ap (rest_good n seen) (ap (λ b. b ∷ map f (drop (i + 1) xs)) is ∙ sym (first_left f xs i d h)) ∙ before
+
+-- it was marked before
+pub seen_turn : (xs : List ℕ) (n i a : ℕ) (seen : List Bool) (whole : Bool) → i < length xs → a ≡ get_or xs i 0 → get_or seen a false ≡ true → rest_good n seen (drop i xs) ≡ whole → false ≡ whole
+seen_turn xs n i a seen whole h is old before = sym (twice n a seen (drop (i + 1) xs) old) ∙ ap (rest_good n seen) (ap (λ b. b ∷ drop (i + 1) xs) is ∙ sym (next_left xs i h)) ∙ before
+
+pub seen_turn_by : {P : Type 0} (f : P → ℕ) (xs : List P) (n i a : ℕ) (d : P) (seen : List Bool) (whole : Bool) → i < length xs → a ≡ f (get_or xs i d) → get_or seen a false ≡ true → rest_good n seen (map f (drop i xs)) ≡ whole → false ≡ whole
+seen_turn_by f xs n i a d seen whole h is old before = sym (twice n a seen (map f (drop (i + 1) xs)) old) ∙ ap (rest_good n seen) (ap (λ b. b ∷ map f (drop (i + 1) xs)) is ∙ sym (first_left f xs i d h)) ∙ before
+
+-- none is left
+pub all_tested : {P : Type 0} (f : P → ℕ) (xs : List P) (n i : ℕ) (seen : List Bool) (whole : Bool) → length xs ≤ i → rest_good n seen (map f (drop i xs)) ≡ whole → true ≡ whole
+all_tested f xs n i seen whole h before = sym (ap (λ ys. rest_good n seen (map f ys)) (drop_all i xs h)) ∙ before
+
+pub all_places : (xs : List ℕ) (n i : ℕ) (seen : List Bool) (whole : Bool) → length xs ≤ i → rest_good n seen (drop i xs) ≡ whole → true ≡ whole
+all_places xs n i seen whole h before = sym (ap (rest_good n seen) (drop_all i xs h)) ∙ before

@@ -67,8 +67,10 @@ pub fn check_rule<A: Allocator, B: Allocator>(
             left,
             right,
         } => {
-            check_case(0, Side::Left, *member, left, items)?;
-            check_case(1, Side::Right, *member, right, items)
+            match check_case(0, Side::Left, *member, left, items) {
+                Ok(()) => check_case(1, Side::Right, *member, right, items),
+                Err(e) => Err(e),
+            }
         }
     }
 }
@@ -90,9 +92,13 @@ fn check_case<A: Allocator, B: Allocator>(
 {
     let absent = items.absent(side);
     items.set_absent(side, absent.with(member));
-    inside(branch, check_rule(then, items))?;
-    items.set_absent(side, absent);
-    Ok(())
+    match inside(branch, check_rule(then, items)) {
+        Ok(()) => {
+            items.set_absent(side, absent);
+            Ok(())
+        }
+        Err(e) => Err(e),
+    }
 }
 
 #[cycle(rules)]
@@ -113,9 +119,13 @@ fn check_open<A: Allocator, B: Allocator>(
     }
     let kept = items.take_out(side, item);
     items.push_children(side, target)?;
-    inside(0, check_rule(then, items))?;
-    items.truncate(side, kept);
-    items.put_back(side, item, target)
+    match inside(0, check_rule(then, items)) {
+        Ok(()) => {
+            items.truncate(side, kept);
+            items.put_back(side, item, target)
+        }
+        Err(e) => Err(e),
+    }
 }
 
 #[cycle(rules)]
