@@ -5,8 +5,8 @@ use Rattle.redo_record.proofs.record_set.RecordSetClone.clone.Goals as goal
 
 pub invariant_of-result : goal.invariant_of-result
 invariant_of-result c = record {
-  in_order = subst IsInOrder (sym (redos-copied c.args.self.now.packets.items c.in_ok-clone.field-0.items c.in_ok-clone.ensures.cases.0)) c.args.self.now.in_order;
+  in_order = subst IsInOrder (sym (redos-copied c.args.self.now.packets.items c.in_ok-packets.packets.items c.in_ok-packets.ensures.cases.0)) c.args.self.now.in_order;
 }
 
 pub returns : goal.returns
-returns c = record { cases = redos-copied c.args.self.now.packets.items c.in_ok-clone.field-0.items c.in_ok-clone.ensures.cases.0 }
+returns c = record { cases = redos-copied c.args.self.now.packets.items c.in_ok-packets.packets.items c.in_ok-packets.ensures.cases.0 }
