@@ -1,10 +1,10 @@
 -- The items of a node, by their formulas.
-use Rattle.std.proofs.Common.{◌≡◌, ℕ, zero, suc, ◌+◌, ◌<◌, ◌≤◌, List, [], ◌∷◌, ◌++◌, take, drop, add-one, arith, length, map, vec_len, refl, ap, ◌∙◌, sym, subst}
-use Rattle.std.specs.Prelude.{Bool, true, false, not, ◌&&◌, nat_lt, Vec, Option, if◌then◌else◌, ◌==◌, None, Some, remove, slice_get}
+use Rattle.std.proofs.Common.{◌≡◌, ℕ, zero, suc, ◌+◌, ◌<◌, ◌≤◌, List, [], ◌∷◌, arith, length, map, refl, ap, ◌∙◌, sym, subst}
+use Rattle.std.specs.Prelude.{Bool, true, false, not, ◌&&◌, nat_lt, Vec, Option, if◌then◌else◌, ◌==◌, None, Some, slice_get}
 use Rattle.std.specs.List.{list_any}
 use mathlib.Core.Bool.{true≢false}
 use Rattle.std.proofs.lemmas.Bool.Decides.{nat_tests}
-use Rattle.std.proofs.lemmas.List.{length-map, map-append}
+use Rattle.std.proofs.lemmas.List.{length-map}
 use Rattle.quorum_expr.specs.declared.expression.Expr.{Expr}
 use Rattle.quorum_expr.specs.declared.expression.Expr.TheVariants.{KOf}
 use Rattle.volume_model.specs.Formula.{Formula, member, at_least, each_once, total_weight, formulas, weight_at, HasCounts}

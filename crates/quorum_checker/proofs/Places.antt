@@ -1,6 +1,5 @@
 -- Numbers that are marked one after the other.
-use Rattle.std.proofs.Common.{◌≡◌, ℕ, zero, suc, ◌+◌, ◌<◌, ◌≤◌, List, [], ◌∷◌, length, get_or, set, drop, map, arith, refl, ap, ◌∙◌, sym, add-one, drop-cons, replicate}
-use Rattle.std.proofs.lemmas.List.{drop_all}
+use Rattle.std.proofs.Common.{◌≡◌, ℕ, zero, suc, ◌+◌, ◌<◌, List, [], ◌∷◌, length, get_or, set, drop, map, arith, refl, ap, ◌∙◌, sym, add-one, drop-cons, replicate}
 use Rattle.std.specs.Prelude.{Bool, true, false, not, ◌&&◌, ◌||◌, ◌==◌, nat_lt}
 use Rattle.std.specs.List.{list_any}
 use Rattle.std.proofs.lemmas.Bool.Decides.{nat_tests}
@@ -86,23 +85,6 @@ marked n c seen cs below new room =
     shuffle (nat_lt c n) (not (list_any (λ d. d == c) cs)) (good_places n cs) (get_or seen c false) (list_any (λ d. get_or seen d false) cs) (grind (arith, nat_tests)) new
     ∙ ap (λ b. good_places n cs && b) (sym (unmarked_more seen c cs room))
 
-too_far : (lt rest fresh : Bool) → lt ≡ false → ((lt && rest) && fresh) ≡ false
-too_far true rest fresh h = absurd (cc)
-too_far false rest fresh h = refl
-
--- it isn't below the bound
-pub beyond : (n c : ℕ) (seen : List Bool) (cs : List ℕ) → n ≤ c → rest_good n seen (c ∷ cs) ≡ false
-beyond n c seen cs h = too_far (nat_lt c n) (not (list_any (λ d. d == c) cs) && good_places n cs) (unmarked seen (c ∷ cs)) (grind (arith, nat_tests))
-
-seen_before : (good seen fresh : Bool) → seen ≡ true → (good && not (seen || fresh)) ≡ false
-seen_before true true fresh h = refl
-seen_before false true fresh h = refl
-seen_before good false fresh h = absurd (cc)
-
--- it is marked
-pub twice : (n c : ℕ) (seen : List Bool) (cs : List ℕ) → get_or seen c false ≡ true → rest_good n seen (c ∷ cs) ≡ false
-twice n c seen cs h = seen_before (good_places n (c ∷ cs)) (get_or seen c false) (list_any (λ d. get_or seen d false) cs) h
-
 -- ---- one place after the other, seen through f
 
 pub next_left : (xs : List ℕ) (i : ℕ) → i < length xs → drop i xs ≡ get_or xs i 0 ∷ drop (i + 1) xs
@@ -119,24 +101,3 @@ good_turn xs n i a seen whole h is below new room before =
 pub good_turn_by : {P : Type 0} (f : P → ℕ) (xs : List P) (n i a : ℕ) (d : P) (seen : List Bool) (whole : Bool) → i < length xs → a ≡ f (get_or xs i d) → a < n → get_or seen a false ≡ false → a < length seen → rest_good n seen (map f (drop i xs)) ≡ whole → rest_good n (set seen a true) (map f (drop (i + 1) xs)) ≡ whole
 good_turn_by f xs n i a d seen whole h is below new room before =
     sym (marked n a seen (map f (drop (i + 1) xs)) below new room) ∙ ap (rest_good n seen) (ap (λ b. b ∷ map f (drop (i + 1) xs)) is ∙ sym (first_left f xs i d h)) ∙ before
-
--- it is too large
-pub large_turn : (xs : List ℕ) (n i a : ℕ) (seen : List Bool) (whole : Bool) → i < length xs → a ≡ get_or xs i 0 → n ≤ a → rest_good n seen (drop i xs) ≡ whole → false ≡ whole
-large_turn xs n i a seen whole h is far before = sym (beyond n a seen (drop (i + 1) xs) far) ∙ ap (rest_good n seen) (ap (λ b. b ∷ drop (i + 1) xs) is ∙ sym (next_left xs i h)) ∙ before
-
-pub large_turn_by : {P : Type 0} (f : P → ℕ) (xs : List P) (n i a : ℕ) (d : P) (seen : List Bool) (whole : Bool) → i < length xs → a ≡ f (get_or xs i d) → n ≤ a → rest_good n seen (map f (drop i xs)) ≡ whole → false ≡ whole
-large_turn_by f xs n i a d seen whole h is far before = sym (beyond n a seen (map f (drop (i + 1) xs)) far) ∙ ap (rest_good n seen) (ap (λ b. b ∷ map f (drop (i + 1) xs)) is ∙ sym (first_left f xs i d h)) ∙ before
-
--- it was marked before
-pub seen_turn : (xs : List ℕ) (n i a : ℕ) (seen : List Bool) (whole : Bool) → i < length xs → a ≡ get_or xs i 0 → get_or seen a false ≡ true → rest_good n seen (drop i xs) ≡ whole → false ≡ whole
-seen_turn xs n i a seen whole h is old before = sym (twice n a seen (drop (i + 1) xs) old) ∙ ap (rest_good n seen) (ap (λ b. b ∷ drop (i + 1) xs) is ∙ sym (next_left xs i h)) ∙ before
-
-pub seen_turn_by : {P : Type 0} (f : P → ℕ) (xs : List P) (n i a : ℕ) (d : P) (seen : List Bool) (whole : Bool) → i < length xs → a ≡ f (get_or xs i d) → get_or seen a false ≡ true → rest_good n seen (map f (drop i xs)) ≡ whole → false ≡ whole
-seen_turn_by f xs n i a d seen whole h is old before = sym (twice n a seen (map f (drop (i + 1) xs)) old) ∙ ap (rest_good n seen) (ap (λ b. b ∷ map f (drop (i + 1) xs)) is ∙ sym (first_left f xs i d h)) ∙ before
-
--- none is left
-pub all_tested : {P : Type 0} (f : P → ℕ) (xs : List P) (n i : ℕ) (seen : List Bool) (whole : Bool) → length xs ≤ i → rest_good n seen (map f (drop i xs)) ≡ whole → true ≡ whole
-all_tested f xs n i seen whole h before = sym (ap (λ ys. rest_good n seen (map f ys)) (drop_all i xs h)) ∙ before
-
-pub all_places : (xs : List ℕ) (n i : ℕ) (seen : List Bool) (whole : Bool) → length xs ≤ i → rest_good n seen (drop i xs) ≡ whole → true ≡ whole
-all_places xs n i seen whole h before = sym (ap (rest_good n seen) (drop_all i xs h)) ∙ before

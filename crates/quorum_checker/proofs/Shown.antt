@@ -1,12 +1,11 @@
 -- What items stand for, and lists of them.
-use Rattle.std.proofs.Common.{◌≡◌, ℕ, zero, suc, ◌+◌, ◌-◌, ◌<◌, ◌≤◌, List, [], ◌∷◌, ◌++◌, length, take, drop, get_or, map, vec_len, add-one, arith, refl, ap, ◌∙◌, sym, subst}
-use Rattle.std.specs.Prelude.{Bool, true, false, Vec, Some, None, remove, insert, slice_get, slice_index_or, if◌then◌else◌}
+use Rattle.std.proofs.Common.{◌≡◌, ℕ, zero, suc, ◌+◌, ◌-◌, ◌<◌, ◌≤◌, List, [], ◌∷◌, ◌++◌, length, take, map, vec_len, arith, refl, ap, ◌∙◌, sym}
+use Rattle.std.specs.Prelude.{Bool, true, false, Vec, Some, remove, insert, slice_get, if◌then◌else◌}
 use Rattle.std.specs.Ordering.{nat_cmp}
 use Rattle.std.specs.FinSet.{FinSet}
 use Rattle.std.specs.FinSet.{insert as put}
 use Rattle.std.proofs.Math.Seq.{take-append_seam}
-use Rattle.std.proofs.lemmas.List.{length-map, map-append}
-use Rattle.std.proofs.lemmas.Simd.{map-map}
+use Rattle.std.proofs.lemmas.List.{length-map}
 use Rattle.volume_model.specs.Formula.{Formula, member, at_least, each_once, dual_of}
 use Rattle.volume_model.proofs.FormulaLaws.{formulas-each_once}
 use Rattle.quorum_expr.specs.declared.expression.Expr.{Expr}
@@ -16,9 +15,9 @@ use Rattle.quorum_expr.proofs.ExprLaws.{formula_of-Member, formula_of-KOf}
 use Rattle.quorum_expr.proofs.Rebuilt.{dual_of-KOf}
 use Rattle.refutation.specs.declared.Side.{Side}
 use Rattle.refutation.specs.declared.Side.TheVariants.{Left, Right}
-use Rattle.quorum_checker.specs.Items.{shown_as, IsMember, IsThreshold}
-use Rattle.quorum_checker.specs.Refutes.{State, items_of, absent_of, with_items, with_absent, without, replaced, paired}
-use Rattle.quorum_checker.specs.FirstFault.{children_of, place}
+use Rattle.quorum_checker.specs.Items.{shown_as, IsThreshold}
+use Rattle.quorum_checker.specs.Refutes.{State, items_of, absent_of, with_items, with_absent, without, paired}
+use Rattle.quorum_checker.specs.FirstFault.{children_of}
 use Rattle.quorum_checker.proofs.Nodes.{index_of-Some}
 
 -- how many children a threshold or its dual asks for
@@ -42,12 +41,6 @@ no_children is_dual e m is = ap children_of (shown_as-Member is_dual e m is)
 pub threshold-is : {A : Type 0} (is_dual : Bool) (e : Expr A) (k n all : ℕ) (of : Vec (Expr A) A) → e ≡ KOf k of → n ≡ asked is_dual k (vec_len of) → all ≡ vec_len of → IsThreshold (shown_as is_dual e) n all
 threshold-is is_dual e k n all of is asks many =
     (map (shown_as is_dual) of.items, shown_as-KOf is_dual e k of is ∙ ap (λ m. at_least m (each_once (map (shown_as is_dual) of.items))) (sym asks), length-map of.items (shown_as is_dual) ∙ sym of.ok.0 ∙ sym many)
-
--- an element of a list, seen through f
-pub place-map : {P : Type 0} (f : P → Formula) (xs : List P) (i : ℕ) (x : P) → i < length xs → x ≡ get_or xs i x → f x ≡ place (map f xs) i
-place-map f [] i x h is = absurd (omega arith)
-place-map f (y ∷ xs) zero x h is = ap f is
-place-map f (y ∷ xs) (suc i) x h is = place-map f xs i x (omega arith) is
 
 -- ---- an item is taken out and put back
 
@@ -77,16 +70,6 @@ pub map-take : {P Q : Type 0} (f : P → Q) (n : ℕ) (xs : List P) → map f (t
 map-take f zero xs = refl
 map-take f (suc n) [] = refl
 map-take f (suc n) (x ∷ xs) = ap (λ ys. f x ∷ ys) (map-take f n xs)
-
-pub slice_get-map : {P Q : Type 0} (f : P → Q) (xs : List P) (i : ℕ) (x : P) → slice_get xs i ≡ Some x → slice_get (map f xs) i ≡ Some (f x)
-slice_get-map f [] i x h = cc
-slice_get-map f (y ∷ xs) zero x h = let same : y ≡ x = cc in ap (λ z. Some (f z)) same
-slice_get-map f (y ∷ xs) (suc i) x h = slice_get-map f xs i x h
-
-pub slice_get-none : {P Q : Type 0} (f : P → Q) (xs : List P) (i : ℕ) → slice_get xs i ≡ None → slice_get (map f xs) i ≡ None
-slice_get-none f [] i h = refl
-slice_get-none f (y ∷ xs) zero h = cc
-slice_get-none f (y ∷ xs) (suc i) h = slice_get-none f xs i h
 
 -- ---- states
 

@@ -1,7 +1,7 @@
 -- The steps from branch to branch.
 use Rattle.std.proofs.Common.{◌≡◌, ◌≢◌, ℕ, ◌+◌, ◌<◌, ◌≤◌, List, [], ◌∷◌, length, get_or, drop, map, arith, ap, ◌∙◌, sym, subst, add-one, drop-cons}
 use Rattle.std.proofs.lemmas.List.{drop_all}
-use Rattle.std.specs.Prelude.{Option, Some, None, Ok, Err, OnOk, IfErr, slice_get, true, max}
+use Rattle.std.specs.Prelude.{Option, Some, None, Ok, Err, OnOk, IfErr, slice_get, true}
 use Rattle.volume_model.specs.Formula.{Formula}
 use Rattle.refutation.specs.declared.Side.{Side}
 use Rattle.refutation.specs.declared.Refutation.{Refutation}
@@ -121,9 +121,6 @@ pub kept_on : (r : Outcome) (n : ℕ) (u : Unit {0}) (P : Type 0) → OnOk r P �
 kept_on (Ok v) n u P h is = h
 kept_on (Err e) n u P h is = absurd (cc)
 
-under_none : (n : ℕ) (found : Option FaultAt) → found ≡ None → under n found ≡ None
-under_none n found h = ap (under n) h
-
 -- a branch has a fault
 pub case_stops : (r : Outcome) (found : Option FaultAt) (d n : ℕ) (e : FaultAt) → Answers r found d → Err e ≡ inside_branch n r → (e.fault ≢ NoMemory → under n found ≡ Some e) × (length e.path < 1 + d)
 case_stops (Ok u) found d n e h is = absurd (cc)
@@ -149,15 +146,6 @@ ends (Ok u) found d none h = none
 ends (Err e) found d none h =
     let short : length e.path ≡ 0 = ap (λ x. length x.path) h in
     (λ no. absurd (no (ap (λ x. x.fault) h)), omega (arith, short))
-
--- ---- a split
-
-pub first_case : (e : FaultAt) (found other : Option FaultAt) (d o : ℕ) → (e.fault ≢ NoMemory → found ≡ Some e) × (length e.path < 1 + d) → (e.fault ≢ NoMemory → first_of found other ≡ Some e) × (length e.path < 1 + max d o)
-first_case e found other d o h = (λ no. ap (λ f. first_of f other) (h.0 no), omega (arith, h.1))
-
-pub other_case : (r : Outcome) (found other : Option FaultAt) (d o : ℕ) → found ≡ None → Answers r other (1 + o) → Answers r (first_of found other) (1 + max d o)
-other_case (Ok u) found other d o none h = ap (λ f. first_of f other) none ∙ h
-other_case (Err e) found other d o none h = (λ no. ap (λ f. first_of f other) none ∙ h.0 no, omega (arith, h.1))
 
 -- what a check that changes nothing keeps
 pub unchanged : (r : Outcome) (P : Type 0) → P → OnOk r P

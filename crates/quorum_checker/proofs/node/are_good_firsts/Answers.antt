@@ -1,4 +1,4 @@
-use Rattle.std.proofs.Common.{◌<◌, ◌≡◌, length, map, get_or, set, true, arith, ap, ◌∙◌, refl, length-set}
+use Rattle.std.proofs.Common.{◌<◌, length, map, true, arith, ◌∙◌, refl, length-set}
 use Rattle.quorum_checker.proofs.Places.{begun, good_turn_by}
 use Rattle.quorum_checker.proofs.node.are_good_firsts.Goals as goal
 

@@ -1,5 +1,4 @@
-use Rattle.std.proofs.Common.{◌≡◌, ◌+◌, ◌-◌, vec_len, arith, ap, ◌∙◌, sym, true, false}
-use Rattle.std.specs.Prelude.{if◌then◌else◌}
+use Rattle.std.proofs.Common.{◌+◌, ◌-◌, vec_len, ap, ◌∙◌, sym}
 use Rattle.quorum_checker.proofs.Shown.{asked, threshold-is}
 use Rattle.quorum_checker.proofs.item.Item.threshold.Goals as goal
 

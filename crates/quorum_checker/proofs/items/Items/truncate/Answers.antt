@@ -1,8 +1,7 @@
 use Rattle.std.proofs.Common.{take, map, ap, ◌∙◌, sym}
-use Rattle.std.specs.Prelude.{remove, insert}
 use Rattle.quorum_checker.specs.Items.{state_of, shown}
 use Rattle.quorum_checker.specs.Refutes.{items_of}
-use Rattle.quorum_checker.proofs.Shown.{set_left, set_right, map-take, map-remove, map-insert}
+use Rattle.quorum_checker.proofs.Shown.{set_left, set_right, map-take}
 use Rattle.quorum_checker.proofs.items.Items.truncate.Goals as goal
 
 pub returns-in-Left : goal.returns-in-Left
