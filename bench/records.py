@@ -75,13 +75,18 @@ fn decoded(alloc: Global, times: u64) -> Result<u64, Fault> {
     Ok(sum)
 }
 
-fn paged(record: &Record, times: u64) -> u64 {
-    let packets = [Packet::pack(record); 16];
+fn paged(alloc: Global, record: Record, times: u64) -> Result<u64, Fault> {
+    let lsn = record.lsn;
+    let packet = Packet::pack(alloc, record)?;
+    let mut packets = Vec::with_capacity(alloc, 16)?;
+    for _ in 0..16 {
+        packets.push(packet.clone()?)?;
+    }
     let mut sum = 0u64;
     for round in 0..times {
-        sum = sum.saturating_add(u64::from(page_of(&packets, 7, record.lsn + round % 2)[64]));
+        sum = sum.saturating_add(u64::from(page_of(packets.as_slice(), 7, lsn + round % 2)[64]));
     }
-    sum
+    Ok(sum)
 }
 
 fn work(alloc: Global, job: &str, times: u64) -> Result<u64, Fault> {
@@ -91,7 +96,7 @@ fn work(alloc: Global, job: &str, times: u64) -> Result<u64, Fault> {
     match job {
         "encode" => encoded(alloc, times),
         "decode" => decoded(alloc, times),
-        _ => Ok(paged(&record, times)),
+        _ => paged(alloc, record, times),
     }
 }
 

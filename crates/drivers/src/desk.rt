@@ -1,75 +1,52 @@
-//! What each order came to, written once.
+//! What each order came to.
 
 ghost use Rattle.std.specs.Prelude.{◌≡◌, ◌+◌, IfOk, IfErr, vec_len};
 ghost use Rattle.volume_model.specs.declared.fault.Fault.TheVariants.{NoMemory};
 
-use journal::Receipt;
+use crate::word::{Told, Word};
 use std::alloc::{AllocError, Global};
 use std::sync::{OnceLock, Wait};
 use volume_model::Fault;
 
-/// The messages that an order made.
-#[derive(Clone, Copy)]
-pub struct Made {
-    /// The number of the first of them.
-    first: u64,
-    /// How many there are.
-    count: u64,
-}
-
-/// What an order came to.
-pub type Told = Result<Made, Fault>;
-
-/// What is told of a call of the fleet.
-pub fn told_of(call: Result<Receipt, Fault>) -> Told {
-    match call {
-        Ok(receipt) => Ok(Made {
-            first: receipt.first_message,
-            count: receipt.made as u64,
-        }),
-        Err(fault) => Err(fault),
-    }
-}
-
-/// A cell for each order of a script, in which is told what it came to.
+/// A word for each order of a script, in which is told what it came to.
 #[derive(Drop)]
 pub struct Desk {
-    cells: Vec<OnceLock<Told>>,
+    words: Vec<Word>,
     /// Whether the run goes on, told once all threads are there or one couldn't be started.
     pub go: OnceLock<bool>,
 }
 
 impl Desk {
-    /// Cells for so many orders, of which nothing is told.
+    /// Words for so many orders, of which nothing is told.
     ///
     /// # Errors
     /// Where a growth was refused.
     pub fn new(alloc: Global, orders: usize) -> Result<Desk, AllocError>
-        ensures { IfOk result (λ desk. vec_len desk.cells ≡ orders) }
+        ensures { IfOk result (λ desk. vec_len desk.words ≡ orders) }
     {
-        let mut cells = Vec::with_capacity(alloc, orders)?;
+        let mut words = Vec::with_capacity(alloc, orders)?;
         for _ in 0..orders {
-            cells.push(OnceLock::new())?;
+            words.push(Word::new())?;
         }
         Ok(Desk {
-            cells,
+            words,
             go: OnceLock::new(),
         })
     }
 
     /// Tells what the order with an index came to.
-    pub fn tell<R: Wait>(&self, rt: &R, order: usize, told: Told) {
-        if let Some(cell) = self.cells.get(order) {
-            let _ = cell.set(rt, told);
+    pub fn tell(&self, order: usize, told: Told) {
+        if let Some(word) = self.words.get(order) {
+            word.tell(told);
         }
     }
 
     /// What the order with an index came to. Waits until that is told; there is nothing to wait for where no order has the
     /// index.
     pub fn told<R: Wait>(&self, rt: &R, order: usize) -> Told {
-        match self.cells.get(order) {
-            Some(cell) => *cell.wait(rt),
-            None => Err(Fault::NoMessage),
+        match self.words.get(order) {
+            Some(word) => word.wait(rt),
+            None => Told::Refused,
         }
     }
 
@@ -80,8 +57,8 @@ impl Desk {
             return 0;
         }
         match self.told(rt, event) {
-            Ok(made) if 1 <= place && place <= made.count => {
-                made.first.checked_add(place - 1).unwrap_or(0)
+            Told::Made { first, count } if 1 <= place && place <= count => {
+                first.checked_add(place - 1).unwrap_or(0)
             }
             _ => 0,
         }
@@ -92,16 +69,16 @@ impl Desk {
     /// # Errors
     /// `NoMemory` where one of them was refused for want of memory.
     pub fn counts<R: Wait>(&self, rt: &R) -> Result<(usize, usize), Fault>
-        ensures all { IfOk result (λ counts. counts.0 + counts.1 ≡ vec_len self.now.cells) }
+        ensures all { IfOk result (λ counts. counts.0 + counts.1 ≡ vec_len self.now.words) }
         ensures memory { IfErr result (λ fault. fault ≡ NoMemory) }
     {
         let mut made = 0;
         let mut refused = 0;
-        for cell in &self.cells {
-            match cell.wait(rt) {
-                Ok(_) => made += 1,
-                Err(Fault::NoMemory) => return Err(Fault::NoMemory),
-                Err(_) => refused += 1,
+        for word in &self.words {
+            match word.wait(rt) {
+                Told::Made { .. } => made += 1,
+                Told::Refused => refused += 1,
+                Told::Starved => return Err(Fault::NoMemory),
             }
         }
         Ok((made, refused))

@@ -10,5 +10,6 @@ mod nodes;
 mod run;
 mod threads;
 mod turns;
+mod word;
 
 pub use driving::{Driven, drive};

@@ -2,9 +2,10 @@
 
 use crate::caller::Caller;
 use crate::calls::call;
-use crate::desk::{Desk, told_of};
+use crate::desk::Desk;
 use crate::nodes::{Node, receiver};
 use crate::turns::Turn;
+use crate::word::Told;
 use journal::{Pass, Site};
 use node_fleet::{ClientDeed, Fleet, StepGate};
 use std::sync::Wait;
@@ -59,7 +60,7 @@ impl<'f, 'a, L: Site> Run<'f, 'a, L> {
         let call = self
             .fleet
             .deliver(rt, pass, node.group, node.member, message, &Open);
-        self.desk.tell(rt, index, told_of(call));
+        self.desk.tell(index, Told::of(call));
     }
 
     /// Has a node's thread deliver the message of the order with an index, and waits until it has. Where the plan names no
@@ -103,6 +104,6 @@ impl<'f, 'a, L: Site> Run<'f, 'a, L> {
             Order::Event(event) => call(rt, self.fleet, pass, event),
             Order::DeliverFrom { .. } => return,
         };
-        self.desk.tell(rt, index, told_of(call));
+        self.desk.tell(index, Told::of(call));
     }
 }

@@ -1,18 +1,12 @@
 -- A text that grows by lines.
 use Rattle.std.proofs.Common.{◌≡◌, ◌∙◌, ap, sym, subst, ℕ, ◌+◌, ◌<◌, List, [], ◌∷◌, ◌++◌, Option, Some, Result, Ok, Err, OnOk, length, drop, get_or, map, refl, add-one, drop-cons, Bool}
-use Rattle.std.specs.Option.{option_map_or}
-use Rattle.std.specs.List.{slice_get}
 use Rattle.std.proofs.lemmas.List.{append_assoc, append-nil}
 use Rattle.std.proofs.Math.Seq.{drop-length}
 use Rattle.volume_model.specs.declared.fault.Fault.{Fault}
-use Rattle.volume_model.specs.Lists.{added}
-use Rattle.volume_model.specs.Redo.{Redo, last_lsn}
 use Rattle.volume_model.specs.Outcome.{Find, Opened}
 use Rattle.volume_model.specs.Plan.{Plan}
 use Rattle.drivers.specs.Driven.{IsDriven}
 use Rattle.drivers.specs.declared.driving.Driven.{Driven}
-use Rattle.redo_record.specs.declared.«record».Record.{Record}
-use Rattle.redo_record.specs.Record.{redo_of}
 use Rattle.jobs.specs.Told.{AreLinesOf, IsLineOf, Telling, Told, counts_line, each_line, first_if, refused_line, rest_if, tellings}
 use Rattle.jobs.specs.Told.AreLinesOf.{none, more}
 use Rattle.jobs.specs.ToldFleet.{TellsDriven, TellsFleet, fleet_status, fleet_text}
@@ -68,21 +62,6 @@ lines_more view line xs i x old now new so_far within item is_new =
 
 pub lines_all : {A B : Type 0} (view : B → A) (line : A → List ℕ) (xs : List B) (i : ℕ) (old now : List ℕ) → i ≡ length xs → old ++ each_line line (map view xs) ≡ now ++ each_line line (map view (drop i xs)) → now ≡ old ++ each_line line (map view xs)
 lines_all view line xs i old now end so_far = let nothing : drop i xs ≡ [] = rw end (drop-length xs) in sym (so_far ∙ (ap (λ ys. now ++ each_line line (map view ys)) nothing ∙ append-nil now))
-
--- the last of a list of records, after this one
-last_after : ℕ → List Record → ℕ
-last_after lsn [] = lsn
-last_after lsn (r ∷ later) = last_after r.lsn later
-
-last_added : (records : List Record) (kept : List Redo) → last_lsn (added (map redo_of records) kept) ≡ last_after (last_lsn kept) records
-unfolding last_after
-last_added [] kept = refl
-last_added (r ∷ later) kept = last_added later (redo_of r ∷ kept)
-
-last_got : (r : Record) (later : List Record) → option_map_or (λ (s : Record). s.lsn) (slice_get (r ∷ later) (length later)) 0 ≡ last_after r.lsn later
-unfolding last_after
-last_got r [] = refl
-last_got r (s ∷ later) = last_got s later
 
 pub same_counts : {a b c x y z : ℕ} → a ≡ x → b ≡ y → c ≡ z → counts_line a b c ≡ counts_line x y z
 same_counts p q r = rw (p, q, r) refl

@@ -15,7 +15,7 @@ ghost use Rattle.jobs.specs.ToldLines.{AppendsLine, AppendsLines};
 use crate::reply::Reply;
 use drivers::Driven;
 use plan::CheckedPlan;
-use redo_record::Record;
+use redo_record::Packet;
 use script::Step;
 use std::alloc::{AllocError, Global};
 use volume_model::Fault;
@@ -133,11 +133,11 @@ fn add_steps(
 }
 
 /// The last LSN of a log, or 0 for an empty one.
-fn last_lsn(log: &[Record]) -> u64
+fn last_lsn(log: &[Packet]) -> u64
     ensures { result ≡ last_lsn (log_of log.now) }
 {
     match log.last() {
-        Some(record) => record.lsn,
+        Some(packet) => packet.lsn(),
         None => 0,
     }
 }

@@ -17,7 +17,7 @@ fn live_in(alloc: Global, lineage: &Lineage, records: &RecordSet) -> Result<Reco
     let mut live = RecordSet::new(alloc);
     for packet in records.as_slice() {
         if lineage.is_live(packet.volume_epoch(), packet.lsn()) {
-            live.push(packet)?;
+            live.push(packet.clone()?)?;
         }
     }
     Ok(live)

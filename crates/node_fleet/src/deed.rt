@@ -148,14 +148,14 @@ impl<L: Site> NodeActor<L> {
             member: *member,
             lsn,
         };
-        let gossip = match segment.offer(lsn) {
-            Ok(gossip) => gossip,
+        let carried = match segment.offer(lsn) {
+            Ok(carried) => carried,
             Err(fault) => return Err(refused(log, mark, pass, event, fault)),
         };
         if log.is_full() {
             return Err(refused(log, mark, pass, event, Fault::JournalFull));
         }
-        made.push_reserved(gossip);
+        made.push_reserved(carried.gossip()?);
         Ok(log.enter(rt, height, mark, pass, event, made, 0))
     }
 

@@ -1,5 +1,5 @@
 -- One record more of a page.
-use Rattle.std.proofs.Common.{◌≡◌, ℕ, ◌+◌, ◌<◌, ◌&&◌, nat_le, nat_eq, if◌then◌else◌, List, ◌∷◌, length, get_or, drop, map, sym, ap, ◌∙◌}
+use Rattle.std.proofs.Common.{◌≡◌, ℕ, ◌+◌, ◌<◌, ◌&&◌, nat_le, nat_eq, if◌then◌else◌, List, length, get_or, drop, map, sym, ap, ◌∙◌}
 use Rattle.std.proofs.lemmas.List.{at_drop_more}
 use Rattle.volume_model.specs.Redo.{Redo}
 use Rattle.volume_model.specs.Node.{written, page_from}

@@ -34,7 +34,7 @@ fn apply(page: &mut [u8], entry: &Record, block: u32, point: u64)
 pub fn write_packet(page: &mut [u8; BLOCK], packet: &Packet, block: u32, point: u64)
     ensures { page.new ≡ (if (packet_redo packet.now).block == block && nat_le (packet_redo packet.now).lsn point then written (packet_redo packet.now) page.old else page.old) }
 {
-    apply(page, &packet.record(), block, point);
+    apply(page, packet.record(), block, point);
 }
 
 /// The bytes of a block at a point: the writes of the block's records up to the point, in the order of the packets, over zeros.

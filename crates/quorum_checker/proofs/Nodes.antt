@@ -1,10 +1,10 @@
 -- The items of a node, by their formulas.
-use Rattle.std.proofs.Common.{◌≡◌, ℕ, zero, suc, ◌+◌, ◌<◌, ◌≤◌, List, [], ◌∷◌, ◌++◌, take, drop, add-one, arith, length, map, vec_len, refl, ap, ◌∙◌, sym, subst}
-use Rattle.std.specs.Prelude.{Bool, true, false, not, ◌&&◌, nat_lt, Vec, Option, if◌then◌else◌, ◌==◌, None, Some, remove, slice_get}
+use Rattle.std.proofs.Common.{◌≡◌, ℕ, zero, suc, ◌+◌, ◌<◌, ◌≤◌, List, [], ◌∷◌, arith, length, map, refl, ap, ◌∙◌, sym, subst}
+use Rattle.std.specs.Prelude.{Bool, true, false, not, ◌&&◌, nat_lt, Vec, Option, if◌then◌else◌, ◌==◌, None, Some, slice_get}
 use Rattle.std.specs.List.{list_any}
 use mathlib.Core.Bool.{true≢false}
 use Rattle.std.proofs.lemmas.Bool.Decides.{nat_tests}
-use Rattle.std.proofs.lemmas.List.{length-map, map-append}
+use Rattle.std.proofs.lemmas.List.{length-map}
 use Rattle.quorum_expr.specs.declared.expression.Expr.{Expr}
 use Rattle.quorum_expr.specs.declared.expression.Expr.TheVariants.{KOf}
 use Rattle.volume_model.specs.Formula.{Formula, member, at_least, each_once, total_weight, formulas, weight_at, HasCounts}
@@ -15,6 +15,7 @@ use Rattle.quorum_expr.specs.Valid.{expression_fault}
 use Rattle.quorum_expr.proofs.ValidLaws.{HasCounts-from}
 use Rattle.volume_model.specs.declared.fault.Fault.{Fault}
 use Rattle.volume_model.specs.declared.fault.Fault.TheVariants.{NotAll, BadPair, TooFewPicked, CountTooSmall, BranchCount}
+use Rattle.quorum_checker.specs.Items.{IsMember, IsThreshold}
 use Rattle.quorum_checker.specs.Refutes.{picked_weight, paired_weight}
 use Rattle.quorum_checker.specs.FirstFault.{good_places, children_of, open_fault, pick_fault, pair_fault}
 
@@ -31,19 +32,18 @@ few_children e k of is valid =
     let children : length (formulas (each_once (map formula_of of.items))) ≡ length of.items = ap length (formulas-each_once (map formula_of of.items)) ∙ length-map of.items formula_of in
     omega (arith, counts.2, children)
 
--- the weight of children that each count as one
-pub total-is : {A : Type 0} (of : Vec (Expr A) A) → total_weight (each_once (map formula_of of.items)) ≡ vec_len of
-total-is of = total_weight-each_once (map formula_of of.items) ∙ length-map of.items formula_of ∙ sym (of.ok.0)
-
 and_true : (b : Bool) → (if b && true then None else Some NotAll) ≡ (if b then None else Some NotAll)
 and_true true = refl
 and_true false = refl
 
-pub open_fault-is : {A : Type 0} (e : Expr A) (k : ℕ) (of : Vec (Expr A) A) → e ≡ KOf k of → open_fault (formula_of e) ≡ (if k == vec_len of then None else Some NotAll)
-open_fault-is e k of is =
-    ap open_fault (formula_of-is e k of is)
-    ∙ (λ i. if k == total-is of i && EachWeighs-to (each_once (map formula_of of.items)) (each_once_weighs (map formula_of of.items)) i then None else Some NotAll)
-    ∙ and_true (k == vec_len of)
+pub open_fault-member : (f : Formula) → IsMember f → open_fault f ≡ Some NotAll
+open_fault-member f h = ap open_fault h.1
+
+pub open_fault-is : (f : Formula) (k all : ℕ) → IsThreshold f k all → open_fault f ≡ (if k == all then None else Some NotAll)
+open_fault-is f k all h =
+    ap open_fault h.1
+    ∙ (λ i. if k == (total_weight-each_once h.0 ∙ h.2) i && EachWeighs-to (each_once h.0) (each_once_weighs h.0) i then None else Some NotAll)
+    ∙ and_true (k == all)
 
 -- ---- weights of children that each count as one
 
@@ -94,10 +94,11 @@ pick-once k fs cs n =
       | false ↦ λ e. refl
     ] refl)
 
-pub pick_fault-is : {A : Type 0} (e : Expr A) (k : ℕ) (of : Vec (Expr A) A) (cs : List ℕ) (n : ℕ) → e ≡ KOf k of → pick_fault (formula_of e) cs n ≡ plain_pick (vec_len of) k cs n
-pick_fault-is e k of cs n is =
-    ap (λ f. pick_fault f cs n) (formula_of-is e k of is) ∙ pick-once k (map formula_of of.items) cs n
-    ∙ ap (λ m. plain_pick m k cs n) (length-map of.items formula_of ∙ sym (of.ok.0))
+pub pick_fault-member : (f : Formula) (cs : List ℕ) (n : ℕ) → IsMember f → pick_fault f cs n ≡ Some TooFewPicked
+pick_fault-member f cs n h = ap (λ g. pick_fault g cs n) h.1
+
+pub pick_fault-is : (f : Formula) (k all : ℕ) (cs : List ℕ) (n : ℕ) → IsThreshold f k all → pick_fault f cs n ≡ plain_pick all k cs n
+pick_fault-is f k all cs n h = ap (λ g. pick_fault g cs n) h.1 ∙ pick-once k h.0 cs n ∙ ap (λ m. plain_pick m k cs n) h.2
 
 -- `pair_fault` by counts alone
 abbrev pub plain_pair : ℕ → ℕ → ℕ → ℕ → List (ℕ × ℕ) → ℕ → Option Fault
@@ -121,27 +122,16 @@ pair-once k fs l gs ps n =
       | false ↦ λ e. refl
     ] refl)
 
-pub pair_fault-is : {A : Type 0} (e : Expr A) (k : ℕ) (of : Vec (Expr A) A) (d : Expr A) (l : ℕ) (others : Vec (Expr A) A) (ps : List (ℕ × ℕ)) (n : ℕ) → e ≡ KOf k of → d ≡ KOf l others → pair_fault (formula_of e) (formula_of d) ps n ≡ plain_pair (vec_len of) k (vec_len others) l ps n
-pair_fault-is e k of d l others ps n is also =
-    (λ i. pair_fault (formula_of-is e k of is i) (formula_of-is d l others also i) ps n) ∙ pair-once k (map formula_of of.items) l (map formula_of others.items) ps n
-    ∙ (λ i. plain_pair ((length-map of.items formula_of ∙ sym (of.ok.0)) i) k ((length-map others.items formula_of ∙ sym (others.ok.0)) i) l ps n)
+pub pair_fault-member : (f g : Formula) (ps : List (ℕ × ℕ)) (n : ℕ) → IsMember f → pair_fault f g ps n ≡ Some BadPair
+pair_fault-member f g ps n h = ap (λ e. pair_fault e g ps n) h.1
 
--- ---- lists with one item taken out
+pub pair_fault-other : (f g : Formula) (k all : ℕ) (ps : List (ℕ × ℕ)) (n : ℕ) → IsThreshold f k all → IsMember g → pair_fault f g ps n ≡ Some BadPair
+pair_fault-other f g k all ps n h other = λ i. pair_fault (h.1 i) (other.1 i) ps n
 
-map-take : {P Q : Type 0} (f : P → Q) (n : ℕ) (xs : List P) → map f (take n xs) ≡ take n (map f xs)
-map-take f zero xs = refl
-map-take f (suc n) [] = refl
-map-take f (suc n) (x ∷ xs) = ap (λ ys. f x ∷ ys) (map-take f n xs)
-
-map-drop : {P Q : Type 0} (f : P → Q) (n : ℕ) (xs : List P) → map f (drop n xs) ≡ drop n (map f xs)
-map-drop f zero xs = refl
-map-drop f (suc n) [] = refl
-map-drop f (suc n) (x ∷ xs) = map-drop f n xs
-
-pub removed : {P Q : Type 0} (f : P → Q) (n : ℕ) (xs ys : List P) → ys ≡ take n xs ++ drop (n + 1) xs → map f ys ≡ remove (map f xs) n
-removed f n xs ys is =
-    ap (map f) is ∙ map-append f (take n xs) (drop (n + 1) xs)
-    ∙ (λ i. map-take f n xs i ++ (map-drop f (n + 1) xs ∙ ap (λ m. drop m (map f xs)) (add-one n)) i)
+pub pair_fault-is : (f g : Formula) (k all l others : ℕ) (ps : List (ℕ × ℕ)) (n : ℕ) → IsThreshold f k all → IsThreshold g l others → pair_fault f g ps n ≡ plain_pair all k others l ps n
+pair_fault-is f g k all l others ps n h other =
+    (λ i. pair_fault (h.1 i) (other.1 i) ps n) ∙ pair-once k h.0 l other.0 ps n
+    ∙ (λ i. plain_pair (h.2 i) k (other.2 i) l ps n)
 
 -- ---- what no fault says
 

@@ -1,8 +1,8 @@
 -- What a check's outcome means.
-use Rattle.std.proofs.Common.{◌≡◌, ◌≢◌, ℕ, [], ◌∷◌, subst}
+use Rattle.std.proofs.Common.{◌≡◌, ◌≢◌, ℕ, subst}
 use Rattle.std.specs.Prelude.{Ok, Err, Some, OnOk, IfErr}
 use Rattle.std.specs.Ordering.{nat_cmp}
-use Rattle.std.specs.FinSet.{FinSet, empty}
+use Rattle.std.specs.FinSet.{FinSet}
 use Rattle.volume_model.specs.Formula.{Formula}
 use Rattle.refutation.specs.Rule.{Rule, depth_of}
 use Rattle.volume_model.specs.declared.fault.Fault.TheVariants.{NoMemory}
@@ -14,10 +14,10 @@ use Rattle.quorum_checker.proofs.Exact.{refutes, accepted}
 use Rattle.quorum_checker.proofs.Sound.{meets}
 
 -- a check starts with the state of its claim
-pub started : (r : Outcome) (tree rule : Rule) (left right : Formula) (clear none : FinSet nat_cmp) → tree ≡ rule → none ≡ empty → Answers r (first_fault tree (record { left = left ∷ []; right = right ∷ []; absent_left = clear; absent_right = none })) (depth_of tree) → Answers r (first_fault rule (claim_state left right clear)) (depth_of rule)
-started r tree rule left right clear none is void h =
-    subst (λ (t : Rule). Answers r (first_fault t (claim_state left right clear)) (depth_of t)) is
-    (subst (λ (s : FinSet nat_cmp). Answers r (first_fault tree (record { left = left ∷ []; right = right ∷ []; absent_left = clear; absent_right = s })) (depth_of tree)) void h)
+pub started : (r : Outcome) (tree rule : Rule) (st first : State) → tree ≡ rule → st ≡ first → Answers r (first_fault tree st) (depth_of tree) → Answers r (first_fault rule first) (depth_of rule)
+started r tree rule st first is same h =
+    subst (λ (t : Rule). Answers r (first_fault t first) (depth_of t)) is
+    (subst (λ (s : State). Answers r (first_fault tree s) (depth_of tree)) same h)
 
 pub ok_refutes : (r : Outcome) (rule : Rule) (st : State) (d : ℕ) → Answers r (first_fault rule st) d → OnOk r (Refutes rule st)
 ok_refutes (Ok u) rule st d h = refutes rule st h

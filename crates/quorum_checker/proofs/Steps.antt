@@ -1,17 +1,17 @@
 -- The steps from branch to branch.
 use Rattle.std.proofs.Common.{◌≡◌, ◌≢◌, ℕ, ◌+◌, ◌<◌, ◌≤◌, List, [], ◌∷◌, length, get_or, drop, map, arith, ap, ◌∙◌, sym, subst, add-one, drop-cons}
 use Rattle.std.proofs.lemmas.List.{drop_all}
-use Rattle.std.specs.Prelude.{Option, Some, None, Ok, Err, slice_get, true}
+use Rattle.std.specs.Prelude.{Option, Some, None, Ok, Err, OnOk, IfErr, slice_get, true}
 use Rattle.volume_model.specs.Formula.{Formula}
 use Rattle.refutation.specs.declared.Side.{Side}
 use Rattle.refutation.specs.declared.Refutation.{Refutation}
-use Rattle.refutation.specs.Rule.{Branches, pick, pair_up, branches_of, branch_count, depth_of}
+use Rattle.refutation.specs.Rule.{Rule, Branches, open_all, pick, pair_up, branches_of, branch_count, depth_of}
 use Rattle.refutation.specs.Refutation.{rule_of}
 use Rattle.refutation.proofs.Rules.{branches_step}
 use Rattle.volume_model.specs.declared.fault.Fault.TheVariants.{NoMemory}
 use Rattle.quorum_checker.specs.declared.fault.FaultAt.{FaultAt}
 use Rattle.quorum_checker.specs.Refutes.{State, items_of, replaced, paired}
-use Rattle.quorum_checker.specs.FirstFault.{place, children_of, first_of, under, at_item, or_else, pick_fault, pair_fault, first_fault, first_picked, first_paired, good_places}
+use Rattle.quorum_checker.specs.FirstFault.{here, place, children_of, first_of, under, at_item, or_else, open_fault, pick_fault, pair_fault, first_fault, first_picked, first_paired, good_places}
 use Rattle.quorum_checker.specs.Outcome.{Outcome, inside_branch, Answers}
 use Rattle.quorum_checker.proofs.Nodes.{split_places}
 
@@ -114,3 +114,40 @@ firsts_step m ps n p h is good = split_places m p.0 (map (λ (q : ℕ × ℕ). q
 
 pub seconds_step : (m : ℕ) (ps : List (ℕ × ℕ)) (n : ℕ) (p : ℕ × ℕ) → n < length ps → p ≡ get_or ps n (0, 0) → good_places m (map (λ q. q.1) (drop n ps)) ≡ true → (p.1 < m) × (good_places m (map (λ q. q.1) (drop (n + 1) ps)) ≡ true)
 seconds_step m ps n p h is good = split_places m p.1 (map (λ (q : ℕ × ℕ). q.1) (drop (n + 1) ps)) (ap (λ qs. good_places m (map (λ (q : ℕ × ℕ). q.1) qs)) (sym (list_step ps n (0, 0) h ∙ ap (λ q. q ∷ drop (n + 1) ps) (sym is))) ∙ good)
+
+-- ---- a rule with one branch
+
+pub kept_on : (r : Outcome) (n : ℕ) (u : Unit {0}) (P : Type 0) → OnOk r P → inside_branch n r ≡ Ok u → P
+kept_on (Ok v) n u P h is = h
+kept_on (Err e) n u P h is = absurd (cc)
+
+-- a branch has a fault
+pub case_stops : (r : Outcome) (found : Option FaultAt) (d n : ℕ) (e : FaultAt) → Answers r found d → Err e ≡ inside_branch n r → (e.fault ≢ NoMemory → under n found ≡ Some e) × (length e.path < 1 + d)
+case_stops (Ok u) found d n e h is = absurd (cc)
+case_stops (Err e') found d n e h is =
+    let same : record e' { path = n ∷ e'.path } ≡ e = cc in
+    let kept : e'.fault ≡ e.fault = ap (λ x. x.fault) same in
+    (λ no. ap (under n) (h.0 (λ out. no (sym kept ∙ out))) ∙ ap Some same, omega (arith, h.1, ap (λ x. length x.path) same))
+
+-- it has none
+pub case_goes_on : (r : Outcome) (found : Option FaultAt) (d n : ℕ) (u : Unit {0}) → Answers r found d → Ok u ≡ inside_branch n r → under n found ≡ None
+case_goes_on (Ok v) found d n u h is = ap (under n) h
+case_goes_on (Err e) found d n u h is = absurd (cc)
+
+-- where the test passes, the branch decides
+pub open_begins : (side : Side) (i : ℕ) (rule : Rule) (st : State) (f : Formula) → slice_get (items_of side st) i ≡ Some f → open_fault f ≡ None → first_fault (open_all side i rule) st ≡ under 0 (first_fault rule (replaced side i (children_of f) st))
+open_begins side i rule st f at none =
+    ap (λ o. at_item o (λ g. or_else (open_fault g) (under 0 (first_fault rule (replaced side i (children_of g) st))))) at
+    ∙ ap (λ o. or_else o (under 0 (first_fault rule (replaced side i (children_of f) st)))) none
+
+-- the last item is put back where no branch has a fault
+pub ends : (r : Outcome) (found : Option FaultAt) (d : ℕ) → found ≡ None → IfErr r (λ e. e ≡ here NoMemory) → Answers r found (1 + d)
+ends (Ok u) found d none h = none
+ends (Err e) found d none h =
+    let short : length e.path ≡ 0 = ap (λ x. length x.path) h in
+    (λ no. absurd (no (ap (λ x. x.fault) h)), omega (arith, short))
+
+-- what a check that changes nothing keeps
+pub unchanged : (r : Outcome) (P : Type 0) → P → OnOk r P
+unchanged (Ok u) P h = h
+unchanged (Err e) P h = tt

@@ -1,29 +1,41 @@
 -- What the items of a state mean.
-use Rattle.std.specs.Prelude.{◌≡◌, ℕ, List, map, Result, Ok, Err, Some, None, slice_get}
-use Rattle.std.specs.Borrow.{Bor}
+use Rattle.std.specs.Prelude.{◌≡◌, ℕ, Bool, if◌then◌else◌, List, length, map, Result, Ok, Err, Some, None, slice_get}
 use Rattle.quorum_expr.specs.declared.expression.Expr.{Expr}
-use Rattle.volume_model.specs.Formula.{Formula}
+use Rattle.volume_model.specs.Formula.{Formula, member, at_least, each_once, dual_of}
 use Rattle.quorum_expr.specs.Expr.{formula_of}
+use Rattle.quorum_checker.specs.declared.item.Item.{Item}
 use Rattle.quorum_checker.specs.declared.items.Items.{Items}
 use Rattle.volume_model.specs.declared.fault.Fault.TheVariants.{NoSuchItem}
 use Rattle.quorum_checker.specs.declared.fault.FaultAt.{FaultAt}
 use Rattle.quorum_checker.specs.Refutes.{State}
 use Rattle.quorum_checker.specs.FirstFault.{here}
 
--- the formula of a lent expression
-abbrev pub lent_formula : {A : Type 0} → Bor (Expr A) → Formula
-lent_formula e = formula_of e.now
+-- the formula of an expression, or the dual of it
+abbrev pub shown_as : {A : Type 0} → Bool → Expr A → Formula
+shown_as is_dual e = (if is_dual then dual_of (formula_of e) else formula_of e)
+
+-- the formula that an item stands for
+abbrev pub shown : {A : Type 0} → Item A → Formula
+shown item = shown_as item.is_dual item.expr.now
 
 -- the state that a program's items are
 abbrev pub state_of : {A : Type 0} → Items A → State
 state_of items = record {
-  left = map lent_formula items.left.now;
-  right = map lent_formula items.right.now;
+  left = map shown items.left.items;
+  right = map shown items.right.items;
   absent_left = items.absent_left;
   absent_right = items.absent_right;
 }
 
 -- the item with a number is found, and the fault where there is none
-abbrev pub FindsItem : {A : Type 0} → Result (Bor (Expr A)) FaultAt → List Formula → ℕ → Type 0
-FindsItem (Ok e) items at = slice_get items at ≡ Some (formula_of e.now)
+abbrev pub FindsItem : {A : Type 0} → Result (Item A) FaultAt → List Formula → ℕ → Type 0
+FindsItem (Ok item) items at = slice_get items at ≡ Some (shown item)
 FindsItem (Err e) items at = (slice_get items at ≡ None) × (e ≡ here NoSuchItem)
+
+-- the formula is a member
+abbrev pub IsMember : Formula → Type 0
+IsMember f = (x : ℕ) × (f ≡ member x)
+
+-- the formula asks for so many of so many children, each of which counts as one
+abbrev pub IsThreshold : Formula → ℕ → ℕ → Type 0
+IsThreshold f k all = (fs : List Formula) × (f ≡ at_least k (each_once fs)) × (length fs ≡ all)

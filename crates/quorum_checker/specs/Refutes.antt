@@ -39,6 +39,11 @@ replaced side i fs st = with_items side (remove (items_of side st) i ++ fs) st
 abbrev pub paired : ℕ → ℕ → Formula → Formula → State → State
 paired i j f g st = record st { left = remove st.left i ++ f ∷ []; right = remove st.right j ++ g ∷ [] }
 
+-- other members are absent from a side
+abbrev pub with_absent : Side → FinSet nat_cmp → State → State
+with_absent Left absent st = record st { absent_left = absent }
+with_absent Right absent st = record st { absent_right = absent }
+
 -- one more member is absent
 abbrev pub without : Side → ℕ → State → State
 without Left x st = record st { absent_left = insert st.absent_left x }

@@ -12,9 +12,11 @@ ghost use Rattle.refutation.specs.Certificate.{certificate_rule};
 ghost use Rattle.quorum_checker.specs.Refutes.{Refutes, State, claim_state};
 ghost use Rattle.quorum_checker.specs.Claim.{first_state};
 ghost use Rattle.quorum_checker.specs.FirstFault.{first_fault};
+ghost use Rattle.quorum_checker.specs.Items.{shown};
 
 mod claim;
 mod fault;
+mod item;
 mod items;
 mod node;
 mod path;
@@ -22,6 +24,7 @@ mod rules;
 
 pub use claim::Claim;
 pub use fault::FaultAt;
+pub use item::Item;
 use items::Items;
 pub use node::children;
 pub use path::Path;
@@ -46,15 +49,30 @@ pub fn check<A: Allocator, B: Allocator>(
     // What an Ok means, for all sets.
     ensures meets { OnOk result (Meets (formula_of claim.now.left) (formula_of claim.now.right) claim.now.clear) }
 {
-    let left = [&claim.left];
-    let right = [&claim.right];
-    let items = Items {
-        left: &left,
-        right: &right,
-        absent_left: claim.clear,
-        absent_right: MemberSet::empty(),
-    };
-    check_rule(alloc, certificate.tree(), &items)
+    let left = Item::plain(&claim.left);
+    let right = Item::plain(&claim.right);
+    check_lent(alloc, left, right, claim.clear, certificate)
+}
+
+/// Whether a certificate refutes the claim that each set that satisfies the left item, and is clear of the given members,
+/// meets each set that satisfies the right one, and if not, its first fault. Nothing of the two is copied.
+pub fn check_lent<A: Allocator, B: Allocator>(
+    alloc: Global,
+    left: Item<'_, A>,
+    right: Item<'_, A>,
+    clear: MemberSet,
+    certificate: &Certificate<B>,
+) -> Result<(), FaultAt>
+    // Ok exactly where the certificate refutes the claim, unless memory runs out.
+    ensures refutes { OnOk result (Refutes (certificate_rule certificate.now) (claim_state (shown left.entry) (shown right.entry) clear)) }
+    ensures accepted { IfErr result (λ e. e.fault ≢ Fault.NoMemory → ¬ (Refutes (certificate_rule certificate.now) (claim_state (shown left.entry) (shown right.entry) clear))) }
+    ensures fault { IfErr result (λ e. e.fault ≢ Fault.NoMemory → first_fault (certificate_rule certificate.now) (claim_state (shown left.entry) (shown right.entry) clear) ≡ Some e) }
+
+    // What an Ok means, for all sets.
+    ensures meets { OnOk result (Meets (shown left.entry) (shown right.entry) clear) }
+{
+    let mut items = Items::of_claim(alloc, left, right, clear)?;
+    check_rule(certificate.tree(), &mut items)
 }
 
 /// Where a rule refutes a claim, each set that satisfies its left expression, and is clear of what it

@@ -1,147 +1,195 @@
 //! The check of a refutation, rule by rule.
 
-ghost use Rattle.std.specs.Prelude.{◌≤◌, map};
-ghost use Rattle.refutation.specs.Rule.{dead, clash, pick, pair_up, branches_of, depth_of, HasLimits};
+ghost use Rattle.std.specs.Prelude.{◌≡◌, ◌+◌, ◌<◌, ◌≤◌, map, OnOk};
+ghost use Rattle.refutation.specs.Rule.{dead, clash, open_all, pick, pair_up, branches_of, depth_of, HasLimits};
 ghost use Rattle.refutation.specs.Refutation.{rule_of};
 ghost use Rattle.quorum_checker.specs.Items.{state_of};
-ghost use Rattle.quorum_checker.specs.FirstFault.{first_fault};
+ghost use Rattle.quorum_checker.specs.Refutes.{without};
+ghost use Rattle.quorum_checker.specs.FirstFault.{first_fault, under};
 ghost use Rattle.quorum_checker.specs.Outcome.{Answers};
 
 use crate::fault::{FaultAt, inside};
-use crate::items::{Items, item_at, picked_items, replaced_by_all};
-use crate::node::{
-    children, fault_of_clash, fault_of_dead, fault_of_match, fault_of_open, fault_of_pick,
-};
+use crate::items::Items;
+use crate::node::{fault_of_clash, fault_of_dead, fault_of_match, fault_of_open, fault_of_pick};
 use refutation::{Refutation, Side, branch_count_of};
-use std::alloc::{Allocator, Global};
+use std::alloc::Allocator;
 
-fn check_dead<A: Allocator>(side: Side, item: u16, state: &Items<'_, A>) -> Result<(), FaultAt>
-    ensures { Answers result (first_fault (dead side item) (state_of state.now)) 1 }
+fn check_dead<A: Allocator>(side: Side, item: u16, items: &Items<'_, A>) -> Result<(), FaultAt>
+    ensures { Answers result (first_fault (dead side item) (state_of items.now)) 1 }
 {
-    let target = item_at(state.on(side), item)?;
-    match fault_of_dead(target, state.absent(side)) {
+    let target = items.item(side, item)?;
+    match fault_of_dead(target, items.absent(side)) {
         Some(fault) => Err(FaultAt::here(fault)),
         None => Ok(()),
     }
 }
 
-fn check_clash<A: Allocator>(left: u16, right: u16, state: &Items<'_, A>) -> Result<(), FaultAt>
-    ensures { Answers result (first_fault (clash left right) (state_of state.now)) 1 }
+fn check_clash<A: Allocator>(left: u16, right: u16, items: &Items<'_, A>) -> Result<(), FaultAt>
+    ensures { Answers result (first_fault (clash left right) (state_of items.now)) 1 }
 {
-    let one = item_at(state.left, left)?;
-    let other = item_at(state.right, right)?;
+    let one = items.item(Side::Left, left)?;
+    let other = items.item(Side::Right, right)?;
     match fault_of_clash(one, other) {
         Some(fault) => Err(FaultAt::here(fault)),
         None => Ok(()),
     }
 }
 
-/// Checks a rule against a state.
+/// Checks a rule against a state, which is as it was where the rule has no fault.
 #[cycle(rules)]
 pub fn check_rule<A: Allocator, B: Allocator>(
-    alloc: Global,
     rule: &Refutation<B>,
-    state: &Items<'_, A>,
+    items: &mut Items<'_, A>,
 ) -> Result<(), FaultAt>
     requires depth { depth_of (rule_of rule.now) ≤ 40 }
     requires limits { HasLimits (rule_of rule.now) }
-    ensures { Answers result (first_fault (rule_of rule.now) (state_of state.now)) (depth_of (rule_of rule.now)) }
+    ensures answers { Answers result (first_fault (rule_of rule.now) (state_of items.old)) (depth_of (rule_of rule.now)) }
+    ensures kept { OnOk result (state_of items.new ≡ state_of items.old) }
 {
     match rule {
-        Refutation::Dead { side, item } => check_dead(*side, *item, state),
-        Refutation::Clash { left, right } => check_clash(*left, *right, state),
-        Refutation::Open { side, item, then } => {
-            let target = item_at(state.on(*side), *item)?;
-            if let Some(fault) = fault_of_open(target) {
-                return Err(FaultAt::here(fault));
-            }
-            let list = replaced_by_all(alloc, state.on(*side), *item, children(target))?;
-            inside(0, check_rule(alloc, then, &state.changed(*side, &list)))
-        }
+        Refutation::Dead { side, item } => check_dead(*side, *item, items),
+        Refutation::Clash { left, right } => check_clash(*left, *right, items),
+        Refutation::Open { side, item, then } => check_open(*side, *item, then, items),
         Refutation::Pick {
             side,
             item,
             children,
             then,
-        } => check_pick(alloc, *side, *item, children, then, state),
+        } => check_pick(*side, *item, children, then, items),
         Refutation::Match {
             left,
             right,
             pairs,
             then,
-        } => check_match(alloc, *left, *right, pairs, then, state),
+        } => check_match(*left, *right, pairs, then, items),
         Refutation::Split {
             member,
             left,
             right,
         } => {
-            inside(
-                0,
-                check_rule(alloc, left, &state.lacking(Side::Left, *member)),
-            )?;
-            inside(
-                1,
-                check_rule(alloc, right, &state.lacking(Side::Right, *member)),
-            )
+            match check_case(0, Side::Left, *member, left, items) {
+                Ok(()) => check_case(1, Side::Right, *member, right, items),
+                Err(e) => Err(e),
+            }
         }
+    }
+}
+
+/// Checks a rule in a branch where one more member is absent from a side.
+#[cycle(rules)]
+fn check_case<A: Allocator, B: Allocator>(
+    branch: u8,
+    side: Side,
+    member: u8,
+    then: &Refutation<B>,
+    items: &mut Items<'_, A>,
+) -> Result<(), FaultAt>
+    requires depth { 1 + depth_of (rule_of then.now) ≤ 40 }
+    requires limits { HasLimits (rule_of then.now) }
+    requires member { member < 64 }
+    ensures answers { Answers result (under branch (first_fault (rule_of then.now) (without side member (state_of items.old)))) (1 + depth_of (rule_of then.now)) }
+    ensures kept { OnOk result (state_of items.new ≡ state_of items.old) }
+{
+    let absent = items.absent(side);
+    items.set_absent(side, absent.with(member));
+    match inside(branch, check_rule(then, items)) {
+        Ok(()) => {
+            items.set_absent(side, absent);
+            Ok(())
+        }
+        Err(e) => Err(e),
+    }
+}
+
+#[cycle(rules)]
+fn check_open<A: Allocator, B: Allocator>(
+    side: Side,
+    item: u16,
+    then: &Refutation<B>,
+    items: &mut Items<'_, A>,
+) -> Result<(), FaultAt>
+    requires depth { 1 + depth_of (rule_of then.now) ≤ 40 }
+    requires limits { HasLimits (rule_of then.now) }
+    ensures answers { Answers result (first_fault (open_all side item (rule_of then.now)) (state_of items.old)) (1 + depth_of (rule_of then.now)) }
+    ensures kept { OnOk result (state_of items.new ≡ state_of items.old) }
+{
+    let target = items.item(side, item)?;
+    if let Some(fault) = fault_of_open(target) {
+        return Err(FaultAt::here(fault));
+    }
+    let kept = items.take_out(side, item);
+    items.push_children(side, target)?;
+    match inside(0, check_rule(then, items)) {
+        Ok(()) => {
+            items.truncate(side, kept);
+            items.put_back(side, item, target)
+        }
+        Err(e) => Err(e),
     }
 }
 
 #[cycle(rules)]
 fn check_pick<A: Allocator, B: Allocator>(
-    alloc: Global,
     side: Side,
     item: u16,
     picked: &[u8],
     then: &[Refutation<B>],
-    state: &Items<'_, A>,
+    items: &mut Items<'_, A>,
 ) -> Result<(), FaultAt>
     requires depth { depth_of (pick side item picked.now (branches_of (map rule_of then.now))) ≤ 40 }
     requires limits { HasLimits (pick side item picked.now (branches_of (map rule_of then.now))) }
-    ensures { Answers result (first_fault (pick side item picked.now (branches_of (map rule_of then.now))) (state_of state.now)) (depth_of (pick side item picked.now (branches_of (map rule_of then.now)))) }
+    ensures answers { Answers result (first_fault (pick side item picked.now (branches_of (map rule_of then.now))) (state_of items.old)) (depth_of (pick side item picked.now (branches_of (map rule_of then.now)))) }
+    ensures kept { OnOk result (state_of items.new ≡ state_of items.old) }
 {
-    let target = item_at(state.on(side), item)?;
+    let target = items.item(side, item)?;
     if let Some(fault) = fault_of_pick(target, picked, branch_count_of(then)) {
         return Err(FaultAt::here(fault));
     }
+    let kept = items.take_out(side, item);
     for (n, branch) in then.iter().enumerate() {
-        let list = picked_items(alloc, state, side, item, target, picked[n])?;
-        let outcome = check_rule(alloc, branch, &state.changed(side, &list));
+        items.push(side, target.child(picked[n]))?;
+        let outcome = check_rule(branch, items);
         match inside(n as u8, outcome) {
             Ok(()) => {}
             Err(e) => return Err(e),
         }
+        items.truncate(side, kept);
     }
-    Ok(())
+    items.put_back(side, item, target)
 }
 
 #[cycle(rules)]
 fn check_match<A: Allocator, B: Allocator>(
-    alloc: Global,
     left: u16,
     right: u16,
     pairs: &[(u8, u8)],
     then: &[Refutation<B>],
-    state: &Items<'_, A>,
+    items: &mut Items<'_, A>,
 ) -> Result<(), FaultAt>
     requires depth { depth_of (pair_up left right pairs.now (branches_of (map rule_of then.now))) ≤ 40 }
     requires limits { HasLimits (pair_up left right pairs.now (branches_of (map rule_of then.now))) }
-    ensures { Answers result (first_fault (pair_up left right pairs.now (branches_of (map rule_of then.now))) (state_of state.now)) (depth_of (pair_up left right pairs.now (branches_of (map rule_of then.now)))) }
+    ensures answers { Answers result (first_fault (pair_up left right pairs.now (branches_of (map rule_of then.now))) (state_of items.old)) (depth_of (pair_up left right pairs.now (branches_of (map rule_of then.now)))) }
+    ensures kept { OnOk result (state_of items.new ≡ state_of items.old) }
 {
-    let one = item_at(state.on(Side::Left), left)?;
-    let other = item_at(state.on(Side::Right), right)?;
+    let one = items.item(Side::Left, left)?;
+    let other = items.item(Side::Right, right)?;
     if let Some(fault) = fault_of_match(one, other, pairs, branch_count_of(then)) {
         return Err(FaultAt::here(fault));
     }
+    let kept = items.take_out(Side::Left, left);
+    let also = items.take_out(Side::Right, right);
     for (n, branch) in then.iter().enumerate() {
         let pair = pairs[n];
-        let lefts = picked_items(alloc, state, Side::Left, left, one, pair.0)?;
-        let rights = picked_items(alloc, state, Side::Right, right, other, pair.1)?;
-        let outcome = check_rule(alloc, branch, &state.with_both(&lefts, &rights));
+        items.push(Side::Left, one.child(pair.0))?;
+        items.push(Side::Right, other.child(pair.1))?;
+        let outcome = check_rule(branch, items);
         match inside(n as u8, outcome) {
             Ok(()) => {}
             Err(e) => return Err(e),
         }
+        items.truncate(Side::Left, kept);
+        items.truncate(Side::Right, also);
     }
-    Ok(())
+    items.put_back(Side::Left, left, one)?;
+    items.put_back(Side::Right, right, other)
 }

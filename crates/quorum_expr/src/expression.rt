@@ -2,7 +2,7 @@
 
 ghost use Rattle.std.specs.Prelude.{◌≡◌};
 ghost use Rattle.std.specs.FinSet as set;
-ghost use Rattle.volume_model.specs.Formula.{sat};
+ghost use Rattle.volume_model.specs.Formula.{sat, dual_of};
 ghost use Rattle.quorum_expr.specs.Expr.{formula_of};
 
 use crate::MemberSet;
@@ -36,6 +36,24 @@ pub fn holds<A: Allocator>(expr: &Expr<A>, members: MemberSet) -> bool
                 }
             }
             held >= usize::from(*k)
+        }
+    }
+}
+
+/// Whether the dual of an expression holds in a set of members.
+pub fn holds_dual<A: Allocator>(expr: &Expr<A>, members: MemberSet) -> bool
+    ensures { result ≡ sat (dual_of (formula_of expr.now)) (set.contains members) }
+{
+    match expr {
+        Expr::Member(member) => members.contains(*member),
+        Expr::KOf { k, of } => {
+            let mut held = 0usize;
+            for child in of {
+                if holds_dual(child, members) {
+                    held += 1;
+                }
+            }
+            (of.len() as u128) < held as u128 + u128::from(*k)
         }
     }
 }

@@ -6,25 +6,25 @@ use Rattle.std.specs.BTreeMap.{is_at}
 use Rattle.std.proofs.lemmas.Bool.{cases_Bool, eqb-true, ne_eqb, ltb-true}
 use Rattle.volume_model.specs.Lists.{added}
 use Rattle.volume_model.specs.Redo.{Redo, last_lsn, cut_of}
-use Rattle.redo_record.specs.declared.«record».Record.{Record}
-use Rattle.redo_record.specs.Record.{redo_of}
+use Rattle.redo_record.specs.declared.packet.Packet.{Packet}
+use Rattle.redo_record.specs.Packet.{packet_redo, packet_redo-ranges}
 use Rattle.writer_core.specs.Logs.{log_of, is_growing}
 use Rattle.writer_core.proofs.Logs.{log_of-more}
 use Rattle.writer_core.proofs.Growing.{both}
 use Rattle.writer_core.proofs.Finding.{above, all-log}
 use Rattle.recovery.proofs.Links.{IsBack, leads, leads-above, cut-next}
 
-pub log-back : (records : List Record) → IsBack (log_of records)
-log-back records = all-log (λ r. r.prev_volume < r.lsn) records (λ k d l. (get_or records k d).prev_volume_before)
+pub log-back : (records : List Packet) → IsBack (log_of records)
+log-back records = all-log (λ r. r.prev_volume < r.lsn) records (λ k d l. (packet_redo-ranges (get_or records k d)).prev_volume_before)
 
-front-grows : (records : List Record) (i : ℕ) (kept : List Redo) → is_growing (added (map redo_of records) kept) ≡ true → is_growing (added (map redo_of (take i records)) kept) ≡ true
+front-grows : (records : List Packet) (i : ℕ) (kept : List Redo) → is_growing (added (map packet_redo records) kept) ≡ true → is_growing (added (map packet_redo (take i records)) kept) ≡ true
 front-grows [] zero kept h = h
 front-grows [] (suc i) kept h = h
 front-grows (x ∷ records) zero kept h = (above (x ∷ records) kept h).0
-front-grows (x ∷ records) (suc i) kept h = front-grows records i (redo_of x ∷ kept) h
+front-grows (x ∷ records) (suc i) kept h = front-grows records i (packet_redo x ∷ kept) h
 
 -- the first records of a growing list grow
-pub front-growing : (records : List Record) (i : ℕ) → is_growing (log_of records) ≡ true → is_growing (log_of (take i records)) ≡ true
+pub front-growing : (records : List Packet) (i : ℕ) → is_growing (log_of records) ≡ true → is_growing (log_of (take i records)) ≡ true
 front-growing records i h = front-grows records i [] h
 
 -- a key is at a number exactly where it is the number
@@ -35,21 +35,21 @@ at-is k q =
       | inr e ↦ elim (cases_Bool (nat_eq k q)) [ inl f ↦ rw (e, f) refl | inr f ↦ rw (e, f) refl ]
     ]
 
-module _ (records : List Record) (i : ℕ) (r : Record) (within : i < length records) (is : r ≡ get_or records i r) (growing : is_growing (log_of records) ≡ true) where
+module _ (records : List Packet) (i : ℕ) (p : Packet) (r : Redo) (within : i < length records) (is : p ≡ get_or records i p) (shows : r ≡ packet_redo p) (growing : is_growing (log_of records) ≡ true) where
   abbrev pub front : List Redo
   front = log_of (take i records)
 
-  pub more-is : log_of (take (i + 1) records) ≡ redo_of r ∷ front
-  more-is = log_of-more records i r within ∙ ap (λ (x : Record). redo_of x ∷ front) (sym is)
+  pub more-is : log_of (take (i + 1) records) ≡ r ∷ front
+  more-is = log_of-more records i p within ∙ ap (λ (x : Packet). packet_redo x ∷ front) (sym is) ∙ ap (λ s. s ∷ front) (sym shows)
 
-  pub more-grows : is_growing (redo_of r ∷ front) ≡ true
+  pub more-grows : is_growing (r ∷ front) ≡ true
   more-grows = subst (λ l. is_growing l ≡ true) more-is (front-growing records (i + 1) growing)
 
-  more-back : IsBack (redo_of r ∷ front)
+  more-back : IsBack (r ∷ front)
   more-back = subst IsBack more-is (log-back (take (i + 1) records))
 
   pub cut-more : cut_of (log_of (take (i + 1) records)) ≡ (if leads front r.prev_volume && r.point then r.lsn else cut_of front)
-  cut-more = ap cut_of more-is ∙ cut-next (redo_of r) front more-grows more-back
+  cut-more = ap cut_of more-is ∙ cut-next r front more-grows more-back
 
   pub leads-more : (n : ℕ) → leads (log_of (take (i + 1) records)) n ≡ (if r.lsn == n then leads front r.prev_volume else leads front n)
   leads-more n = ap (λ l. leads l n) more-is

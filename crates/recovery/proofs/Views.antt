@@ -1,9 +1,7 @@
 -- What a View does to a recovery.
-use Rattle.std.proofs.Common.{◌≡◌, ℕ, zero, suc, ◌<◌, Bool, true, false, List, [], ◌∷◌, ◌++◌, Option, Some, None, Result, Ok, Err, length, map, if◌then◌else◌, refl, sym, ap, ap₂, ◌∙◌, subst, inl, inr, arith}
+use Rattle.std.proofs.Common.{◌≡◌, ℕ, zero, suc, ◌<◌, Bool, true, false, List, [], ◌∷◌, ◌++◌, Option, Some, None, Result, Ok, Err, length, map, if◌then◌else◌, refl, sym, ap, ap₂, ◌∙◌, subst, arith}
 use Rattle.std.specs.Prelude.{OnOk, OnErr}
-use Rattle.std.proofs.lemmas.Bool.{cases_Bool, eq-eqb}
-use Rattle.volume_model.specs.declared.fault.Fault.{Fault}
-use Rattle.volume_model.specs.declared.fault.Fault.TheVariants.{NotInPlan}
+use Rattle.std.proofs.lemmas.Bool.{eq-eqb}
 use Rattle.volume_model.specs.Lists.{each_below}
 use Rattle.volume_model.specs.Plan.{Plan}
 use Rattle.volume_model.specs.Message as model

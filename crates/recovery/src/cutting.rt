@@ -5,33 +5,34 @@ ghost use Rattle.volume_model.specs.Answer.{Gives};
 ghost use Rattle.volume_model.specs.Redo.{cut_of};
 ghost use Rattle.writer_core.specs.Logs.{log_of, is_growing};
 
-use redo_record::Record;
+use redo_record::Packet;
 use std::alloc::Global;
 use std::collections::BTreeSet;
 use volume_model::Fault;
 
 /// Whether records stand in growing LSN.
-pub fn is_growing(records: &[Record]) -> bool
+pub fn is_growing(records: &[Packet]) -> bool
     ensures { result ≡ is_growing (log_of records.now) }
 {
     let mut growing = true;
     let mut last = 0;
-    for record in records {
-        growing = last < record.lsn && growing;
-        last = record.lsn;
+    for packet in records {
+        growing = last < packet.lsn() && growing;
+        last = packet.lsn();
     }
     growing
 }
 
 /// The cut of records that stand in growing LSN: the greatest consistency point from which `prev_volume` leads through the records
 /// down to 0, else 0.
-pub fn cut_of(alloc: Global, records: &[Record]) -> Result<u64, Fault>
+pub fn cut_of(alloc: Global, records: &[Packet]) -> Result<u64, Fault>
     requires { is_growing (log_of records.now) ≡ true }
     ensures { Gives (λ cut. cut) result (Ok (cut_of (log_of records.now))) }
 {
     let mut cut = 0;
     let mut led = BTreeSet::new(alloc);
-    for record in records {
+    for packet in records {
+        let record = packet.record();
         if record.prev_volume == 0 || led.contains(&record.prev_volume) {
             led.insert(record.lsn)?;
             if record.point {

@@ -6,7 +6,7 @@ ghost use Rattle.writer_core.specs.Logs.{log_of, is_growing};
 ghost use Rattle.volume_model.specs.Lineage.{last_cut};
 
 use lineage::Lineage;
-use redo_record::Record;
+use redo_record::Packet;
 use std::alloc::{AllocError, Global};
 use writer_core::Writer;
 
@@ -14,7 +14,7 @@ use writer_core::Writer;
 #[derive(Drop)]
 pub struct Found {
     /// The log up to the cut, in growing LSN.
-    pub log: Vec<Record>,
+    pub log: Vec<Packet>,
     /// The LSN up to which the log is kept.
     pub cut: u64,
     /// The lineage, with the recovery's own entry.

@@ -15,7 +15,7 @@ ghost use Rattle.writer_core.specs.Logs.{log_of};
 ghost use Rattle.writer_core.specs.Groups.{groups_in, standings_plan};
 
 use crate::found::Found;
-use redo_record::{Packet, Record, RecordSet};
+use redo_record::{Packet, RecordSet};
 use std::alloc::{AllocError, Global};
 use wire::{Contents, Fence, Install, Label, Message, Place};
 use writer_core::Standings;
@@ -68,13 +68,13 @@ pub fn later_fences(
 }
 
 /// The records of a group, as a set.
-fn of_group(alloc: Global, group: u8, log: &[Record]) -> Result<RecordSet, AllocError>
+fn of_group(alloc: Global, group: u8, log: &[Packet]) -> Result<RecordSet, AllocError>
     ensures { IfOk result (λ set. records_of set ≡ of_group group (log_of log.now)) }
 {
     let mut set = RecordSet::new(alloc);
-    for record in log {
-        if record.group == group {
-            set.insert(&Packet::pack(record))?;
+    for packet in log {
+        if packet.group() == group {
+            set.insert(packet.clone()?)?;
         }
     }
     Ok(set)

@@ -26,7 +26,7 @@ pub struct Head {
 }
 
 /// The number of eight bytes that stands there.
-pub fn u64_at(bytes: &[u8], at: usize) -> u64
+fn u64_at(bytes: &[u8], at: usize) -> u64
     requires { at + 8 ≤ length bytes.now }
     ensures { result ≡ number_at w64 at bytes.now }
 {
@@ -38,7 +38,7 @@ pub fn u64_at(bytes: &[u8], at: usize) -> u64
 }
 
 /// The number of four bytes that stands there.
-pub fn u32_at(bytes: &[u8], at: usize) -> u32
+fn u32_at(bytes: &[u8], at: usize) -> u32
     requires { at + 4 ≤ length bytes.now }
     ensures { result ≡ number_at w32 at bytes.now }
 {

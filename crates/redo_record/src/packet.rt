@@ -1,107 +1,109 @@
 //! A record as it travels and is kept.
 
-ghost use Rattle.std.specs.Prelude.{◌≡◌, ◌≤◌, length};
-ghost use Rattle.redo_record.specs.Head.{redo_in};
-ghost use Rattle.redo_record.specs.Ranges.{IsSpellable};
-ghost use Rattle.redo_record.specs.Spelling.{spelled};
-ghost use Rattle.redo_record.specs.Text.{text_bytes};
+ghost use Rattle.redo_record.specs.Packet.{packet_redo};
 
-use crate::decoding::decode;
 use crate::encoding::spell;
-use crate::head::{u32_at, u64_at};
 use crate::record::Record;
-use crate::text::Text;
+use std::alloc::{AllocError, Global};
 use std::cmp::Ordering;
+use std::sync::Arc;
 
-/// A record as it travels and is kept: its spelling, in place.
-#[derive(Clone, Copy)]
+/// A record as it travels and is kept: shared, not copied.
+#[derive(Drop)]
 pub struct Packet {
-    text: Text,
-    ghost canonical: { text_bytes text ≡ spelled (redo_in (text_bytes text)) },
-    ghost spellable: { IsSpellable (redo_in (text_bytes text)) },
+    shared: Arc<Record>,
 }
 
 impl Packet {
-    ghost use Rattle.std.specs.Ordering.{nat_cmp};
-    ghost use Rattle.std.specs.Cmp.Lexicographic.{slice_cmp};
+    ghost use Rattle.std.specs.Prelude.{◌≡◌, IfOk};
+    ghost use Rattle.std.specs.Ordering.{is_lt, is_eq};
     ghost use Rattle.volume_model.specs.Redo.{spelling, is_same, numbers_before};
     ghost use Rattle.redo_record.specs.Record.{redo_of};
-    ghost use Rattle.redo_record.specs.Packet.{packet_bytes, packet_redo};
 
-    /// The packet of a record.
-    pub fn pack(record: &Record) -> Packet
-        ensures { packet_redo result ≡ redo_of «record».now }
+    /// The packet of a record. Fails for want of memory alone.
+    #[tactic(auto, unfolding(crate::specs::Packet::packet_redo))]
+    pub fn pack(alloc: Global, record: Record) -> Result<Packet, AllocError>
+        ensures { IfOk result (λ packet. packet_redo packet ≡ redo_of «record») }
     {
-        Packet {
-            text: spell(record),
-        }
-    }
-
-    /// Its bytes.
-    fn bytes(&self) -> &[u8]
-        ensures value { result.now ≡ packet_bytes self.now }
-        ensures long { 45 ≤ length result.now }
-    {
-        self.text.as_slice()
+        Ok(Packet {
+            shared: Arc::new(alloc, record)?,
+        })
     }
 
     /// The record of the packet.
-    pub fn record(&self) -> Record
-        ensures { redo_of result ≡ packet_redo self.now }
+    #[tactic(auto, unfolding(crate::specs::Packet::packet_redo))]
+    pub fn record(&self) -> &Record
+        ensures { redo_of result.now ≡ packet_redo self.now }
     {
-        match decode(self.bytes()) {
-            Ok(record) => record,
-            Err(_) => unreachable!(),
-        }
+        &self.shared
     }
 
     /// The number of its record.
     pub fn lsn(&self) -> u64
         ensures { result ≡ (packet_redo self.now).lsn }
     {
-        u64_at(self.bytes(), 0)
+        self.record().lsn
     }
 
     /// The volume epoch of its record's writer.
     pub fn volume_epoch(&self) -> u32
         ensures { result ≡ (packet_redo self.now).volume }
     {
-        u32_at(self.bytes(), 8)
+        self.record().volume_epoch
     }
 
     /// The number before its record's in the group, 0 where there is none.
     pub fn prev_group(&self) -> u64
         ensures { result ≡ (packet_redo self.now).prev_group }
     {
-        u64_at(self.bytes(), 20)
+        self.record().prev_group
     }
 
     /// The group of its record.
-    #[tactic(auto, unfolding(crate::specs::Packet::packet_redo))]
     pub fn group(&self) -> u8
         ensures { result ≡ (packet_redo self.now).group }
     {
-        self.bytes()[36]
+        self.record().group
     }
 
-    /// Which of two packets comes first in the order of their bytes.
+    /// Which of two packets comes first in the order of their records' bytes.
     fn compare(&self, other: &Packet) -> Ordering
-        ensures { result ≡ slice_cmp nat_cmp (packet_bytes self.now) (packet_bytes other.now) }
+        ensures same { is_eq result ≡ is_same (packet_redo self.now) (packet_redo other.now) }
+        ensures before { is_lt result ≡ numbers_before (spelling (packet_redo self.now)) (spelling (packet_redo other.now)) }
     {
-        self.bytes().cmp(&other.bytes())
+        let (own, others) = (spell(self.record()), spell(other.record()));
+        own.as_slice().cmp(&others.as_slice())
     }
 
     /// Whether both are packets of the same record.
     pub fn is_same(&self, other: &Packet) -> bool
         ensures { result ≡ is_same (packet_redo self.now) (packet_redo other.now) }
     {
-        self.compare(other).is_eq()
+        self.lsn() == other.lsn() && self.compare(other).is_eq()
     }
 
     /// Whether this packet's record comes before the other's, number by number in the order of the fields.
     pub fn is_before(&self, other: &Packet) -> bool
         ensures { result ≡ numbers_before (spelling (packet_redo self.now)) (spelling (packet_redo other.now)) }
     {
-        self.compare(other).is_lt()
+        let (own, others) = (self.lsn(), other.lsn());
+        if own == others {
+            self.compare(other).is_lt()
+        } else {
+            own < others
+        }
+    }
+}
+
+impl Clone for Packet {
+    ghost use Rattle.std.specs.Prelude.{◌≡◌};
+
+    ghost is_clone = { λ packet copy. packet_redo copy ≡ packet_redo packet };
+
+    #[tactic(auto, unfolding(crate::specs::Packet::packet_redo))]
+    fn clone(&self) -> Result<Packet, AllocError> {
+        Ok(Packet {
+            shared: self.shared.clone()?,
+        })
     }
 }

@@ -1,18 +1,12 @@
 -- Records as a set, and a set as records
-use Rattle.std.proofs.Common.{◌≡◌, ℕ, zero, suc, ◌<◌, ◌≤◌, ◌+◌, min, List, [], ◌∷◌, ◌++◌, length, get_or, take, map, true, add-one, refl, sym, ap, ◌∙◌, subst, arith}
+use Rattle.std.proofs.Common.{◌≡◌, ℕ, zero, suc, ◌<◌, ◌≤◌, ◌+◌, min, List, [], ◌∷◌, ◌++◌, length, get_or, take, true, add-one, refl, sym, ap, ◌∙◌, subst, arith}
 use Rattle.std.proofs.lemmas.List.{get_or-take, get_or-map, get_or_default, length-take, length-map}
 use Rattle.std.proofs.Math.Seq.{take-suc}
 use Rattle.volume_model.specs.Redo.{spelling, numbers_before}
-use Rattle.redo_record.specs.declared.packet.Packet.{Packet}
-use Rattle.redo_record.specs.Packet.{packet_redo}
 use Rattle.redo_record.specs.Order.{IsInOrder, ComesAfter}
 use Rattle.redo_record.proofs.Places.{list-all}
 use Rattle.segment_core.specs.declared.held.Held.{Held}
-use Rattle.segment_core.specs.Held.{redo_held, redos_of, unsettled_held}
-
-pub redos-unsettled : (packets : List Packet) → redos_of (map unsettled_held packets) ≡ map packet_redo packets
-redos-unsettled [] = refl
-redos-unsettled (p ∷ ps) = ap (λ rs. packet_redo p ∷ rs) (redos-unsettled ps)
+use Rattle.segment_core.specs.Held.{redo_held, redos_of}
 
 -- a record comes after those before it
 module _ (held : List Held) (k : ℕ) (x : Held) (order : IsInOrder (redos_of held)) (within : k < length held) (is : x ≡ get_or held k x) where

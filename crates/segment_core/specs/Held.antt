@@ -1,7 +1,6 @@
 use Rattle.std.specs.Prelude.{◌≡◌, ℕ, suc, ◌<◌, true, false, nat_le, List, map, length, take, slice_index_or}
 use Rattle.std.specs.List.Sorted.{IsPartitionPoint}
 use Rattle.volume_model.specs.Redo.{Redo, numbers_before, scl, spelling}
-use Rattle.redo_record.specs.declared.packet.Packet.{Packet}
 use Rattle.redo_record.specs.Packet.{packet_redo}
 use Rattle.redo_record.specs.Order.{IsInOrder}
 use Rattle.segment_core.specs.declared.held.Held.{Held}
@@ -9,10 +8,6 @@ use Rattle.segment_core.specs.declared.held.Held.{Held}
 -- the record that is held
 abbrev pub redo_held : Held → Redo
 redo_held held = packet_redo held.packet
-
--- a record that knows no complete point yet
-abbrev pub unsettled_held : Packet → Held
-unsettled_held packet = record { packet = packet; reached = 0 }
 
 -- the records held, in their order
 abbrev pub redos_of : List Held → List Redo

@@ -13,8 +13,9 @@ use Rattle.quorum_expr.specs.Expr.{formula_of}
 use Rattle.plan.specs.CheckedModel.{checked_model}
 use Rattle.redo_record.specs.Packet.{packet_redo}
 use Rattle.lineage.specs.Lineage.{lineage_of}
+use Rattle.wire.specs.declared.carried.Carried.{Carried}
 use Rattle.wire.specs.declared.message.Message.{Message}
-use Rattle.wire.specs.Message.{message_of, messages_of}
+use Rattle.wire.specs.Message.{label_of, messages_of}
 use Rattle.hydration.specs.Hydration.{copies_of, CanKeep}
 use Rattle.segment_core.specs.declared.prepared.Effect.{Effect}
 use Rattle.segment_core.specs.declared.prepared.Effect.TheVariants.{Enter, Keep}
@@ -67,9 +68,9 @@ abbrev pub paged : model.Plan → ℕ → ℕ → Node → ℕ → ℕ → Resul
 paged plan group member node block point =
     refuse_if (not node.whole) NotWhole (page_checks plan group member node point (Ok (page_of node.contents.records block point)))
 
--- the step of a node that makes this message and becomes this
-abbrev pub offered_step : Message → Node → NodeStep
-offered_step message node = record { made = message_of message ∷ []; node = node }
+-- the step of a node that gossips the record that is carried and becomes this
+abbrev pub offered_step : Carried → Node → NodeStep
+offered_step carried node = record { made = model_message.Message.Gossip carried.group (label_of carried.label) (packet_redo carried.packet.now) ∷ []; node = node }
 
 -- the read expression of the configuration that the node took last, and none where the member isn't one of it
 abbrev pub IsReadExpression : Option (Bor (Expr Global)) → model.Plan → ℕ → ℕ → Node → Type 0

@@ -5,13 +5,13 @@ ghost use Rattle.volume_model.specs.Redo.{scl};
 ghost use Rattle.redo_record.specs.Packet.{packet_redo};
 ghost use Rattle.segment_core.specs.declared.held.Held.{Held};
 ghost use Rattle.redo_record.specs.Order.{IsInOrder};
-ghost use Rattle.segment_core.specs.Held.{redo_held, redos_of, unsettled_held, IsCountBefore, IsCountTo, IsReachedBelow, AreSettled};
+ghost use Rattle.segment_core.specs.Held.{redo_held, redos_of, IsCountBefore, IsCountTo, IsReachedBelow, AreSettled};
 
 use redo_record::Packet;
 use std::alloc::{AllocError, Global};
 
 /// A record, and the complete point of the records up to it.
-#[derive(Clone, Copy)]
+#[derive(Drop)]
 pub struct Held {
     pub packet: Packet,
     pub reached: u64,
@@ -19,15 +19,16 @@ pub struct Held {
 
 /// Records that know no complete point yet.
 pub fn unsettled(alloc: Global, packets: &[Packet]) -> Result<Vec<Held>, AllocError>
-    ensures { IfOk result (λ held. held.items ≡ map unsettled_held packets.now) }
+    ensures { IfOk result (λ held. redos_of held.items ≡ map packet_redo packets.now) }
 {
-    packets
-        .iter()
-        .map(|packet| Held {
-            packet: *packet,
+    let mut held = Vec::with_capacity(alloc, packets.len())?;
+    for packet in packets {
+        held.push(Held {
+            packet: packet.clone()?,
             reached: 0,
-        })
-        .collect(alloc)
+        })?;
+    }
+    Ok(held)
 }
 
 /// The complete point of these records.
@@ -94,8 +95,8 @@ pub fn settle(held: &mut [Held], from: usize)
     ensures same { redos_of held.new ≡ redos_of held.old }
 {
     for k in from..held.len() {
-        let packet = held[k].packet;
-        let reached = complete_point_with(&held[..k], &packet);
+        let whole = &held[..];
+        let reached = complete_point_with(&whole[..k], &whole[k].packet);
         held[k].reached = reached;
     }
 }

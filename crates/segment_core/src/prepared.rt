@@ -7,7 +7,7 @@ use redo_record::Packet;
 use wire::{Message, Place};
 
 /// A record that a segment is ready to take, and where it will stand.
-#[derive(Clone, Copy)]
+#[derive(Drop)]
 pub struct Entrant {
     pub place: usize,
     pub packet: Packet,

@@ -48,7 +48,7 @@ impl Records {
     {
         let mut set = RecordSet::new(alloc);
         for held in &self.held {
-            set.push(&held.packet)?;
+            set.push(held.packet.clone()?)?;
         }
         Ok(set)
     }
@@ -65,11 +65,11 @@ impl Records {
     }
 
     /// The record with this number, of several the first in the order of their bytes.
-    pub fn record_at(&self, lsn: u64) -> Option<Packet>
-        ensures { option_map packet_redo result ≡ record_at (records_of self.now) lsn }
+    pub fn record_at(&self, lsn: u64) -> Option<&Packet>
+        ensures { option_map (λ packet. packet_redo packet.now) result ≡ record_at (records_of self.now) lsn }
     {
         let held = self.held.iter().find(|held| held.packet.lsn() == lsn)?;
-        Some(held.packet)
+        Some(&held.packet)
     }
 
     /// How many records are held.
@@ -110,16 +110,13 @@ impl Records {
     }
 
     /// Takes a record into its place.
-    pub fn insert(&mut self, place: usize, packet: &Packet)
+    pub fn insert(&mut self, place: usize, packet: Packet)
         requires room { HasRoom self.old }
-        requires place { IsPlaceFor (records_of self.old) (packet_redo packet.now) place }
-        ensures taken { records_of self.new ≡ with_record (packet_redo packet.now) (records_of self.old) }
+        requires place { IsPlaceFor (records_of self.old) (packet_redo packet) place }
+        ensures taken { records_of self.new ≡ with_record (packet_redo packet) (records_of self.old) }
         ensures room { room_of self.new ≡ room_of self.old }
     {
-        let held = Held {
-            packet: *packet,
-            reached: 0,
-        };
+        let held = Held { packet, reached: 0 };
         self.held.insert(place, held).unwrap();
         settle(&mut self.held, place);
     }
@@ -134,20 +131,20 @@ impl Records {
         settle(&mut self.held, place);
     }
 
-    /// The complete point that the record would bring about.
-    pub fn complete_point_with(&mut self, place: usize, packet: &Packet) -> u64
+    /// The complete point that the record would bring about. Fails for want of memory alone.
+    pub fn complete_point_with(&mut self, place: usize, packet: &Packet) -> Result<u64, AllocError>
         requires room { HasRoom self.old }
         requires place { IsPlaceFor (records_of self.old) (packet_redo packet.now) place }
-        ensures point { result ≡ scl (with_record (packet_redo packet.now) (records_of self.old)) }
+        ensures point { IfOk result (λ point. point ≡ scl (with_record (packet_redo packet.now) (records_of self.old))) }
         ensures same { records_of self.new ≡ records_of self.old }
         ensures room { HasRoom self.new }
     {
         if place == self.held.len() {
-            return complete_point_with(&self.held, packet);
+            return Ok(complete_point_with(&self.held, packet));
         }
-        self.insert(place, packet);
+        self.insert(place, packet.clone()?);
         let point = self.complete_point();
         self.remove(place);
-        point
+        Ok(point)
     }
 }

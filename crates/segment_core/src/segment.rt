@@ -12,7 +12,7 @@ use std::alloc::{AllocError, Global};
 use std::sync::Arc;
 use volume_model::Fault;
 use wire::{
-    Ack, Contents, CopyAsk, CopyReport, Fence, Gossip, Install, Label, Message, Page, PageAsk,
+    Ack, Carried, Contents, CopyAsk, CopyReport, Fence, Install, Label, Message, Page, PageAsk,
     Report, StepTo, only,
 };
 
@@ -241,10 +241,10 @@ impl Segment {
             return Err(Fault::Full);
         }
         self.records.make_room()?;
-        let scl = self.records.complete_point_with(place, packet);
+        let scl = self.records.complete_point_with(place, packet)?;
         let entrant = Entrant {
             place,
-            packet: *packet,
+            packet: packet.clone()?,
         };
         Ok(self.acknowledged(alloc, label, scl, Effect::Enter(entrant))?)
     }
@@ -419,8 +419,9 @@ impl Segment {
     }
 
     /// A record that it holds, for the other nodes of its group.
-    fn gossip(&self, lsn: u64) -> Result<Message, Fault>
-        ensures { AnswersAlways offered_step (refuse_if (not ((node_of self.now).volume == lineage_epoch (node_of self.now))) NotInstalled (gossip_of (segment_group self.now) (node_of self.now) (record_at (node_of self.now).contents.records lsn))) (node_of self.now) result (node_of self.now) }
+    fn gossip(&self, lsn: u64) -> Result<Carried<'_>, Fault>
+        ensures own { IfErr result (λ fault. fault ≢ NoMemory) }
+        ensures answers { AnswersAlways offered_step (refuse_if (not ((node_of self.now).volume == lineage_epoch (node_of self.now))) NotInstalled (gossip_of (segment_group self.now) (node_of self.now) (record_at (node_of self.now).contents.records lsn))) (node_of self.now) result (node_of self.now) }
     {
         if self.volume != self.lineage.last_epoch() {
             return Err(Fault::NotInstalled);
@@ -432,18 +433,19 @@ impl Segment {
             volume: self.volume,
             member: self.epoch,
         };
-        Ok(Message::Gossip(Gossip {
+        Ok(Carried {
             group: self.group,
             label,
             packet,
-        }))
+        })
     }
 
     /// A record that it holds, for the other nodes of its group, of several with the number the first in the order of their bytes.
     /// Refused 54 before the segment is whole, 53 where its lineage isn't that of the volume epoch that it has promised, 58 where it
     /// holds no such record. Takes no memory.
-    pub fn offer(&self, lsn: u64) -> Result<Message, Fault>
-        ensures { AnswersAlways offered_step (offered (segment_group self.now) (node_of self.now) lsn) (node_of self.now) result (node_of self.now) }
+    pub fn offer(&self, lsn: u64) -> Result<Carried<'_>, Fault>
+        ensures own { IfErr result (λ fault. fault ≢ NoMemory) }
+        ensures answers { AnswersAlways offered_step (offered (segment_group self.now) (node_of self.now) lsn) (node_of self.now) result (node_of self.now) }
     {
         if self.whole {
             self.gossip(lsn)
@@ -548,7 +550,7 @@ impl Segment {
     {
         match effect {
             Effect::Nothing => {}
-            Effect::Enter(entrant) => self.records.insert(entrant.place, &entrant.packet),
+            Effect::Enter(entrant) => self.records.insert(entrant.place, entrant.packet),
             Effect::Promise(volume) => self.volume = volume,
             Effect::Move(place) => {
                 self.configuration = place.configuration;

@@ -1,12 +1,14 @@
 //! What actors say to one another.
 #![tactic(auto)]
 
+mod carried;
 mod contents;
 mod label;
 mod list;
 mod message;
 mod view;
 
+pub use carried::Carried;
 pub use contents::Contents;
 pub use label::{Label, Place};
 pub use list::only;

@@ -51,7 +51,7 @@ pub struct Install {
 }
 
 /// A record of a writer's log, for the nodes of a group.
-#[derive(Clone, Copy)]
+#[derive(Drop)]
 pub struct Write {
     /// The group.
     pub group: u8,
@@ -62,7 +62,7 @@ pub struct Write {
 }
 
 /// A record that a node holds, for the other nodes of its group.
-#[derive(Clone, Copy)]
+#[derive(Drop)]
 pub struct Gossip {
     /// The group.
     pub group: u8,

@@ -2,6 +2,7 @@
 
 ghost use Rattle.std.specs.Prelude.{◌≡◌, ◌++◌, ◌∷◌, [], ◌&&◌, IfOk, Some, None, if◌then◌else◌, map, nat_lt, option_map};
 ghost use Rattle.volume_model.specs.Client.{has_cut, is_open};
+ghost use Rattle.writer_core.specs.Writers.{client_of};
 ghost use Rattle.world.specs.Clients.{seen_client};
 ghost use Rattle.volume_model.specs.Outcome.{found_client, opened_client};
 ghost use Rattle.world.specs.Outcomes.{find_of, opened_of};
@@ -11,18 +12,26 @@ use crate::client::{Client, ClientState};
 use crate::outcome::{FindEnd, WriterEnd};
 use recovery::Found;
 use std::alloc::{AllocError, Global};
+use writer_core::Writer;
+
+/// What is told of the writer of a volume epoch.
+fn end_of(alloc: Global, volume: u32, writer: &Writer) -> Result<WriterEnd, AllocError>
+    ensures { IfOk result (λ end. opened_of end ≡ opened_client volume (client_of writer.now)) }
+{
+    Ok(WriterEnd {
+        volume,
+        start: writer.start(),
+        log: writer.log().to_vec(alloc)?,
+        durable: writer.durable_point(),
+    })
+}
 
 /// What is told of the client of a volume epoch as a writer, where it is one.
 fn opened_by(alloc: Global, volume: u32, client: &Client) -> Result<Option<WriterEnd>, AllocError>
     ensures { IfOk result (λ opened. option_map opened_of opened ≡ (if is_open (seen_client client.now).stage then Some (opened_client volume (seen_client client.now)) else None)) }
 {
     match client.state() {
-        ClientState::Writer(writer) => Ok(Some(WriterEnd {
-            volume,
-            start: writer.start(),
-            log: writer.log().to_vec(alloc)?,
-            durable: writer.durable_point(),
-        })),
+        ClientState::Writer(writer) => Ok(Some(end_of(alloc, volume, writer)?)),
         _ => Ok(None),
     }
 }

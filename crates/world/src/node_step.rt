@@ -57,7 +57,7 @@ pub fn act(
             Ok(0)
         }
         NodeAct::Offer { lsn } => {
-            let gossip = segment.offer(lsn)?;
+            let gossip = segment.offer(lsn)?.gossip()?;
             messages.push(gossip)?;
             Ok(1)
         }

@@ -1,7 +1,7 @@
 //! What a run leaves to be told.
 
 use recovery::Found;
-use redo_record::Record;
+use redo_record::Packet;
 use volume_model::Fault;
 
 /// An opened writer at the end of a run.
@@ -12,7 +12,7 @@ pub struct WriterEnd {
     /// The LSN after which its own records begin.
     pub start: u64,
     /// Its log, in growing LSN.
-    pub log: Vec<Record>,
+    pub log: Vec<Packet>,
     /// Its durable point.
     pub durable: u64,
 }

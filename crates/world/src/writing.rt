@@ -71,7 +71,7 @@ pub fn act(alloc: Global, writer: &mut Writer, act: ClientAct<'_>) -> Result<Vec
             Ok(Vec::new(alloc))
         }
         ClientAct::Cut => Err(Fault::AlreadyDone),
-        ClientAct::Resend { lsn } => Ok(only(alloc, writer.resend(lsn)?)?),
+        ClientAct::Resend { lsn } => Ok(only(alloc, writer.resend(lsn)?.write()?)?),
         ClientAct::Read { group, block } => Ok(only(alloc, writer.read(group, block)?)?),
     }
 }

@@ -7,8 +7,8 @@ use Rattle.std.proofs.lemmas.Bool.Decides.{nat_tests}
 use Rattle.volume_model.specs.Lists.{every, added}
 use Rattle.volume_model.specs.Redo.{Redo, last_lsn}
 use Rattle.volume_model.specs.ClientPoints.{complete_of, consistency_point_below}
-use Rattle.redo_record.specs.declared.«record».Record.{Record}
-use Rattle.redo_record.specs.Record.{redo_of}
+use Rattle.redo_record.specs.declared.packet.Packet.{Packet}
+use Rattle.redo_record.specs.Packet.{packet_redo}
 use Rattle.writer_core.specs.Logs.{log_of, is_growing}
 use Rattle.writer_core.specs.Covered.{is_covered, CoversFront, CoversLog}
 use Rattle.writer_core.specs.declared.covered.Covered.{Covered}
@@ -26,11 +26,11 @@ added-append : {A : Type 0} (xs ys kept : List A) → added (xs ++ ys) kept ≡ 
 added-append [] ys kept = refl
 added-append (x ∷ xs) ys kept = added-append xs ys (x ∷ kept)
 
-split : (records : List Record) (n : ℕ) → log_of records ≡ added (map redo_of (drop n records)) (log_of (take n records))
+split : (records : List Packet) (n : ℕ) → log_of records ≡ added (map packet_redo (drop n records)) (log_of (take n records))
 split records n =
     ap log_of (sym (take-append-drop n records))
-    ∙ ap (λ xs. added xs []) (map-append redo_of (take n records) (drop n records))
-    ∙ added-append (map redo_of (take n records)) (map redo_of (drop n records)) []
+    ∙ ap (λ xs. added xs []) (map-append packet_redo (take n records) (drop n records))
+    ∙ added-append (map packet_redo (take n records)) (map packet_redo (drop n records)) []
 
 -- ---- all records are covered
 
@@ -55,44 +55,46 @@ consistency_point_below-whole n (r ∷ older) h le =
 -- ---- one record isn't
 
 -- behind a record that isn't covered the complete point stays
-complete_of-stuck : (points : ℕ → ℕ) (xs : List Record) (kept : List Redo) → is_growing (added (map redo_of xs) kept) ≡ true → complete_of points kept < last_lsn kept → complete_of points (added (map redo_of xs) kept) ≡ complete_of points kept
+complete_of-stuck : (points : ℕ → ℕ) (xs : List Packet) (kept : List Redo) → is_growing (added (map packet_redo xs) kept) ≡ true → complete_of points kept < last_lsn kept → complete_of points (added (map packet_redo xs) kept) ≡ complete_of points kept
 complete_of-stuck points [] kept h less = refl
 complete_of-stuck points (x ∷ xs) kept h less =
-    let more : last_lsn kept < x.lsn = (both (last_lsn kept) x.lsn (is_growing kept) (above xs (redo_of x ∷ kept) h).0).0 in
+    let more : last_lsn kept < (packet_redo x).lsn = (both (last_lsn kept) (packet_redo x).lsn (is_growing kept) (above xs (packet_redo x ∷ kept) h).0).0 in
     let apart : (complete_of points kept == last_lsn kept) ≡ false = grind (arith, nat_tests) in
-    let step : complete_of points (redo_of x ∷ kept) ≡ complete_of points kept = rw apart refl in
-    complete_of-stuck points xs (redo_of x ∷ kept) h (omega arith) ∙ step
+    let step : complete_of points (packet_redo x ∷ kept) ≡ complete_of points kept = rw apart refl in
+    complete_of-stuck points xs (packet_redo x ∷ kept) h (omega arith) ∙ step
 
 -- later records have greater numbers than the bound
-consistency_point_below-later : (n : ℕ) (xs : List Record) (kept : List Redo) → is_growing (added (map redo_of xs) kept) ≡ true → n ≤ last_lsn kept → consistency_point_below n (added (map redo_of xs) kept) ≡ consistency_point_below n kept
+consistency_point_below-later : (n : ℕ) (xs : List Packet) (kept : List Redo) → is_growing (added (map packet_redo xs) kept) ≡ true → n ≤ last_lsn kept → consistency_point_below n (added (map packet_redo xs) kept) ≡ consistency_point_below n kept
 consistency_point_below-later n [] kept h le = refl
 consistency_point_below-later n (x ∷ xs) kept h le =
-    let more : last_lsn kept < x.lsn = (both (last_lsn kept) x.lsn (is_growing kept) (above xs (redo_of x ∷ kept) h).0).0 in
-    let later : nat_le x.lsn n ≡ false = lt-leb x.lsn n (omega arith) in
-    let step : consistency_point_below n (redo_of x ∷ kept) ≡ consistency_point_below n kept = ap (λ b. if b then x.lsn else consistency_point_below n kept) (ap (λ b. x.point && b) later ∙ and_false x.point) in
-    consistency_point_below-later n xs (redo_of x ∷ kept) h (omega arith) ∙ step
+    let more : last_lsn kept < (packet_redo x).lsn = (both (last_lsn kept) (packet_redo x).lsn (is_growing kept) (above xs (packet_redo x ∷ kept) h).0).0 in
+    let later : nat_le (packet_redo x).lsn n ≡ false = lt-leb (packet_redo x).lsn n (omega arith) in
+    let step : consistency_point_below n (packet_redo x ∷ kept) ≡ consistency_point_below n kept = ap (λ b. if b then (packet_redo x).lsn else consistency_point_below n kept) (ap (λ b. (packet_redo x).point && b) later ∙ and_false (packet_redo x).point) in
+    consistency_point_below-later n xs (packet_redo x ∷ kept) h (omega arith) ∙ step
 
 -- ---- what is kept of a front
 
-module _ (points : ℕ → ℕ) (records : List Record) (growing : is_growing (log_of records) ≡ true) (old : Covered) (front : CoversFront old points records) where
+module _ (points : ℕ → ℕ) (records : List Packet) (growing : is_growing (log_of records) ≡ true) (old : Covered) (front : CoversFront old points records) where
   abbrev kept : List Redo
   kept = log_of (take old.records records)
 
-  grown : is_growing (added (map redo_of (drop old.records records)) kept) ≡ true
+  grown : is_growing (added (map packet_redo (drop old.records records)) kept) ≡ true
   grown = subst (λ log. is_growing log ≡ true) (split records old.records) growing
 
   kept_grows : is_growing kept ≡ true
   kept_grows = (above (drop old.records records) kept grown).0
 
+  next-kept : (p : Packet) (r : Redo) → old.records < length records → p ≡ get_or records old.records p → r ≡ packet_redo p → log_of (take (old.records + 1) records) ≡ r ∷ kept
+  next-kept p r within is shows = log_of-more records old.records p within ∙ ap (λ x. packet_redo x ∷ kept) (sym is) ∙ ap (λ s. s ∷ kept) (sym shows)
+
   -- one record more is covered
-  pub covers-more : (new : Covered) (r : Record) → old.records < length records → r ≡ get_or records old.records r → r.lsn ≤ points r.group
+  pub covers-more : (new : Covered) (p : Packet) (r : Redo) → old.records < length records → p ≡ get_or records old.records p → r ≡ packet_redo p → r.lsn ≤ points r.group
       → new.records ≡ old.records + 1 → new.complete ≡ r.lsn → new.durable ≡ (if r.point then r.lsn else old.durable) → CoversFront new points records
-  covers-more new r within is reached counted complete durable =
+  covers-more new p r within is shows reached counted complete durable =
       let here : nat_le r.lsn (points r.group) ≡ true = le-leb r.lsn (points r.group) reached in
-      let whole : log_of (take new.records records) ≡ redo_of r ∷ kept =
-      ap (λ n. log_of (take n records)) counted ∙ log_of-more records old.records r within ∙ ap (λ x. redo_of x ∷ kept) (sym is) in
-      let next : is_growing (redo_of r ∷ kept) ≡ true =
-      subst (λ log. is_growing log ≡ true) (log_of-more records old.records r within ∙ ap (λ x. redo_of x ∷ kept) (sym is)) (more-grows (old.records + 1)) in
+      let one : log_of (take (old.records + 1) records) ≡ r ∷ kept = next-kept p r within is shows in
+      let whole : log_of (take new.records records) ≡ r ∷ kept = ap (λ n. log_of (take n records)) counted ∙ one in
+      let next : is_growing (r ∷ kept) ≡ true = subst (λ log. is_growing log ≡ true) one (more-grows (old.records + 1)) in
       let link : last_lsn kept < r.lsn = (both (last_lsn kept) r.lsn (is_growing kept) next).0 in
       let self : nat_le r.lsn r.lsn ≡ true = le-leb r.lsn r.lsn (omega arith) in
       let bound : consistency_point_below r.lsn kept ≡ old.durable = consistency_point_below-whole r.lsn kept kept_grows (omega arith) ∙ sym (front.durable ∙ ap (λ n. consistency_point_below n kept) front.complete) in
@@ -114,29 +116,30 @@ module _ (points : ℕ → ℕ) (records : List Record) (growing : is_growing (l
   pub covers-all : length records ≤ old.records → CoversLog old points records
   covers-all end =
       let whole : take old.records records ≡ records = take_all old.records records end in
-      let all : every (is_covered points) (log_of records) ≡ true = subst (λ (xs : List Record). every (is_covered points) (log_of xs) ≡ true) whole front.all in
-      let complete : old.complete ≡ complete_of points (log_of records) = front.complete ∙ ap (λ (xs : List Record). last_lsn (log_of xs)) whole ∙ sym (complete_of-covered points (log_of records) all) in
+      let all : every (is_covered points) (log_of records) ≡ true = subst (λ (xs : List Packet). every (is_covered points) (log_of xs) ≡ true) whole front.all in
+      let complete : old.complete ≡ complete_of points (log_of records) = front.complete ∙ ap (λ (xs : List Packet). last_lsn (log_of xs)) whole ∙ sym (complete_of-covered points (log_of records) all) in
       record {
         front = front;
         complete = complete;
-        durable = front.durable ∙ ap₂ (λ n (xs : List Record). consistency_point_below n (log_of xs)) complete whole;
+        durable = front.durable ∙ ap₂ (λ n (xs : List Packet). consistency_point_below n (log_of xs)) complete whole;
       }
 
   -- the next record isn't covered
-  pub covers-up-to : (r : Record) → old.records < length records → r ≡ get_or records old.records r → points r.group < r.lsn → CoversLog old points records
-  covers-up-to r within is short =
+  pub covers-up-to : (p : Packet) (r : Redo) → old.records < length records → p ≡ get_or records old.records p → r ≡ packet_redo p → points r.group < r.lsn → CoversLog old points records
+  covers-up-to p r within is shows short =
       let here : nat_le r.lsn (points r.group) ≡ false = lt-leb r.lsn (points r.group) short in
-      let next : drop old.records records ≡ r ∷ drop (old.records + 1) records =
-      drop-cons records old.records r within ∙ ap₂ (λ x n. x ∷ drop n records) (sym is) (sym (add-one old.records)) in
-      let whole : log_of records ≡ added (map redo_of (drop (old.records + 1) records)) (redo_of r ∷ kept) =
-      split records old.records ∙ ap (λ (xs : List Record). added (map redo_of xs) kept) next in
-      let grows : is_growing (added (map redo_of (drop (old.records + 1) records)) (redo_of r ∷ kept)) ≡ true = subst (λ log. is_growing log ≡ true) whole growing in
-      let link : last_lsn kept < r.lsn = (both (last_lsn kept) r.lsn (is_growing kept) (above (drop (old.records + 1) records) (redo_of r ∷ kept) grows).0).0 in
+      let next : drop old.records records ≡ p ∷ drop (old.records + 1) records =
+      drop-cons records old.records p within ∙ ap₂ (λ x n. x ∷ drop n records) (sym is) (sym (add-one old.records)) in
+      let whole : log_of records ≡ added (map packet_redo (drop (old.records + 1) records)) (r ∷ kept) =
+      split records old.records ∙ ap (λ (xs : List Packet). added (map packet_redo xs) kept) next
+      ∙ ap (λ s. added (map packet_redo (drop (old.records + 1) records)) (s ∷ kept)) (sym shows) in
+      let grows : is_growing (added (map packet_redo (drop (old.records + 1) records)) (r ∷ kept)) ≡ true = subst (λ log. is_growing log ≡ true) whole growing in
+      let link : last_lsn kept < r.lsn = (both (last_lsn kept) r.lsn (is_growing kept) (above (drop (old.records + 1) records) (r ∷ kept) grows).0).0 in
       let covered : complete_of points kept ≡ last_lsn kept = complete_of-covered points kept front.all in
-      let step : complete_of points (redo_of r ∷ kept) ≡ last_lsn kept =
+      let step : complete_of points (r ∷ kept) ≡ last_lsn kept =
       ap (λ b. if b then r.lsn else complete_of points kept) (ap (λ b. (complete_of points kept == last_lsn kept) && b) here ∙ and_false _) ∙ covered in
       let stuck : complete_of points (log_of records) ≡ last_lsn kept =
-      ap (complete_of points) whole ∙ complete_of-stuck points (drop (old.records + 1) records) (redo_of r ∷ kept) grows (omega arith) ∙ step in
+      ap (complete_of points) whole ∙ complete_of-stuck points (drop (old.records + 1) records) (r ∷ kept) grows (omega arith) ∙ step in
       let later : consistency_point_below (last_lsn kept) (log_of records) ≡ consistency_point_below (last_lsn kept) kept =
       ap (consistency_point_below (last_lsn kept)) (split records old.records) ∙ consistency_point_below-later (last_lsn kept) (drop old.records records) kept grown (omega arith) in
       record {
@@ -156,7 +159,7 @@ every-covered points points' up (r ∷ older) h =
     and_from _ _ (le-leb r.lsn (points' r.group) (omega arith)) (every-covered points points' up older parts.1)
 
 -- points have risen
-pub covers-raised : (covered : Covered) (points points' : ℕ → ℕ) (records : List Record) → ((group : ℕ) → points group ≤ points' group) → CoversFront covered points records → CoversFront covered points' records
+pub covers-raised : (covered : Covered) (points points' : ℕ → ℕ) (records : List Packet) → ((group : ℕ) → points group ≤ points' group) → CoversFront covered points records → CoversFront covered points' records
 covers-raised covered points points' records up front = record {
   within = front.within;
   all = every-covered points points' up (log_of (take covered.records records)) front.all;

@@ -7,6 +7,7 @@ use Rattle.std.proofs.lemmas.List.{take-append-le}
 use Rattle.std.proofs.lemmas.Bool.{cases_eq}
 use Rattle.std.proofs.lemmas.Bool.Decides.{nat_tests}
 use Rattle.volume_model.specs.Redo.{last_of_group, last_of_block}
+use Rattle.redo_record.specs.declared.packet.Packet.{Packet}
 use Rattle.redo_record.specs.declared.«record».Record.{Record}
 use Rattle.redo_record.specs.Record.{redo_of}
 use Rattle.writer_core.specs.Logs.{log_of}
@@ -47,8 +48,8 @@ lasts-entered old new i r is counted groups updates = record {
 }
 
 -- the log has one record more, which isn't entered
-pub front-pushed : (lasts : Lasts) (records : List Record) (r : Record) → AreLastsOfFront lasts records → AreLastsOfFront lasts (records ++ r ∷ [])
-front-pushed lasts records r front = record {
-  within = omega (arith, front.within, length-append records (r ∷ []));
-  front = subst (λ (xs : List Record). AreLasts lasts (log_of xs)) (sym (take-append-le lasts.entered records (r ∷ []) front.within)) front.front;
+pub front-pushed : (lasts : Lasts) (records : List Packet) (p : Packet) → AreLastsOfFront lasts records → AreLastsOfFront lasts (records ++ p ∷ [])
+front-pushed lasts records p front = record {
+  within = omega (arith, front.within, length-append records (p ∷ []));
+  front = subst (λ (xs : List Packet). AreLasts lasts (log_of xs)) (sym (take-append-le lasts.entered records (p ∷ []) front.within)) front.front;
 }

@@ -8,8 +8,8 @@ use Rattle.volume_model.specs.Redo.{last_lsn}
 use Rattle.volume_model.specs.Message as model
 use Rattle.volume_model.specs.Client as client
 use Rattle.volume_model.specs.ClientWriter.{record_of, is_last, issued_log, issued_writes, is_change}
-use Rattle.redo_record.specs.declared.«record».Record.{Record}
-use Rattle.redo_record.specs.Record.{redo_of}
+use Rattle.redo_record.specs.declared.packet.Packet.{Packet}
+use Rattle.redo_record.specs.Packet.{packet_redo}
 use Rattle.wire.specs.declared.message.Message.{Message}
 use Rattle.wire.specs.Message.{message_of, messages_of}
 use Rattle.writer_core.specs.declared.change.Change.{Change}
@@ -53,34 +53,34 @@ good_here groups changes i change within is h =
       place = leb-true (change.offset + length change.bytes.items) 512 d.1;
     }
 
-module _ (volume start : ℕ) (places : ℕ → model.Place) (changes : List Change) (i : ℕ) (change : Change) (within : i < length changes) (is : change ≡ get_or changes i change) (records : List Record) (r : Record) (made : redo_of r ≡ record_of volume start (log_of records) (change_of change) (nat_eq (i + 1) (length changes))) where
+module _ (volume start : ℕ) (places : ℕ → model.Place) (changes : List Change) (i : ℕ) (change : Change) (within : i < length changes) (is : change ≡ get_or changes i change) (records : List Packet) (p : Packet) (made : packet_redo p ≡ record_of volume start (log_of records) (change_of change) (nat_eq (i + 1) (length changes))) where
   pub rest_is : changes_of (drop i changes) ≡ change_of change ∷ changes_of (drop (i + 1) changes)
   rest_is = here_is changes i change within is
 
-  record_is : redo_of r ≡ record_of volume start (log_of records) (change_of change) (is_last (changes_of (drop (i + 1) changes)))
+  record_is : packet_redo p ≡ record_of volume start (log_of records) (change_of change) (is_last (changes_of (drop (i + 1) changes)))
   record_is = made ∙ ap (record_of volume start (log_of records) (change_of change)) (last_here changes i within)
 
-  log_is : log_of (records ++ r ∷ []) ≡ record_of volume start (log_of records) (change_of change) (is_last (changes_of (drop (i + 1) changes))) ∷ log_of records
-  log_is = log_of-push records r ∙ ap (λ s. s ∷ log_of records) record_is
+  log_is : log_of (records ++ p ∷ []) ≡ record_of volume start (log_of records) (change_of change) (is_last (changes_of (drop (i + 1) changes))) ∷ log_of records
+  log_is = log_of-push records p ∙ ap (λ s. s ∷ log_of records) record_is
 
-  pub logged_on : issued_log volume start (changes_of (drop (i + 1) changes)) (log_of (records ++ r ∷ [])) ≡ issued_log volume start (changes_of (drop i changes)) (log_of records)
+  pub logged_on : issued_log volume start (changes_of (drop (i + 1) changes)) (log_of (records ++ p ∷ [])) ≡ issued_log volume start (changes_of (drop i changes)) (log_of records)
   logged_on = ap (issued_log volume start (changes_of (drop (i + 1) changes))) log_is ∙ sym (ap (λ cs. issued_log volume start cs (log_of records)) rest_is)
 
-  pub written_on : (m : model.Message) → m ≡ model.Message.Write change.group (client.label_of volume places change.group) (redo_of r) → m ∷ issued_writes volume places start (changes_of (drop (i + 1) changes)) (log_of (records ++ r ∷ [])) ≡ issued_writes volume places start (changes_of (drop i changes)) (log_of records)
+  pub written_on : (m : model.Message) → m ≡ model.Message.Write change.group (client.label_of volume places change.group) (packet_redo p) → m ∷ issued_writes volume places start (changes_of (drop (i + 1) changes)) (log_of (records ++ p ∷ [])) ≡ issued_writes volume places start (changes_of (drop i changes)) (log_of records)
   written_on m e =
       ap₂ (λ x l. x ∷ issued_writes volume places start (changes_of (drop (i + 1) changes)) l) (e ∙ ap (model.Message.Write change.group (client.label_of volume places change.group)) record_is) log_is
       ∙ sym (ap (λ cs. issued_writes volume places start cs (log_of records)) rest_is)
 
-  pub growing_on : is_growing (log_of records) ≡ true → is_growing (log_of (records ++ r ∷ [])) ≡ true
+  pub growing_on : is_growing (log_of records) ≡ true → is_growing (log_of (records ++ p ∷ [])) ≡ true
   growing_on h =
-      let lsn : (redo_of r).lsn ≡ suc (max (last_lsn (log_of records)) start) = ap (λ s. s.lsn) record_is in
-      let above : nat_lt (last_lsn (log_of records)) (redo_of r).lsn ≡ true = lt-ltb (last_lsn (log_of records)) (redo_of r).lsn (omega arith) in
-      ap is_growing (log_of-push records r) ∙ ap (λ b. b && is_growing (log_of records)) above ∙ h
+      let lsn : (packet_redo p).lsn ≡ suc (max (last_lsn (log_of records)) start) = ap (λ s. s.lsn) record_is in
+      let above : nat_lt (last_lsn (log_of records)) (packet_redo p).lsn ≡ true = lt-ltb (last_lsn (log_of records)) (packet_redo p).lsn (omega arith) in
+      ap is_growing (log_of-push records p) ∙ ap (λ b. b && is_growing (log_of records)) above ∙ h
 
-  pub room_on : max (last_lsn (log_of records)) start + length (drop i changes) ≤ 2 ^ 62 → max (last_lsn (log_of (records ++ r ∷ []))) start + length (drop (i + 1) changes) ≤ 2 ^ 62
+  pub room_on : max (last_lsn (log_of records)) start + length (drop i changes) ≤ 2 ^ 62 → max (last_lsn (log_of (records ++ p ∷ []))) start + length (drop (i + 1) changes) ≤ 2 ^ 62
   room_on h =
-      let lsn : (redo_of r).lsn ≡ suc (max (last_lsn (log_of records)) start) = ap (λ s. s.lsn) record_is in
-      rw (log_of-push records r, lsn) (omega (arith, length-drop {A = Change}))
+      let lsn : (packet_redo p).lsn ≡ suc (max (last_lsn (log_of records)) start) = ap (λ s. s.lsn) record_is in
+      rw (log_of-push records p, lsn) (omega (arith, length-drop {A = Change}))
 
   pub good_on : (groups : ℕ) → every (is_change groups) (changes_of (drop i changes)) ≡ true → (is_change groups (change_of change) ≡ true) × (every (is_change groups) (changes_of (drop (i + 1) changes)) ≡ true)
   good_on groups h = parts _ _ (sym (ap (every (is_change groups)) rest_is) ∙ h)
@@ -88,11 +88,11 @@ module _ (volume start : ℕ) (places : ℕ → model.Place) (changes : List Cha
       parts : (a b : Bool) → (a && b) ≡ true → (a ≡ true) × (b ≡ true)
       parts a b e = grind (arith, nat_tests)
 
-pub front_on : (records : List Record) (r : Record) (front : List Record) → take (length front) records ≡ front → take (length front) (records ++ r ∷ []) ≡ front
-front_on records r front e =
+pub front_on : (records : List Packet) (p : Packet) (front : List Packet) → take (length front) records ≡ front → take (length front) (records ++ p ∷ []) ≡ front
+front_on records p front e =
     let l : length (take (length front) records) ≡ length front = ap length e in
     let within : length front ≤ length records = omega (arith, l, length-take (length front) records) in
-    take-append-le (length front) records (r ∷ []) within ∙ e
+    take-append-le (length front) records (p ∷ []) within ∙ e
 
 pub messages_on : (messages : List Message) (m : Message) (rest whole : List model.Message) → message_of m ∷ rest ≡ whole → messages_of (messages ++ m ∷ []) ++ rest ≡ messages_of messages ++ whole
 messages_on [] m rest whole e = e

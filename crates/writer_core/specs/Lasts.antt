@@ -4,7 +4,7 @@ use Rattle.std.specs.declared.cmp.Ordering.{Ordering}
 use Rattle.std.specs.Ordering.{nat_cmp, ordering_then}
 use Rattle.std.specs.BTreeMap.{get}
 use Rattle.volume_model.specs.Redo.{Redo, last_of_group, last_of_block}
-use Rattle.redo_record.specs.declared.«record».Record.{Record}
+use Rattle.redo_record.specs.declared.packet.Packet.{Packet}
 use Rattle.writer_core.specs.Logs.{log_of}
 use Rattle.writer_core.specs.declared.lasts.Lasts.{Lasts}
 
@@ -26,7 +26,7 @@ pub record AreLasts (lasts : Lasts) (log : List Redo) : Type 0 where
   pub of_block : (group block : ℕ) → kept_of_block lasts group block ≡ last_of_block group block log
 
 -- the same of the records that are entered, from the first on
-pub record AreLastsOfFront (lasts : Lasts) (records : List Record) : Type 0 where
+pub record AreLastsOfFront (lasts : Lasts) (records : List Packet) : Type 0 where
   pub within : lasts.entered ≤ length records
   pub front : AreLasts lasts (log_of (take lasts.entered records))
 

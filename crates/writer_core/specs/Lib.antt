@@ -5,4 +5,5 @@ pub mod Counts
 pub mod Standings
 pub mod Groups
 pub mod Changes
+pub mod Carried
 pub mod Writers

@@ -9,8 +9,10 @@ use Rattle.volume_model.specs.Client.{Client, ClientGroup, ClientStep}
 use Rattle.volume_model.specs.ClientWriter.{Change, is_transaction}
 use Rattle.volume_model.specs.Client.Stage.{Installing, Writing}
 use Rattle.lineage.specs.Lineage.{lineage_of}
+use Rattle.wire.specs.declared.carried.Carried.{Carried}
 use Rattle.wire.specs.declared.message.Message.{Message}
 use Rattle.wire.specs.Message.{message_of, messages_of}
+use Rattle.writer_core.specs.Carried.{carried_write}
 use Rattle.writer_core.specs.Logs.{log_of}
 use Rattle.writer_core.specs.Groups.{groups_in, standings_plan}
 use Rattle.writer_core.specs.declared.writer.Writer.{Writer}
@@ -47,3 +49,7 @@ silent u client = record { made = []; client = client }
 -- the step of a client that makes this message and becomes this
 abbrev pub asked : Message → Client → ClientStep
 asked message client = record { made = message_of message ∷ []; client = client }
+
+-- the step of a client that sends the Write of this record and becomes this
+abbrev pub sent : Carried → Client → ClientStep
+sent carried client = record { made = carried_write carried ∷ []; client = client }

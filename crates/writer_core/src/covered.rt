@@ -1,7 +1,7 @@
 //! How far a log is covered by the points of its groups.
 
 use crate::standings::Standings;
-use redo_record::Record;
+use redo_record::Packet;
 
 /// How far a log is covered: a record is where its LSN is not above the point of its group.
 #[derive(Clone, Copy)]
@@ -34,13 +34,13 @@ impl Covered {
     }
 
     /// Goes on behind the records that are covered, up to the first that isn't.
-    pub fn follow(&mut self, log: &[Record], standings: &Standings)
+    pub fn follow(&mut self, log: &[Packet], standings: &Standings)
         requires growing { is_growing (log_of log.now) ≡ true }
         requires front { CoversFront self.old (group_point_of (groups_in standings.now)) log.now }
         ensures { CoversLog self.new (group_point_of (groups_in standings.now)) log.now }
     {
         while self.records < log.len() {
-            let record = log[self.records];
+            let record = log[self.records].record();
             if standings.point(record.group) < record.lsn {
                 return;
             }

@@ -7,22 +7,25 @@ ghost use Rattle.volume_model.specs.Client.{place_of};
 ghost use Rattle.volume_model.specs.ClientWriter.{record_of, issued_log, issued_writes, is_change};
 ghost use Rattle.volume_model.specs.Lists.{every};
 ghost use Rattle.redo_record.specs.Record.{redo_of};
+ghost use Rattle.redo_record.specs.Packet.{packet_redo};
 ghost use Rattle.redo_record.specs.Payload.{HasRoom};
 ghost use Rattle.volume_model.specs.Message as model;
 ghost use Rattle.volume_model.specs.Client.{label_of};
-ghost use Rattle.wire.specs.Message.{message_of, messages_of};
+ghost use Rattle.wire.specs.Message.{messages_of};
 ghost use Rattle.writer_core.specs.Logs.{log_of, is_growing};
 ghost use Rattle.writer_core.specs.Lasts.{AreLasts, AreLastsOfFront};
 ghost use Rattle.writer_core.specs.Groups.{groups_in, standings_plan};
 ghost use Rattle.writer_core.specs.Changes.{change_of, changes_of};
+ghost use Rattle.writer_core.specs.Carried.{carried_write};
 
 use crate::change::Change;
 use crate::lasts::Lasts;
 use crate::log::last_lsn;
 use crate::standings::Standings;
 use redo_record::{Packet, Payload, Record};
+use std::alloc::Global;
 use volume_model::Fault;
-use wire::{Message, Write};
+use wire::{Carried, Message};
 
 /// The volume epoch of a writer, and the LSN after which its own records begin.
 #[derive(Clone, Copy)]
@@ -33,7 +36,7 @@ pub struct Span {
 }
 
 /// The record of a change behind a log, of which the last LSNs are known; `point` makes it a consistency point.
-fn next_record(span: Span, log: &[Record], lasts: &Lasts, change: &Change, point: bool) -> Record
+fn next_record(span: Span, log: &[Packet], lasts: &Lasts, change: &Change, point: bool) -> Record
     requires lasts { AreLasts lasts.now (log_of log.now) }
     requires growing { is_growing (log_of log.now) ≡ true }
     requires room { max (last_lsn (log_of log.now)) span.start < 2 ^ 62 }
@@ -61,23 +64,25 @@ fn next_record(span: Span, log: &[Record], lasts: &Lasts, change: &Change, point
     }
 }
 
-/// The message that gives a record to the nodes of its group.
-pub fn write_of(volume: u32, standings: &Standings, record: &Record) -> Message
-    ensures { message_of result ≡ model.Message.Write «record».now.group (label_of volume (place_of (groups_in standings.now)) «record».now.group) (redo_of «record».now) }
+/// A record as a writer of this volume epoch carries it to the nodes of its group.
+pub fn carry<'a>(volume: u32, standings: &Standings, packet: &'a Packet) -> Carried<'a>
+    ensures { carried_write result ≡ model.Message.Write (packet_redo packet.now).group (label_of volume (place_of (groups_in standings.now)) (packet_redo packet.now).group) (packet_redo packet.now) }
 {
-    Message::Write(Write {
-        group: record.group,
-        label: standings.label(volume, record.group),
-        packet: Packet::pack(record),
-    })
+    let group = packet.group();
+    Carried {
+        group,
+        label: standings.label(volume, group),
+        packet,
+    }
 }
 
 /// Adds the records of a transaction's changes to a log, and their messages to others. The last LSNs of the log follow it, up to
 /// the last record but one. Where memory runs out the log has only grown.
 pub fn append(
+    alloc: Global,
     span: Span,
     standings: &Standings,
-    log: &mut Vec<Record>,
+    log: &mut Vec<Packet>,
     lasts: &mut Lasts,
     changes: &[Change],
     messages: &mut Vec<Message>,
@@ -97,8 +102,9 @@ pub fn append(
     for (i, change) in changes.iter().enumerate() {
         lasts.follow(log.as_slice())?;
         let record = next_record(span, log.as_slice(), lasts, change, i + 1 == changes.len());
-        messages.push(write_of(span.volume, standings, &record))?;
-        log.push(record)?;
+        let packet = Packet::pack(alloc, record)?;
+        messages.push(carry(span.volume, standings, &packet).write()?)?;
+        log.push(packet)?;
     }
     Ok(())
 }

@@ -2,7 +2,7 @@
 
 ghost use Rattle.std.specs.Prelude.{◌≡◌, length};
 
-use redo_record::Record;
+use redo_record::{Packet, Record};
 use std::alloc::{AllocError, Global};
 use std::collections::BTreeMap;
 
@@ -68,13 +68,13 @@ impl Lasts {
     }
 
     /// Enters what the log has behind the records that are entered. Where memory runs out some of it may be.
-    pub fn follow(&mut self, log: &[Record]) -> Result<(), AllocError>
+    pub fn follow(&mut self, log: &[Packet]) -> Result<(), AllocError>
         requires { AreLastsOfFront self.old log.now }
         ensures ok { OnOk result (AreLasts self.new (log_of log.now)) }
         ensures front { AreLastsOfFront self.new log.now }
     {
         while self.entered < log.len() {
-            self.enter(&log[self.entered])?;
+            self.enter(log[self.entered].record())?;
         }
         Ok(())
     }

@@ -1,55 +1,55 @@
 //! What is read off a log, whose records stand in growing LSN.
 
-ghost use Rattle.std.specs.Prelude.{◌≡◌, true, option_map};
+ghost use Rattle.std.specs.Prelude.{◌≡◌, true, option_copied, option_map};
 ghost use Rattle.volume_model.specs.Redo.{last_lsn, record_at};
 ghost use Rattle.volume_model.specs.ClientPoints.{is_consistency_point};
 ghost use Rattle.volume_model.specs.ClientWriter.{last_of_group_below};
-ghost use Rattle.redo_record.specs.Record.{redo_of};
+ghost use Rattle.redo_record.specs.Packet.{packet_redo};
 ghost use Rattle.writer_core.specs.Logs.{log_of, is_growing};
 
-use redo_record::Record;
+use redo_record::Packet;
 
 /// The last LSN, 0 where there is none.
-pub fn last_lsn(log: &[Record]) -> u64
+pub fn last_lsn(log: &[Packet]) -> u64
     ensures { result ≡ last_lsn (log_of log.now) }
 {
-    log.last().map_or(0, |record| record.lsn)
+    log.last().map_or(0, |packet| packet.lsn())
 }
 
 /// The greatest LSN of a group that is not above `limit`, else 0.
-pub fn last_of_group_below(log: &[Record], group: u8, limit: u64) -> u64
+pub fn last_of_group_below(log: &[Packet], group: u8, limit: u64) -> u64
     ensures { result ≡ last_of_group_below group limit (log_of log.now) }
 {
     let mut below = 0;
-    for record in log {
-        if record.group == group && record.lsn <= limit {
-            below = record.lsn;
+    for packet in log {
+        if packet.group() == group && packet.lsn() <= limit {
+            below = packet.lsn();
         }
     }
     below
 }
 
 /// The record of an LSN, where there is one.
-pub fn record_at(log: &[Record], lsn: u64) -> Option<Record>
+pub fn record_at(log: &[Packet], lsn: u64) -> Option<&Packet>
     requires { is_growing (log_of log.now) ≡ true }
-    ensures { option_map redo_of result ≡ record_at (log_of log.now) lsn }
+    ensures { option_map packet_redo (option_copied result) ≡ record_at (log_of log.now) lsn }
 {
-    let place = log.partition_point(|record| record.lsn < lsn);
-    let record = log.get(place)?;
-    if record.lsn == lsn {
-        Some(*record)
+    let place = log.partition_point(|packet| packet.lsn() < lsn);
+    let packet = log.get(place)?;
+    if packet.lsn() == lsn {
+        Some(packet)
     } else {
         None
     }
 }
 
 /// Whether a record of this LSN is a consistency point.
-pub fn is_point(log: &[Record], lsn: u64) -> bool
+pub fn is_point(log: &[Packet], lsn: u64) -> bool
     requires { is_growing (log_of log.now) ≡ true }
     ensures { result ≡ is_consistency_point lsn (log_of log.now) }
 {
     match record_at(log, lsn) {
-        Some(record) => record.point,
+        Some(packet) => packet.record().point,
         None => false,
     }
 }

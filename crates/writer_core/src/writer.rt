@@ -9,18 +9,18 @@ ghost use Rattle.volume_model.specs.Client.{group_point_of};
 
 use crate::change::Change;
 use crate::covered::Covered;
-use crate::issuing::{Span, append, write_of};
+use crate::issuing::{Span, append, carry};
 use crate::lasts::Lasts;
 use crate::log::{is_point, last_lsn, last_of_group_below, record_at};
 use crate::standings::Standings;
 use crate::transaction::is_transaction;
 use lineage::Lineage;
 use plan::CheckedPlan;
-use redo_record::Record;
+use redo_record::Packet;
 use std::alloc::Global;
 use std::sync::Arc;
 use volume_model::Fault;
-use wire::{Ack, Message, PageAsk, View};
+use wire::{Ack, Carried, Message, PageAsk, View};
 
 /// The greatest log sequence number.
 const LAST_LSN: u64 = 1 << 62;
@@ -33,7 +33,7 @@ pub struct Writer {
     lineage: Lineage,
     /// How many records of the log it began with.
     found: usize,
-    log: Vec<Record>,
+    log: Vec<Packet>,
     /// The last LSN of each group and block, of the log's front; a transaction enters the rest before it asks.
     lasts: Lasts,
     /// How far the log is covered by the points of its groups.
@@ -59,7 +59,7 @@ impl Writer {
     ghost use Rattle.wire.specs.Message.{message_of, place_of};
     ghost use Rattle.volume_model.specs.Lineage.{last_start};
     ghost use Rattle.writer_core.specs.Changes.{changes_of};
-    ghost use Rattle.writer_core.specs.Writers.{client_of, writer_plan, writer_volume, installing, CanIssue, acted, silent, asked};
+    ghost use Rattle.writer_core.specs.Writers.{client_of, writer_plan, writer_volume, installing, CanIssue, acted, silent, asked, sent};
     ghost use Rattle.writer_core.specs.Groups.{standings_plan};
     ghost use Rattle.lineage.specs.Lineage.{lineage_of};
 
@@ -82,7 +82,7 @@ impl Writer {
 
     /// The writer of a later volume epoch, from what its recovery keeps of the groups, with the recovery's lineage and the log
     /// that it found. Takes no memory.
-    pub fn opened(standings: Standings, volume: u32, lineage: Lineage, log: Vec<Record>) -> Writer
+    pub fn opened(standings: Standings, volume: u32, lineage: Lineage, log: Vec<Packet>) -> Writer
         requires assigned { 1 ≤ volume }
         requires growing { is_growing (log_of log.items) ≡ true }
         ensures client { client_of result ≡ writing (standings_plan standings) (installing (groups_in standings) (lineage_of lineage) (log_of log.items)) }
@@ -128,7 +128,7 @@ impl Writer {
     }
 
     /// The log that its recovery found, in growing LSN; none of the writer that a volume is born with.
-    pub fn found(&self) -> &[Record]
+    pub fn found(&self) -> &[Packet]
         ensures { log_of result.now ≡ (client_of self.now).found }
     {
         &self.log[..self.found]
@@ -142,7 +142,7 @@ impl Writer {
     }
 
     /// The log, in growing LSN.
-    pub fn log(&self) -> &[Record]
+    pub fn log(&self) -> &[Packet]
         ensures { log_of result.now ≡ (client_of self.now).log }
     {
         self.log.as_slice()
@@ -225,13 +225,13 @@ impl Writer {
         Ok(())
     }
 
-    /// The Write that carries a record of the log once more. `NoLogRecord` where the log has none with this LSN. Takes no memory.
-    pub fn resend(&self, lsn: u64) -> Result<Message, Fault>
-        ensures answers { AnswersAlways asked (resent (writer_volume self.now) (client_of self.now) lsn) (client_of self.now) result (client_of self.now) }
+    /// A record of the log, to be carried once more by a Write. `NoLogRecord` where the log has none with this LSN. Takes no memory.
+    pub fn resend(&self, lsn: u64) -> Result<Carried<'_>, Fault>
+        ensures answers { AnswersAlways sent (resent (writer_volume self.now) (client_of self.now) lsn) (client_of self.now) result (client_of self.now) }
         ensures own { IfErr result (λ fault. fault ≢ NoMemory) }
     {
         match record_at(self.log.as_slice(), lsn) {
-            Some(record) => Ok(write_of(self.volume, &self.standings, &record)),
+            Some(packet) => Ok(carry(self.volume, &self.standings, packet)),
             None => Err(Fault::NoLogRecord),
         }
     }
@@ -315,6 +315,7 @@ impl Writer {
         let mut messages = Vec::with_capacity(alloc, changes.len())?;
         let length = self.log.len();
         match append(
+            alloc,
             span,
             &self.standings,
             &mut self.log,

@@ -1,16 +1,17 @@
 use pages::{BLOCK, page_of};
 use redo_record::{Packet, Payload, Record};
+use std::alloc::Global;
 use std::test::Fail;
 
 /// A chained record that writes one byte at its own place.
-fn packet(lsn: u64, byte: u8) -> Result<Packet, Fail> {
+fn packet(alloc: Global, lsn: u64, byte: u8) -> Result<Packet, Fail> {
     let Some(bytes) = Payload::new(&[byte]) else {
         return Err(Fail::from("one byte"));
     };
     if lsn == 0 || lsn > 9 {
         return Err(Fail::from("a small number"));
     }
-    Ok(Packet::pack(&Record {
+    let record = Record {
         lsn,
         volume_epoch: 1,
         prev_volume: lsn - 1,
@@ -21,12 +22,18 @@ fn packet(lsn: u64, byte: u8) -> Result<Packet, Fail> {
         offset: (lsn - 1) as u16,
         bytes,
         point: lsn == 3,
-    }))
+    };
+    Ok(Packet::pack(alloc, record)?)
 }
 
 #[test]
 fn three_bytes(rt: HostRuntime) -> Result<(), Fail> {
-    let packets = [packet(1, 0x61)?, packet(2, 0x62)?, packet(3, 0x63)?];
+    let alloc = rt.alloc();
+    let packets = [
+        packet(alloc, 1, 0x61)?,
+        packet(alloc, 2, 0x62)?,
+        packet(alloc, 3, 0x63)?,
+    ];
     let mut page = [0; BLOCK];
     assert_eq!(rt; page_of(&packets, 1, 3).as_slice(), page.as_slice());
     page[0] = 0x61;

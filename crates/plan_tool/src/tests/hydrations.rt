@@ -23,7 +23,7 @@ fn report(alloc: Global, from: u8, lineage: Lineage, last: u64) -> Result<CopyRe
             bytes: Payload::new(b"a").ok_or("one byte is a payload")?,
             point: true,
         };
-        records.insert(&Packet::pack(&record))?;
+        records.insert(Packet::pack(alloc, record)?)?;
     }
     Ok(CopyReport {
         group: 0,

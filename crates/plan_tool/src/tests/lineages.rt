@@ -73,7 +73,7 @@ fn set(alloc: Global, records: &[(u32, u64)]) -> Result<RecordSet, Fail> {
             bytes: Payload::new(b"a").ok_or("one byte is a payload")?,
             point: true,
         };
-        set.insert(&Packet::pack(&record))?;
+        set.insert(Packet::pack(alloc, record)?)?;
     }
     Ok(set)
 }

@@ -1,4 +1,5 @@
 use redo_record::{Packet, RecordSet, decode, encode};
+use std::alloc::Global;
 use std::test::*;
 use volume_model::Fault;
 
@@ -19,10 +20,10 @@ fn one_record(rt: HostRuntime) -> Result<(), Fail> {
     assert_eq!(rt; record.volume_epoch, 1);
     assert!(rt; record.point);
     assert_eq!(rt; record.bytes.as_slice(), b"a".as_slice());
-    let packet = Packet::pack(&record);
-    assert!(rt; packet.is_same(&Packet::pack(&packet.record())));
+    let packet = Packet::pack(rt.alloc(), record)?;
+    assert!(rt; packet.is_same(&Packet::pack(rt.alloc(), *packet.record())?));
     assert_eq!(rt;
-        encode(rt.alloc(), &packet.record())?.as_slice(),
+        encode(rt.alloc(), packet.record())?.as_slice(),
         BYTES.as_slice()
     );
     Ok(())
@@ -42,28 +43,34 @@ fn faults(rt: HostRuntime) {
 }
 
 /// The packet of a record with this number that writes one byte.
-fn packet(lsn: u64, byte: u8) -> Result<Packet, Fail> {
+fn packet(alloc: Global, lsn: u64, byte: u8) -> Result<Packet, Fail> {
     let mut bytes = BYTES;
     bytes[7] = lsn.min(9) as u8;
     bytes[45] = byte;
-    Ok(Packet::pack(&decode(&bytes)?))
+    Ok(Packet::pack(alloc, decode(&bytes)?)?)
 }
 
 #[test]
 fn sets(rt: HostRuntime) -> Result<(), Fail> {
-    let packets = [packet(3, 1)?, packet(1, 2)?, packet(2, 1)?, packet(1, 1)?];
-    let mut left = RecordSet::new(rt.alloc());
+    let alloc = rt.alloc();
+    let packets = [
+        packet(alloc, 3, 1)?,
+        packet(alloc, 1, 2)?,
+        packet(alloc, 2, 1)?,
+        packet(alloc, 1, 1)?,
+    ];
+    let mut left = RecordSet::new(alloc);
     assert!(rt; left.is_empty());
     for packet in &packets {
-        left.insert(packet)?;
-        left.insert(packet)?;
+        left.insert(packet.clone()?)?;
+        left.insert(packet.clone()?)?;
     }
     assert_eq!(rt; left.len(), 4);
-    let mut right = RecordSet::new(rt.alloc());
-    right.insert(&packets[1])?;
-    right.insert(&packet(9, 1)?)?;
+    let mut right = RecordSet::new(alloc);
+    right.insert(packets[1].clone()?)?;
+    right.insert(packet(alloc, 9, 1)?)?;
     assert!(rt; !right.contains(&packets[0]));
-    let both = left.union(rt.alloc(), &right)?;
+    let both = left.union(alloc, &right)?;
     assert_eq!(rt; both.len(), 5);
     let expected = [(1, 1), (1, 2), (2, 1), (3, 1), (9, 1)];
     for (packet, (lsn, byte)) in both.as_slice().iter().zip(expected) {

@@ -25,11 +25,16 @@ fn record(lsn: u64, point: bool) -> Result<Record, Fail> {
     })
 }
 
+/// The packet of that record.
+fn packet(alloc: Global, lsn: u64, point: bool) -> Result<Packet, Fail> {
+    Ok(Packet::pack(alloc, record(lsn, point)?)?)
+}
+
 /// The records 1 to 1007, of which 900 and 1000 alone are consistency points.
-fn long_log(alloc: Global) -> Result<Vec<Record>, Fail> {
-    let mut log: Vec<Record> = Vec::new(alloc);
+fn long_log(alloc: Global) -> Result<Vec<Packet>, Fail> {
+    let mut log: Vec<Packet> = Vec::new(alloc);
     for back in 0..1007 {
-        log.push(record(back + 1, back == 899 || back == 999)?)?;
+        log.push(packet(alloc, back + 1, back == 899 || back == 999)?)?;
     }
     Ok(log)
 }
@@ -75,7 +80,7 @@ const LABEL: Label = Label {
 fn report(alloc: Global, from: u8, last: u64) -> Result<Report, Fail> {
     let mut records = RecordSet::new(alloc);
     for back in 0..last.min(10) {
-        records.insert(&Packet::pack(&record(back + 1, back == 2 || back == 4)?))?;
+        records.insert(packet(alloc, back + 1, back == 2 || back == 4)?)?;
     }
     Ok(Report {
         group: 0,
@@ -183,7 +188,7 @@ fn opening(rt: HostRuntime) -> Result<(), Fail> {
     assert_eq!(rt; writer.issue(alloc, &[change])?.len(), 1);
     let log = writer.log();
     assert_eq!(rt; log.len(), 4);
-    assert_eq!(rt; (log[3].lsn, log[3].prev_volume), (14, 3));
+    assert_eq!(rt; (log[3].lsn(), log[3].record().prev_volume), (14, 3));
     assert!(rt; writer.resend(14).is_ok());
     assert_eq!(rt; writer.resend(4).err(), Some(Fault::NoLogRecord));
     Ok(())

@@ -150,7 +150,7 @@ fn transactions(rt: HostRuntime) -> Result<(), Fail> {
     }
     assert_eq!(rt; (six.complete_point(), six.durable_point()), (10, 10));
     assert_eq!(rt; six.acknowledged(10), true);
-    assert!(rt; matches!(&six.resend(10)?, Message::Write(_)));
+    assert!(rt; matches!(&six.resend(10)?.write()?, Message::Write(_)));
     assert_eq!(rt; six.resend(11).err(), Some(Fault::NoLogRecord));
     assert!(rt; matches!(&six.read(0, 0)?, Message::PageAsk(ask) if ask.point == 10));
     assert_eq!(rt; six.read(1, 0).err(), Some(Fault::NoGroup));

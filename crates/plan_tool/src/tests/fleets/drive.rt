@@ -36,7 +36,7 @@ impl Ending {
     pub fn writer(&self) -> Option<(u32, u64, u64)> {
         let writer = self.outcome.writers.first()?;
         let last = writer.log.last()?;
-        Some((writer.volume, writer.durable, last.lsn))
+        Some((writer.volume, writer.durable, last.lsn()))
     }
 }
 

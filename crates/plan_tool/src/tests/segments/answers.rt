@@ -20,7 +20,7 @@ fn told(answers: &[Message]) -> (&'static str, u64) {
 /// What a node answers to a message, after the record of number 1 if it is whole.
 fn answer(alloc: Global, at: At, message: &Message) -> Result<(&'static str, u64), Fail> {
     let mut node = node(alloc, at)?;
-    let _first = node.deliver(alloc, &write(0, LABEL, packet(1, 0)?));
+    let _first = node.deliver(alloc, &write(0, LABEL, packet(alloc, 1, 0)?));
     let answers = node.deliver(alloc, message)?;
     Ok(told(answers.as_slice()))
 }
@@ -38,12 +38,12 @@ fn answers(rt: HostRuntime) -> Result<(), Fail> {
         ),
         (
             At::Whole,
-            write(0, LABEL, packet(2, 0)?),
+            write(0, LABEL, packet(alloc, 2, 0)?),
             ("acknowledgement", 2),
         ),
         (
             At::Tail,
-            gossip(0, LABEL, packet(2, 0)?),
+            gossip(0, LABEL, packet(alloc, 2, 0)?),
             ("acknowledgement", 2),
         ),
         (At::Whole, step(0, 1, 2), ("nothing", 0)),
@@ -65,7 +65,7 @@ fn answers(rt: HostRuntime) -> Result<(), Fail> {
 fn prepared(rt: HostRuntime) -> Result<(), Fail> {
     let alloc = rt.alloc();
     let mut node = node(alloc, At::Whole)?;
-    let prepared = node.prepare(alloc, &write(0, LABEL, packet(1, 0)?))?;
+    let prepared = node.prepare(alloc, &write(0, LABEL, packet(alloc, 1, 0)?))?;
     assert_eq!(rt; told(prepared.answers()), ("acknowledgement", 1));
     assert_eq!(rt; node.scl(), 0);
     assert_eq!(rt;

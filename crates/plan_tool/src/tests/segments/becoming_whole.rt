@@ -99,7 +99,7 @@ fn copies_for_no_member(rt: HostRuntime) -> Result<(), Fail> {
 fn after_it_is_whole(rt: HostRuntime) -> Result<(), Fail> {
     let alloc = rt.alloc();
     let mut node = hydrated(alloc)?;
-    let Message::Gossip(gossip) = node.offer(1)? else {
+    let Message::Gossip(gossip) = node.offer(1)?.gossip()? else {
         return Err(Fail::from("gossip"));
     };
     assert_eq!(rt; gossip.label, label(1, 2));

@@ -11,7 +11,7 @@ use wire::{Contents, Message};
 const MOST: u64 = 1_048_576;
 
 /// The record of a number from 1 to as many as there may be and two, chained to the one before.
-fn numbered(number: u64) -> Result<Packet, Fail> {
+fn numbered(alloc: Global, number: u64) -> Result<Packet, Fail> {
     let back = number.saturating_sub(1).min(MOST + 1);
     let record = Record {
         lsn: back + 1,
@@ -25,14 +25,14 @@ fn numbered(number: u64) -> Result<Packet, Fail> {
         bytes: Payload::new(b"a").ok_or("one byte is a payload")?,
         point: true,
     };
-    Ok(Packet::pack(&record))
+    Ok(Packet::pack(alloc, record)?)
 }
 
 /// An Install of so many records.
 fn many(alloc: Global, count: u64) -> Result<Message, Fail> {
     let mut records = RecordSet::new(alloc);
     for back in 0..count {
-        records.insert(&numbered(back + 1)?)?;
+        records.insert(numbered(alloc, back + 1)?)?;
     }
     let lineage = Lineage::empty(alloc);
     Ok(install(0, label(2, 1), Contents { lineage, records }))

@@ -19,7 +19,7 @@ pub fn label(volume: u32, member: u32) -> Label {
 }
 
 /// The record of number 1 or 2, of the group.
-pub fn packet(number: u64, group: u8) -> Result<Packet, Fail> {
+pub fn packet(alloc: Global, number: u64, group: u8) -> Result<Packet, Fail> {
     let back = number.saturating_sub(1).min(1);
     let record = Record {
         lsn: back + 1,
@@ -33,13 +33,13 @@ pub fn packet(number: u64, group: u8) -> Result<Packet, Fail> {
         bytes: Payload::new(b"a").ok_or("one byte is a payload")?,
         point: true,
     };
-    Ok(Packet::pack(&record))
+    Ok(Packet::pack(alloc, record)?)
 }
 
 /// The record of number 1 alone, of the group.
 pub fn contents(alloc: Global, group: u8) -> Result<Contents, Fail> {
     let mut records = RecordSet::new(alloc);
-    records.insert(&packet(1, group)?)?;
+    records.insert(packet(alloc, 1, group)?)?;
     Ok(Contents {
         lineage: Lineage::birth(alloc)?,
         records,

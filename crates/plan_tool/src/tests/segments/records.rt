@@ -20,8 +20,8 @@ fn scl_of(answers: Result<Vec<Message>, Fault>) -> Result<u64, Fault> {
 fn records_out_of_order(rt: HostRuntime) -> Result<(), Fail> {
     let alloc = rt.alloc();
     let mut segment = node(alloc, At::Whole)?;
-    let first = write(0, LABEL, packet(1, 0)?);
-    let second = write(0, LABEL, packet(2, 0)?);
+    let first = write(0, LABEL, packet(alloc, 1, 0)?);
+    let second = write(0, LABEL, packet(alloc, 2, 0)?);
     for (message, scl) in [(&second, 0), (&first, 2), (&second, 2)] {
         assert_eq!(rt; scl_of(segment.deliver(alloc, message)), Ok(scl));
         assert_eq!(rt; segment.scl(), scl);
@@ -45,7 +45,7 @@ fn no_such_member(rt: HostRuntime) -> Result<(), Fail> {
 fn pages(rt: HostRuntime) -> Result<(), Fail> {
     let alloc = rt.alloc();
     let mut whole = node(alloc, At::Whole)?;
-    whole.deliver(alloc, &write(0, LABEL, packet(1, 0)?))?;
+    whole.deliver(alloc, &write(0, LABEL, packet(alloc, 1, 0)?))?;
     let page = whole.page_at(0, 1)?;
     assert_eq!(rt; (page[0], page[1], page[511]), (b'a', 0, 0));
     assert_eq!(rt; whole.page_at(0, 2).err(), Some(Fault::PointAhead));

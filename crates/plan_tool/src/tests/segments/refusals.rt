@@ -1,5 +1,6 @@
 use super::messages::*;
 use super::nodes::{At, node};
+use redo_record::Packet;
 use std::alloc::Global;
 use std::test::*;
 use volume_model::Fault;
@@ -103,51 +104,64 @@ fn installs(alloc: Global) -> Result<Taken, Fail> {
     )
 }
 
+/// The record of number 1 of the group, five times.
+fn of_the_group(alloc: Global) -> Result<(Packet, Packet, Packet, Packet, Packet), Fail> {
+    let one = packet(alloc, 1, 0)?;
+    Ok((one.clone()?, one.clone()?, one.clone()?, one.clone()?, one))
+}
+
+/// The record of number 1 of another group, twice.
+fn of_another(alloc: Global) -> Result<(Packet, Packet), Fail> {
+    let one = packet(alloc, 1, 1)?;
+    Ok((one.clone()?, one))
+}
+
 fn writes(alloc: Global) -> Result<Taken, Fail> {
-    let (own, other) = (packet(1, 0)?, packet(1, 1)?);
+    let (early, late, fresh, low, first) = of_the_group(alloc)?;
+    let (elsewhere, foreign) = of_another(alloc)?;
     taken(
         alloc,
         &[
             (
                 "a write of another group",
                 At::Whole,
-                write(1, LABEL, other),
+                write(1, LABEL, elsewhere),
                 Fault::NotAddressed,
             ),
             (
                 "another group's record written",
                 At::Whole,
-                write(0, LABEL, other),
+                write(0, LABEL, foreign),
                 Fault::NotAddressed,
             ),
             (
                 "a write of an earlier place",
                 At::Whole,
-                write(0, label(1, 0), own),
+                write(0, label(1, 0), early),
                 Fault::StaleMember,
             ),
             (
                 "a write of a later place",
                 At::Whole,
-                write(0, label(1, 2), own),
+                write(0, label(1, 2), late),
                 Fault::AheadMember,
             ),
             (
                 "a write before it is whole",
                 At::Fresh,
-                write(0, label(1, 2), own),
+                write(0, label(1, 2), fresh),
                 Fault::NotWhole,
             ),
             (
                 "a write below the promise",
                 At::Promised,
-                write(0, LABEL, own),
+                write(0, LABEL, low),
                 Fault::StaleVolume,
             ),
             (
                 "a write before the install",
                 At::Promised,
-                write(0, label(2, 1), own),
+                write(0, label(2, 1), first),
                 Fault::NotInstalled,
             ),
         ],
@@ -155,50 +169,51 @@ fn writes(alloc: Global) -> Result<Taken, Fail> {
 }
 
 fn gossips(alloc: Global) -> Result<Taken, Fail> {
-    let (own, other) = (packet(1, 0)?, packet(1, 1)?);
+    let (early, late, fresh, low, first) = of_the_group(alloc)?;
+    let (elsewhere, foreign) = of_another(alloc)?;
     taken(
         alloc,
         &[
             (
                 "gossip of another group",
                 At::Whole,
-                gossip(1, LABEL, other),
+                gossip(1, LABEL, elsewhere),
                 Fault::NotAddressed,
             ),
             (
                 "gossip of another group's record",
                 At::Whole,
-                gossip(0, LABEL, other),
+                gossip(0, LABEL, foreign),
                 Fault::NotAddressed,
             ),
             (
                 "gossip of an earlier place",
                 At::Whole,
-                gossip(0, label(1, 0), own),
+                gossip(0, label(1, 0), early),
                 Fault::StaleMember,
             ),
             (
                 "gossip of a later place",
                 At::Whole,
-                gossip(0, label(1, 2), own),
+                gossip(0, label(1, 2), late),
                 Fault::AheadMember,
             ),
             (
                 "gossip before it is whole",
                 At::Fresh,
-                gossip(0, label(1, 2), own),
+                gossip(0, label(1, 2), fresh),
                 Fault::NotWhole,
             ),
             (
                 "gossip below the promise",
                 At::Promised,
-                gossip(0, LABEL, own),
+                gossip(0, LABEL, low),
                 Fault::StaleVolume,
             ),
             (
                 "gossip before the install",
                 At::Promised,
-                gossip(0, label(2, 1), own),
+                gossip(0, label(2, 1), first),
                 Fault::NotInstalled,
             ),
         ],

@@ -2,6 +2,7 @@ use Rattle.std.proofs.Common.{◌∙◌, sym}
 use Rattle.std.proofs.Math.Nat.{le_of_lt, le_refl}
 use Rattle.std.specs.FinSet as set
 use borrow.Author.Count.{falls}
+use Rattle.quorum_expr.specs.Expr.{formula_of}
 use Rattle.quorum_expr.proofs.Held.{none_yet, held_more, held_same, few_more, few_same, sat-Member, sat-KOf}
 use Rattle.quorum_expr.proofs.Smaller.{smaller}
 use Rattle.quorum_expr.proofs.expression.+holds.Goals as goal
@@ -28,11 +29,11 @@ loop-child-smaller g t c = falls _ _ c.loop-child-test.true
 pub loop-child-preserved : goal.loop-child-preserved
 loop-child-preserved g t c = elim c.if-holds.branch [
   | then-holds w ↦ record {
-    so_far = held_more c.deref-child-items.result.now c.loop-child.child-index c.child-item.result (set.contains c.args.members) _ _ _ c.loop-child-test.true c.child-item.is (sym w.if-holds.ensures) w.held-is c.loop-child.invariant.so_far;
+    so_far = held_more formula_of c.deref-child-items.result.now c.loop-child.child-index c.child-item.result (set.contains c.args.members) _ _ _ c.loop-child-test.true c.child-item.is (sym w.if-holds.ensures) w.held-is c.loop-child.invariant.so_far;
     few = few_more _ _ c.loop-child.child-index w.held-is c.loop-child.invariant.few;
   }
   | else-holds w ↦ record {
-    so_far = held_same c.deref-child-items.result.now c.loop-child.child-index c.child-item.result (set.contains c.args.members) _ _ _ c.loop-child-test.true c.child-item.is (sym w.if-holds.ensures) w.held-is c.loop-child.invariant.so_far;
+    so_far = held_same formula_of c.deref-child-items.result.now c.loop-child.child-index c.child-item.result (set.contains c.args.members) _ _ _ c.loop-child-test.true c.child-item.is (sym w.if-holds.ensures) w.held-is c.loop-child.invariant.so_far;
     few = few_same _ _ c.loop-child.child-index w.held-is c.loop-child.invariant.few;
   }
 ]

@@ -3,7 +3,6 @@ use Rattle.std.proofs.lemmas.Bool.{lt-ltb}
 use Rattle.std.proofs.lemmas.List.{get_or-map, length-map, take_all, get_or_default}
 use Rattle.volume_model.specs.Redo.{Redo, last_lsn, record_at}
 use Rattle.redo_record.specs.declared.packet.Packet.{Packet}
-use Rattle.redo_record.specs.declared.«record».Record.{Record}
 use Rattle.redo_record.specs.Order.{IsInOrder}
 use Rattle.redo_record.specs.Packet.{packet_redo, packet_redo-ranges}
 use Rattle.redo_record.specs.RecordSet.{records_of}
@@ -11,7 +10,7 @@ use Rattle.writer_core.specs.Logs.{log_of, is_growing}
 use Rattle.writer_core.proofs.Logs.{log_of-push}
 use Rattle.recovery.proofs.Firsts.{find, find-is, find-new, find-same, before-lsn}
 use Rattle.recovery.proofs.chain.firsts.Goals as goal
-use Rattle.recovery.proofs.chain.firsts.Goals.{then-last-lsn+in_ok-push, else-last-lsn}
+use Rattle.recovery.proofs.chain.firsts.Goals.{then-last-lsn+in_ok-clone+in_ok-push, else-last-lsn}
 
 pub loop-packet-preserved : goal.loop-packet-preserved
 loop-packet-preserved c =
@@ -24,12 +23,12 @@ loop-packet-preserved c =
     let r : Redo = packet_redo p in
     let within : i < length records = omega (arith, c.loop-packet-test.true, length-map packets packet_redo, ap length listed) in
     let is : r ≡ get_or records i r = ap packet_redo c.packet-item.is ∙ sym (get_or-map packet_redo packets i p r c.loop-packet-test.true) ∙ ap (λ l. get_or l i r) listed in
-    let list : List Record = c.loop-packet.list.items in
+    let list : List Packet = c.loop-packet.list.items in
     let log = log_of list in
     let inv = c.loop-packet.invariant in
     elim c.if-last-lsn.branch [
-      | then-last-lsn+in_ok-push w ↦ (
-          let now : log_of c.if-last-lsn.list.items ≡ r ∷ log = ap (λ v. log_of v.items) w.list-is ∙ ap log_of w.in_ok-push.ensures.items ∙ log_of-push list w.«record».result ∙ ap (λ s. s ∷ log) w.«record».ensures in
+      | then-last-lsn+in_ok-clone+in_ok-push w ↦ (
+          let now : log_of c.if-last-lsn.list.items ≡ r ∷ log = ap (λ v. log_of v.items) w.list-is ∙ ap log_of w.in_ok-push.ensures.items ∙ log_of-push list w.in_ok-clone.field-0 ∙ ap (λ s. s ∷ log) w.in_ok-clone.ensures.cases in
           let last : c.if-last-lsn.last ≡ r.lsn = w.last-is ∙ w.lsn-last.ensures in
           let up : last_lsn log < r.lsn = subst (λ m. m < r.lsn) inv.last (subst (λ m. c.loop-packet.last < m) c.lsn.ensures w.if-last-lsn.true) in
           record {

@@ -3,7 +3,9 @@ use Rattle.std.specs.Prelude.{◌==◌}
 use Rattle.std.specs.Ordering.{nat_cmp}
 use Rattle.std.specs.BTreeSet.{contains}
 use Rattle.std.proofs.lemmas.Bool.{ne_eqb, eq-eqb}
-use Rattle.redo_record.specs.declared.«record».Record.{Record}
+use Rattle.redo_record.specs.declared.packet.Packet.{Packet}
+use Rattle.redo_record.specs.Record.{redo_of}
+use Rattle.volume_model.specs.Redo.{Redo}
 use Rattle.writer_core.specs.Logs.{log_of}
 use Rattle.recovery.proofs.Links.{leads}
 use Rattle.recovery.proofs.Cuts.{led-more, leads-not, cut-led, cut-same}
@@ -24,16 +26,18 @@ led-has front has p h e = sym (h p) ∙ ap (λ b. p == 0 || b) e ∙ or_true (p 
 led-not : (front : ℕ → Bool) (has : ℕ → Bool) (p : ℕ) → ((n : ℕ) → (n == 0 || has n) ≡ front n) → (p ≡ 0 → ⊥) → has p ≡ false → front p ≡ false
 led-not front has p h ne e = sym (h p) ∙ ap (λ b. b || has p) (ne_eqb p 0 ne) ∙ e
 
-pub loop-record-preserved : goal.loop-record-preserved
-loop-record-preserved c =
-    let records : List Record = c.args.records.now in
-    let i : ℕ = c.loop-record.record-index in
-    let r : Record = c.record-item.result in
-    let within = c.loop-record-test.true in
-    let is = c.record-item.is in
+pub loop-packet-preserved : goal.loop-packet-preserved
+loop-packet-preserved c =
+    let records : List Packet = c.args.records.now in
+    let i : ℕ = c.loop-packet.packet-index in
+    let p : Packet = c.packet-item.result in
+    let r : Redo = redo_of c.record-record.result.now in
+    let shows = c.record-record.ensures in
+    let within = c.loop-packet-test.true in
+    let is = c.packet-item.is in
     let front : ℕ → Bool = leads (log_of (take i records)) in
-    let has : ℕ → Bool = contains nat_cmp c.loop-record.led in
-    let before = c.loop-record.invariant.led in
+    let has : ℕ → Bool = contains nat_cmp c.loop-packet.led in
+    let before = c.loop-packet.invariant.led in
     elim c.if-record-eq0.branch [
       | then-record-eq0+in_ok-insert+then-record w ↦ (
           let led : front r.prev_volume ≡ true = elim w.then-record-eq0.branch [
@@ -41,8 +45,8 @@ loop-record-preserved c =
             | then-record-eq0-via-else-record-eq0+then-contains w' ↦ led-has front has r.prev_volume before (sym w'.contains.ensures ∙ w'.if-contains.true)
           ] in
           record {
-            led = λ n. ap (λ s. n == 0 || contains nat_cmp s n) w.led-is ∙ led-more records i r within is c.requires has (contains nat_cmp w.insert.new.self) before w.in_ok-insert.ensures.updates.0 led n;
-            cut = w.cut-is ∙ sym (cut-led records i r within is c.requires true led w.if-record.true);
+            led = λ n. ap (λ s. n == 0 || contains nat_cmp s n) w.led-is ∙ led-more records i p r within is shows c.requires has (contains nat_cmp w.insert.new.self) before w.in_ok-insert.ensures.updates.0 led n;
+            cut = w.cut-is ∙ sym (cut-led records i p r within is shows c.requires true led w.if-record.true);
           })
       | then-record-eq0+in_ok-insert+else-record w ↦ (
           let led : front r.prev_volume ≡ true = elim w.then-record-eq0.branch [
@@ -50,13 +54,13 @@ loop-record-preserved c =
             | then-record-eq0-via-else-record-eq0+then-contains w' ↦ led-has front has r.prev_volume before (sym w'.contains.ensures ∙ w'.if-contains.true)
           ] in
           record {
-            led = λ n. ap (λ s. n == 0 || contains nat_cmp s n) w.led-is ∙ led-more records i r within is c.requires has (contains nat_cmp w.insert.new.self) before w.in_ok-insert.ensures.updates.0 led n;
-            cut = w.cut-is ∙ c.loop-record.invariant.cut ∙ sym (cut-led records i r within is c.requires false led w.if-record.false);
+            led = λ n. ap (λ s. n == 0 || contains nat_cmp s n) w.led-is ∙ led-more records i p r within is shows c.requires has (contains nat_cmp w.insert.new.self) before w.in_ok-insert.ensures.updates.0 led n;
+            cut = w.cut-is ∙ c.loop-packet.invariant.cut ∙ sym (cut-led records i p r within is shows c.requires false led w.if-record.false);
           })
       | else-record-eq0+else-contains w ↦ (
           let not : front r.prev_volume ≡ false = led-not front has r.prev_volume before w.if-record-eq0.false (sym w.contains.ensures ∙ w.if-contains.false) in
           record {
-            led = λ n. ap (λ s. n == 0 || contains nat_cmp s n) w.led-is ∙ before n ∙ sym (leads-not records i r within is c.requires not n);
-            cut = w.cut-is ∙ c.loop-record.invariant.cut ∙ sym (cut-same records i r within is c.requires not);
+            led = λ n. ap (λ s. n == 0 || contains nat_cmp s n) w.led-is ∙ before n ∙ sym (leads-not records i p r within is shows c.requires not n);
+            cut = w.cut-is ∙ c.loop-packet.invariant.cut ∙ sym (cut-same records i p r within is shows c.requires not);
           })
     ]

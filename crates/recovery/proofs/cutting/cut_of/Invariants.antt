@@ -7,8 +7,8 @@ use Rattle.writer_core.specs.Logs.{log_of}
 use Rattle.recovery.proofs.Links.{leads}
 use Rattle.recovery.proofs.cutting.cut_of.Given as goal
 
-abbrev pub invariant-loop-record : goal.invariant-loop-record
-invariant-loop-record l = record {
-  led : (n : ℕ) → (n == 0 || contains nat_cmp l.led n) ≡ leads (log_of (take l.record-index l.records)) n;
-  cut : l.cut ≡ cut_of (log_of (take l.record-index l.records));
+abbrev pub invariant-loop-packet : goal.invariant-loop-packet
+invariant-loop-packet l = record {
+  led : (n : ℕ) → (n == 0 || contains nat_cmp l.led n) ≡ leads (log_of (take l.packet-index l.records)) n;
+  cut : l.cut ≡ cut_of (log_of (take l.packet-index l.records));
 }

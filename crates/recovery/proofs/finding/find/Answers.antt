@@ -6,7 +6,7 @@ use Rattle.volume_model.specs.Redo.{record_at, chain_from, chain_or_none, cut_of
 use Rattle.volume_model.specs.Lineage.{Lineage, extension, last_epoch, newest, found_in}
 use Rattle.volume_model.specs.Client.{ClientGroup}
 use Rattle.lineage.specs.Lineage.{lineage_of}
-use Rattle.redo_record.specs.declared.«record».Record.{Record}
+use Rattle.redo_record.specs.declared.packet.Packet.{Packet}
 use Rattle.redo_record.specs.RecordSet.{records_of}
 use Rattle.writer_core.specs.Logs.{log_of}
 use Rattle.writer_core.specs.Groups.{groups_in, standings_plan}
@@ -30,9 +30,9 @@ extend-requires-clause-later c =
 
 pub chain_of-requires-clause-there : goal.chain_of-requires-clause-there
 chain_of-requires-clause-there c =
-    let items : List Record = c.in_ok-records-2.records.items in
-    let cut : c.in-Ok.cut ≡ cut_of (log_of items) = is_value (cut_of (log_of items)) c.in-Ok.cut (subst (λ (xs : List Record). okay (cut_of (log_of xs)) ≡ okay c.in-Ok.cut) c.as_slice-3.ensures.value c.in-Ok.ensures) in
-    subst (λ (xs : List Record). is_some (chain_from c.in-Ok.cut (log_of xs) c.in-Ok.cut) ≡ true) (sym c.as_slice-4.ensures.value)
+    let items : List Packet = c.in_ok-records-2.records.items in
+    let cut : c.in-Ok.cut ≡ cut_of (log_of items) = is_value (cut_of (log_of items)) c.in-Ok.cut (subst (λ (xs : List Packet). okay (cut_of (log_of xs)) ≡ okay c.in-Ok.cut) c.as_slice-3.ensures.value c.in-Ok.ensures) in
+    subst (λ (xs : List Packet). is_some (chain_from c.in-Ok.cut (log_of xs) c.in-Ok.cut) ≡ true) (sym c.as_slice-4.ensures.value)
     (ap (λ n. is_some (chain_from n (log_of items) n)) cut ∙ cut-there (log_of items))
 
 pub returns-in-Ok-extend-clause-lineage : goal.returns-in-Ok-extend-clause-lineage
@@ -41,9 +41,9 @@ returns-in-Ok-extend-clause-lineage c =
     let groups : List ClientGroup = groups_in c.args.standings.now in
     let parent : lineage_of c.in_ok-parent.parent ≡ newest (reports_in groups) = c.in_ok-parent.ensures ∙ ap (λ gs. newest (reports_in gs)) c.as_slice.ensures.groups in
     let records : records_of c.in_ok-records.records ≡ live_records groups = c.in_ok-records.ensures ∙ ap₂ found_in parent (ap reports_in c.as_slice-2.ensures.groups) in
-    let items : List Record = c.in_ok-records-2.records.items in
+    let items : List Packet = c.in_ok-records-2.records.items in
     let same : (n : ℕ) → record_at (log_of items) n ≡ record_at (live_records groups) n = λ n. c.in_ok-records-2.ensures.same n ∙ ap (λ l. record_at l n) records in
-    let cut : c.in-Ok.cut ≡ cut_of (log_of items) = is_value (cut_of (log_of items)) c.in-Ok.cut (subst (λ (xs : List Record). okay (cut_of (log_of xs)) ≡ okay c.in-Ok.cut) c.as_slice-3.ensures.value c.in-Ok.ensures) in
+    let cut : c.in-Ok.cut ≡ cut_of (log_of items) = is_value (cut_of (log_of items)) c.in-Ok.cut (subst (λ (xs : List Packet). okay (cut_of (log_of xs)) ≡ okay c.in-Ok.cut) c.as_slice-3.ensures.value c.in-Ok.ensures) in
     let lal : c.lal.result ≡ plan.lal = c.lal.ensures ∙ ap (λ (p : Plan). p.lal) c.plan-2.ensures in
     sym (found-lineage groups (lineage_of c.in_ok-parent.parent) c.args.volume c.in-Ok.cut c.lal.result plan.lal parent (cut ∙ cut-same (log_of items) (live_records groups) same) lal) ∙ c.in-Ok-extend.ensures
 
@@ -52,10 +52,10 @@ returns-in-Ok-extend-clause-log c =
     let groups : List ClientGroup = groups_in c.args.standings.now in
     let parent : lineage_of c.in_ok-parent.parent ≡ newest (reports_in groups) = c.in_ok-parent.ensures ∙ ap (λ gs. newest (reports_in gs)) c.as_slice.ensures.groups in
     let records : records_of c.in_ok-records.records ≡ live_records groups = c.in_ok-records.ensures ∙ ap₂ found_in parent (ap reports_in c.as_slice-2.ensures.groups) in
-    let items : List Record = c.in_ok-records-2.records.items in
+    let items : List Packet = c.in_ok-records-2.records.items in
     let same : (n : ℕ) → record_at (log_of items) n ≡ record_at (live_records groups) n = λ n. c.in_ok-records-2.ensures.same n ∙ ap (λ l. record_at l n) records in
-    let cut : c.in-Ok.cut ≡ cut_of (log_of items) = is_value (cut_of (log_of items)) c.in-Ok.cut (subst (λ (xs : List Record). okay (cut_of (log_of xs)) ≡ okay c.in-Ok.cut) c.as_slice-3.ensures.value c.in-Ok.ensures) in
-    c.in_ok-log.ensures.chain ∙ ap (λ (xs : List Record). chain_or_none (chain_from c.in-Ok.cut (log_of xs) c.in-Ok.cut)) c.as_slice-4.ensures.value ∙ ap (λ n. chain_or_none (chain_from n (log_of items) n)) cut ∙ log-same (log_of items) (live_records groups) same
+    let cut : c.in-Ok.cut ≡ cut_of (log_of items) = is_value (cut_of (log_of items)) c.in-Ok.cut (subst (λ (xs : List Packet). okay (cut_of (log_of xs)) ≡ okay c.in-Ok.cut) c.as_slice-3.ensures.value c.in-Ok.ensures) in
+    c.in_ok-log.ensures.chain ∙ ap (λ (xs : List Packet). chain_or_none (chain_from c.in-Ok.cut (log_of xs) c.in-Ok.cut)) c.as_slice-4.ensures.value ∙ ap (λ n. chain_or_none (chain_from n (log_of items) n)) cut ∙ log-same (log_of items) (live_records groups) same
 
 pub returns-clause-lineage : goal.returns-clause-lineage
 returns-clause-lineage c =
@@ -63,9 +63,9 @@ returns-clause-lineage c =
     let groups : List ClientGroup = groups_in c.args.standings.now in
     let parent : lineage_of c.in_ok-parent.parent ≡ newest (reports_in groups) = c.in_ok-parent.ensures ∙ ap (λ gs. newest (reports_in gs)) c.as_slice.ensures.groups in
     let records : records_of c.in_ok-records.records ≡ live_records groups = c.in_ok-records.ensures ∙ ap₂ found_in parent (ap reports_in c.as_slice-2.ensures.groups) in
-    let items : List Record = c.in_ok-records-2.records.items in
+    let items : List Packet = c.in_ok-records-2.records.items in
     let same : (n : ℕ) → record_at (log_of items) n ≡ record_at (live_records groups) n = λ n. c.in_ok-records-2.ensures.same n ∙ ap (λ l. record_at l n) records in
-    let cut : c.in-Ok.cut ≡ cut_of (log_of items) = is_value (cut_of (log_of items)) c.in-Ok.cut (subst (λ (xs : List Record). okay (cut_of (log_of xs)) ≡ okay c.in-Ok.cut) c.as_slice-3.ensures.value c.in-Ok.ensures) in
+    let cut : c.in-Ok.cut ≡ cut_of (log_of items) = is_value (cut_of (log_of items)) c.in-Ok.cut (subst (λ (xs : List Packet). okay (cut_of (log_of xs)) ≡ okay c.in-Ok.cut) c.as_slice-3.ensures.value c.in-Ok.ensures) in
     let lal : c.lal.result ≡ plan.lal = c.lal.ensures ∙ ap (λ (p : Plan). p.lal) c.plan-2.ensures in
     subst (λ (defined : Result Lineage Fault). Fails c.in-Err-extend.fault defined)
     (found-lineage groups (lineage_of c.in_ok-parent.parent) c.args.volume c.in-Ok.cut c.lal.result plan.lal parent (cut ∙ cut-same (log_of items) (live_records groups) same) lal)

@@ -4,5 +4,5 @@ use Rattle.redo_record.specs.RecordSet.{records_of}
 use Rattle.writer_core.specs.Logs.{log_of}
 use Rattle.recovery.proofs.speaking.of_group.Given as goal
 
-abbrev pub invariant-loop-record : goal.invariant-loop-record
-invariant-loop-record l = records_of l.set ≡ of_group l.group (log_of (take l.record-index l.log))
+abbrev pub invariant-loop-packet : goal.invariant-loop-packet
+invariant-loop-packet l = records_of l.set ≡ of_group l.group (log_of (take l.packet-index l.log))

@@ -15,7 +15,7 @@ pub complete_point_with-reached-requires-clause-last : goal.complete_point_with-
 complete_point_with-reached-requires-clause-last c = λ j d h.
     (let held : List Held = c.loop-k.held in
     let k : ℕ = c.loop-k.k in
-    let e : Held = c.index-held-k.result in
+    let e : Held = c.index-whole-k.result in
     let within : k < length held = omega arith in
     let m : j < min k (length held) = subst (λ n. j < n) (length-take k held) h in
     let a : get_or (take k held) j d ≡ get_or held j e = get_or-take k held j d (omega arith) ∙ get_or_default held j d e (omega arith) in
@@ -26,10 +26,10 @@ pub loop-k-preserved : goal.loop-k-preserved
 loop-k-preserved c =
     let held : List Held = c.loop-k.held in
     let k : ℕ = c.loop-k.k in
-    let e : Held = c.index-held-k-in-loop-k.result in
+    let e : Held = c.index-held-k.result in
     let x : Held = record { packet = (get_or held k e).packet; reached = c.complete_point_with-reached.result } in
     let within : k < length held = omega arith in
-    let read : redo_held (get_or held k c.index-held-k.result) ≡ redo_held x = ap redo_held (get_or_default held k c.index-held-k.result e within) in
+    let read : redo_held (get_or held k c.index-whole-k.result) ≡ redo_held x = ap redo_held (get_or_default held k c.index-whole-k.result e within) in
     let here : x.reached ≡ scl (redos_of (take k held) ++ redo_held x ∷ []) = c.complete_point_with-reached.ensures ∙ ap (λ z. scl (redos_of (take k held) ++ z ∷ [])) read in
     record {
       same = same-set held k x e within refl ∙ c.loop-k.invariant.same;

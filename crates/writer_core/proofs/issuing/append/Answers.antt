@@ -5,6 +5,7 @@ use Rattle.volume_model.specs.Client.{place_of, label_of}
 use Rattle.volume_model.specs.ClientWriter.{record_of}
 use Rattle.wire.specs.Message.{message_of}
 use Rattle.redo_record.specs.Record.{redo_of}
+use Rattle.redo_record.specs.Packet.{packet_redo}
 use Rattle.writer_core.specs.Logs.{log_of}
 use Rattle.writer_core.specs.Lasts.{AreLastsOfFront}
 use Rattle.writer_core.specs.Changes.{change_of}
@@ -39,20 +40,22 @@ loop-i-preserved c =
     let i = c.loop-i.i in
     let change = c.index-changes-i.result in
     let records = c.loop-i.log.items in
-    let r = c.next_record-record.result in
+    let p = c.in_ok-packet.packet in
     let within = c.loop-i-test.true in
     let is = c.index-changes-i.is in
-    let made : redo_of r ≡ record_of volume start (log_of records) (change_of change) (nat_eq (i + 1) (length changes)) = rw c.as_slice-in-loop-i.ensures.value at c.next_record-record.ensures in
-    let logs : c.push-in-loop-i.new.self.items ≡ records ++ r ∷ [] = c.in_ok-push-2.ensures.items in
-    let messages : c.push.new.self.items ≡ c.loop-i.messages.items ++ c.write_of.result ∷ [] = c.in_ok-push.ensures.items in
-    let said : message_of c.write_of.result ≡ model.Message.Write change.group (label_of volume places change.group) (redo_of r) =
-    c.write_of.ensures ∙ ap (λ (g : ℕ). model.Message.Write g (label_of volume places g) (redo_of r)) (ap (λ (s : Redo). s.group) made) in
+    let built : redo_of c.next_record-record.result ≡ record_of volume start (log_of records) (change_of change) (nat_eq (i + 1) (length changes)) = rw c.as_slice-in-loop-i.ensures.value at c.next_record-record.ensures in
+    let made : packet_redo p ≡ record_of volume start (log_of records) (change_of change) (nat_eq (i + 1) (length changes)) = c.in_ok-packet.ensures ∙ built in
+    let message = c.in_ok-write.field-0 in
+    let logs : c.push-in-loop-i.new.self.items ≡ records ++ p ∷ [] = c.in_ok-push-2.ensures.items in
+    let messages : c.push.new.self.items ≡ c.loop-i.messages.items ++ message ∷ [] = c.in_ok-push.ensures.items in
+    let said : message_of message ≡ model.Message.Write change.group (label_of volume places change.group) (packet_redo p) =
+    c.in_ok-write.ensures ∙ c.carry.ensures ∙ ap (λ (g : ℕ). model.Message.Write g (label_of volume places g) (packet_redo p)) (ap (λ (s : Redo). s.group) made) in
     record {
-      lasts = rw logs (front-pushed c.follow.new.self records r (subst (AreLastsOfFront c.follow.new.self) c.as_slice.ensures.value c.in_ok-follow.ensures.front));
-      growing = rw logs (growing_on volume start places changes i change within is records r made c.loop-i.invariant.growing);
-      room = rw logs (room_on volume start places changes i change within is records r made c.loop-i.invariant.room);
-      good = (good_on volume start places changes i change within is records r made (standings_plan c.args.standings.now).groups c.loop-i.invariant.good).1;
-      logged = rw logs (logged_on volume start places changes i change within is records r made ∙ c.loop-i.invariant.logged);
-      written = rw (logs, messages) (messages_on c.loop-i.messages.items c.write_of.result _ _ (written_on volume start places changes i change within is records r made _ said) ∙ c.loop-i.invariant.written);
-      front = rw logs (front_on records r _ c.loop-i.invariant.front);
+      lasts = rw logs (front-pushed c.follow.new.self records p (subst (AreLastsOfFront c.follow.new.self) c.as_slice.ensures.value c.in_ok-follow.ensures.front));
+      growing = rw logs (growing_on volume start places changes i change within is records p made c.loop-i.invariant.growing);
+      room = rw logs (room_on volume start places changes i change within is records p made c.loop-i.invariant.room);
+      good = (good_on volume start places changes i change within is records p made (standings_plan c.args.standings.now).groups c.loop-i.invariant.good).1;
+      logged = rw logs (logged_on volume start places changes i change within is records p made ∙ c.loop-i.invariant.logged);
+      written = rw (logs, messages) (messages_on c.loop-i.messages.items message _ _ (written_on volume start places changes i change within is records p made _ said) ∙ c.loop-i.invariant.written);
+      front = rw logs (front_on records p _ c.loop-i.invariant.front);
     }

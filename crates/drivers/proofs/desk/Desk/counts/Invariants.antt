@@ -1,5 +1,5 @@
 use Rattle.std.proofs.Common.{◌≡◌, ◌+◌}
 use Rattle.drivers.proofs.desk.Desk.counts.Given as goal
 
-abbrev pub invariant-loop-cell : goal.invariant-loop-cell
-invariant-loop-cell g l = l.made + l.refused ≡ l.cell-index
+abbrev pub invariant-loop-word : goal.invariant-loop-word
+invariant-loop-word g l = l.made + l.refused ≡ l.word-index

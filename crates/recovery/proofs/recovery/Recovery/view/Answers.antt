@@ -8,7 +8,7 @@ use Rattle.lineage.specs.Lineage.{lineage_of}
 use Rattle.writer_core.specs.Logs.{log_of}
 use Rattle.volume_model.specs.Client.{ClientGroup}
 use Rattle.volume_model.specs.ClientRecovery.{fences, installs}
-use Rattle.volume_model.specs.ClientMessages.{later_group, reread_group, with_places, taken, are_places, later_in}
+use Rattle.volume_model.specs.ClientMessages.{later_group, reread_group, with_places, are_places, later_in}
 use Rattle.wire.specs.declared.label.Place.{Place}
 use Rattle.wire.specs.Message.{place_of, messages_of}
 use Rattle.writer_core.specs.Standings.{group_at}

@@ -20,5 +20,5 @@ ordered_either packets packet now b last order is =
 pub invariant_of-self : goal.invariant_of-self
 invariant_of-self c = record {
   in_order =
-      ordered_either c.args.self.now.packets.items c.args.packet.now c.push.new.self.items (is_ok c.push.result) c.requires c.args.self.now.in_order c.push.ensures.items;
+      ordered_either c.args.self.now.packets.items c.args.packet c.push.new.self.items (is_ok c.push.result) c.requires c.args.self.now.in_order c.push.ensures.items;
 }

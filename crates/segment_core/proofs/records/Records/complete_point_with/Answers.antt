@@ -1,6 +1,6 @@
 use Rattle.std.proofs.Common.{◌≡◌, ◌≤◌, ℕ, ◌<◌, List, [], ◌∷◌, ◌++◌, length, get_or, ap, sym, ◌∙◌, subst, arith}
 use Rattle.std.specs.List.{remove}
-use Rattle.volume_model.specs.Redo.{Redo, scl}
+use Rattle.volume_model.specs.Redo.{Redo, scl, with_record}
 use Rattle.redo_record.specs.Packet.{packet_redo}
 use Rattle.segment_core.specs.Records.{records_of, room_of}
 use Rattle.redo_record.proofs.Places.{remove-insert}
@@ -26,7 +26,7 @@ returns-then-place-len-clause-point c =
 pub returns-clause-same : goal.returns-clause-same
 returns-clause-same c =
     c.remove.ensures.dropped
-    ∙ ap (λ xs. remove xs c.args.place) (c.insert.ensures.taken ∙ c.requires.place.joins)
+    ∙ ap (λ xs. remove xs c.args.place) (c.insert.ensures.taken ∙ ap (λ r. with_record r (records_of c.args.self.now)) c.in_ok-clone.ensures.cases ∙ c.requires.place.joins)
     ∙ remove-insert (records_of c.args.self.now) c.args.place (packet_redo c.args.packet.now) c.requires.place.within
 
 pub returns-clause-room : goal.returns-clause-room

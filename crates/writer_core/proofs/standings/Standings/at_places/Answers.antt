@@ -1,10 +1,8 @@
-use Rattle.std.proofs.Common.{◌≡◌, true, List, map, take, sym, ap, ◌∙◌, subst}
+use Rattle.std.proofs.Common.{◌≡◌, List, map, take, sym, ap, ◌∙◌, subst}
 use Rattle.std.proofs.lemmas.List.{take_all}
 use Rattle.std.specs.Arc.{arc_value}
-use Rattle.plan.specs.declared.checked.CheckedPlan.{CheckedPlan}
 use Rattle.plan.specs.CheckedModel.{checked_model}
 use Rattle.volume_model.specs.Client.{newly_at}
-use Rattle.volume_model.specs.ClientMessages.{are_places}
 use Rattle.wire.specs.declared.label.Place.{Place}
 use Rattle.wire.specs.Message.{place_of}
 use Rattle.writer_core.specs.Standings.{groups_of, ArePlaced}

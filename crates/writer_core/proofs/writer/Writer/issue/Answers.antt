@@ -2,7 +2,7 @@ use Rattle.std.proofs.Common.{◌≡◌, ℕ, true, length, take, List, Result, 
 use Rattle.std.specs.Prelude.{Vec}
 use Rattle.std.specs.Global.{Global}
 use Rattle.std.proofs.lemmas.Result.{err_from_is_err_and}
-use Rattle.redo_record.specs.declared.«record».Record.{Record}
+use Rattle.redo_record.specs.declared.packet.Packet.{Packet}
 use Rattle.wire.specs.declared.message.Message.{Message}
 use Rattle.volume_model.specs.Answer.{Answers, never_late}
 use Rattle.volume_model.specs.Client.{Client, ClientAnswer, group_point_of}
@@ -31,11 +31,11 @@ invariant_of-self-in-Err-clause-growing c =
     let self = c.args.self.now in
     let many : c.len-length.result ≡ length self.log.items = omega arith in
     let back : c.truncate.new.self.items ≡ self.log.items = c.truncate.ensures.items ∙ ap (λ (n : ℕ). take n c.append.new.log.items) many ∙ c.append.ensures.front in
-    subst (λ (xs : List Record). is_growing (log_of xs) ≡ true) (sym back) self.growing
+    subst (λ (xs : List Packet). is_growing (log_of xs) ≡ true) (sym back) self.growing
 
 pub invariant_of-self-in-Err-clause-covers : goal.invariant_of-self-in-Err-clause-covers
 invariant_of-self-in-Err-clause-covers c =
     let self = c.args.self.now in
     let many : c.len-length.result ≡ length self.log.items = omega arith in
     let back : c.truncate.new.self.items ≡ self.log.items = c.truncate.ensures.items ∙ ap (λ (n : ℕ). take n c.append.new.log.items) many ∙ c.append.ensures.front in
-    subst (λ (xs : List Record). CoversLog self.covered (group_point_of (groups_in self.standings)) xs) (sym back) self.covers
+    subst (λ (xs : List Packet). CoversLog self.covered (group_point_of (groups_in self.standings)) xs) (sym back) self.covers

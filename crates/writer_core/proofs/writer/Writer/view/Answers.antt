@@ -1,5 +1,5 @@
 use Rattle.std.proofs.Common.{◌≡◌, ℕ, ◌≤◌, List, map, sym, ap, ◌∙◌, subst}
-use Rattle.redo_record.specs.declared.«record».Record.{Record}
+use Rattle.redo_record.specs.declared.packet.Packet.{Packet}
 use Rattle.volume_model.specs.Client.{ClientGroup, group_point_of}
 use Rattle.volume_model.specs.ClientPoints.{raised}
 use Rattle.volume_model.specs.ClientMessages.{with_places, later_group}
@@ -19,5 +19,5 @@ follow-requires-2-clause-front c =
     let now : groups_in c.raise.new.self ≡ raised plan (with_places later_group old places) = c.raise.ensures.groups ∙ ap (raised plan) c.follow.ensures.groups in
     let rises : (k : ℕ) → group_point_of old k ≤ group_point_of (groups_in c.raise.new.self) k =
     λ k. subst (λ (groups : List ClientGroup). group_point_of old k ≤ group_point_of groups k) (sym now) (group_point_of-with_places plan old places k) in
-    subst (λ (log : List Record). CoversFront self.covered (group_point_of (groups_in c.raise.new.self)) log) (sym c.as_slice-2.ensures.value)
+    subst (λ (log : List Packet). CoversFront self.covered (group_point_of (groups_in c.raise.new.self)) log) (sym c.as_slice-2.ensures.value)
     (covers-raised self.covered (group_point_of old) (group_point_of (groups_in c.raise.new.self)) self.log.items rises self.covers.front)

@@ -1,0 +1,28 @@
+-- Lists of packets that are cloned
+use Rattle.std.proofs.Common.{◌≡◌, List, [], ◌∷◌, ◌++◌, map, refl, ap, ◌∙◌}
+use Rattle.std.proofs.lemmas.List.{map-append}
+use Rattle.std.specs.List.{AllZip, AppendsClones}
+use Rattle.volume_model.specs.Redo.{Redo}
+use Rattle.redo_record.specs.declared.packet.Packet.{Packet}
+use Rattle.redo_record.specs.Packet.{packet_redo}
+
+-- the records of packets
+abbrev pub redos : List Packet → List Redo
+redos packets = map packet_redo packets
+
+-- a clone shares the record
+abbrev pub IsCopy : Packet → Packet → Type 0
+IsCopy packet copy = packet_redo copy ≡ packet_redo packet
+
+-- the clones of packets have their records
+pub redos-copied : (packets copies : List Packet) → AllZip IsCopy packets copies → redos copies ≡ redos packets
+redos-copied [] [] h = refl
+redos-copied [] (copy ∷ copies) h = absurd h
+redos-copied (packet ∷ packets) [] h = absurd h
+redos-copied (packet ∷ packets) (copy ∷ copies) h =
+    ap (λ r. r ∷ redos copies) h.0 ∙ ap (λ rs. packet_redo packet ∷ rs) (redos-copied packets copies h.1)
+
+-- with clones at its end a list has the records of both
+pub redos-appended : (old now more : List Packet) → AppendsClones IsCopy old now more → redos now ≡ redos old ++ redos more
+redos-appended old now more h =
+    ap redos h.1 ∙ map-append packet_redo old h.0 ∙ ap (λ rs. redos old ++ rs) (redos-copied more h.0 h.2)
