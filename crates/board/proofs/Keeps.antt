@@ -10,7 +10,7 @@ use Rattle.atomic_table.specs.Table.{Me, keeps, Allows, Splits}
 use Rattle.atomic_table.proofs.Lists.{at_set, at_snoc, set_here, set_else, set_again, at_longer, at_last}
 use Rattle.board.specs.declared.BoardStep.{BoardStep}
 use Rattle.board.specs.declared.BoardStep.TheVariants.{Raised, Read}
-use Rattle.board.specs.Board.{number_of, IsRaised, NeverFalls, IsBoard, Stands, Looks}
+use Rattle.board.specs.Board.{number_of, IsRaised, NeverFalls, IsBoard, IsKept, Stands, Looks, Raises}
 
 module _ {A : Type 0} where
   -- what stands in a list one longer stood there before, or is the new one
@@ -106,8 +106,11 @@ module _ (word now : ℕ) (views : List (List BoardStep)) (id : ℕ) (v : List B
   pub made : IsBoard now (set views id (v ++ x ∷ []))
   made = record { above = is_above; reached = is_reached; was_raised = each_was_raised; rising = is_rising }
 
+  pub kept : IsKept now (v ++ x ∷ [])
+  kept = (after, id, here_now, made)
+
 -- a raise
-pub raises : (slots id : ℕ) (m : Me (Unit {0}) (List BoardStep)) (k : ℕ) → Allows {S = Unit {0}} (λ s. Stands s.words s.views) slots id m 0 (λ n. max n k) (λ n after. (after.0 ≡ m.0 ++ Raised k ∷ []) × (after.1 ≡ m.1))
+pub raises : (slots id : ℕ) (m : Me (Unit {0}) (List BoardStep)) (k : ℕ) → Allows {S = Unit {0}} (λ s. Stands s.words s.views) slots id m 0 (λ n. max n k) (λ n after. Raises m.0 k after.0 × (after.1 ≡ m.1))
 raises slots id m k s h sized here small =
     let word = h.0 in
     let top : (max word k ≡ word) ⊎ (Raised k ≡ Raised (max word k)) =
@@ -116,7 +119,7 @@ raises slots id m k s h sized here small =
       keeps,
       tt,
       (max word k, ap (λ ws. slice_set ws 0 (max (slice_index ws 0) k)) h.1, made word (max word k) s.views id m.0 (Raised k) h.2 here (omega arith) (omega arith) top (λ n e. absurd (cc))),
-      (refl, refl),
+      (record { step = refl; kept = (max word k, kept word (max word k) s.views id m.0 (Raised k) h.2 here (omega arith) (omega arith) top (λ n e. absurd (cc))) }, refl),
     )
 
 -- a reading
@@ -129,7 +132,14 @@ looks slots id m s h sized here small =
       keeps,
       tt,
       (word, ap (λ ws. slice_set ws 0 (slice_index ws 0)) h.1, made word word s.views id m.0 (Read (slice_index s.words 0)) h.2 here (omega arith) (omega arith) (inl refl) (λ n e. let same : slice_index s.words 0 ≡ n = cc in sym same ∙ is)),
-      ((refl, λ k d lt. let a = h.2.above id k m.0 (get_or m.0 k d) here (at_or m.0 k d lt) in omega arith), refl),
+      (
+        record {
+          step = refl;
+          at_least = λ k d lt. let a = h.2.above id k m.0 (get_or m.0 k d) here (at_or m.0 k d lt) in omega arith;
+          kept = subst (λ (n : ℕ). IsKept n w) (sym is) (kept word word s.views id m.0 (Read (slice_index s.words 0)) h.2 here (omega arith) (omega arith) (inl refl) (λ n e. let same : slice_index s.words 0 ≡ n = cc in sym same ∙ is));
+        },
+        refl,
+      ),
     )
 
 -- a new seat, which has made no step

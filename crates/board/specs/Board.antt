@@ -25,10 +25,21 @@ pub record IsBoard (word : ℕ) (views : List (List BoardStep)) : Type 0 where
   pub was_raised : (seat at n : ℕ) (v : List BoardStep) → get_elem? views seat ≡ some v → get_elem? v at ≡ some (Read n) → (n ≡ 0) ⊎ IsRaised views n
   pub rising : (seat : ℕ) (v : List BoardStep) → get_elem? views seat ≡ some v → NeverFalls v
 
+-- the steps of all seats, these among them, keep the rule of the board with this number on it
+abbrev pub IsKept : ℕ → List BoardStep → Type 0
+IsKept word steps = (views : List (List BoardStep)) × (seat : ℕ) × (get_elem? views seat ≡ some steps) × IsBoard word views
+
 -- the board has one word, of which this holds
 abbrev pub Stands : List ℕ → List (List BoardStep) → Type 0
 Stands words views = (word : ℕ) × (words ≡ word ∷ []) × IsBoard word views
 
--- the number was read, and is at least all numbers before it
-abbrev pub Looks : List BoardStep → ℕ → List BoardStep → Type 0
-Looks before found after = (after ≡ before ++ Read found ∷ []) × All (λ s. number_of s ≤ found) before
+-- the number was read, is at least all numbers before it, and stands on the board
+pub record Looks (before : List BoardStep) (found : ℕ) (after : List BoardStep) : Type 0 where
+  pub step : after ≡ before ++ Read found ∷ []
+  pub at_least : All (λ s. number_of s ≤ found) before
+  pub kept : IsKept found after
+
+-- the board was raised to this number, and is kept
+pub record Raises (before : List BoardStep) (lsn : ℕ) (after : List BoardStep) : Type 0 where
+  pub step : after ≡ before ++ Raised lsn ∷ []
+  pub kept : (word : ℕ) × IsKept word after

@@ -46,10 +46,10 @@ impl Split<Steps> for NewSeat {
 pub struct Raise;
 
 impl Play<(), Steps> for Raise {
-    ghost use Rattle.std.specs.Prelude.{◌≡◌, ◌++◌, [], ◌∷◌};
-    ghost use Rattle.board.specs.declared.BoardStep.TheVariants.{Raised};
+    ghost use Rattle.std.specs.Prelude.{◌≡◌};
+    ghost use Rattle.board.specs.Board.{Raises};
 
-    ghost then = { λ step before found after. (after.0 ≡ before.0 ++ Raised step.first ∷ []) × (after.1 ≡ before.1) };
+    ghost then = { λ step before found after. Raises before.0 step.first after.0 × (after.1 ≡ before.1) };
 }
 
 /// A seat reads the number.
@@ -76,8 +76,8 @@ pub struct BoardSeat {
 }
 
 impl Board {
-    ghost use Rattle.std.specs.Prelude.{◌≡◌, ◌<◌, ◌≤◌, ◌++◌, [], ◌∷◌, All, IfOk, vec_len};
-    ghost use Rattle.board.specs.Board.{number_of};
+    ghost use Rattle.std.specs.Prelude.{◌≡◌, ◌<◌, ◌≤◌, ◌++◌, [], ◌∷◌, ℕ, All, IfOk, vec_len};
+    ghost use Rattle.board.specs.Board.{number_of, IsKept};
     ghost use Rattle.board.specs.Seats.{IsSeatOf, steps_of};
 
     /// A board that reads 0, and so many seats, which have made no step.
@@ -100,21 +100,25 @@ impl Board {
         Ok((Board { table }, made))
     }
 
-    /// Raises the number to this one, where it is below. Takes no lock and no memory.
+    /// Raises the number to this one, where it is below. All seats' steps keep the rule of the board then. Takes no lock and
+    /// no memory.
     pub fn raise(&self, seat: &mut BoardSeat, lsn: u64)
         requires { IsSeatOf self.now seat.old }
         ensures same { IsSeatOf self.now seat.new }
         ensures step { steps_of seat.new ≡ steps_of seat.old ++ BoardStep.Raised lsn ∷ [] }
+        ensures kept { (word : ℕ) × IsKept word (steps_of seat.new) }
     {
         self.table.shared.fetch_max::<Raise>(&mut seat.seat, 0, lsn);
     }
 
-    /// The number, which is at least all that this seat has raised or read. Takes no lock and no memory.
+    /// The number, which is at least all that this seat has raised or read, and is the greatest that any seat has raised it to,
+    /// else 0. Takes no lock and no memory.
     pub fn durable(&self, seat: &mut BoardSeat) -> u64
         requires { IsSeatOf self.now seat.old }
         ensures same { IsSeatOf self.now seat.new }
         ensures step { steps_of seat.new ≡ steps_of seat.old ++ BoardStep.Read result ∷ [] }
         ensures at_least { All (λ s. number_of s ≤ result) (steps_of seat.old) }
+        ensures kept { IsKept result (steps_of seat.new) }
     {
         self.table.shared.load::<Look>(&mut seat.seat, 0)
     }

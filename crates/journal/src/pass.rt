@@ -53,9 +53,9 @@ pub struct Pass<'a, L: Site> {
 }
 
 impl<'a, L: Site> Pass<'a, L> {
-    ghost use Rattle.std.specs.Prelude.{◌++◌, ◌∷◌, IfOk};
+    ghost use Rattle.std.specs.Prelude.{◌++◌, ◌∷◌, ℕ, IfOk};
     ghost use Rattle.world.specs.Events.{event_of};
-    ghost use Rattle.board.specs.Board.{number_of};
+    ghost use Rattle.board.specs.Board.{number_of, IsKept};
     ghost use Rattle.board.specs.Seats as board;
     ghost use Rattle.board.specs.Seats.{board_table, IsSeatIn};
     ghost use Rattle.journal.specs.Passes.{steps_of, notes_of, seat_of, HasNoteRoom, HasStepRoom};
@@ -111,21 +111,24 @@ impl<'a, L: Site> Pass<'a, L> {
         });
     }
 
-    /// Raises the board's number by the seat of the pass.
+    /// Raises the board's number by the seat of the pass. All seats' steps keep the rule of the board then.
     pub fn raise(&mut self, board: &Board, durable: u64)
         requires { board_table board.now ≡ L.board }
         ensures same { (steps_of self.new ≡ steps_of self.old) × (notes_of self.new ≡ notes_of self.old) }
         ensures raised { seat_of self.new ≡ seat_of self.old ++ BoardStep.Raised durable ∷ [] }
+        ensures kept { (word : ℕ) × IsKept word (seat_of self.new) }
     {
         board.raise(&mut self.seat, durable);
     }
 
-    /// The board's number, which is at least all that the pass has raised or read.
+    /// The board's number, which is at least all that the pass has raised or read, and is the greatest that any seat has raised
+    /// it to, else 0.
     pub fn durable(&mut self, board: &Board) -> u64
         requires { board_table board.now ≡ L.board }
         ensures same { (steps_of self.new ≡ steps_of self.old) × (notes_of self.new ≡ notes_of self.old) }
         ensures read { seat_of self.new ≡ seat_of self.old ++ BoardStep.Read result ∷ [] }
         ensures at_least { All (λ s. number_of s ≤ result) (seat_of self.old) }
+        ensures kept { IsKept result (seat_of self.new) }
     {
         board.durable(&mut self.seat)
     }

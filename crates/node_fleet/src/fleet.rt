@@ -47,17 +47,19 @@ impl<'a, L: Site> Fleet<'a, L> {
     ghost use Rattle.volume_model.specs.Journal.{events, IsRun};
     ghost use Rattle.volume_model.specs.Judging.{IsRefused};
     ghost use Rattle.world.specs.Outcomes.{KeepsPromises};
-    ghost use Rattle.board.specs.Board.{number_of};
+    ghost use Rattle.board.specs.Board.{number_of, IsKept};
     ghost use Rattle.board.specs.declared.BoardStep.{BoardStep};
     ghost use Rattle.journal.specs.Passes.{notes_of, seat_of, steps_of};
     ghost use Rattle.journal.specs.Standing.{NamesEarlier, Stands};
     ghost use Rattle.node_fleet.specs.Journals.{entries_in};
 
-    /// The board's number, which is at least all that the pass has raised or read. Takes no lock and no memory.
+    /// The board's number, which is at least all that the pass has raised or read, and is the greatest that any seat has raised
+    /// it to, else 0. Takes no lock and no memory.
     pub fn durable(&self, pass: &mut Pass<'a, L>) -> u64
         ensures same { (steps_of pass.new ≡ steps_of pass.old) × (notes_of pass.new ≡ notes_of pass.old) }
         ensures read { seat_of pass.new ≡ seat_of pass.old ++ BoardStep.Read result ∷ [] }
         ensures at_least { All (λ s. number_of s ≤ result) (seat_of pass.old) }
+        ensures kept { IsKept result (seat_of pass.new) }
     {
         pass.durable(&self.board)
     }

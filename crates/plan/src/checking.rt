@@ -1,81 +1,44 @@
 //! The check of a plan.
 
-ghost use Rattle.std.specs.Prelude.{◌≡◌, ◌<◌, ◌≤◌, true, false, length, map, Ok, option_map};
+ghost use Rattle.std.specs.Prelude.{◌≡◌, ◌<◌, ◌≤◌, true, false, is_some, length, map, option_map};
 ghost use Rattle.std.specs.FinSet.{difference};
-ghost use Rattle.volume_model.specs.Answer.{Gives};
 ghost use Rattle.volume_model.specs.Formula.{dual_of};
 ghost use Rattle.quorum_expr.specs.Expr.{formula_of};
 ghost use Rattle.refutation.specs.Certificate.{certificate_rule};
-ghost use Rattle.quorum_checker.specs.Claim.{first_state};
 ghost use Rattle.quorum_checker.specs.Refutes.{claim_state};
 ghost use Rattle.plan.specs.Plan.{configuration_data, group_data};
 ghost use Rattle.plan.specs.PlanFaults.{Finds, certificate_fault, claim_fault, meets_claim, configuration_fault, group_fault, groups_fault};
+ghost use Rattle.plan.specs.LentClaims.{lent_state};
 ghost use Rattle.plan.specs.CheckedModel.{ChecksTo};
 ghost use Rattle.quorum_checker.specs.FirstFault.{first_fault};
 
 use crate::checked::CheckedPlan;
 use crate::configurations::{Configuration, Group, Plan};
 use crate::fault::PlanFault;
+use crate::lent::LentClaim;
 use crate::parents::check_shape;
-use quorum_checker::{Claim, FaultAt, check, no_fault_refutes};
-use quorum_expr::{MemberSet, copy_in, dual_in};
+use quorum_checker::no_fault_refutes;
 use refutation::Certificate;
-use std::alloc::{Allocator, Global};
+use std::alloc::Global;
 use volume_model::Fault;
-
-/// That read sets meet write sets.
-pub fn meets_claim<B: Allocator + Clone>(
-    alloc: B,
-    configuration: &Configuration,
-) -> Result<Claim<B>, Fault>
-    ensures { Gives first_state result (Ok (meets_claim (configuration_data configuration.now))) }
-{
-    let left = copy_in(&configuration.read, alloc.clone()?)?;
-    let right = copy_in(&configuration.write, alloc)?;
-    Ok(Claim {
-        left,
-        right,
-        clear: MemberSet::empty(),
-    })
-}
-
-/// That read sets of the child without a fresh member meet what satisfies the dual of the parent's read expression.
-pub fn step_claim<B: Allocator + Clone>(
-    alloc: B,
-    child: &Configuration,
-    parent: &Configuration,
-) -> Result<Claim<B>, Fault>
-    ensures { Gives first_state result (Ok (claim_state (formula_of child.now.read) (dual_of (formula_of parent.now.read)) (difference child.now.members parent.now.members))) }
-{
-    let left = copy_in(&child.read, alloc.clone()?)?;
-    let right = dual_in(&parent.read, alloc)?;
-    Ok(Claim {
-        left,
-        right,
-        clear: child.members.difference(parent.members),
-    })
-}
 
 /// Whether a certificate refutes a claim.
 fn check_certificate(
     alloc: Global,
-    group: u8,
-    configuration: u8,
-    step: bool,
-    claim: &Claim<Global>,
+    claim: &LentClaim<'_>,
     certificate: &Certificate<Global>,
 ) -> Result<(), PlanFault>
-    ensures { Finds result (certificate_fault group configuration step (first_fault (certificate_rule certificate.now) (first_state claim.now))) }
+    ensures { Finds result (certificate_fault claim.now.group claim.now.configuration (is_some claim.now.parent) (first_fault (certificate_rule certificate.now) (lent_state claim.now))) }
 {
     no_fault_refutes();
-    match check(alloc, claim, certificate) {
+    match claim.check(alloc, certificate) {
         Ok(()) => Ok(()),
         Err(at) => match at.fault {
             Fault::NoMemory => Err(PlanFault::Text(Fault::NoMemory)),
             _ => Err(PlanFault::Certificate {
-                group,
-                configuration,
-                step,
+                group: claim.group,
+                configuration: claim.configuration,
+                step: claim.parent.is_some(),
                 at,
             }),
         },
@@ -98,8 +61,13 @@ fn check_meets(
             step: false,
         }),
         Some(certificate) => {
-            let claim = meets_claim(alloc, this)?;
-            check_certificate(alloc, group, configuration, false, &claim, certificate)
+            let claim = LentClaim {
+                group,
+                configuration,
+                this,
+                parent: None,
+            };
+            check_certificate(alloc, &claim, certificate)
         }
     }
 }
@@ -122,8 +90,13 @@ fn check_step(
             step: true,
         }),
         Some(certificate) => {
-            let claim = step_claim(alloc, child, parent)?;
-            check_certificate(alloc, group, configuration, true, &claim, certificate)
+            let claim = LentClaim {
+                group,
+                configuration,
+                this: child,
+                parent: Some(parent),
+            };
+            check_certificate(alloc, &claim, certificate)
         }
     }
 }

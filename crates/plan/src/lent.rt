@@ -1,10 +1,54 @@
 //! Claims by what their plan lends.
 
-use crate::checking::{meets_claim, step_claim};
+ghost use Rattle.std.specs.Prelude.{Ok};
+ghost use Rattle.std.specs.FinSet.{difference};
+ghost use Rattle.volume_model.specs.Answer.{Gives};
+ghost use Rattle.volume_model.specs.Formula.{dual_of};
+ghost use Rattle.quorum_expr.specs.Expr.{formula_of};
+ghost use Rattle.quorum_checker.specs.Claim.{first_state};
+ghost use Rattle.quorum_checker.specs.Refutes.{claim_state};
+ghost use Rattle.plan.specs.Plan.{configuration_data};
+ghost use Rattle.plan.specs.PlanFaults.{meets_claim};
+
 use crate::configurations::Configuration;
-use quorum_checker::Claim;
-use std::alloc::Allocator;
+use quorum_checker::{Claim, FaultAt, Item, check_lent};
+use quorum_expr::{MemberSet, copy_in, dual_in};
+use refutation::Certificate;
+use std::alloc::{Allocator, Global};
 use volume_model::Fault;
+
+/// That read sets meet write sets.
+fn meets_claim<B: Allocator + Clone>(
+    alloc: B,
+    configuration: &Configuration,
+) -> Result<Claim<B>, Fault>
+    ensures { Gives first_state result (Ok (meets_claim (configuration_data configuration.now))) }
+{
+    let left = copy_in(&configuration.read, alloc.clone()?)?;
+    let right = copy_in(&configuration.write, alloc)?;
+    Ok(Claim {
+        left,
+        right,
+        clear: MemberSet::empty(),
+    })
+}
+
+/// That read sets of the child without a fresh member meet what satisfies the dual of the parent's read expression.
+fn step_claim<B: Allocator + Clone>(
+    alloc: B,
+    child: &Configuration,
+    parent: &Configuration,
+) -> Result<Claim<B>, Fault>
+    ensures { Gives first_state result (Ok (claim_state (formula_of child.now.read) (dual_of (formula_of parent.now.read)) (difference child.now.members parent.now.members))) }
+{
+    let left = copy_in(&child.read, alloc.clone()?)?;
+    let right = dual_in(&parent.read, alloc)?;
+    Ok(Claim {
+        left,
+        right,
+        clear: child.members.difference(parent.members),
+    })
+}
 
 /// A claim of a configuration, by what its plan lends: that its read sets meet its write sets or, where a parent stands beside it, that
 /// of its step from there.
@@ -21,9 +65,11 @@ pub struct LentClaim<'p> {
 }
 
 impl LentClaim<'_> {
-    ghost use Rattle.std.specs.Prelude.{Ok};
-    ghost use Rattle.volume_model.specs.Answer.{Gives};
-    ghost use Rattle.quorum_checker.specs.Claim.{first_state};
+    ghost use Rattle.std.specs.Prelude.{◌≡◌, ◌≢◌, Some, OnOk, IfErr};
+    ghost use Rattle.volume_model.specs.declared.fault.Fault.TheVariants.{NoMemory};
+    ghost use Rattle.refutation.specs.Certificate.{certificate_rule};
+    ghost use Rattle.quorum_checker.specs.Refutes.{Refutes};
+    ghost use Rattle.quorum_checker.specs.FirstFault.{first_fault};
     ghost use Rattle.plan.specs.LentClaims.{lent_state};
 
     /// What a certificate has to refute, in memory of its own.
@@ -33,6 +79,29 @@ impl LentClaim<'_> {
         match self.parent {
             None => meets_claim(alloc, self.this),
             Some(parent) => step_claim(alloc, self.this, parent),
+        }
+    }
+
+    /// Whether a certificate refutes it, and if not, the certificate's first fault. Nothing that the plan lends is copied.
+    pub fn check<B: Allocator>(
+        &self,
+        alloc: Global,
+        certificate: &Certificate<B>,
+    ) -> Result<(), FaultAt>
+        ensures refutes { OnOk result (Refutes (certificate_rule certificate.now) (lent_state self.now)) }
+        ensures fault { IfErr result (λ e. e.fault ≢ NoMemory → first_fault (certificate_rule certificate.now) (lent_state self.now) ≡ Some e) }
+    {
+        let left = Item::plain(&self.this.read);
+        match self.parent {
+            None => {
+                let right = Item::plain(&self.this.write);
+                check_lent(alloc, left, right, MemberSet::empty(), certificate)
+            }
+            Some(parent) => {
+                let right = Item::dual(&parent.read);
+                let clear = self.this.members.difference(parent.members);
+                check_lent(alloc, left, right, clear, certificate)
+            }
         }
     }
 }
