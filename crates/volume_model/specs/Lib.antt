@@ -36,4 +36,5 @@ pub mod Finds
 pub mod WorkedPlans
 pub mod Opens
 pub mod Orderly
+pub mod Reported
 pub mod Few

@@ -10,6 +10,7 @@ ghost use Rattle.volume_model.specs.Found.{FoundIsReported, NewestIsNewest};
 ghost use Rattle.volume_model.specs.Opens.{OpensAtItsCut};
 ghost use Rattle.volume_model.specs.Few.{StepsAreFew};
 ghost use Rattle.volume_model.specs.Orderly.{RunsAreOrderly};
+ghost use Rattle.volume_model.specs.Reported.{ReportsWereMade};
 ghost use Rattle.volume_model.specs.WorkedPlans.{SixCopiesCertified, FullAndTailCertified, MemberReplacedCertified};
 
 /// A record is live in a lineage whose epochs grow exactly where its volume epoch has an entry, its number is above that
@@ -88,6 +89,12 @@ pub fn opens_at_its_cut()
 /// on live records, complete points and cuts ask.
 pub fn runs_are_orderly()
     ensures { RunsAreOrderly }
+{}
+
+/// In every run each report that a client keeps, and each copy that a node keeps, is in a message that was made: so what the law
+/// on orderly runs says of messages is so of them too.
+pub fn reports_were_made()
+    ensures { ReportsWereMade }
 {}
 
 /// The plan of six copies is certified: one group whose members are 0 to 5, of which three read and four write.

@@ -1,0 +1,37 @@
+-- What clients and nodes keep of what they were told is in messages that were made
+use Rattle.std.proofs.Common.{◌≢◌, ℕ, ◌<◌, List, inl, inr}
+use Rattle.std.proofs.lemmas.Bool.{cases_Bool}
+use Rattle.volume_model.specs.Lists.{IsIn}
+use Rattle.volume_model.specs.Plan.{Plan, IsCertified}
+use Rattle.volume_model.specs.Message.Message.{Report}
+use Rattle.volume_model.specs.Node.{From}
+use Rattle.volume_model.specs.Client.{has_cut, place_of, reports_of}
+use Rattle.volume_model.specs.World.{World, Event}
+use Rattle.volume_model.specs.Reported.{KeepsMade, ReportsWereMade}
+use Rattle.volume_model.proofs.Invariant.{label}
+use Rattle.volume_model.proofs.Kept.{IsKept}
+use Rattle.volume_model.proofs.Carried.{end, kept}
+
+module _ (plan : Plan) (certified : IsCertified plan) (events : List Event) where
+  -- the world of the run
+  abbrev world : World
+  world = end plan certified events
+
+  is_kept : IsKept plan world
+  is_kept = kept plan certified events
+
+  report_made : (v group : ℕ) → v ≢ 1 → group < plan.groups → (from : From) → IsIn from (reports_of (world.clients v).groups group) → (member : ℕ) × IsIn (Report group (label v member) from.sender from.contents) world.messages
+  report_made v group later there from i =
+      elim (cases_Bool (has_cut (world.clients v).stage)) [
+        | inl cut ↦ elim ((is_kept.clients v).cut cut).origin [
+          | inl root ↦ absurd (later root.one)
+          | inr heir ↦ ((heir.reads group there).at, ((heir.reads group there).kept from i).0)
+        ]
+        | inr not_cut ↦ ((place_of (world.clients v).groups group).epoch, ((is_kept.clients v).reading not_cut group there from i).0)
+      ]
+
+  keeps_made : KeepsMade plan world
+  keeps_made = record { reports = report_made; copies = λ group x there. (is_kept.nodes group x there).copies }
+
+pub reports_were_made : ReportsWereMade
+reports_were_made plan certified events = keeps_made plan certified events
