@@ -1,6 +1,7 @@
 -- The front of a log that the points of its groups cover.
 use Rattle.std.proofs.Common.{◌≡◌, ℕ, ◌+◌, ◌<◌, ◌≤◌, Bool, true, false, ◌&&◌, nat_le, List, [], ◌∷◌, ◌++◌, map, length, take, drop, get_or, if◌then◌else◌, refl, sym, ap, ap₂, ◌∙◌, subst, arith, drop-cons, add-one}
 use Rattle.std.specs.Prelude.{◌==◌}
+use Rattle.std.proofs.Math.Path.{fun_ext}
 use Rattle.std.proofs.lemmas.List.{take-append-drop, take_all, map-append}
 use Rattle.std.proofs.lemmas.Bool.{and_parts, and_from, eq-eqb, le-leb, lt-leb, leb-true}
 use Rattle.std.proofs.lemmas.Bool.Decides.{nat_tests}
@@ -166,3 +167,7 @@ covers-raised covered points points' records up front = record {
   complete = front.complete;
   durable = front.durable;
 }
+
+-- points that are the same
+pub covers-same : (covered : Covered) (points points' : ℕ → ℕ) (records : List Packet) → ((group : ℕ) → points group ≡ points' group) → CoversLog covered points records → CoversLog covered points' records
+covers-same covered points points' records same covers = subst (λ p. CoversLog covered p records) (fun_ext same) covers

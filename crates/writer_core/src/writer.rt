@@ -4,7 +4,8 @@ ghost use Rattle.std.specs.Prelude.{◌≡◌, ◌≤◌, true, length};
 ghost use Rattle.writer_core.specs.Logs.{log_of, is_growing};
 ghost use Rattle.writer_core.specs.Lasts.{AreLastsOfFront};
 ghost use Rattle.writer_core.specs.Covered.{CoversLog};
-ghost use Rattle.writer_core.specs.Groups.{groups_in};
+ghost use Rattle.writer_core.specs.Groups.{groups_in, standings_plan};
+ghost use Rattle.writer_core.specs.Raised.{AreRaised};
 ghost use Rattle.volume_model.specs.Client.{group_point_of};
 
 use crate::change::Change;
@@ -41,6 +42,7 @@ pub struct Writer {
     ghost assigned: { 1 ≤ volume },
     ghost within: { found ≤ length log.items },
     ghost growing: { is_growing (log_of log.items) ≡ true },
+    ghost raised: { AreRaised (standings_plan standings) (groups_in standings) },
     ghost front: { AreLastsOfFront lasts log.items },
     ghost covers: { CoversLog covered (group_point_of (groups_in standings)) log.items },
 }
@@ -60,7 +62,6 @@ impl Writer {
     ghost use Rattle.volume_model.specs.Lineage.{last_start};
     ghost use Rattle.writer_core.specs.Changes.{changes_of};
     ghost use Rattle.writer_core.specs.Writers.{client_of, writer_plan, writer_volume, installing, CanIssue, acted, silent, asked, sent};
-    ghost use Rattle.writer_core.specs.Groups.{standings_plan};
     ghost use Rattle.lineage.specs.Lineage.{lineage_of};
 
     /// The writer that a volume is born with: volume epoch 1, each group at its root, no record. Fails for want of memory alone.
@@ -177,7 +178,7 @@ impl Writer {
     }
 
     /// Takes an acknowledgement. Refused as [`Writer::admits_ack`] says. It is counted where its membership epoch is at most the one
-    /// that the writer knows of the group; a later one changes nothing.
+    /// that the writer knows of the group; a later one changes nothing. Only its own group's point may rise.
     pub fn take_ack(&mut self, ack: &Ack) -> Result<(), Fault>
         ensures answers { Answers silent (taken (writer_plan self.old) (writer_volume self.old) (client_of self.old) (message_of (Message.Ack ack.now))) (client_of self.old) result (client_of self.new) }
         ensures plan { writer_plan self.new ≡ writer_plan self.old }
@@ -188,7 +189,10 @@ impl Writer {
             return Ok(());
         }
         self.standings.count(ack)?;
-        self.standings.raise();
+        if ack.scl <= self.standings.point(ack.group) {
+            return Ok(());
+        }
+        self.standings.raise_group(ack.group);
         self.covered.follow(self.log.as_slice(), &self.standings);
         Ok(())
     }

@@ -1,0 +1,6 @@
+use Rattle.writer_core.specs.Groups.{groups_in, standings_plan}
+use Rattle.writer_core.proofs.Raising.{raised_all}
+use Rattle.writer_core.proofs.writer.Writer.opened.Goals as goal
+
+pub invariant_of-result-clause-raised : goal.invariant_of-result-clause-raised
+invariant_of-result-clause-raised c = raised_all (standings_plan c.args.standings) _ (groups_in c.args.standings) _ c.raise.ensures.plan c.raise.ensures.groups
