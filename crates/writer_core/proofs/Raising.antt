@@ -1,12 +1,12 @@
 -- The point of one group is raised, where those of the others are raised already.
-use Rattle.std.proofs.Common.{◌≡◌, ℕ, zero, suc, ◌+◌, ◌<◌, ◌≤◌, true, false, ◌==◌, max, List, [], ◌∷◌, length, replicate, refl, sym, ap, ap₂, ◌∙◌, subst, inl, inr, arith, get_or-set_same}
+use Rattle.std.proofs.Common.{◌≡◌, ℕ, zero, suc, ◌+◌, ◌<◌, ◌≤◌, true, false, ◌==◌, max, List, [], ◌∷◌, length, refl, sym, ap, ap₂, ◌∙◌, subst, inl, inr, arith, get_or-set_same}
 use Rattle.std.specs.Prelude.{slice_set}
 use Rattle.std.proofs.lemmas.List.{set-set}
 use Rattle.std.proofs.lemmas.Bool.{cases_Bool, cases_lt, true≢false, eqb-true}
 use Rattle.volume_model.specs.Lists.{IsIn}
 use Rattle.volume_model.specs.Formula.{Formula, sat}
 use Rattle.volume_model.specs.Plan.{Plan}
-use Rattle.volume_model.specs.Client.{Count, ClientGroup, newly_at, at_root, no_group, group_of, group_point_of, place_configuration}
+use Rattle.volume_model.specs.Client.{Count, ClientGroup, no_group, group_of, group_point_of, place_configuration}
 use Rattle.volume_model.specs.ClientPoints.{reaching, best, with_count, raised_group, raised_from, raised}
 use Rattle.volume_model.proofs.FormulaLaws.{sat_more}
 use Rattle.volume_model.proofs.Groups.{set-all, group_of-raised}
@@ -123,17 +123,6 @@ are_raised plan groups k = subst (λ (g : ClientGroup). counted_point plan k g �
 -- the same, of a plan and of groups that are these
 pub raised_all : (plan now : Plan) (groups next : List ClientGroup) → now ≡ plan → next ≡ raised plan groups → AreRaised now next
 raised_all plan now groups next same rises = subst (λ p. AreRaised p next) (sym same) (subst (AreRaised plan) (sym rises) (are_raised plan groups))
-
--- groups at their roots have counted nothing
-pub roots_raised : (plan : Plan) (n : ℕ) → AreRaised plan (replicate n (newly_at at_root))
-roots_raised plan zero k = omega arith
-roots_raised plan (suc n) zero = omega arith
-roots_raised plan (suc n) (suc k) = roots_raised' n k
-  where
-    roots_raised' : (m j : ℕ) → counted_point plan (suc k) (group_of (replicate m (newly_at at_root)) j) ≤ group_point_of (replicate m (newly_at at_root)) j
-    roots_raised' zero j = omega arith
-    roots_raised' (suc m) zero = omega arith
-    roots_raised' (suc m) (suc j) = roots_raised' m j
 
 -- ---- one acknowledgement more
 

@@ -7,7 +7,7 @@ use std::alloc::{AllocError, Global};
 use std::collections::BTreeMap;
 
 /// The most groups that a volume has.
-const GROUPS: usize = 16;
+pub const GROUPS: usize = 16;
 
 /// The last LSN of each group and of each block in the front of a log.
 #[derive(Drop)]

@@ -12,7 +12,7 @@ use crate::change::Change;
 use crate::covered::Covered;
 use crate::issuing::{Span, append, carry};
 use crate::lasts::Lasts;
-use crate::log::{is_point, last_lsn, last_of_group_below, record_at};
+use crate::log::{is_point, last_lsn, record_at};
 use crate::standings::Standings;
 use crate::transaction::is_transaction;
 use lineage::Lineage;
@@ -252,7 +252,7 @@ impl Writer {
             group,
             label: self.standings.label(self.volume, group),
             block,
-            point: last_of_group_below(self.log.as_slice(), group, self.durable_point()),
+            point: self.covered.durable_last(group),
         }))
     }
 
