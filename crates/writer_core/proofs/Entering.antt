@@ -23,11 +23,11 @@ group-entered groups g q lsn last within is =
     ]
 
 -- the order tells two blocks apart by both numbers
-block-same : (a b c d : ℕ) → is_eq (block_cmp (a, b) (c, d)) ≡ (nat_eq a c && nat_eq b d)
+pub block-same : (a b c d : ℕ) → is_eq (block_cmp (a, b) (c, d)) ≡ (nat_eq a c && nat_eq b d)
 block-same a b c d = grind (arith, nat_tests)
 
 -- a block's number, where a record is entered
-block-entered : (test same : Bool) (found : Option ℕ) (lsn last : ℕ) → test ≡ same → unwrap_or found 0 ≡ last → unwrap_or (cond test (Some lsn) found) 0 ≡ (if same then lsn else last)
+pub block-entered : (test same : Bool) (found : Option ℕ) (lsn last : ℕ) → test ≡ same → unwrap_or found 0 ≡ last → unwrap_or (cond test (Some lsn) found) 0 ≡ (if same then lsn else last)
 block-entered true true found lsn last e is = refl
 block-entered true false found lsn last e is = cc
 block-entered false true found lsn last e is = cc

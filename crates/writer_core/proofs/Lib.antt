@@ -8,6 +8,7 @@ pub mod Finding
 pub mod Acknowledging
 pub mod Answering
 pub mod Growing
+pub mod Leaving
 pub mod OneMore
 pub mod Placing
 pub mod Raising

@@ -304,8 +304,8 @@ impl Writer {
     }
 
     /// Gives a transaction's changes their records, all or none, and makes the Writes that carry them, in order. The last is
-    /// a consistency point. Refused as [`Writer::admits`] says. Where memory runs out the log is what it was, and its last LSNs are
-    /// read off it anew at the next transaction.
+    /// a consistency point. Refused as [`Writer::admits`] says. Where memory runs out the log is what it was, and nothing of
+    /// it is read anew.
     pub fn issue(&mut self, alloc: Global, changes: &[Change]) -> Result<Vec<Message>, Fault>
         ensures answers { Answers acted (issued (writer_plan self.old) (writer_volume self.old) (client_of self.old) (changes_of changes.now)) (client_of self.old) result (client_of self.new) }
         ensures plan { writer_plan self.new ≡ writer_plan self.old }
@@ -332,8 +332,8 @@ impl Writer {
                 Ok(messages)
             }
             Err(fault) => {
+                self.lasts.go_back(self.log.as_slice(), length);
                 self.log.truncate(length);
-                self.lasts = Lasts::new(alloc);
                 Err(fault)
             }
         }
