@@ -1,17 +1,20 @@
 -- The front of a log that the points of its groups cover.
-use Rattle.std.proofs.Common.{◌≡◌, ℕ, ◌+◌, ◌<◌, ◌≤◌, Bool, true, false, ◌&&◌, nat_le, List, [], ◌∷◌, ◌++◌, map, length, take, drop, get_or, if◌then◌else◌, refl, sym, ap, ap₂, ◌∙◌, subst, arith, drop-cons, add-one}
+use Rattle.std.proofs.Common.{◌≡◌, ℕ, ◌+◌, ◌<◌, ◌≤◌, Bool, true, false, ◌&&◌, nat_le, List, [], ◌∷◌, ◌++◌, map, length, take, drop, get_or, if◌then◌else◌, refl, sym, ap, ap₂, ◌∙◌, subst, inl, inr, arith, drop-cons, add-one}
 use Rattle.std.specs.Prelude.{◌==◌}
+use Rattle.std.proofs.Math.Path.{fun_ext}
 use Rattle.std.proofs.lemmas.List.{take-append-drop, take_all, map-append}
-use Rattle.std.proofs.lemmas.Bool.{and_parts, and_from, eq-eqb, le-leb, lt-leb, leb-true}
+use Rattle.std.proofs.lemmas.Bool.{cases_Bool, and_parts, and_from, eq-eqb, le-leb, lt-leb, leb-true}
 use Rattle.std.proofs.lemmas.Bool.Decides.{nat_tests}
 use Rattle.volume_model.specs.Lists.{every, added}
-use Rattle.volume_model.specs.Redo.{Redo, last_lsn}
+use Rattle.volume_model.specs.Redo.{Redo, last_lsn, last_of_group}
 use Rattle.volume_model.specs.ClientPoints.{complete_of, consistency_point_below}
+use Rattle.volume_model.specs.ClientWriter.{last_of_group_below}
 use Rattle.redo_record.specs.declared.packet.Packet.{Packet}
 use Rattle.redo_record.specs.Packet.{packet_redo}
 use Rattle.writer_core.specs.Logs.{log_of, is_growing}
-use Rattle.writer_core.specs.Covered.{is_covered, CoversFront, CoversLog}
+use Rattle.writer_core.specs.Covered.{is_covered, Covers, CoversNone, CoversFront, CoversLog}
 use Rattle.writer_core.specs.declared.covered.Covered.{Covered}
+use Rattle.writer_core.proofs.Entering.{group-entered}
 use Rattle.writer_core.proofs.Finding.{above}
 use Rattle.writer_core.proofs.Growing.{both}
 use Rattle.writer_core.proofs.Logs.{log_of-more}
@@ -72,6 +75,38 @@ consistency_point_below-later n (x ∷ xs) kept h le =
     let step : consistency_point_below n (packet_redo x ∷ kept) ≡ consistency_point_below n kept = ap (λ b. if b then (packet_redo x).lsn else consistency_point_below n kept) (ap (λ b. (packet_redo x).point && b) later ∙ and_false (packet_redo x).point) in
     consistency_point_below-later n xs (packet_redo x ∷ kept) h (omega arith) ∙ step
 
+-- ---- the last numbers of groups
+
+consistency_point_below-le : (n : ℕ) (log : List Redo) → consistency_point_below n log ≤ n
+consistency_point_below-le n [] = omega arith
+consistency_point_below-le n (r ∷ older) =
+    elim (cases_Bool (r.point && nat_le r.lsn n)) [
+      | inl e ↦ rw e (leb-true r.lsn n (and_parts _ _ e).1)
+      | inr e ↦ rw e (consistency_point_below-le n older)
+    ]
+
+-- all records are at most the bound
+last_of_group_below-whole : (group n : ℕ) (log : List Redo) → is_growing log ≡ true → last_lsn log ≤ n → last_of_group_below group n log ≡ last_of_group group log
+last_of_group_below-whole group n [] h le = refl
+last_of_group_below-whole group n (r ∷ older) h le =
+    let (less, rest) = both (last_lsn older) r.lsn (is_growing older) h in
+    let here : nat_le r.lsn n ≡ true = le-leb r.lsn n le in
+    let inner : last_of_group_below group n older ≡ last_of_group group older = last_of_group_below-whole group n older rest (omega arith) in
+    elim (cases_Bool (r.group == group)) [ inl e ↦ rw (e, here) refl | inr e ↦ rw e inner ]
+
+-- a record above the bound
+last_of_group_below-above : (group n : ℕ) (r : Redo) (older : List Redo) → n < r.lsn → last_of_group_below group n (r ∷ older) ≡ last_of_group_below group n older
+last_of_group_below-above group n r older more =
+    let later : nat_le r.lsn n ≡ false = lt-leb r.lsn n more in
+    ap (λ b. if b then r.lsn else last_of_group_below group n older) (ap (λ b. (r.group == group) && b) later ∙ and_false (r.group == group))
+
+-- later records have greater numbers than the bound
+last_of_group_below-later : (group n : ℕ) (xs : List Packet) (kept : List Redo) → is_growing (added (map packet_redo xs) kept) ≡ true → n ≤ last_lsn kept → last_of_group_below group n (added (map packet_redo xs) kept) ≡ last_of_group_below group n kept
+last_of_group_below-later group n [] kept h le = refl
+last_of_group_below-later group n (x ∷ xs) kept h le =
+    let more : last_lsn kept < (packet_redo x).lsn = (both (last_lsn kept) (packet_redo x).lsn (is_growing kept) (above xs (packet_redo x ∷ kept) h).0).0 in
+    last_of_group_below-later group n xs (packet_redo x ∷ kept) h (omega arith) ∙ last_of_group_below-above group n (packet_redo x) kept (omega arith)
+
 -- ---- what is kept of a front
 
 module _ (points : ℕ → ℕ) (records : List Packet) (growing : is_growing (log_of records) ≡ true) (old : Covered) (front : CoversFront old points records) where
@@ -87,22 +122,37 @@ module _ (points : ℕ → ℕ) (records : List Packet) (growing : is_growing (l
   next-kept : (p : Packet) (r : Redo) → old.records < length records → p ≡ get_or records old.records p → r ≡ packet_redo p → log_of (take (old.records + 1) records) ≡ r ∷ kept
   next-kept p r within is shows = log_of-more records old.records p within ∙ ap (λ x. packet_redo x ∷ kept) (sym is) ∙ ap (λ s. s ∷ kept) (sym shows)
 
+  durable-le : old.durable ≤ last_lsn kept
+  durable-le = let le : consistency_point_below old.complete kept ≤ old.complete = consistency_point_below-le old.complete kept in omega (arith, le, front.durable, front.complete)
+
+  -- what is kept up to the last consistency point, behind a record that is none
+  stays-durable : (r : Redo) (group : ℕ) → group < 16 → last_lsn kept < r.lsn → get_or old.durable_lasts group 0 ≡ last_of_group_below group old.durable (r ∷ kept)
+  stays-durable r group h link =
+      let low : old.durable ≤ last_lsn kept = durable-le in
+      front.durable_lasts group h ∙ sym (last_of_group_below-above group old.durable r kept (omega arith))
+
   -- one record more is covered
-  pub covers-more : (new : Covered) (p : Packet) (r : Redo) → old.records < length records → p ≡ get_or records old.records p → r ≡ packet_redo p → r.lsn ≤ points r.group
-      → new.records ≡ old.records + 1 → new.complete ≡ r.lsn → new.durable ≡ (if r.point then r.lsn else old.durable) → CoversFront new points records
-  covers-more new p r within is shows reached counted complete durable =
+  pub covers-more : (new : Covered) (p : Packet) (r : Redo) → old.records < length records → p ≡ get_or records old.records p → r ≡ packet_redo p → r.group < 16 → r.lsn ≤ points r.group → Covers old new r → CoversFront new points records
+  covers-more new p r within is shows small reached covers =
       let here : nat_le r.lsn (points r.group) ≡ true = le-leb r.lsn (points r.group) reached in
       let one : log_of (take (old.records + 1) records) ≡ r ∷ kept = next-kept p r within is shows in
-      let whole : log_of (take new.records records) ≡ r ∷ kept = ap (λ n. log_of (take n records)) counted ∙ one in
+      let whole : log_of (take new.records records) ≡ r ∷ kept = ap (λ n. log_of (take n records)) covers.counted ∙ one in
       let next : is_growing (r ∷ kept) ≡ true = subst (λ log. is_growing log ≡ true) one (more-grows (old.records + 1)) in
       let link : last_lsn kept < r.lsn = (both (last_lsn kept) r.lsn (is_growing kept) next).0 in
       let self : nat_le r.lsn r.lsn ≡ true = le-leb r.lsn r.lsn (omega arith) in
       let bound : consistency_point_below r.lsn kept ≡ old.durable = consistency_point_below-whole r.lsn kept kept_grows (omega arith) ∙ sym (front.durable ∙ ap (λ n. consistency_point_below n kept) front.complete) in
+      let lasts : (group : ℕ) → group < 16 → get_or new.lasts group 0 ≡ last_of_group group (r ∷ kept) =
+      λ group h. ap (λ xs. get_or xs group 0) covers.lasts ∙ group-entered old.lasts r.group group r.lsn (last_of_group group kept) (omega (arith, old.each_last)) (front.lasts group h) in
       record {
-        within = omega (arith, counted);
+        within = omega (arith, covers.counted);
         all = ap (every (is_covered points)) whole ∙ and_from _ _ here front.all;
-        complete = complete ∙ sym (ap last_lsn whole);
-        durable = durable ∙ sym (ap₂ consistency_point_below complete whole ∙ last r.point self bound);
+        complete = covers.complete ∙ sym (ap last_lsn whole);
+        durable = covers.durable ∙ sym (ap₂ consistency_point_below covers.complete whole ∙ last r.point self bound);
+        lasts = λ group h. lasts group h ∙ sym (ap (last_of_group group) whole);
+        durable_lasts = λ group h.
+            ap (λ xs. get_or xs group 0) covers.durable_lasts
+            ∙ durable_next r.point group (lasts group h ∙ sym (last_of_group_below-whole group r.lsn (r ∷ kept) next (omega arith))) (stays-durable r group h link)
+            ∙ sym (ap₂ (last_of_group_below group) covers.durable whole);
       }
     where
       more-grows : (n : ℕ) → is_growing (log_of (take n records)) ≡ true
@@ -111,6 +161,11 @@ module _ (points : ℕ → ℕ) (records : List Packet) (growing : is_growing (l
       last : (point : Bool) → nat_le r.lsn r.lsn ≡ true → consistency_point_below r.lsn kept ≡ old.durable → (if point && nat_le r.lsn r.lsn then r.lsn else consistency_point_below r.lsn kept) ≡ (if point then r.lsn else old.durable)
       last true self bound = rw self refl
       last false self bound = bound
+
+      durable_next : (point : Bool) (group : ℕ) → get_or new.lasts group 0 ≡ last_of_group_below group r.lsn (r ∷ kept) → get_or old.durable_lasts group 0 ≡ last_of_group_below group old.durable (r ∷ kept)
+          → get_or (if point then new.lasts else old.durable_lasts) group 0 ≡ last_of_group_below group (if point then r.lsn else old.durable) (r ∷ kept)
+      durable_next true group now before = now
+      durable_next false group now before = before
 
   -- all records are covered
   pub covers-all : length records ≤ old.records → CoversLog old points records
@@ -122,6 +177,7 @@ module _ (points : ℕ → ℕ) (records : List Packet) (growing : is_growing (l
         front = front;
         complete = complete;
         durable = front.durable ∙ ap₂ (λ n (xs : List Packet). consistency_point_below n (log_of xs)) complete whole;
+        durable_lasts = λ group h. front.durable_lasts group h ∙ ap (λ (xs : List Packet). last_of_group_below group old.durable (log_of xs)) whole;
       }
 
   -- the next record isn't covered
@@ -140,13 +196,19 @@ module _ (points : ℕ → ℕ) (records : List Packet) (growing : is_growing (l
       ap (λ b. if b then r.lsn else complete_of points kept) (ap (λ b. (complete_of points kept == last_lsn kept) && b) here ∙ and_false _) ∙ covered in
       let stuck : complete_of points (log_of records) ≡ last_lsn kept =
       ap (complete_of points) whole ∙ complete_of-stuck points (drop (old.records + 1) records) (r ∷ kept) grows (omega arith) ∙ step in
+      let low : old.durable ≤ last_lsn kept = durable-le in
       let later : consistency_point_below (last_lsn kept) (log_of records) ≡ consistency_point_below (last_lsn kept) kept =
       ap (consistency_point_below (last_lsn kept)) (split records old.records) ∙ consistency_point_below-later (last_lsn kept) (drop old.records records) kept grown (omega arith) in
       record {
         front = front;
         complete = front.complete ∙ sym stuck;
         durable = front.durable ∙ ap (λ n. consistency_point_below n kept) front.complete ∙ sym (ap (λ n. consistency_point_below n (log_of records)) stuck ∙ later);
+        durable_lasts = λ group h. front.durable_lasts group h ∙ sym (ap (last_of_group_below group old.durable) (split records old.records) ∙ last_of_group_below-later group old.durable (drop old.records records) kept grown low);
       }
+
+-- a log of no record
+pub covers-none : (covered : Covered) (points : ℕ → ℕ) (records : List Packet) → CoversNone covered → records ≡ [] → CoversLog covered points records
+covers-none covered points records none empty = subst (CoversLog covered points) (sym empty) (covers-all points [] refl covered (none points []) (omega arith))
 
 -- ---- points that rise, and logs that grow
 
@@ -165,4 +227,10 @@ covers-raised covered points points' records up front = record {
   all = every-covered points points' up (log_of (take covered.records records)) front.all;
   complete = front.complete;
   durable = front.durable;
+  lasts = front.lasts;
+  durable_lasts = front.durable_lasts;
 }
+
+-- points that are the same
+pub covers-same : (covered : Covered) (points points' : ℕ → ℕ) (records : List Packet) → ((group : ℕ) → points group ≡ points' group) → CoversLog covered points records → CoversLog covered points' records
+covers-same covered points points' records same covers = subst (λ p. CoversLog covered p records) (fun_ext same) covers

@@ -15,7 +15,7 @@ use Rattle.writer_core.specs.Lasts.{block_cmp, AreLasts, AreLastsOfFront, Enters
 use Rattle.writer_core.specs.declared.lasts.Lasts.{Lasts}
 
 -- a group's number, where a record is entered
-group-entered : (groups : List ℕ) (g q lsn last : ℕ) → g < length groups → get_or groups q 0 ≡ last → get_or (slice_set groups g lsn) q 0 ≡ (if nat_eq g q then lsn else last)
+pub group-entered : (groups : List ℕ) (g q lsn last : ℕ) → g < length groups → get_or groups q 0 ≡ last → get_or (slice_set groups g lsn) q 0 ≡ (if nat_eq g q then lsn else last)
 group-entered groups g q lsn last within is =
     elim (cases_eq g q) [
       | inl e ↦ (let t : nat_eq g q ≡ true = grind (arith, nat_tests) in rw t (subst (λ k. get_or (slice_set groups g lsn) k 0 ≡ lsn) e (get_or-set_same groups g lsn 0 within)))
@@ -23,11 +23,11 @@ group-entered groups g q lsn last within is =
     ]
 
 -- the order tells two blocks apart by both numbers
-block-same : (a b c d : ℕ) → is_eq (block_cmp (a, b) (c, d)) ≡ (nat_eq a c && nat_eq b d)
+pub block-same : (a b c d : ℕ) → is_eq (block_cmp (a, b) (c, d)) ≡ (nat_eq a c && nat_eq b d)
 block-same a b c d = grind (arith, nat_tests)
 
 -- a block's number, where a record is entered
-block-entered : (test same : Bool) (found : Option ℕ) (lsn last : ℕ) → test ≡ same → unwrap_or found 0 ≡ last → unwrap_or (cond test (Some lsn) found) 0 ≡ (if same then lsn else last)
+pub block-entered : (test same : Bool) (found : Option ℕ) (lsn last : ℕ) → test ≡ same → unwrap_or found 0 ≡ last → unwrap_or (cond test (Some lsn) found) 0 ≡ (if same then lsn else last)
 block-entered true true found lsn last e is = refl
 block-entered true false found lsn last e is = cc
 block-entered false true found lsn last e is = cc

@@ -5,8 +5,11 @@ pub mod Counting
 pub mod Covering
 pub mod Entering
 pub mod Finding
+pub mod Acknowledging
 pub mod Answering
 pub mod Growing
+pub mod Leaving
 pub mod OneMore
 pub mod Placing
+pub mod Raising
 pub mod Rising

@@ -69,7 +69,7 @@ set-same (x ∷ xs) zero s t is same = ap (λ g. g ∷ groups_of xs) same
 set-same (x ∷ xs) (suc i) s t is same = ap (λ gs. group_at x ∷ gs) (set-same xs i s t is same)
 
 -- what stands in the place of a group that is changed
-changed : (f : ClientGroup → ClientGroup) (standings : List Standing) (i j : ℕ) (s t : Standing) → i < length standings → s ≡ get_or standings i s → i ≡ j → group_at t ≡ f (group_at s)
+pub changed : (f : ClientGroup → ClientGroup) (standings : List Standing) (i j : ℕ) (s t : Standing) → i < length standings → s ≡ get_or standings i s → i ≡ j → group_at t ≡ f (group_at s)
     → groups_of (slice_set standings i t) ≡ slice_set (groups_of standings) j (f (group_of (groups_of standings) j))
 changed f standings i j s t within is same e =
     map-set group_at standings i t

@@ -1,10 +1,11 @@
 -- The last numbers of groups and blocks, as a table keeps them.
-use Rattle.std.specs.Prelude.{◌≡◌, ℕ, ◌+◌, ◌<◌, ◌≤◌, List, ◌∷◌, length, take, slice_index, unwrap_or}
+use Rattle.std.specs.Prelude.{◌≡◌, ℕ, ◌+◌, ◌<◌, ◌≤◌, List, ◌∷◌, length, take, slice_index, slice_index_or, unwrap_or}
 use Rattle.std.specs.declared.cmp.Ordering.{Ordering}
 use Rattle.std.specs.Ordering.{nat_cmp, ordering_then}
 use Rattle.std.specs.BTreeMap.{get}
 use Rattle.volume_model.specs.Redo.{Redo, last_of_group, last_of_block}
 use Rattle.redo_record.specs.declared.packet.Packet.{Packet}
+use Rattle.redo_record.specs.Packet.{packet_redo}
 use Rattle.writer_core.specs.Logs.{log_of}
 use Rattle.writer_core.specs.declared.lasts.Lasts.{Lasts}
 
@@ -39,3 +40,17 @@ pub record Enters (old new : Lasts) (r : Redo) : Type 0 where
 pub record EntersNone (old new : Lasts) : Type 0 where
   pub counted : new.entered ≡ old.entered
   pub lasts : (log : List Redo) → AreLasts old log → AreLasts new log
+
+-- the record names the last numbers of its group and of its block before it
+pub record IsLinked (r : Redo) (older : List Redo) : Type 0 where
+  pub group : r.prev_group ≡ last_of_group r.group older
+  pub block : r.prev_block ≡ last_of_block r.group r.block older
+
+-- each record from this place on does
+abbrev pub AreLinkedFrom : ℕ → List Packet → Type 0
+AreLinkedFrom place records = (k : ℕ) (d : Packet) → place ≤ k → k < length records → IsLinked (packet_redo (slice_index_or records k d)) (log_of (take k records))
+
+-- the last record that was entered is taken out again
+pub record Leaves (old new : Lasts) (r : Redo) : Type 0 where
+  pub counted : new.entered + 1 ≡ old.entered
+  pub lasts : (log : List Redo) → IsLinked r log → AreLasts old (r ∷ log) → AreLasts new log

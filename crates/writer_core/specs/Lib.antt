@@ -3,6 +3,7 @@ pub mod Lasts
 pub mod Covered
 pub mod Counts
 pub mod Standings
+pub mod Raised
 pub mod Groups
 pub mod Changes
 pub mod Carried

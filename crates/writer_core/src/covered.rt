@@ -1,7 +1,10 @@
 //! How far a log is covered by the points of its groups.
 
+ghost use Rattle.std.specs.Prelude.{◌≡◌, length};
+
+use crate::lasts::GROUPS;
 use crate::standings::Standings;
-use redo_record::Packet;
+use redo_record::{Packet, Record};
 
 /// How far a log is covered: a record is where its LSN is not above the point of its group.
 #[derive(Clone, Copy)]
@@ -12,25 +15,41 @@ pub struct Covered {
     pub complete: u64,
     /// The LSN of the last consistency point among them, 0 where there is none.
     pub durable: u64,
+    /// By group, the LSN of its last record among them, 0 where it has none.
+    lasts: [u64; GROUPS],
+    /// By group, the LSN of its last record that is not above `durable`, 0 where it has none.
+    durable_lasts: [u64; GROUPS],
+    ghost each_last: { length lasts ≡ 16 },
+    ghost each_durable_last: { length durable_lasts ≡ 16 },
 }
 
 impl Covered {
-    ghost use Rattle.std.specs.Prelude.{◌≡◌, true};
-    ghost use Rattle.writer_core.specs.Covered.{none};
+    ghost use Rattle.std.specs.Prelude.{◌+◌, ◌^◌, ◌<◌, true, slice_index};
     ghost use Rattle.volume_model.specs.Client.{group_point_of};
+    ghost use Rattle.redo_record.specs.Record.{redo_of};
     ghost use Rattle.writer_core.specs.Logs.{log_of, is_growing};
     ghost use Rattle.writer_core.specs.Groups.{groups_in};
-    ghost use Rattle.writer_core.specs.Covered.{CoversFront, CoversLog};
+    ghost use Rattle.writer_core.specs.Covered.{CoversNone, Covers, CoversFront, CoversLog};
 
     /// No record is covered yet.
     pub fn none() -> Covered
-        ensures { result ≡ none }
+        ensures { CoversNone result }
     {
         Covered {
             records: 0,
             complete: 0,
             durable: 0,
+            lasts: [0; GROUPS],
+            durable_lasts: [0; GROUPS],
         }
+    }
+
+    /// The LSN of a group's last record that is not above the last consistency point covered, 0 where it has none.
+    pub fn durable_last(&self, group: u8) -> u64
+        requires { group < 16 }
+        ensures { result ≡ slice_index self.now.durable_lasts group }
+    {
+        self.durable_lasts[usize::from(group)]
     }
 
     /// Goes on behind the records that are covered, up to the first that isn't.
@@ -44,11 +63,22 @@ impl Covered {
             if standings.point(record.group) < record.lsn {
                 return;
             }
-            self.records += 1;
-            self.complete = record.lsn;
-            if record.point {
-                self.durable = record.lsn;
-            }
+            self.cover(record);
+        }
+    }
+
+    /// Covers the next record.
+    fn cover(&mut self, record: &Record)
+        requires { self.old.records + 1 < 2 ^ 64 }
+        ensures { Covers self.old self.new (redo_of «record».now) }
+    {
+        self.records += 1;
+        self.complete = record.lsn;
+        self.lasts[usize::from(record.group)] = record.lsn;
+        if record.point {
+            let lasts = self.lasts;
+            self.durable = record.lsn;
+            self.durable_lasts = lasts;
         }
     }
 }

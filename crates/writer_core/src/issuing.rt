@@ -13,7 +13,7 @@ ghost use Rattle.volume_model.specs.Message as model;
 ghost use Rattle.volume_model.specs.Client.{label_of};
 ghost use Rattle.wire.specs.Message.{messages_of};
 ghost use Rattle.writer_core.specs.Logs.{log_of, is_growing};
-ghost use Rattle.writer_core.specs.Lasts.{AreLasts, AreLastsOfFront};
+ghost use Rattle.writer_core.specs.Lasts.{AreLasts, AreLastsOfFront, AreLinkedFrom};
 ghost use Rattle.writer_core.specs.Groups.{groups_in, standings_plan};
 ghost use Rattle.writer_core.specs.Changes.{change_of, changes_of};
 ghost use Rattle.writer_core.specs.Carried.{carried_write};
@@ -77,7 +77,7 @@ pub fn carry<'a>(volume: u32, standings: &Standings, packet: &'a Packet) -> Carr
 }
 
 /// Adds the records of a transaction's changes to a log, and their messages to others. The last LSNs of the log follow it, up to
-/// the last record but one. Where memory runs out the log has only grown.
+/// the last record but one. Where memory runs out the log has only grown, by records that name the last LSNs before them.
 pub fn append(
     alloc: Global,
     span: Span,
@@ -98,6 +98,7 @@ pub fn append(
     ensures lasts { AreLastsOfFront lasts.new log.new.items }
     ensures memory { IfErr result (λ e. e ≡ NoMemory) }
     ensures front { take (length log.old.items) log.new.items ≡ log.old.items }
+    ensures linked { AreLinkedFrom (length log.old.items) log.new.items }
 {
     for (i, change) in changes.iter().enumerate() {
         lasts.follow(log.as_slice())?;

@@ -7,7 +7,7 @@ use std::alloc::{AllocError, Global};
 use std::collections::BTreeMap;
 
 /// The most groups that a volume has.
-const GROUPS: usize = 16;
+pub const GROUPS: usize = 16;
 
 /// The last LSN of each group and of each block in the front of a log.
 #[derive(Drop)]
@@ -22,10 +22,10 @@ pub struct Lasts {
 }
 
 impl Lasts {
-    ghost use Rattle.std.specs.Prelude.{◌+◌, ◌^◌, ◌<◌, [], OnOk, OnErr};
+    ghost use Rattle.std.specs.Prelude.{◌+◌, ◌^◌, ◌<◌, [], OnOk, OnErr, take};
     ghost use Rattle.redo_record.specs.Record.{redo_of};
     ghost use Rattle.writer_core.specs.Logs.{log_of};
-    ghost use Rattle.writer_core.specs.Lasts.{kept_of_group, kept_of_block, AreLasts, AreLastsOfFront, Enters, EntersNone};
+    ghost use Rattle.writer_core.specs.Lasts.{kept_of_group, kept_of_block, AreLasts, AreLastsOfFront, AreLinkedFrom, Enters, EntersNone, Leaves};
 
     /// No record is entered yet. Takes no memory.
     pub fn new(alloc: Global) -> Lasts
@@ -77,5 +77,32 @@ impl Lasts {
             self.enter(log[self.entered].record())?;
         }
         Ok(())
+    }
+
+    /// Takes the record out again that was entered last: what it names stands there as before.
+    fn leave(&mut self, record: &Record)
+        requires { 0 < self.old.entered }
+        ensures { Leaves self.old self.new (redo_of «record».now) }
+    {
+        let block = (record.group, record.block);
+        if record.prev_block == 0 {
+            self.blocks.remove(&block);
+        } else {
+            // The block is there, so this takes no memory.
+            let _ = self.blocks.insert(block, record.prev_block);
+        }
+        self.groups[usize::from(record.group)] = record.prev_group;
+        self.entered -= 1;
+    }
+
+    /// Takes records out again, the last first, until at most so many of the log are entered. Takes no memory.
+    pub fn go_back(&mut self, log: &[Packet], records: usize)
+        requires front { AreLastsOfFront self.old log.now }
+        requires linked { AreLinkedFrom records log.now }
+        ensures { AreLastsOfFront self.new (take records log.now) }
+    {
+        while self.entered > records {
+            self.leave(log[self.entered - 1].record());
+        }
     }
 }

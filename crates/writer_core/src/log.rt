@@ -3,7 +3,6 @@
 ghost use Rattle.std.specs.Prelude.{◌≡◌, true, option_copied, option_map};
 ghost use Rattle.volume_model.specs.Redo.{last_lsn, record_at};
 ghost use Rattle.volume_model.specs.ClientPoints.{is_consistency_point};
-ghost use Rattle.volume_model.specs.ClientWriter.{last_of_group_below};
 ghost use Rattle.redo_record.specs.Packet.{packet_redo};
 ghost use Rattle.writer_core.specs.Logs.{log_of, is_growing};
 
@@ -14,19 +13,6 @@ pub fn last_lsn(log: &[Packet]) -> u64
     ensures { result ≡ last_lsn (log_of log.now) }
 {
     log.last().map_or(0, |packet| packet.lsn())
-}
-
-/// The greatest LSN of a group that is not above `limit`, else 0.
-pub fn last_of_group_below(log: &[Packet], group: u8, limit: u64) -> u64
-    ensures { result ≡ last_of_group_below group limit (log_of log.now) }
-{
-    let mut below = 0;
-    for packet in log {
-        if packet.group() == group && packet.lsn() <= limit {
-            below = packet.lsn();
-        }
-    }
-    below
 }
 
 /// The record of an LSN, where there is one.

@@ -31,6 +31,7 @@ impl Standings {
     ghost use Rattle.volume_model.specs.Client as client;
     ghost use Rattle.wire.specs.Message.{place_of, label_of};
     ghost use Rattle.writer_core.specs.Standings.{group_at, counted_in, report_of, reported_in};
+    ghost use Rattle.writer_core.specs.Raised.{raised_in};
     ghost use Rattle.writer_core.specs.Groups.{groups_in, standings_plan, keeping};
 
     /// As a client comes to a new volume: each group at its root.
@@ -147,6 +148,15 @@ impl Standings {
         ensures plan { standings_plan self.new ≡ standings_plan self.old }
     {
         raise(&self.plan, self.list.as_mut_slice());
+    }
+
+    /// Raises the point of one group to what its counted acknowledgements satisfy now. A point never falls.
+    pub fn raise_group(&mut self, group: u8)
+        requires { group < (standings_plan self.old).groups }
+        ensures groups { groups_in self.new ≡ raised_in (standings_plan self.old) (groups_in self.old) group }
+        ensures plan { standings_plan self.new ≡ standings_plan self.old }
+    {
+        self.list[usize::from(group)].raise(&self.plan, group);
     }
 
     /// Whether these are places of the plan's groups, in their order, each at one of its configurations.

@@ -4,14 +4,15 @@ ghost use Rattle.std.specs.Prelude.{◌≡◌, ◌≤◌, true, length};
 ghost use Rattle.writer_core.specs.Logs.{log_of, is_growing};
 ghost use Rattle.writer_core.specs.Lasts.{AreLastsOfFront};
 ghost use Rattle.writer_core.specs.Covered.{CoversLog};
-ghost use Rattle.writer_core.specs.Groups.{groups_in};
+ghost use Rattle.writer_core.specs.Groups.{groups_in, standings_plan};
+ghost use Rattle.writer_core.specs.Raised.{AreRaised};
 ghost use Rattle.volume_model.specs.Client.{group_point_of};
 
 use crate::change::Change;
 use crate::covered::Covered;
 use crate::issuing::{Span, append, carry};
 use crate::lasts::Lasts;
-use crate::log::{is_point, last_lsn, last_of_group_below, record_at};
+use crate::log::{is_point, last_lsn, record_at};
 use crate::standings::Standings;
 use crate::transaction::is_transaction;
 use lineage::Lineage;
@@ -41,6 +42,7 @@ pub struct Writer {
     ghost assigned: { 1 ≤ volume },
     ghost within: { found ≤ length log.items },
     ghost growing: { is_growing (log_of log.items) ≡ true },
+    ghost raised: { AreRaised (standings_plan standings) (groups_in standings) },
     ghost front: { AreLastsOfFront lasts log.items },
     ghost covers: { CoversLog covered (group_point_of (groups_in standings)) log.items },
 }
@@ -60,7 +62,6 @@ impl Writer {
     ghost use Rattle.volume_model.specs.Lineage.{last_start};
     ghost use Rattle.writer_core.specs.Changes.{changes_of};
     ghost use Rattle.writer_core.specs.Writers.{client_of, writer_plan, writer_volume, installing, CanIssue, acted, silent, asked, sent};
-    ghost use Rattle.writer_core.specs.Groups.{standings_plan};
     ghost use Rattle.lineage.specs.Lineage.{lineage_of};
 
     /// The writer that a volume is born with: volume epoch 1, each group at its root, no record. Fails for want of memory alone.
@@ -177,7 +178,7 @@ impl Writer {
     }
 
     /// Takes an acknowledgement. Refused as [`Writer::admits_ack`] says. It is counted where its membership epoch is at most the one
-    /// that the writer knows of the group; a later one changes nothing.
+    /// that the writer knows of the group; a later one changes nothing. Only its own group's point may rise.
     pub fn take_ack(&mut self, ack: &Ack) -> Result<(), Fault>
         ensures answers { Answers silent (taken (writer_plan self.old) (writer_volume self.old) (client_of self.old) (message_of (Message.Ack ack.now))) (client_of self.old) result (client_of self.new) }
         ensures plan { writer_plan self.new ≡ writer_plan self.old }
@@ -188,7 +189,10 @@ impl Writer {
             return Ok(());
         }
         self.standings.count(ack)?;
-        self.standings.raise();
+        if ack.scl <= self.standings.point(ack.group) {
+            return Ok(());
+        }
+        self.standings.raise_group(ack.group);
         self.covered.follow(self.log.as_slice(), &self.standings);
         Ok(())
     }
@@ -248,7 +252,7 @@ impl Writer {
             group,
             label: self.standings.label(self.volume, group),
             block,
-            point: last_of_group_below(self.log.as_slice(), group, self.durable_point()),
+            point: self.covered.durable_last(group),
         }))
     }
 
@@ -300,8 +304,8 @@ impl Writer {
     }
 
     /// Gives a transaction's changes their records, all or none, and makes the Writes that carry them, in order. The last is
-    /// a consistency point. Refused as [`Writer::admits`] says. Where memory runs out the log is what it was, and its last LSNs are
-    /// read off it anew at the next transaction.
+    /// a consistency point. Refused as [`Writer::admits`] says. Where memory runs out the log is what it was, and nothing of
+    /// it is read anew.
     pub fn issue(&mut self, alloc: Global, changes: &[Change]) -> Result<Vec<Message>, Fault>
         ensures answers { Answers acted (issued (writer_plan self.old) (writer_volume self.old) (client_of self.old) (changes_of changes.now)) (client_of self.old) result (client_of self.new) }
         ensures plan { writer_plan self.new ≡ writer_plan self.old }
@@ -328,8 +332,8 @@ impl Writer {
                 Ok(messages)
             }
             Err(fault) => {
+                self.lasts.go_back(self.log.as_slice(), length);
                 self.log.truncate(length);
-                self.lasts = Lasts::new(alloc);
                 Err(fault)
             }
         }

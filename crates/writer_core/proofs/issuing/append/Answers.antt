@@ -1,4 +1,4 @@
-use Rattle.std.proofs.Common.{arith, ◌≡◌, ℕ, ap, subst, ◌∙◌, ◌++◌, ◌∷◌, [], nat_eq, ◌+◌, length}
+use Rattle.std.proofs.Common.{arith, ◌≡◌, refl, sym, ℕ, ap, subst, ◌∙◌, ◌++◌, ◌∷◌, [], nat_eq, ◌+◌, length}
 use Rattle.volume_model.specs.Redo.{Redo}
 use Rattle.volume_model.specs.Message as model
 use Rattle.volume_model.specs.Client.{place_of, label_of}
@@ -7,10 +7,11 @@ use Rattle.wire.specs.Message.{message_of}
 use Rattle.redo_record.specs.Record.{redo_of}
 use Rattle.redo_record.specs.Packet.{packet_redo}
 use Rattle.writer_core.specs.Logs.{log_of}
-use Rattle.writer_core.specs.Lasts.{AreLastsOfFront}
+use Rattle.writer_core.specs.Lasts.{AreLastsOfFront, IsLinked}
 use Rattle.writer_core.specs.Changes.{change_of}
 use Rattle.writer_core.specs.Groups.{groups_in, standings_plan}
 use Rattle.writer_core.proofs.Entering.{front-pushed}
+use Rattle.writer_core.proofs.Leaving.{linked-pushed}
 use Rattle.writer_core.proofs.OneMore.{IsGood, good_here, logged_on, written_on, growing_on, room_on, good_on, front_on, messages_on}
 use Rattle.writer_core.proofs.issuing.append.Goals as goal
 
@@ -58,4 +59,5 @@ loop-i-preserved c =
       logged = rw logs (logged_on volume start places changes i change within is records p made ∙ c.loop-i.invariant.logged);
       written = rw (logs, messages) (messages_on c.loop-i.messages.items message _ _ (written_on volume start places changes i change within is records p made _ said) ∙ c.loop-i.invariant.written);
       front = rw logs (front_on records p _ c.loop-i.invariant.front);
+      linked = rw logs (linked-pushed (length c.args.log.now.items) records p (subst (λ s. IsLinked s (log_of records)) (sym made) (record { group = refl; block = refl })) c.loop-i.invariant.linked);
     }

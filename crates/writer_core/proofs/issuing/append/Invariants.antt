@@ -5,7 +5,7 @@ use Rattle.volume_model.specs.Client.{place_of}
 use Rattle.volume_model.specs.ClientWriter.{is_change, issued_log, issued_writes}
 use Rattle.wire.specs.Message.{messages_of}
 use Rattle.writer_core.specs.Logs.{log_of, is_growing}
-use Rattle.writer_core.specs.Lasts.{AreLastsOfFront}
+use Rattle.writer_core.specs.Lasts.{AreLastsOfFront, AreLinkedFrom}
 use Rattle.writer_core.specs.Groups.{groups_in, standings_plan}
 use Rattle.writer_core.specs.Changes.{changes_of}
 use Rattle.writer_core.proofs.issuing.append.Given as goal
@@ -20,4 +20,5 @@ invariant-loop-i l = record {
   written : messages_of l.messages.items ++ issued_writes l.span.volume (place_of (groups_in l.standings)) l.span.start (changes_of (drop l.i l.changes)) (log_of l.log.items)
       ≡ messages_of l.initial.messages.items ++ issued_writes l.span.volume (place_of (groups_in l.standings)) l.span.start (changes_of l.changes) (log_of l.initial.log.items);
   front : take (length l.initial.log.items) l.log.items ≡ l.initial.log.items;
+  linked : AreLinkedFrom (length l.initial.log.items) l.log.items;
 }

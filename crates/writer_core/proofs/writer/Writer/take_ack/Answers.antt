@@ -1,22 +1,108 @@
-use Rattle.std.proofs.Common.{◌≡◌, ℕ, ◌≤◌, List, sym, ap, ◌∙◌, subst}
+use Rattle.std.proofs.Common.{◌≡◌, ℕ, ◌<◌, ◌≤◌, List, length, sym, ap, ◌∙◌, subst, arith}
+use Rattle.std.proofs.lemmas.List.{length-map}
 use Rattle.redo_record.specs.declared.packet.Packet.{Packet}
 use Rattle.volume_model.specs.Client.{ClientGroup, group_point_of}
 use Rattle.volume_model.specs.ClientPoints.{raised}
-use Rattle.writer_core.specs.Standings.{counted_in}
+use Rattle.wire.specs.Message.{label_of}
+use Rattle.writer_core.specs.Standings.{group_at, counted_in}
+use Rattle.writer_core.specs.Raised.{AreRaised, raised_in}
 use Rattle.writer_core.specs.Groups.{groups_in, standings_plan}
-use Rattle.writer_core.specs.Covered.{CoversFront}
-use Rattle.writer_core.proofs.Covering.{covers-raised}
+use Rattle.writer_core.specs.Covered.{CoversFront, CoversLog}
+use Rattle.writer_core.specs.Writers.{client_of}
+use Rattle.writer_core.proofs.Acknowledging.{of_group, ack_counted}
+use Rattle.writer_core.proofs.Covering.{covers-raised, covers-same}
+use Rattle.writer_core.proofs.Raising.{raised-same, raised-counted, raised_all, counted_raised, group_point_of-counted_in}
 use Rattle.writer_core.proofs.Rising.{group_point_of-counted}
 use Rattle.writer_core.proofs.writer.Writer.take_ack.Goals as goal
+
+-- ---- memory ran out
+
+pub invariant_of-self-in-Break-branch-2 : goal.invariant_of-self-in-Break-branch-2
+invariant_of-self-in-Break-branch-2 c =
+    let self = c.args.self.now in
+    let plan = standings_plan self.standings in
+    let old = groups_in self.standings in
+    let same : groups_in c.count.new.self ≡ old = c.in_err-count.ensures.same in
+    record {
+      assigned = self.assigned;
+      within = self.within;
+      growing = self.growing;
+      raised = subst (λ p. AreRaised p (groups_in c.count.new.self)) (sym c.in_err-count.ensures.plan) (subst (AreRaised plan) (sym same) self.raised);
+      front = self.front;
+      covers = subst (λ (gs : List ClientGroup). CoversLog self.covered (group_point_of gs) self.log.items) (sym same) self.covers;
+    }
+
+-- ---- its complete point isn't above its group's point
+
+pub invariant_of-self-then-ack-point-clause-raised : goal.invariant_of-self-then-ack-point-clause-raised
+invariant_of-self-then-ack-point-clause-raised c =
+    let self = c.args.self.now in
+    let ack = c.args.ack.now in
+    let old = groups_in self.standings in
+    let counted = c.in_ok-count.ensures.counted in
+    let low : ack.scl ≤ group_point_of old ack.group = omega (arith, c.if-ack-point.true, c.point.ensures ∙ ap (λ gs. group_point_of gs ack.group) counted ∙ group_point_of-counted_in old ack.group ack.from ack.scl ack.group) in
+    subst (λ p. AreRaised p (groups_in c.count.new.self)) (sym c.in_ok-count.ensures.plan)
+    (subst (AreRaised (standings_plan self.standings)) (sym counted) (counted_raised (standings_plan self.standings) old ack.group ack.from ack.scl self.raised low))
+
+pub invariant_of-self-then-ack-point-clause-covers : goal.invariant_of-self-then-ack-point-clause-covers
+invariant_of-self-then-ack-point-clause-covers c =
+    let self = c.args.self.now in
+    let ack = c.args.ack.now in
+    let old = groups_in self.standings in
+    covers-same self.covered (group_point_of old) (group_point_of (groups_in c.count.new.self)) self.log.items
+    (λ k. sym (ap (λ gs. group_point_of gs k) c.in_ok-count.ensures.counted ∙ group_point_of-counted_in old ack.group ack.from ack.scl k)) self.covers
+
+pub returns-then-ack-point-clause-answers : goal.returns-then-ack-point-clause-answers
+returns-then-ack-point-clause-answers c =
+    let self = c.args.self.now in
+    let ack = c.args.ack.now in
+    let plan = standings_plan self.standings in
+    let old = groups_in self.standings in
+    let client = client_of self in
+    let counted = c.in_ok-count.ensures.counted in
+    let low : ack.scl ≤ group_point_of old ack.group = omega (arith, c.if-ack-point.true, c.point.ensures ∙ ap (λ gs. group_point_of gs ack.group) counted ∙ group_point_of-counted_in old ack.group ack.from ack.scl ack.group) in
+    let all : groups_in c.count.new.self ≡ raised plan (counted_in old ack.group ack.from ack.scl) =
+    counted ∙ sym (raised-same plan (counted_in old ack.group ack.from ack.scl) (counted_raised plan old ack.group ack.from ack.scl self.raised low)) in
+    ack_counted plan self.volume old (groups_in c.count.new.self) client.lineage client.found client.log ack.group ack.from ack.scl (label_of ack.label) c.in_ok-admits_ack.ensures.can
+    (omega (arith, c.if-ack-epoch.false, c.epoch.ensures)) all
+
+-- ---- it is above
 
 pub follow-requires-clause-front : goal.follow-requires-clause-front
 follow-requires-clause-front c =
     let self = c.args.self.now in
     let ack = c.args.ack.now in
-    let plan = standings_plan c.count.new.self in
+    let plan = standings_plan self.standings in
     let old = groups_in self.standings in
-    let now : groups_in c.raise.new.self ≡ raised plan (counted_in old ack.group ack.from ack.scl) = c.raise.ensures.groups ∙ ap (raised plan) c.in_ok-count.ensures.counted in
-    let rises : (k : ℕ) → group_point_of old k ≤ group_point_of (groups_in c.raise.new.self) k =
+    let within : ack.group < length old = subst (λ n. ack.group < n) (sym (length-map self.standings.list.items group_at ∙ self.standings.each_group)) (of_group self.volume plan.groups ack.group ack.from ack.scl (label_of ack.label) c.in_ok-admits_ack.ensures.can) in
+    let now : groups_in c.raise_group.new.self ≡ raised plan (counted_in old ack.group ack.from ack.scl) =
+    raised-counted plan old (groups_in c.count.new.self) (groups_in c.raise_group.new.self) ack.group ack.from ack.scl self.raised within c.in_ok-count.ensures.counted
+    (c.raise_group.ensures.groups ∙ ap (λ p. raised_in p (groups_in c.count.new.self) ack.group) c.in_ok-count.ensures.plan) in
+    let rises : (k : ℕ) → group_point_of old k ≤ group_point_of (groups_in c.raise_group.new.self) k =
     λ k. subst (λ (groups : List ClientGroup). group_point_of old k ≤ group_point_of groups k) (sym now) (group_point_of-counted plan old ack.group ack.from ack.scl k) in
-    subst (λ (log : List Packet). CoversFront self.covered (group_point_of (groups_in c.raise.new.self)) log) (sym c.as_slice.ensures.value)
-    (covers-raised self.covered (group_point_of old) (group_point_of (groups_in c.raise.new.self)) self.log.items rises self.covers.front)
+    subst (λ (log : List Packet). CoversFront self.covered (group_point_of (groups_in c.raise_group.new.self)) log) (sym c.as_slice.ensures.value)
+    (covers-raised self.covered (group_point_of old) (group_point_of (groups_in c.raise_group.new.self)) self.log.items rises self.covers.front)
+
+pub invariant_of-self-2-clause-raised : goal.invariant_of-self-2-clause-raised
+invariant_of-self-2-clause-raised c =
+    let self = c.args.self.now in
+    let ack = c.args.ack.now in
+    let plan = standings_plan self.standings in
+    let old = groups_in self.standings in
+    let within : ack.group < length old = subst (λ n. ack.group < n) (sym (length-map self.standings.list.items group_at ∙ self.standings.each_group)) (of_group self.volume plan.groups ack.group ack.from ack.scl (label_of ack.label) c.in_ok-admits_ack.ensures.can) in
+    raised_all plan _ (counted_in old ack.group ack.from ack.scl) _ (c.raise_group.ensures.plan ∙ c.in_ok-count.ensures.plan)
+    (raised-counted plan old (groups_in c.count.new.self) (groups_in c.raise_group.new.self) ack.group ack.from ack.scl self.raised within c.in_ok-count.ensures.counted
+    (c.raise_group.ensures.groups ∙ ap (λ p. raised_in p (groups_in c.count.new.self) ack.group) c.in_ok-count.ensures.plan))
+
+pub returns-clause-answers : goal.returns-clause-answers
+returns-clause-answers c =
+    let self = c.args.self.now in
+    let ack = c.args.ack.now in
+    let plan = standings_plan self.standings in
+    let old = groups_in self.standings in
+    let client = client_of self in
+    let within : ack.group < length old = subst (λ n. ack.group < n) (sym (length-map self.standings.list.items group_at ∙ self.standings.each_group)) (of_group self.volume plan.groups ack.group ack.from ack.scl (label_of ack.label) c.in_ok-admits_ack.ensures.can) in
+    ack_counted plan self.volume old (groups_in c.raise_group.new.self) client.lineage client.found client.log ack.group ack.from ack.scl (label_of ack.label) c.in_ok-admits_ack.ensures.can
+    (omega (arith, c.if-ack-epoch.false, c.epoch.ensures))
+    (raised-counted plan old (groups_in c.count.new.self) (groups_in c.raise_group.new.self) ack.group ack.from ack.scl self.raised within c.in_ok-count.ensures.counted
+    (c.raise_group.ensures.groups ∙ ap (λ p. raised_in p (groups_in c.count.new.self) ack.group) c.in_ok-count.ensures.plan))

@@ -1,0 +1,152 @@
+-- The point of one group is raised, where those of the others are raised already.
+use Rattle.std.proofs.Common.{◌≡◌, ℕ, zero, suc, ◌+◌, ◌<◌, ◌≤◌, true, false, ◌==◌, max, List, [], ◌∷◌, length, refl, sym, ap, ap₂, ◌∙◌, subst, inl, inr, arith, get_or-set_same}
+use Rattle.std.specs.Prelude.{slice_set}
+use Rattle.std.proofs.lemmas.List.{set-set}
+use Rattle.std.proofs.lemmas.Bool.{cases_Bool, cases_lt, true≢false, eqb-true}
+use Rattle.volume_model.specs.Lists.{IsIn}
+use Rattle.volume_model.specs.Formula.{Formula, sat}
+use Rattle.volume_model.specs.Plan.{Plan}
+use Rattle.volume_model.specs.Client.{Count, ClientGroup, no_group, group_of, group_point_of, place_configuration}
+use Rattle.volume_model.specs.ClientPoints.{reaching, best, with_count, raised_group, raised_from, raised}
+use Rattle.volume_model.proofs.FormulaLaws.{sat_more}
+use Rattle.volume_model.proofs.Groups.{set-all, group_of-raised}
+use Rattle.volume_model.proofs.Points.{reaching-some, reaching-from}
+use Rattle.writer_core.specs.Raised.{counted_point, AreRaised, raised_in}
+use Rattle.writer_core.specs.Standings.{counted_group, counted_in}
+
+-- ---- what counts satisfy
+
+-- no set of members that the expression takes has reached a number above the bound
+best-le : (write : Formula) (all list : List Count) (n : ℕ) → ((c : Count) → IsIn c list → n < c.reached → sat write (reaching all c.reached) ≡ false) → best write all list ≤ n
+best-le write all [] n h = omega arith
+best-le write all (c ∷ rest) n h =
+    let inner : best write all rest ≤ n = best-le write all rest n (λ d i. h d (inr i)) in
+    elim (cases_Bool (sat write (reaching all c.reached))) [
+      | inl e ↦ elim (cases_lt n c.reached) [ inl more ↦ absurd (true≢false (sym e ∙ h c (inl refl) more)) | inr less ↦ rw e (omega arith) ]
+      | inr e ↦ rw e (omega arith)
+    ]
+
+best-above : (write : Formula) (all list : List Count) (n : ℕ) → best write all list ≤ n → (c : Count) → IsIn c list → n < c.reached → sat write (reaching all c.reached) ≡ false
+best-above write all [] n h c i more = absurd i
+best-above write all (d ∷ rest) n h c i more =
+    elim (cases_Bool (sat write (reaching all d.reached))) [
+      | inl e ↦ (
+          let low : max d.reached (best write all rest) ≤ n = rw e at h in
+          elim i [
+            | inl p ↦ absurd (let same : c.reached ≡ d.reached = ap (λ z. z.reached) p in omega arith)
+            | inr j ↦ best-above write all rest n (omega arith) c j more
+          ])
+      | inr e ↦ (
+          let low : max 0 (best write all rest) ≤ n = rw e at h in
+          elim i [
+            | inl p ↦ ap (λ z. sat write (reaching all z.reached)) p ∙ e
+            | inr j ↦ best-above write all rest n (omega arith) c j more
+          ])
+    ]
+
+-- a count above what is counted was there before
+in-with_count : (counts : List Count) (sender reached : ℕ) (c : Count) → IsIn c (with_count sender reached counts) → reached < c.reached → IsIn c counts
+in-with_count [] sender reached c (inl p) more = absurd (let same : c.reached ≡ reached = ap (λ z. z.reached) p in omega arith)
+in-with_count [] sender reached c (inr i) more = absurd i
+in-with_count (d ∷ rest) sender reached c i more =
+    elim (cases_Bool (d.sender == sender)) [
+      | inl e ↦ elim (rw e at i) [
+        | inl p ↦ (
+            let same : c.reached ≡ max d.reached reached = ap (λ z. z.reached) p in
+            let kept : max d.reached reached ≡ d.reached = omega arith in
+            let who : sender ≡ d.sender = sym (eqb-true d.sender sender e) in
+            inl (p ∙ ap₂ (λ (s n : ℕ). record { sender = s; reached = n }) who kept))
+        | inr j ↦ inr j
+      ]
+      | inr e ↦ elim (rw e at i) [ inl p ↦ inl p | inr j ↦ inr (in-with_count rest sender reached c j more) ]
+    ]
+
+-- a count that isn't above the bound satisfies nothing above it
+pub best-counted : (write : Formula) (counts : List Count) (sender reached n : ℕ) → best write counts counts ≤ n → reached ≤ n → best write (with_count sender reached counts) (with_count sender reached counts) ≤ n
+best-counted write counts sender reached n low le =
+    best-le write (with_count sender reached counts) (with_count sender reached counts) n fails
+  where
+    fails : (c : Count) → IsIn c (with_count sender reached counts) → n < c.reached → sat write (reaching (with_count sender reached counts) c.reached) ≡ false
+    fails c i more =
+        elim (cases_Bool (sat write (reaching (with_count sender reached counts) c.reached))) [
+          | inl e ↦ absurd (
+              let before : sat write (reaching counts c.reached) ≡ true =
+              sat_more write (reaching (with_count sender reached counts) c.reached) (reaching counts c.reached)
+              (λ y s. (let (other, j, q, l) = reaching-some (with_count sender reached counts) c.reached y s in reaching-from counts c.reached y other (in-with_count counts sender reached other j (omega (arith, le, more, l))) q l)) e in
+              let none : sat write (reaching counts c.reached) ≡ false = best-above write counts counts n low c (in-with_count counts sender reached c i (omega arith)) more in
+              true≢false (sym before ∙ none))
+          | inr e ↦ e
+        ]
+
+-- ---- points that are raised already
+
+-- a group whose point is raised already
+raised_group-same : (plan : Plan) (number : ℕ) (g : ClientGroup) → counted_point plan number g ≤ g.group_point → raised_group plan number g ≡ g
+raised_group-same plan number g h =
+    let same : max g.group_point (counted_point plan number g) ≡ g.group_point = omega arith in
+    ap (λ (n : ℕ). record g { group_point = n }) same
+
+-- from a number on
+abbrev AreRaisedFrom : Plan → ℕ → List ClientGroup → Type 0
+AreRaisedFrom plan n groups = (k : ℕ) → counted_point plan (n + k) (group_of groups k) ≤ group_point_of groups k
+
+rest_raised : (plan : Plan) (n : ℕ) (g : ClientGroup) (groups : List ClientGroup) → AreRaisedFrom plan n (g ∷ groups) → AreRaisedFrom plan (suc n) groups
+rest_raised plan n g groups h k = let e : n + suc k ≡ suc n + k = omega arith in subst (λ m. counted_point plan m (group_of groups k) ≤ group_point_of groups k) e (h (suc k))
+
+first_raised : (plan : Plan) (n : ℕ) (g : ClientGroup) (groups : List ClientGroup) → AreRaisedFrom plan n (g ∷ groups) → raised_group plan n g ≡ g
+first_raised plan n g groups h = let e : n + 0 ≡ n = omega arith in raised_group-same plan n g (subst (λ m. counted_point plan m g ≤ g.group_point) e (h 0))
+
+raised_from-same : (plan : Plan) (n : ℕ) (groups : List ClientGroup) → AreRaisedFrom plan n groups → raised_from plan n groups ≡ groups
+raised_from-same plan n [] h = refl
+raised_from-same plan n (g ∷ groups) h = ap₂ (λ (x : ClientGroup) xs. x ∷ xs) (first_raised plan n g groups h) (raised_from-same plan (suc n) groups (rest_raised plan n g groups h))
+
+raised_from-set : (plan : Plan) (n : ℕ) (groups : List ClientGroup) (i : ℕ) (g : ClientGroup) → AreRaisedFrom plan n groups → raised_from plan n (slice_set groups i g) ≡ slice_set groups i (raised_group plan (n + i) g)
+raised_from-set plan n [] i g h = refl
+raised_from-set plan n (x ∷ xs) zero g h =
+    let e : n ≡ n + 0 = omega arith in
+    ap₂ (λ (y : ClientGroup) ys. y ∷ ys) (ap (λ m. raised_group plan m g) e) (raised_from-same plan (suc n) xs (rest_raised plan n x xs h))
+raised_from-set plan n (x ∷ xs) (suc i) g h =
+    let e : suc n + i ≡ n + suc i = omega arith in
+    ap₂ (λ (y : ClientGroup) ys. y ∷ ys) (first_raised plan n x xs h) (raised_from-set plan (suc n) xs i g (rest_raised plan n x xs h) ∙ ap (λ m. slice_set xs i (raised_group plan m g)) e)
+
+raised_at_all : (plan : Plan) (groups : List ClientGroup) → AreRaised plan groups → AreRaisedFrom plan 0 groups
+raised_at_all plan groups h k = let e : k ≡ 0 + k = omega arith in subst (λ m. counted_point plan m (group_of groups k) ≤ group_point_of groups k) e (h k)
+
+-- raising them again changes nothing
+pub raised-same : (plan : Plan) (groups : List ClientGroup) → AreRaised plan groups → raised plan groups ≡ groups
+raised-same plan groups h = raised_from-same plan 0 groups (raised_at_all plan groups h)
+
+-- points that were raised
+pub are_raised : (plan : Plan) (groups : List ClientGroup) → AreRaised plan (raised plan groups)
+are_raised plan groups k = subst (λ (g : ClientGroup). counted_point plan k g ≤ g.group_point) (sym (group_of-raised plan groups k)) (omega arith)
+
+-- the same, of a plan and of groups that are these
+pub raised_all : (plan now : Plan) (groups next : List ClientGroup) → now ≡ plan → next ≡ raised plan groups → AreRaised now next
+raised_all plan now groups next same rises = subst (λ p. AreRaised p next) (sym same) (subst (AreRaised plan) (sym rises) (are_raised plan groups))
+
+-- ---- one acknowledgement more
+
+-- where one group has changed, its point alone is to be raised
+pub raised-set : (plan : Plan) (groups : List ClientGroup) (i : ℕ) (g : ClientGroup) → i < length groups → AreRaised plan groups → raised_in plan (slice_set groups i g) i ≡ raised plan (slice_set groups i g)
+raised-set plan groups i g within h =
+    let here : group_of (slice_set groups i g) i ≡ g = get_or-set_same groups i g no_group within in
+    let e : 0 + i ≡ i = omega arith in
+    ap (λ x. slice_set (slice_set groups i g) i (raised_group plan i x)) here
+    ∙ set-set groups i g (raised_group plan i g)
+    ∙ sym (raised_from-set plan 0 groups i g (raised_at_all plan groups h) ∙ ap (λ m. slice_set groups i (raised_group plan m g)) e)
+
+-- an acknowledgement was counted and the point of its group raised: so all are
+pub raised-counted : (plan : Plan) (old now next : List ClientGroup) (group sender reached : ℕ) → AreRaised plan old → group < length old → now ≡ counted_in old group sender reached → next ≡ raised_in plan now group → next ≡ raised plan (counted_in old group sender reached)
+raised-counted plan old now next group sender reached h within counts rises =
+    rises ∙ ap (λ groups. raised_in plan groups group) counts ∙ raised-set plan old group (counted_group (group_of old group) sender reached) within h
+
+-- an acknowledgement that isn't above its group's point leaves nothing to raise
+pub counted_raised : (plan : Plan) (groups : List ClientGroup) (group sender reached : ℕ) → AreRaised plan groups → reached ≤ group_point_of groups group → AreRaised plan (counted_in groups group sender reached)
+counted_raised plan groups group sender reached h le =
+    set-all no_group (λ k (g : ClientGroup). counted_point plan k g ≤ g.group_point) groups group (counted_group (group_of groups group) sender reached)
+    (best-counted (place_configuration plan group (group_of groups group).place).write (group_of groups group).counts sender reached (group_point_of groups group) (h group) le) h
+
+-- it raises no point
+pub group_point_of-counted_in : (groups : List ClientGroup) (group sender reached k : ℕ) → group_point_of (counted_in groups group sender reached) k ≡ group_point_of groups k
+group_point_of-counted_in groups group sender reached =
+    set-all no_group (λ g x. x.group_point ≡ group_point_of groups g) groups group (counted_group (group_of groups group) sender reached) refl (λ g. refl)
