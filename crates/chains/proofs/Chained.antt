@@ -32,7 +32,7 @@ can_tell records fall n =
       ]
     ]
 
-fewer_fall : (r : Redo) (records : List Redo) → GroupLinksFall (with_record r records) → GroupLinksFall records
+pub fewer_fall : (r : Redo) (records : List Redo) → GroupLinksFall (with_record r records) → GroupLinksFall records
 fewer_fall r records fall q i = fall q (with_record-keeps r records q i)
 
 -- the greatest of the same numbers is the same
@@ -49,13 +49,17 @@ same_chains records old new same point c = record {
   point = point ∙ c.point;
 }
 
+-- a record that waits leaves the complete point
+pub scl-waits : (r : Redo) (records : List Redo) → (IsReached records r.prev_group → ⊥) → GroupLinksFall (with_record r records) → scl records ≡ scl (with_record r records)
+scl-waits r records far fall = one_greatest (IsGroundedNumber records) (IsGroundedNumber (with_record r records)) (scl records) (scl (with_record r records)) (keeps_number r records) (still_number r records far) (complete_point_is_greatest records (fewer_fall r records fall)) (complete_point_is_greatest (with_record r records) fall)
+
 -- a record waits
 pub one_more_waits : (r : Redo) (records : List Redo) (old new : Chains) → (IsReached records r.prev_group → ⊥) → GroupLinksFall (with_record r records)
     → ((k : ℕ) → waiters new.waits k ≡ (if k == r.prev_group then waiters old.waits k ++ r.lsn ∷ [] else waiters old.waits k)) → new.point ≡ old.point → AreChainsOf records old → AreChainsOf (with_record r records) new
 one_more_waits r records old new far fall is point c = record {
   kept = λ k m w. kept k m (one_waits r records far k m w);
   wait = λ k m w. wait k m w;
-  point = point ∙ c.point ∙ one_greatest (IsGroundedNumber records) (IsGroundedNumber (with_record r records)) (scl records) (scl (with_record r records)) (keeps_number r records) (still_number r records far) (complete_point_is_greatest records (fewer_fall r records fall)) (complete_point_is_greatest (with_record r records) fall);
+  point = point ∙ c.point ∙ scl-waits r records far fall;
 }
   where
     last_in : (xs : List ℕ) (x : ℕ) → IsIn x (xs ++ x ∷ [])
@@ -107,67 +111,67 @@ wakes_as V W n to m itself = itself
 wakes_as V W n to m (next k j w h) = next k j (wakes_as V W n to k w) (to k j h)
 
 -- a record lands, and wakes those that waited for it
-pub one_more_lands : (r : Redo) (records : List Redo) (woken : List ℕ) (old new : Chains) (last : ℕ) → IsReached records r.prev_group → GroupLinksFall (with_record r records) → AreWoken (WaitsIn old.waits) r.lsn woken
-    → ((k : ℕ) → waiters new.waits k ≡ (if any (λ n. n == k) woken then [] else waiters old.waits k)) → last ≡ get_or woken (length woken - 1) last → new.point ≡ max old.point last → AreChainsOf records old → AreChainsOf (with_record r records) new
-one_more_lands r records woken old new last near fall are is at point c = record {
-  kept = λ k m w. kept k m w;
-  wait = λ k m i. wait k m i;
-  point = point ∙ one_greatest (IsGroundedNumber all) (IsGroundedNumber all) (max old.point last) (scl all) (λ n p. p) (λ n p. p) greatest (complete_point_is_greatest all fall);
-}
-  where
-    all : List Redo
-    all = with_record r records
+module _ (r : Redo) (records : List Redo) (woken : List ℕ) (old : Chains) (near : IsReached records r.prev_group) (fall : GroupLinksFall (with_record r records)) (are : AreWoken (WaitsIn old.waits) r.lsn woken) (c : AreChainsOf records old) where
+  abbrev all : List Redo
+  all = with_record r records
 
-    tell : CanTell records
-    tell = can_tell records (fewer_fall r records fall)
+  tell : CanTell records
+  tell = can_tell records (fewer_fall r records fall)
 
-    wakes : (n : ℕ) → IsIn n woken → IsWoken (IsWaiting records) r.lsn n
-    wakes n i = wakes_as (WaitsIn old.waits) (IsWaiting records) r.lsn c.wait n (are.only n i)
+  wakes : (n : ℕ) → IsIn n woken → IsWoken (IsWaiting records) r.lsn n
+  wakes n i = wakes_as (WaitsIn old.waits) (IsWaiting records) r.lsn c.wait n (are.only n i)
 
-    woke : (n : ℕ) → IsWoken (IsWaiting records) r.lsn n → IsIn n woken
-    woke n w = are.each n (wakes_as (IsWaiting records) (WaitsIn old.waits) r.lsn c.kept n w)
+  woke : (n : ℕ) → IsWoken (IsWaiting records) r.lsn n → IsIn n woken
+  woke n w = are.each n (wakes_as (IsWaiting records) (WaitsIn old.waits) r.lsn c.kept n w)
 
-    eq_of : (x k : ℕ) → (x == k) ≡ true → x ≡ k
-    eq_of x k h = grind (arith, nat_tests)
+  -- the greatest number that is woken is the complete point, where it is above the old one
+  pub point_lands : (last : ℕ) → last ≡ get_or woken (length woken - 1) last → max old.point last ≡ scl (with_record r records)
+  point_lands last at = one_greatest (IsGroundedNumber all) (IsGroundedNumber all) (max old.point last) (scl all) (λ n p. p) (λ n p. p) greatest (complete_point_is_greatest all fall)
+    where
+      some_in : (x : ℕ) (xs : List ℕ) → IsIn x xs → length xs - 1 < length xs
+      some_in x [] i = absurd i
+      some_in x (y ∷ ys) i = omega arith
 
-    asleep : (k : ℕ) → any (λ n. n == k) woken ≡ false → (if any (λ n. n == k) woken then [] else waiters old.waits k) ≡ waiters old.waits k
-    asleep k e = rw e refl
+      top : IsIn last woken
+      top = subst (λ n. IsIn n woken) (sym at) (is_in woken (length woken - 1) last (some_in r.lsn woken (are.each r.lsn itself)))
 
-    awake : (k : ℕ) → any (λ n. n == k) woken ≡ true → (if any (λ n. n == k) woken then [] else waiters old.waits k) ≡ []
-    awake k e = rw e refl
+      before : IsGreatest (IsGroundedNumber records) (scl records)
+      before = complete_point_is_greatest records (fewer_fall r records fall)
 
-    kept : (k m : ℕ) → IsWaiting all k m → IsIn m (waiters new.waits k)
-    kept k m w = elim (cases_Bool (any (λ n. n == k) woken)) [
-      | inl e ↦ absurd (let (x, i, f) = any_passes (λ n. n == k) woken e in not_woken r records near tell k m w (wakes k (subst (λ n. IsIn n woken) (eq_of x k f) i)))
-      | inr e ↦ subst (IsIn m) (sym (is k ∙ asleep k e)) (c.kept k m (waited r records near tell k m w))
-    ]
+      one : (old.point < last) ⊎ (last ≤ old.point) → (max old.point last ≡ 0) ⊎ IsGroundedNumber all (max old.point last)
+      one (inl l) = let e : last ≡ max old.point last = omega arith in inr (subst (IsGroundedNumber all) e (woken_number r records near tell last (wakes last top)))
+      one (inr l) = let e : scl records ≡ max old.point last = (let f : old.point ≡ scl records = c.point in omega arith) in elim before.is_one [
+        | inl z ↦ inl (omega arith)
+        | inr p ↦ inr (subst (IsGroundedNumber all) e (keeps_number r records (scl records) p))
+      ]
 
-    wait : (k m : ℕ) → IsIn m (waiters new.waits k) → IsWaiting all k m
-    wait k m i = elim (cases_Bool (any (λ n. n == k) woken)) [
-      | inl e ↦ absurd (subst (IsIn m) (is k ∙ awake k e) i)
-      | inr e ↦ waits_on r records near tell k m (c.wait k m (subst (IsIn m) (is k ∙ asleep k e) i)) (λ w. true≢false (sym (any_from (λ n. n == k) woken k (woke k w) (eq-eqb k k refl)) ∙ e))
-    ]
+      each : (m : ℕ) → IsGroundedNumber records m ⊎ IsWoken (IsWaiting records) r.lsn m → m ≤ max old.point last
+      each m (inl g) = let l : m ≤ scl records = before.at_least_each m g in let f : old.point ≡ scl records = c.point in omega arith
+      each m (inr w) = let l : m ≤ get_or woken (length woken - 1) last = last_most woken last m are.growing (woke m w) in omega (arith, at, l)
 
-    some_in : (x : ℕ) (xs : List ℕ) → IsIn x xs → length xs - 1 < length xs
-    some_in x [] i = absurd i
-    some_in x (y ∷ ys) i = omega arith
+      greatest : IsGreatest (IsGroundedNumber all) (max old.point last)
+      greatest = record { is_one = one (cases_lt old.point last); at_least_each = λ m p. each m (reaches_number r records near tell m p) }
 
-    top : IsIn last woken
-    top = subst (λ n. IsIn n woken) (sym at) (is_in woken (length woken - 1) last (some_in r.lsn woken (are.each r.lsn itself)))
+  pub one_more_lands : (new : Chains) → ((k : ℕ) → waiters new.waits k ≡ (if any (λ n. n == k) woken then [] else waiters old.waits k)) → new.point ≡ scl (with_record r records) → AreChainsOf (with_record r records) new
+  one_more_lands new is point = record { kept = λ k m w. kept k m w; wait = λ k m i. wait k m i; point = point }
+    where
+      eq_of : (x k : ℕ) → (x == k) ≡ true → x ≡ k
+      eq_of x k h = grind (arith, nat_tests)
 
-    before : IsGreatest (IsGroundedNumber records) (scl records)
-    before = complete_point_is_greatest records (fewer_fall r records fall)
+      asleep : (k : ℕ) → any (λ n. n == k) woken ≡ false → (if any (λ n. n == k) woken then [] else waiters old.waits k) ≡ waiters old.waits k
+      asleep k e = rw e refl
 
-    one : (old.point < last) ⊎ (last ≤ old.point) → (max old.point last ≡ 0) ⊎ IsGroundedNumber all (max old.point last)
-    one (inl l) = let e : last ≡ max old.point last = omega arith in inr (subst (IsGroundedNumber all) e (woken_number r records near tell last (wakes last top)))
-    one (inr l) = let e : scl records ≡ max old.point last = (let f : old.point ≡ scl records = c.point in omega arith) in elim before.is_one [
-      | inl z ↦ inl (omega arith)
-      | inr p ↦ inr (subst (IsGroundedNumber all) e (keeps_number r records (scl records) p))
-    ]
+      awake : (k : ℕ) → any (λ n. n == k) woken ≡ true → (if any (λ n. n == k) woken then [] else waiters old.waits k) ≡ []
+      awake k e = rw e refl
 
-    each : (m : ℕ) → IsGroundedNumber records m ⊎ IsWoken (IsWaiting records) r.lsn m → m ≤ max old.point last
-    each m (inl g) = let l : m ≤ scl records = before.at_least_each m g in let f : old.point ≡ scl records = c.point in omega arith
-    each m (inr w) = let l : m ≤ get_or woken (length woken - 1) last = last_most woken last m are.growing (woke m w) in omega (arith, at, l)
+      kept : (k m : ℕ) → IsWaiting all k m → IsIn m (waiters new.waits k)
+      kept k m w = elim (cases_Bool (any (λ n. n == k) woken)) [
+        | inl e ↦ absurd (let (x, i, f) = any_passes (λ n. n == k) woken e in not_woken r records near tell k m w (wakes k (subst (λ n. IsIn n woken) (eq_of x k f) i)))
+        | inr e ↦ subst (IsIn m) (sym (is k ∙ asleep k e)) (c.kept k m (waited r records near tell k m w))
+      ]
 
-    greatest : IsGreatest (IsGroundedNumber all) (max old.point last)
-    greatest = record { is_one = one (cases_lt old.point last); at_least_each = λ m p. each m (reaches_number r records near tell m p) }
+      wait : (k m : ℕ) → IsIn m (waiters new.waits k) → IsWaiting all k m
+      wait k m i = elim (cases_Bool (any (λ n. n == k) woken)) [
+        | inl e ↦ absurd (subst (IsIn m) (is k ∙ awake k e) i)
+        | inr e ↦ waits_on r records near tell k m (c.wait k m (subst (IsIn m) (is k ∙ asleep k e) i)) (λ w. true≢false (sym (any_from (λ n. n == k) woken k (woke k w) (eq-eqb k k refl)) ∙ e))
+      ]

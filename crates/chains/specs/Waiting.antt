@@ -1,12 +1,16 @@
 -- Who waits for whom, in a set of records.
-use Rattle.std.specs.Prelude.{◌≡◌, ◌⊎◌, ℕ, List}
+use Rattle.std.specs.Prelude.{◌≡◌, ◌⊎◌, ◌||◌, ◌==◌, ℕ, Bool, List}
 use Rattle.volume_model.specs.Lists.{IsIn}
-use Rattle.volume_model.specs.Redo.{Redo}
+use Rattle.volume_model.specs.Redo.{Redo, grounded}
 use Rattle.volume_model.specs.Grounded.{IsGroundedNumber}
 
 -- the number is 0, which stands before every record, or that of a grounded record
 abbrev pub IsReached : List Redo → ℕ → Type 0
 IsReached records n = (n ≡ 0) ⊎ IsGroundedNumber records n
+
+-- so says the walk down from the number
+abbrev pub is_reached : List Redo → ℕ → Bool
+is_reached records n = n == 0 || grounded n records n
 
 -- some record has the second number, and before it in its group the first
 abbrev pub IsLink : List Redo → ℕ → ℕ → Type 0

@@ -75,13 +75,21 @@ impl Chains {
         self.waits.woken(alloc, number)
     }
 
+    /// The complete point with a record from which a chain leads down to 0, and which wakes these.
+    pub fn point_with(&self, woken: &[u64]) -> u64
+        ensures { (r : Redo) (records : List Redo) → IsReached records r.prev_group → GroupLinksFall (with_record r records) → AreWoken (WaitsIn self.now.waits) r.lsn woken.now → AreChainsOf records self.now → result ≡ scl (with_record r records) }
+    {
+        match woken.last() {
+            Some(last) => self.point.max(*last),
+            None => self.point,
+        }
+    }
+
     /// Takes up a record from which a chain leads down to 0, and wakes what waited for it.
     pub fn land(&mut self, woken: &[u64])
         ensures { (r : Redo) (records : List Redo) → IsReached records r.prev_group → GroupLinksFall (with_record r records) → AreWoken (WaitsIn self.old.waits) r.lsn woken.now → AreChainsOf records self.old → AreChainsOf (with_record r records) self.new }
     {
+        self.point = self.point_with(woken);
         self.waits.wake(woken);
-        if let Some(last) = woken.last() {
-            self.point = self.point.max(*last);
-        }
     }
 }

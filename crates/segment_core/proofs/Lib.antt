@@ -1,9 +1,8 @@
-pub mod Complete
-pub mod Settled
-pub mod AtEnd
-pub mod Edits
-pub mod Taking
+pub mod Rises
+pub mod Numbered
 pub mod Sets
-pub mod Offering
+pub mod BlockLists
+pub mod Reaching
+pub mod Taking
 pub mod Hydrating
 pub mod Ready

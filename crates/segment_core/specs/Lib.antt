@@ -1,4 +1,6 @@
-pub mod Held
+pub mod Ordered
+pub mod Blocks
+pub mod Link
 pub mod Records
 pub mod Prepared
 pub mod Segment

@@ -1,16 +1,23 @@
-use Rattle.std.specs.Prelude.{ℕ, ◌<◌, List, length, vec_capacity}
+-- The records that a segment holds.
+use Rattle.std.specs.Prelude.{◌≡◌, List}
 use Rattle.volume_model.specs.Redo.{Redo}
+use Rattle.redo_record.specs.Packet.{packet_redo}
+use Rattle.redo_record.specs.Places.{IsPlaceFor}
+use Rattle.segment_core.specs.declared.entrant.Entrant.{Entrant}
 use Rattle.segment_core.specs.declared.records.Records.{Records}
-use Rattle.segment_core.specs.Held.{redos_of}
+use Rattle.segment_core.specs.Ordered.{redos_in, HasRoomInside}
+use Rattle.segment_core.specs.Blocks.{HasRoomAt}
+use Rattle.segment_core.specs.Link.{CanTie, IsLinkOf}
 
 -- the records held, in their order
 abbrev pub records_of : Records → List Redo
-records_of records = redos_of records.held.items
+records_of records = redos_in records.ordered
 
--- for how many records there is room
-abbrev pub room_of : Records → ℕ
-room_of records = vec_capacity records.held
-
--- there is room for one more
-abbrev pub HasRoom : Records → Type 0
-HasRoom records = length (records_of records) < room_of records
+-- The record is none of these, its place and its link are right, and there is room for it everywhere.
+pub record CanEnter (records : Records) (entrant : Entrant) : Type 0 where
+  pub place : IsPlaceFor (records_of records) (packet_redo entrant.packet) entrant.place
+  pub room : HasRoomInside records.ordered
+  pub same : packet_redo entrant.of_block ≡ packet_redo entrant.packet
+  pub room_of_block : HasRoomAt (packet_redo entrant.packet).block records.blocks
+  pub room_of_chains : CanTie entrant.link records.chains (packet_redo entrant.packet)
+  pub link : IsLinkOf (records_of records) records.chains (packet_redo entrant.packet) entrant.link

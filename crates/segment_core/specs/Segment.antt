@@ -21,9 +21,8 @@ use Rattle.segment_core.specs.declared.prepared.Effect.{Effect}
 use Rattle.segment_core.specs.declared.prepared.Effect.TheVariants.{Enter, Keep}
 use Rattle.segment_core.specs.declared.prepared.Prepared.{Prepared}
 use Rattle.segment_core.specs.declared.segment.Segment.{Segment}
-use Rattle.redo_record.specs.Places.{IsPlaceFor}
 use Rattle.segment_core.specs.Prepared.{step_of}
-use Rattle.segment_core.specs.Records.{records_of, HasRoom}
+use Rattle.segment_core.specs.Records.{records_of, CanEnter}
 
 -- the node of the model that a segment is
 abbrev pub node_of : Segment → Node
@@ -86,9 +85,9 @@ reaction_of s message = reaction (segment_plan s) (segment_group s) (segment_mem
 abbrev pub hydration_of : Segment → NodeAnswer
 hydration_of s = hydrated (segment_plan s) (segment_group s) (segment_member s) (node_of s)
 
--- there is room for what enters, in its place, and what is to be kept can be kept
+-- what is to enter can enter, and what is to be kept can be kept
 abbrev pub CanTake : Segment → Effect → Type 0
-CanTake s (Enter entrant) = HasRoom s.records × IsPlaceFor (records_of s.records) (packet_redo entrant.packet) entrant.place
+CanTake s (Enter entrant) = CanEnter s.records entrant
 CanTake s (Keep copied) = CanKeep s.copies copied
 CanTake s effect = Unit {0}
 

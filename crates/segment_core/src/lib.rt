@@ -1,7 +1,9 @@
 //! A segment of a protection group: the records that it holds, and what it answers.
 #![tactic(auto)]
 
-mod held;
+mod blocks;
+mod entrant;
+mod ordered;
 mod prepared;
 mod records;
 mod segment;

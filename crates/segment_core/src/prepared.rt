@@ -1,17 +1,10 @@
 //! Steps that a segment is ready to take.
 
+use crate::entrant::Entrant;
 use crate::records::Records;
 use hydration::Copied;
 use lineage::Lineage;
-use redo_record::Packet;
 use wire::{Message, Place};
-
-/// A record that a segment is ready to take, and where it will stand.
-#[derive(Drop)]
-pub struct Entrant {
-    pub place: usize,
-    pub packet: Packet,
-}
 
 /// What a step changes of a segment.
 #[derive(Drop)]

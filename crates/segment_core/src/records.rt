@@ -1,150 +1,200 @@
 //! The records that a segment holds.
 
-ghost use Rattle.segment_core.specs.Held.{AreSettled};
+ghost use Rattle.std.proofs.Props.{props};
+ghost use Rattle.chains.specs.Chains.{AreChainsOf};
+ghost use Rattle.segment_core.specs.Ordered.{redos_in};
+ghost use Rattle.segment_core.specs.Blocks.{AreBlocksOf};
 
-use crate::held::{Held, complete_point, complete_point_with, count_before, settle, unsettled};
-use pages::{BLOCK, write_packet};
+use crate::blocks::Blocks;
+use crate::entrant::{Entrant, Link};
+use crate::ordered::Ordered;
+use chains::Chains;
+use pages::{BLOCK, page_of};
 use redo_record::{Packet, RecordSet};
 use std::alloc::{AllocError, Global};
 
-/// The records that a segment holds, each once, in the order of their bytes.
+/// The records that a segment holds, each once, in the order of their bytes, how far they hang together, and which are of
+/// which block.
 #[derive(Drop)]
 pub struct Records {
-    held: Vec<Held>,
-    ghost settled: { AreSettled held.items },
+    ordered: Ordered,
+    chains: Chains,
+    blocks: Blocks,
+    ghost chained: { ∥ AreChainsOf (redos_in ordered) chains ∥₁ },
+    ghost parted: { ∥ AreBlocksOf (redos_in ordered) blocks ∥₁ },
 }
 
 impl Records {
-    ghost use Rattle.std.specs.Prelude.{◌≡◌, ◌<◌, [], length, IfOk, OnOk, MatchOption, option_map};
-    ghost use Rattle.std.specs.List.{remove};
+    ghost use Rattle.std.specs.Prelude.{◌≡◌, [], length, IfOk, OnOk, MatchOption, option_map};
     ghost use Rattle.volume_model.specs.Redo.{record_at, scl, with_record};
     ghost use Rattle.volume_model.specs.Node.{page_of};
     ghost use Rattle.redo_record.specs.Packet.{packet_redo};
+    ghost use Rattle.redo_record.specs.Order.{ComesAfter};
     ghost use Rattle.redo_record.specs.Places.{IsHeldIn, IsPlaceFor};
     ghost use Rattle.redo_record.specs.RecordSet as sets;
-    ghost use Rattle.segment_core.specs.Records.{records_of, room_of, HasRoom};
+    ghost use Rattle.chains.specs.Waiting.{is_reached};
+    ghost use Rattle.segment_core.specs.Link.{CanTie, IsLinkOf};
+    ghost use Rattle.segment_core.specs.Records.{records_of, CanEnter};
 
     /// No record.
     pub fn new(alloc: Global) -> Records
         ensures { records_of result ≡ [] }
     {
         Records {
-            held: Vec::new(alloc),
+            ordered: Ordered::new(alloc),
+            chains: Chains::new(alloc),
+            blocks: Blocks::new(alloc),
         }
     }
 
-    /// The records of a set.
+    /// The records of a set. Fails for want of memory alone.
     pub fn from_set(alloc: Global, set: &RecordSet) -> Result<Records, AllocError>
         ensures { IfOk result (λ records. records_of records ≡ sets.records_of set.now) }
     {
-        let mut held = unsettled(alloc, set.as_slice())?;
-        settle(&mut held, 0);
-        Ok(Records { held })
+        let mut records = Records::new(alloc);
+        for packet in set.as_slice() {
+            records.push(alloc, packet)?;
+        }
+        Ok(records)
     }
 
-    /// The set of the records.
+    /// The set of the records. Fails for want of memory alone.
     pub fn to_set(&self, alloc: Global) -> Result<RecordSet, AllocError>
         ensures { IfOk result (λ set. sets.records_of set ≡ records_of self.now) }
     {
-        let mut set = RecordSet::new(alloc);
-        for held in &self.held {
-            set.push(held.packet.clone()?)?;
-        }
-        Ok(set)
+        self.ordered.to_set(alloc)
     }
 
-    /// The bytes of a block, made from the records up to the point.
+    /// The bytes of a block, made from its records up to the point.
     pub fn page(&self, block: u32, point: u64) -> [u8; BLOCK]
         ensures { result ≡ page_of (records_of self.now) block point }
     {
-        let mut page = [0; BLOCK];
-        for held in &self.held {
-            write_packet(&mut page, &held.packet, block, point);
-        }
-        page
+        page_of(self.blocks.of(block), block, point)
     }
 
     /// The record with this number, of several the first in the order of their bytes.
     pub fn record_at(&self, lsn: u64) -> Option<&Packet>
         ensures { option_map (λ packet. packet_redo packet.now) result ≡ record_at (records_of self.now) lsn }
     {
-        let held = self.held.iter().find(|held| held.packet.lsn() == lsn)?;
-        Some(&held.packet)
+        self.ordered.first_of(lsn)
     }
 
     /// How many records are held.
     pub fn len(&self) -> usize
         ensures { result ≡ length (records_of self.now) }
     {
-        self.held.len()
+        self.ordered.len()
     }
 
     /// The greatest number up to which all records of the group are held.
     pub fn complete_point(&self) -> u64
         ensures { result ≡ scl (records_of self.now) }
     {
-        complete_point(&self.held)
+        self.chains.point()
     }
 
     /// Where the record would stand, `None` where it is held already.
     pub fn place_for(&self, packet: &Packet) -> Option<usize>
         ensures { MatchOption result (IsHeldIn (records_of self.now) (packet_redo packet.now)) (λ place. IsPlaceFor (records_of self.now) (packet_redo packet.now) place) }
     {
-        let place = count_before(&self.held, packet);
-        if place == self.held.len() {
-            return Some(place);
+        self.ordered.place_for(packet)
+    }
+
+    /// Whether a chain of the records leads from this number down to 0.
+    fn is_reached(&self, number: u64) -> bool
+        ensures { result ≡ is_reached (records_of self.now) number }
+    {
+        if number == 0 || number == self.chains.point() {
+            return true;
         }
-        if packet.is_same(&self.held[place].packet) {
-            None
+        for packet in self.ordered.of_number(number) {
+            if !self.chains.is_waited_for(packet.prev_group()) {
+                return true;
+            }
+        }
+        false
+    }
+
+    /// What the record would do to the chains; where it would wait there is room for it.
+    fn link(&mut self, alloc: Global, packet: &Packet) -> Result<Link, AllocError>
+        ensures link { IfOk result (λ link. IsLinkOf (records_of self.new) self.new.chains (packet_redo packet.now) link) }
+        ensures room { IfOk result (λ link. CanTie link self.new.chains (packet_redo packet.now)) }
+        ensures ordered { self.new.ordered ≡ self.old.ordered }
+        ensures blocks { self.new.blocks ≡ self.old.blocks }
+    {
+        let (before, number) = (packet.prev_group(), packet.lsn());
+        if !self.is_reached(before) {
+            self.chains.make_room(alloc, before)?;
+            return Ok(Link::Waits);
+        }
+        if self.chains.is_waited_for(number) {
+            Ok(Link::Wakes(self.chains.woken(alloc, number)?))
         } else {
-            Some(place)
+            Ok(Link::Ends)
         }
     }
 
-    /// Makes room for one more record.
-    pub fn make_room(&mut self) -> Result<(), AllocError>
-        ensures room { OnOk result (HasRoom self.new) }
+    /// Makes ready to take a record into its place: makes every growth, and changes none of the records.
+    ///
+    /// # Errors
+    /// Where a growth was refused.
+    pub fn prepare(
+        &mut self,
+        alloc: Global,
+        place: usize,
+        packet: &Packet,
+    ) -> Result<Entrant, AllocError>
+        requires { IsPlaceFor (records_of self.old) (packet_redo packet.now) place }
+        ensures ready { IfOk result (λ entrant. CanEnter self.new entrant) }
+        ensures packet { IfOk result (λ entrant. packet_redo entrant.packet ≡ packet_redo packet.now) }
         ensures same { records_of self.new ≡ records_of self.old }
     {
-        self.held.reserve(1)
+        self.ordered.make_room()?;
+        self.blocks.make_room(alloc, packet.record().block)?;
+        let link = self.link(alloc, packet)?;
+        Ok(Entrant {
+            place,
+            packet: packet.clone()?,
+            of_block: packet.clone()?,
+            link,
+        })
     }
 
-    /// Takes a record into its place.
-    pub fn insert(&mut self, place: usize, packet: Packet)
-        requires room { HasRoom self.old }
-        requires place { IsPlaceFor (records_of self.old) (packet_redo packet) place }
-        ensures taken { records_of self.new ≡ with_record (packet_redo packet) (records_of self.old) }
-        ensures room { room_of self.new ≡ room_of self.old }
+    /// The complete point with a record that is made ready to enter.
+    pub fn point_with(&self, entrant: &Entrant) -> u64
+        requires { CanEnter self.now entrant.now }
+        ensures { result ≡ scl (with_record (packet_redo entrant.now.packet) (records_of self.now)) }
     {
-        let held = Held { packet, reached: 0 };
-        self.held.insert(place, held).unwrap();
-        settle(&mut self.held, place);
+        entrant.link.point(&self.chains, &entrant.packet)
     }
 
-    /// Drops the record at this place.
-    fn remove(&mut self, place: usize)
-        requires { place < length (records_of self.old) }
-        ensures dropped { records_of self.new ≡ remove (records_of self.old) place }
-        ensures room { room_of self.new ≡ room_of self.old }
+    /// Takes a record that is made ready to enter. Takes no memory.
+    pub fn enter(&mut self, entrant: Entrant)
+        requires { CanEnter self.old entrant }
+        ensures { records_of self.new ≡ with_record (packet_redo entrant.packet) (records_of self.old) }
     {
-        self.held.remove(place);
-        settle(&mut self.held, place);
+        let Entrant {
+            place,
+            packet,
+            of_block,
+            link,
+        } = entrant;
+        link.tie(&mut self.chains, &packet);
+        self.blocks.add(of_block);
+        self.ordered.insert(place, packet);
     }
 
-    /// The complete point that the record would bring about. Fails for want of memory alone.
-    pub fn complete_point_with(&mut self, place: usize, packet: &Packet) -> Result<u64, AllocError>
-        requires room { HasRoom self.old }
-        requires place { IsPlaceFor (records_of self.old) (packet_redo packet.now) place }
-        ensures point { IfOk result (λ point. point ≡ scl (with_record (packet_redo packet.now) (records_of self.old))) }
-        ensures same { records_of self.new ≡ records_of self.old }
-        ensures room { HasRoom self.new }
+    /// Takes a record that comes after all others.
+    ///
+    /// # Errors
+    /// Where a growth was refused.
+    fn push(&mut self, alloc: Global, packet: &Packet) -> Result<(), AllocError>
+        requires { ComesAfter (records_of self.old) (packet_redo packet.now) }
+        ensures { OnOk result (records_of self.new ≡ with_record (packet_redo packet.now) (records_of self.old)) }
     {
-        if place == self.held.len() {
-            return Ok(complete_point_with(&self.held, packet));
-        }
-        self.insert(place, packet.clone()?);
-        let point = self.complete_point();
-        self.remove(place);
-        Ok(point)
+        let place = self.len();
+        let entrant = self.prepare(alloc, place, packet)?;
+        self.enter(entrant);
+        Ok(())
     }
 }

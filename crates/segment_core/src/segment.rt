@@ -1,6 +1,6 @@
 //! A segment of a protection group, on one node.
 
-use crate::prepared::{Effect, Entrant, Prepared};
+use crate::prepared::{Effect, Prepared};
 use crate::records::Records;
 use hydration::{Hydration, State};
 use lineage::Lineage;
@@ -240,12 +240,8 @@ impl Segment {
         if self.records.len() >= MOST_RECORDS {
             return Err(Fault::Full);
         }
-        self.records.make_room()?;
-        let scl = self.records.complete_point_with(place, packet)?;
-        let entrant = Entrant {
-            place,
-            packet: packet.clone()?,
-        };
+        let entrant = self.records.prepare(alloc, place, packet)?;
+        let scl = self.records.point_with(&entrant);
         Ok(self.acknowledged(alloc, label, scl, Effect::Enter(entrant))?)
     }
 
@@ -550,7 +546,7 @@ impl Segment {
     {
         match effect {
             Effect::Nothing => {}
-            Effect::Enter(entrant) => self.records.insert(entrant.place, entrant.packet),
+            Effect::Enter(entrant) => self.records.enter(entrant),
             Effect::Promise(volume) => self.volume = volume,
             Effect::Move(place) => {
                 self.configuration = place.configuration;

@@ -1,18 +1,6 @@
-use Rattle.std.proofs.Common.{rules, ◌≡◌, ℕ, List, [], ◌∷◌, length, arith}
-use Rattle.volume_model.specs.Lists.{IsIn}
-use Rattle.chains.specs.Waiting.IsWoken.{itself}
 use Rattle.chains.proofs.Chained.{one_more_lands}
 use Rattle.chains.proofs.chains.Chains.land.Goals as goal
 
-pub returns-in-Some : goal.returns-in-Some
-returns-in-Some c r records near fall are chains =
-    one_more_lands r records c.args.woken.now c.args.self.now (record { waits = c.wake.new.self; point = c.max-self.result }) c.in-Some.last.now near fall are c.wake.ensures (search rules) (search rules) chains
-
-none_in : (n : ℕ) (xs : List ℕ) → length xs ≡ 0 → IsIn n xs → ⊥
-none_in n [] e i = i
-none_in n (x ∷ xs) e i = omega arith
-
-pub returns-in_default : goal.returns-in_default
-returns-in_default c r records near fall are chains =
-    let e : length c.args.woken.now ≡ 0 = search rules in
-    absurd (none_in r.lsn c.args.woken.now e (are.each r.lsn itself))
+pub returns : goal.returns
+returns c r records near fall are chains =
+    one_more_lands r records c.args.woken.now c.args.self.now near fall are chains (record { waits = c.wake.new.self; point = c.point_with-self.result }) c.wake.ensures (c.point_with-self.ensures r records near fall are chains)

@@ -1,17 +1,25 @@
-use Rattle.std.proofs.Common.{◌≡◌, ◌∙◌, length, ap, sym, subst, arith}
-use Rattle.std.proofs.lemmas.List.{with_items_is}
-use Rattle.redo_record.specs.Order.{IsInOrder}
-use Rattle.redo_record.specs.RecordSet as sets
-use Rattle.segment_core.specs.Held.{redos_of}
+use Rattle.std.proofs.Common.{◌∙◌, ap, sym, subst, List, [], ◌∷◌, ◌++◌, map}
+use Rattle.volume_model.specs.Redo.{Redo}
+use Rattle.redo_record.specs.declared.packet.Packet.{Packet}
+use Rattle.redo_record.specs.Order.{IsInOrder, ComesAfter}
+use Rattle.redo_record.specs.Packet.{packet_redo}
+use Rattle.redo_record.proofs.Places.{with_record-after}
+use Rattle.segment_core.specs.Records.{records_of}
+use Rattle.segment_core.proofs.Sets.{after-earlier, taken-more}
 use Rattle.segment_core.proofs.records.Records.from_set.Goals as goal
 
-pub settle-requires-clause-in_order : goal.settle-requires-clause-in_order
-settle-requires-clause-in_order c =
-    let e : redos_of c.deref_mut.result.now ≡ sets.records_of c.args.set.now = ap redos_of c.deref_mut.ensures.value ∙ c.in_ok-held.ensures ∙ c.as_slice.ensures.records in
-    subst IsInOrder (sym e) c.as_slice.ensures.in_order
+pub push-requires : goal.push-requires
+push-requires c =
+    let order : IsInOrder (map packet_redo c.as_slice-packet-items.result.now) = subst IsInOrder (sym c.as_slice-packet-items.ensures.records) c.as_slice-packet-items.ensures.in_order in
+    subst (λ (rs : List Redo). ComesAfter rs (packet_redo c.packet-item.result)) (sym c.loop-packet.invariant) (after-earlier c.as_slice-packet-items.result.now c.loop-packet.packet-index c.packet-item.result c.loop-packet-test.true c.packet-item.is order)
 
-pub returns : goal.returns
-returns c =
-    let e : redos_of c.deref_mut.result.now ≡ sets.records_of c.args.set.now = ap redos_of c.deref_mut.ensures.value ∙ c.in_ok-held.ensures ∙ c.as_slice.ensures.records in
-    let long : length c.settle.new.held ≡ c.in_ok-held.held.len = omega arith in
-    ap redos_of (with_items_is c.in_ok-held.held c.settle.new.held long) ∙ c.settle.ensures.same ∙ e
+pub loop-packet-preserved : goal.loop-packet-preserved
+loop-packet-preserved c =
+    let items : List Packet = c.as_slice-packet-items.result.now in
+    let r : Redo = packet_redo c.packet-item.result in
+    let order : IsInOrder (map packet_redo items) = subst IsInOrder (sym c.as_slice-packet-items.ensures.records) c.as_slice-packet-items.ensures.in_order in
+    let last : ComesAfter (records_of c.loop-packet.records) r = subst (λ (rs : List Redo). ComesAfter rs r) (sym c.loop-packet.invariant) (after-earlier items c.loop-packet.packet-index c.packet-item.result c.loop-packet-test.true c.packet-item.is order) in
+    c.in_ok-push.ensures
+    ∙ with_record-after r (records_of c.loop-packet.records) last
+    ∙ ap (λ rs. rs ++ r ∷ []) c.loop-packet.invariant
+    ∙ sym (taken-more items c.loop-packet.packet-index c.packet-item.result c.loop-packet-test.true c.packet-item.is)

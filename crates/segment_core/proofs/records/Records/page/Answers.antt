@@ -1,17 +1,16 @@
-use Rattle.std.proofs.Common.{◌∙◌, List, ap, sym}
-use Rattle.std.proofs.lemmas.List.{at_drop_all}
-use Rattle.volume_model.specs.Node.{page_from, page_of}
-use Rattle.segment_core.specs.declared.held.Held.{Held}
-use Rattle.segment_core.specs.Held.{redo_held, redos_of}
-use Rattle.pages.proofs.Applied.{page_on}
+use Rattle.std.proofs.Common.{ap, ◌∙◌}
+use Rattle.std.proofs.Math.Logic.{∥∥₁_elim}
+use Rattle.std.proofs.Props.{props}
+use Rattle.volume_model.specs.Node.{page_of}
+use Rattle.segment_core.specs.Records.{records_of}
+use Rattle.segment_core.proofs.BlockLists.{packets-of_block, page_of-of_block}
 use Rattle.segment_core.proofs.records.Records.page.Goals as goal
 
-pub loop-held-preserved : goal.loop-held-preserved
-loop-held-preserved c =
-    rw c.write_packet.ensures (page_on redo_held c.loop-held.page c.args.block c.args.point c.deref-held-items.result.now c.loop-held.held-index c.held-item.result c.loop-held-test.true c.held-item.is ∙ c.loop-held.invariant)
+pub page_of-requires : goal.page_of-requires
+page_of-requires c = ∥∥₁_elim c.args.self.now.parted (hlevel props) (λ are. packets-of_block c.of.result.now c.args.block (records_of c.args.self.now) (c.of.ensures ∙ are c.args.block))
 
 pub returns : goal.returns
 returns c =
-    sym (at_drop_all (λ (held : List Held). page_from c.loop-held.page c.args.block c.args.point (redos_of held)) c.deref-held-items.result.now c.loop-held.held-index c.loop-held-test.false)
-    ∙ c.loop-held.invariant
-    ∙ ap (λ (held : List Held). page_of (redos_of held) c.args.block c.args.point) c.deref-held-items.ensures.value
+    c.page_of.ensures
+    ∙ ap (λ rs. page_of rs c.args.block c.args.point) c.of.ensures
+    ∙ ∥∥₁_elim c.args.self.now.parted (hlevel props) (λ are. ap (λ rs. page_of rs c.args.block c.args.point) (are c.args.block) ∙ page_of-of_block c.args.block c.args.point (records_of c.args.self.now))

@@ -8,6 +8,7 @@ use Rattle.redo_record.specs.Packet.{packet_redo}
 use Rattle.wire.specs.Message.{label_of}
 use Rattle.redo_record.specs.Places.{IsHeldIn, IsPlaceFor}
 use Rattle.segment_core.specs.Prepared.{effected}
+use Rattle.segment_core.specs.Records.{records_of}
 use Rattle.segment_core.specs.Segment.{node_of}
 use Rattle.segment_core.proofs.Taking.{not_installed, takes, wants}
 use Rattle.segment_core.proofs.segment.Segment.prepare_record.Goals as goal
@@ -39,10 +40,11 @@ returns-clause-step c =
     let told : lineage_epoch node ≡ c.args.label.volume = omega arith in
     let few : length node.contents.records < most_records = omega arith in
     let fits : (not (holds_record r node.contents.records) && nat_le most_records (length node.contents.records)) ≡ false = ap (λ b. not b && nat_le most_records (length node.contents.records)) place.new ∙ lt-leb most_records (length node.contents.records) few in
-    let point : c.in_ok-scl.scl ≡ scl (with_record r node.contents.records) = c.in_ok-scl.ensures.point ∙ ap (λ rs. scl (with_record r rs)) c.in_ok-make_room.ensures.same in
+    let entered : packet_redo c.in_ok-entrant.entrant.packet ≡ r = c.in_ok-entrant.ensures.packet in
+    let point : c.point_with-scl.result ≡ scl (with_record r node.contents.records) = c.point_with-scl.ensures ∙ ap (λ (s : Redo). scl (with_record s (records_of c.prepare.new.self))) entered ∙ ap (λ rs. scl (with_record r rs)) c.in_ok-entrant.ensures.same in
     takes c.args.self.now.group c.args.self.now.member node (label_of c.args.label) r c.in_ok-check_label.ensures.checks told fits c.in_ok-acknowledged-2.field-0
     (c.in_ok-acknowledged-2.ensures.made ∙ ap (λ n. model.Message.Ack c.args.self.now.group (label_of c.args.label) c.args.self.now.member n ∷ []) point)
-    (ap (λ e. effected e node) c.in_ok-acknowledged-2.ensures.effect ∙ ap (λ (s : Redo). record node { contents = record { lineage = node.contents.lineage; records = with_record s node.contents.records } }) c.in_ok-clone.ensures.cases)
+    (ap (λ e. effected e node) c.in_ok-acknowledged-2.ensures.effect ∙ ap (λ (s : Redo). record node { contents = record { lineage = node.contents.lineage; records = with_record s node.contents.records } }) entered)
 
 pub returns-in_err-acknowledged-2-clause-step : goal.returns-in_err-acknowledged-2-clause-step
 returns-in_err-acknowledged-2-clause-step c =

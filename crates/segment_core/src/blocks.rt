@@ -1,0 +1,67 @@
+//! The packets of each block.
+
+use crate::ordered::Ordered;
+use redo_record::Packet;
+use std::alloc::{AllocError, Global};
+use std::collections::BTreeMap;
+
+/// Under each block the packets of its records, in order.
+#[derive(Drop)]
+pub struct Blocks {
+    lists: BTreeMap<u32, Ordered>,
+}
+
+impl Blocks {
+    ghost use Rattle.std.specs.Prelude.{◌≡◌, ◌==◌, ℕ, [], map, if◌then◌else◌, OnOk};
+    ghost use Rattle.volume_model.specs.Redo.{with_record};
+    ghost use Rattle.redo_record.specs.Packet.{packet_redo};
+    ghost use Rattle.segment_core.specs.Blocks.{block_records, HasRoomAt};
+
+    /// No packet.
+    pub fn new(alloc: Global) -> Blocks
+        ensures { (b : ℕ) → block_records result b ≡ [] }
+    {
+        Blocks {
+            lists: BTreeMap::new(alloc),
+        }
+    }
+
+    /// The packets of a block, in their order.
+    pub fn of(&self, block: u32) -> &[Packet]
+        ensures { map packet_redo result.now ≡ block_records self.now block }
+    {
+        match self.lists.get(&block) {
+            Some(list) => list.as_slice(),
+            None => &[],
+        }
+    }
+
+    /// Makes room for one more packet of a block.
+    ///
+    /// # Errors
+    /// Where a growth was refused; then no packet has changed.
+    pub fn make_room(&mut self, alloc: Global, block: u32) -> Result<(), AllocError>
+        ensures same { (b : ℕ) → block_records self.new b ≡ block_records self.old b }
+        ensures room { OnOk result (HasRoomAt block self.new) }
+    {
+        match self.lists.get_mut(&block) {
+            Some(list) => list.make_room(),
+            None => {
+                let mut list = Ordered::new(alloc);
+                list.make_room()?;
+                self.lists.insert(block, list)?;
+                Ok(())
+            }
+        }
+    }
+
+    /// Takes a packet into its block.
+    pub fn add(&mut self, packet: Packet)
+        requires { HasRoomAt (packet_redo packet).block self.old }
+        ensures { (b : ℕ) → block_records self.new b ≡ (if b == (packet_redo packet).block then with_record (packet_redo packet) (block_records self.old b) else block_records self.old b) }
+    {
+        if let Some(list) = self.lists.get_mut(&packet.record().block) {
+            list.add(packet);
+        }
+    }
+}
