@@ -1,0 +1,43 @@
+use Rattle.std.proofs.Common.{rules, ◌≡◌, ◌∙◌, ◌++◌, [], ◌∷◌, List, length, map, ap, sym, subst, arith}
+use Rattle.std.proofs.lemmas.List.{append-nil, append_assoc, map-append, nil_from_length}
+use Rattle.volume_model.specs.Redo.{Redo}
+use Rattle.redo_record.specs.declared.packet.Packet.{Packet}
+use Rattle.redo_record.specs.Order.{IsInOrder}
+use Rattle.redo_record.specs.Packet.{packet_redo}
+use Rattle.redo_record.specs.RecordSet as sets
+use Rattle.runs.specs.Joined.{joined}
+use Rattle.runs.specs.Run.{runs_in}
+use Rattle.runs.proofs.Edits.{joined-push}
+use Rattle.runs.proofs.runs.Runs.from_set.Goals as goal
+
+-- all records are in runs once none is left
+all-there : (records : List Redo) (rest : List Packet) (all : List Redo) → length rest ≡ 0 → records ++ map packet_redo rest ≡ all → records ≡ all
+all-there records rest all none is = sym (append-nil records) ∙ ap (λ more. records ++ map packet_redo more) (sym (nil_from_length rest none)) ∙ is
+
+pub loop-rest-init : goal.loop-rest-init
+loop-rest-init c = ap (λ runs. joined (runs_in runs) ++ map packet_redo c.as_slice-rest.result.now) c.new-runs.ensures.items ∙ c.as_slice-rest.ensures.records
+
+pub loop-rest-preserved : goal.loop-rest-preserved
+loop-rest-preserved c =
+    let old : List Redo = joined (runs_in c.loop-rest.runs.items) in
+    let part : List Packet = c.split_at.result.0.now in
+    let later : List Packet = c.split_at.result.1.now in
+    ap (λ runs. joined (runs_in runs) ++ map packet_redo later) c.in_ok-push.ensures.items
+    ∙ ap (λ records. records ++ map packet_redo later) (joined-push c.loop-rest.runs.items c.in_ok-of.field-0 ∙ ap (λ records. old ++ records) c.in_ok-of.ensures)
+    ∙ append_assoc old (map packet_redo part) (map packet_redo later)
+    ∙ ap (λ records. old ++ records) (sym (map-append packet_redo part later) ∙ ap (map packet_redo) (sym c.split_at.ensures.by_index.0))
+    ∙ c.loop-rest.invariant
+
+pub invariant_of-result : goal.invariant_of-result
+invariant_of-result c =
+    let none : length c.loop-rest.rest.now ≡ 0 = search rules in
+    let all : joined (runs_in c.loop-rest.runs.items) ≡ sets.records_of c.args.set.now = all-there (joined (runs_in c.loop-rest.runs.items)) c.loop-rest.rest.now (sets.records_of c.args.set.now) none c.loop-rest.invariant in
+    record {
+      in_order = subst IsInOrder (sym all) c.as_slice-rest.ensures.in_order;
+      counted = c.len.ensures ∙ ap length (sym all);
+    }
+
+pub returns : goal.returns
+returns c =
+    let none : length c.loop-rest.rest.now ≡ 0 = search rules in
+    all-there (joined (runs_in c.loop-rest.runs.items)) c.loop-rest.rest.now (sets.records_of c.args.set.now) none c.loop-rest.invariant

@@ -1,0 +1,5 @@
+pub mod Joined
+pub mod Parting
+pub mod Places
+pub mod Run
+pub mod Runs
