@@ -1,11 +1,10 @@
 -- A set of records in runs.
 use Rattle.std.specs.Prelude.{◌≡◌, ◌+◌, ◌<◌, ◌^◌, false, List, length, IsSome, vec_capacity}
 use Rattle.volume_model.specs.Redo.{Redo}
-use Rattle.redo_record.specs.Places.{IsPlaceFor}
 use Rattle.runs.specs.declared.place.Place.{Place}
 use Rattle.runs.specs.declared.runs.Runs.{Runs}
 use Rattle.runs.specs.Joined.{joined}
-use Rattle.runs.specs.Places.{index_of, IsPlaceIn, is_open}
+use Rattle.runs.specs.Places.{is_open}
 use Rattle.runs.specs.Run.{runs_in}
 
 -- the runs, each as its records
@@ -15,11 +14,6 @@ runs_of runs = runs_in runs.runs.items
 -- the records of a set, in their order
 abbrev pub records_of : Runs → List Redo
 records_of runs = joined (runs_of runs)
-
--- The record is none of these, and would stand in this place.
-pub record IsPlaceOf (runs : Runs) (r : Redo) (place : Place) : Type 0 where
-  pub within : IsPlaceIn (runs_of runs) place
-  pub stands : IsPlaceFor (records_of runs) r (index_of (runs_of runs) place)
 
 -- There is memory for one more run.
 pub record HasSpare (runs : Runs) : Type 0 where

@@ -1,4 +1,4 @@
-use Rattle.std.proofs.Common.{◌≡◌, List, ◌++◌, Vec, Result, Ok, Err, ap, sym, subst}
+use Rattle.std.proofs.Common.{List, ◌++◌, Vec, Result, Ok, Err, ap, sym, subst}
 use Rattle.std.specs.Result.{OnOk, OnErr}
 use Rattle.std.specs.List.{AppendsClones}
 use Rattle.std.specs.Vec.{VecUnchanged}
@@ -18,7 +18,7 @@ pub invariant_of-self : goal.invariant_of-self
 invariant_of-self c = record {
   in_order =
       in_order_either c.args.self.now.packets c.extend_from_slice.new.self c.args.packets.now c.extend_from_slice.result c.extend_from_slice.ensures.items
-          c.extend_from_slice.ensures.err c.requires c.args.self.now.in_order;
+      c.extend_from_slice.ensures.err c.requires c.args.self.now.in_order;
 }
 
 pub returns-clause-ok : goal.returns-clause-ok

@@ -1,4 +1,4 @@
-use Rattle.std.proofs.Common.{◌∙◌, ◌++◌, map, ap}
+use Rattle.std.proofs.Common.{◌∙◌, ◌++◌, ap}
 use Rattle.redo_record.proofs.Copied.{redos, redos-appended}
 use Rattle.runs.proofs.run.Run.of.Goals as goal
 

@@ -1,5 +1,4 @@
 use Rattle.std.proofs.Common.{◌≡◌, ◌∙◌, ◌++◌, List, map, take, ap, sym, subst}
-use Rattle.volume_model.specs.Redo.{Redo}
 use Rattle.redo_record.specs.Order.{IsInOrder}
 use Rattle.redo_record.specs.Packet.{packet_redo}
 use Rattle.redo_record.specs.RecordSet as sets

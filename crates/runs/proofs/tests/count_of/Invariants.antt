@@ -1,0 +1,10 @@
+use Rattle.std.proofs.Common.{◌-◌, length}
+use Rattle.runs.specs.Places.{index_of, IsPlaceIn}
+use Rattle.runs.specs.Runs.{runs_of, records_of}
+use Rattle.runs.proofs.tests.count_of.Given as goal
+
+abbrev pub invariant-loop-packet : goal.invariant-loop-packet
+invariant-loop-packet l = IsPlaceIn (runs_of l.runs) l.place
+
+abbrev pub decreases-loop-packet : goal.decreases-loop-packet
+decreases-loop-packet l = length (records_of l.runs) - index_of (runs_of l.runs) l.place

@@ -1,0 +1,110 @@
+use crate::Runs;
+use redo_record::{Packet, Payload, Record, RecordSet};
+use std::alloc::{AllocError, Global};
+use std::test::*;
+
+const COUNT: u64 = 10_000;
+
+// The packet of a record of this number on this block, without any before it.
+fn packet(alloc: Global, lsn: u64, block: u32) -> Result<Packet, Fail> {
+    let record = Record {
+        lsn: lsn.clamp(1, 2 * COUNT),
+        volume_epoch: 1,
+        prev_volume: 0,
+        prev_group: 0,
+        prev_block: 0,
+        group: 0,
+        block,
+        offset: 0,
+        bytes: Payload::new(b"a").ok_or("one byte is a payload")?,
+        point: false,
+    };
+    Ok(Packet::pack(alloc, record)?)
+}
+
+// Takes a record up, and tells whether it is new.
+fn take(alloc: Global, runs: &mut Runs, packet: Packet) -> Result<bool, AllocError> {
+    let Some(place) = runs.place_for(&packet) else {
+        return Ok(false);
+    };
+    runs.make_room(alloc, place)?;
+    runs.insert(place, packet);
+    Ok(true)
+}
+
+// How many records have this number.
+fn count_of(runs: &Runs, lsn: u64) -> usize {
+    let mut place = runs.first_at_least(lsn);
+    let mut count: usize = 0;
+    while let Some(packet) = runs.get(place) {
+        if packet.lsn() != lsn {
+            break;
+        }
+        count = count.saturating_add(1);
+        place = runs.next(place);
+    }
+    count
+}
+
+// Takes up the records 1 to 10,000 in steps of so many, and tells whether they come in order again.
+fn is_sorted(alloc: Global, step: u64) -> Result<bool, Fail> {
+    let mut runs = Runs::new(alloc);
+    for k in 0..COUNT {
+        take(
+            alloc,
+            &mut runs,
+            packet(alloc, k.wrapping_mul(step) % COUNT + 1, 0)?,
+        )?;
+    }
+    let set = runs.to_set(alloc)?;
+    Ok(
+        set.as_slice()
+            .iter()
+            .map(|packet| packet.lsn())
+            .eq(1..=COUNT),
+    )
+}
+
+#[test]
+fn records_come_in_order_again(rt: HostRuntime) -> Result<(), Fail> {
+    for step in [1, COUNT - 1, 7919] {
+        assert!(rt; is_sorted(rt.alloc(), step)?, "in steps of {step}");
+    }
+    Ok(())
+}
+
+// The records 2, 4 to 8192, which fill a run.
+fn evens(alloc: Global) -> Result<RecordSet, Fail> {
+    let mut set = RecordSet::new(alloc);
+    for k in 1..4097 {
+        set.insert(packet(alloc, 2 * k, 0)?)?;
+    }
+    Ok(set)
+}
+
+// One more before the first, after each sixteenth, and so after the last.
+#[test]
+fn a_full_run_takes_one_more(rt: HostRuntime) -> Result<(), Fail> {
+    let set = evens(rt.alloc())?;
+    for k in 0..257 {
+        let mut runs = Runs::from_set(rt.alloc(), &set)?;
+        assert_eq!(rt; runs.runs().len(), 1);
+        assert!(rt; take(rt.alloc(), &mut runs, packet(rt.alloc(), 32 * k + 1, 0)?)?);
+        assert_eq!(rt; runs.runs().len(), 2);
+        assert_eq!(rt; runs.len(), 4097);
+        assert!(rt; runs.record_at(32 * k + 1).is_some());
+    }
+    Ok(())
+}
+
+#[test]
+fn records_of_one_number_stand_together(rt: HostRuntime) -> Result<(), Fail> {
+    let mut runs = Runs::from_set(rt.alloc(), &evens(rt.alloc())?)?;
+    assert!(rt; !take(rt.alloc(), &mut runs, packet(rt.alloc(), 4096, 0)?)?);
+    for block in 1..5 {
+        assert!(rt; take(rt.alloc(), &mut runs, packet(rt.alloc(), 4096, block)?)?);
+    }
+    assert_eq!(rt; count_of(&runs, 4096), 5);
+    assert_eq!(rt; count_of(&runs, 4097), 0);
+    Ok(())
+}
