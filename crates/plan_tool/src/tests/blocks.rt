@@ -1,6 +1,9 @@
+ghost use Rattle.std.specs.Prelude.{◌≡◌, All, IfOk};
+ghost use Rattle.redo_record.specs.Packet.{packet_redo};
+
 use pages::{BLOCK, page_of};
 use redo_record::{Packet, Payload, Record};
-use std::alloc::Global;
+use std::alloc::{AllocError, Global};
 use std::test::Fail;
 
 /// A chained record that writes one byte at its own place.
@@ -26,6 +29,26 @@ fn packet(alloc: Global, lsn: u64, byte: u8) -> Result<Packet, Fail> {
     Ok(Packet::pack(alloc, record)?)
 }
 
+/// Those of the packets that are of the block.
+fn of_block(alloc: Global, packets: &[Packet], block: u32) -> Result<Vec<Packet>, AllocError>
+    ensures { IfOk result (λ found. All (λ packet. (packet_redo packet).block ≡ block) found.items) }
+{
+    let mut found = Vec::new(alloc);
+    for packet in packets {
+        let packet = packet.clone()?;
+        if packet.record().block == block {
+            found.push(packet)?;
+        }
+    }
+    Ok(found)
+}
+
+/// The page of a block at a point, from those of the packets that are of the block.
+fn page(alloc: Global, packets: &[Packet], block: u32, point: u64) -> Result<[u8; BLOCK], Fail> {
+    let found = of_block(alloc, packets, block)?;
+    Ok(page_of(&found, block, point))
+}
+
 #[test]
 fn three_bytes(rt: HostRuntime) -> Result<(), Fail> {
     let alloc = rt.alloc();
@@ -34,12 +57,12 @@ fn three_bytes(rt: HostRuntime) -> Result<(), Fail> {
         packet(alloc, 2, 0x62)?,
         packet(alloc, 3, 0x63)?,
     ];
-    let mut page = [0; BLOCK];
-    assert_eq!(rt; page_of(&packets, 1, 3).as_slice(), page.as_slice());
-    page[0] = 0x61;
-    page[1] = 0x62;
-    assert_eq!(rt; page_of(&packets, 0, 2).as_slice(), page.as_slice());
-    page[2] = 0x63;
-    assert_eq!(rt; page_of(&packets, 0, 3).as_slice(), page.as_slice());
+    let mut bytes = [0; BLOCK];
+    assert_eq!(rt; page(alloc, &packets, 1, 3)?.as_slice(), bytes.as_slice());
+    bytes[0] = 0x61;
+    bytes[1] = 0x62;
+    assert_eq!(rt; page(alloc, &packets, 0, 2)?.as_slice(), bytes.as_slice());
+    bytes[2] = 0x63;
+    assert_eq!(rt; page(alloc, &packets, 0, 3)?.as_slice(), bytes.as_slice());
     Ok(())
 }

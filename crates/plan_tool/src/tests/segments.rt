@@ -1,5 +1,6 @@
 mod answers;
 mod becoming_whole;
+mod chains;
 mod fullness;
 mod messages;
 mod nodes;
