@@ -58,6 +58,14 @@ atch\",\"left\":0,\"right\":0,\"pairs\":[[0,0],[1,1],[2,2],[3,3],[4,4],[5,5]],\"
 :1},{\"rule\":\"clash\",\"left\":0,\"right\":1},{\"rule\":\"clash\",\"left\":0,\"right\":1},{\"rule\":\"clash\",\"left\":0,\"right\
 \":1}]}}}]}]}";
 
+/// Two groups of one member each, which reads and writes alone.
+const TWO_GROUPS: &[u8] =
+    b"{\"format\":1,\"lal\":10,\"groups\":[\
+{\"configurations\":[{\"parent\":null,\"members\":[0],\"full\":[0],\"read\":{\"k\":1,\"of\":\"all\"},\"write\":{\"k\":1,\"of\":\"all\"},\
+\"meets\":{\"rule\":\"match\",\"left\":0,\"right\":0,\"pairs\":[[0,0]],\"then\":[{\"rule\":\"clash\",\"left\":0,\"right\":0}]},\"step\":null}]},\
+{\"configurations\":[{\"parent\":null,\"members\":[0],\"full\":[0],\"read\":{\"k\":1,\"of\":\"all\"},\"write\":{\"k\":1,\"of\":\"all\"},\
+\"meets\":{\"rule\":\"match\",\"left\":0,\"right\":0,\"pairs\":[[0,0]],\"then\":[{\"rule\":\"clash\",\"left\":0,\"right\":0}]},\"step\":null}]}]}";
+
 /// The writer of a new volume over the plan that a text spells.
 fn writer(alloc: Global, text: &[u8]) -> Result<Writer, Fail> {
     Ok(Writer::first(alloc, checked(alloc, text)?)?)
@@ -90,6 +98,43 @@ fn changes(alloc: Global, count: usize) -> Result<Vec<Change>, Fail> {
         })?;
     }
     Ok(changes)
+}
+
+/// A change of block 0 of each of these groups.
+fn changes_of(alloc: Global, groups: &[u8]) -> Result<Vec<Change>, Fail> {
+    let mut changes = Vec::new(alloc);
+    for group in groups {
+        changes.push(Change {
+            group: *group,
+            block: 0,
+            offset: 0,
+            bytes: vec![in alloc; 97]?,
+        })?;
+    }
+    Ok(changes)
+}
+
+/// The acknowledgement of a group's only member.
+fn ack_of(group: u8, scl: u64) -> Ack {
+    Ack {
+        group,
+        label: Label {
+            volume: 1,
+            member: 1,
+        },
+        from: 0,
+        scl,
+    }
+}
+
+/// The point at which a writer asks for a page of a group.
+fn read_point(writer: &Writer, group: u8) -> Result<u64, Fail> {
+    let asked = writer.read(group, 0)?;
+    let point = match &asked {
+        Message::PageAsk(ask) => Some(ask.point),
+        _ => None,
+    };
+    Ok(point.ok_or("a page is asked for")?)
 }
 
 /// A View of volume epoch 1 that has the group at its child, where the membership epoch is 2.
@@ -204,5 +249,27 @@ fn judges(rt: HostRuntime) -> Result<(), Fail> {
     assert_eq!(rt; six.admits_ack(&ack(5, 1)), Ok(()));
     assert_eq!(rt; six.admits_ack(&ack(64, 1)), Err(Fault::NotAddressed));
     assert_eq!(rt; six.admits_view(&child(alloc)?), Err(Fault::NotInPlan));
+    Ok(())
+}
+
+/// The points at which pages of both groups are asked for, after the members of both groups have said what they hold.
+fn read_points(alloc: Global, first: u64, second: u64) -> Result<(u64, u64), Fail> {
+    let mut two = writer(alloc, TWO_GROUPS)?;
+    for groups in [[0, 1, 1], [0, 0, 1]] {
+        two.issue(alloc, changes_of(alloc, groups.as_slice())?.as_slice())?;
+    }
+    two.take_ack(&ack_of(0, first))?;
+    two.take_ack(&ack_of(1, second))?;
+    Ok((read_point(&two, 0)?, read_point(&two, 1)?))
+}
+
+#[test]
+fn reads_of_two_groups(rt: HostRuntime) -> Result<(), Fail> {
+    let alloc = rt.alloc();
+    assert_eq!(rt; read_points(alloc, 5, 0)?, (0, 0));
+    assert_eq!(rt; read_points(alloc, 5, 2)?, (0, 0));
+    assert_eq!(rt; read_points(alloc, 5, 3)?, (1, 3));
+    assert_eq!(rt; read_points(alloc, 1, 6)?, (1, 3));
+    assert_eq!(rt; read_points(alloc, 5, 6)?, (5, 6));
     Ok(())
 }
