@@ -1,6 +1,6 @@
 mod answers;
+mod arrivals;
 mod becoming_whole;
-mod chains;
 mod fullness;
 mod messages;
 mod nodes;
