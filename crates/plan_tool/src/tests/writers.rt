@@ -59,8 +59,7 @@ atch\",\"left\":0,\"right\":0,\"pairs\":[[0,0],[1,1],[2,2],[3,3],[4,4],[5,5]],\"
 \":1}]}}}]}]}";
 
 /// Two groups of one member each, which reads and writes alone.
-const TWO_GROUPS: &[u8] =
-    b"{\"format\":1,\"lal\":10,\"groups\":[\
+const TWO_GROUPS: &[u8] = b"{\"format\":1,\"lal\":10,\"groups\":[\
 {\"configurations\":[{\"parent\":null,\"members\":[0],\"full\":[0],\"read\":{\"k\":1,\"of\":\"all\"},\"write\":{\"k\":1,\"of\":\"all\"},\
 \"meets\":{\"rule\":\"match\",\"left\":0,\"right\":0,\"pairs\":[[0,0]],\"then\":[{\"rule\":\"clash\",\"left\":0,\"right\":0}]},\"step\":null}]},\
 {\"configurations\":[{\"parent\":null,\"members\":[0],\"full\":[0],\"read\":{\"k\":1,\"of\":\"all\"},\"write\":{\"k\":1,\"of\":\"all\"},\
