@@ -1,6 +1,6 @@
 use super::messages::{fence, label, step};
 use super::plans::SMALL;
-use crate::tests::texts::checked;
+use crate::texts::checked;
 use segment_core::Segment;
 use std::alloc::Global;
 use std::test::Fail;

@@ -1,7 +1,7 @@
 use super::messages::*;
 use super::nodes::{At, node, segment};
 use super::plans::SMALL;
-use crate::tests::texts::checked;
+use crate::texts::checked;
 use segment_core::Segment;
 use std::test::*;
 use volume_model::Fault;
