@@ -4,6 +4,7 @@
 mod entry;
 mod lineage;
 mod live;
+mod past;
 
 pub use entry::Entry;
 pub use lineage::Lineage;

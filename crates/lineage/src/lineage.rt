@@ -1,27 +1,33 @@
 //! The recoveries that a volume went through.
 
 ghost use Rattle.std.specs.Prelude.{◌≡◌, true};
-ghost use Rattle.lineage.specs.Entries.{entries_of, is_lineage};
+ghost use Rattle.lineage.specs.Entries.{entries_with, is_lineage};
 
 use crate::entry::Entry;
+use crate::past::Past;
 use std::alloc::{AllocError, Global};
+use std::sync::Arc;
 use volume_model::Fault;
 
 /// The greatest log sequence number.
 const LAST_LSN: u64 = 1 << 62;
 
-/// The entries of the recoveries that a volume went through, of growing volume epochs and starts.
+/// The entries of the recoveries that a volume went through, of growing volume epochs and starts. Clones and extensions share
+/// them.
 #[derive(Drop)]
 pub struct Lineage {
-    /// Oldest first.
-    entries: Vec<Entry>,
-    ghost growing: { is_lineage (entries_of entries.items) ≡ true },
+    alloc: Global,
+    last: Option<Entry>,
+    /// The entries before the last, where there are any.
+    before: Option<Arc<Past>>,
+    ghost growing: { is_lineage (entries_with last before) ≡ true },
 }
 
 impl Lineage {
-    ghost use Rattle.std.specs.Prelude.{◌<◌, ◌≤◌, [], IfOk};
+    ghost use Rattle.std.specs.Prelude.{◌<◌, ◌≤◌, [], ◌∷◌, IfOk};
     ghost use Rattle.volume_model.specs.Answer.{AnswersNew};
     ghost use Rattle.volume_model.specs.Lineage.{birth, extension, is_live, last_cut, last_epoch, last_start, newer};
+    ghost use Rattle.lineage.specs.Entries.{entry_of, kept_before};
     ghost use Rattle.lineage.specs.Lineage.{lineage_of};
 
     /// No entry: what a segment has that was told nothing yet.
@@ -29,7 +35,9 @@ impl Lineage {
         ensures { lineage_of result ≡ [] }
     {
         Lineage {
-            entries: Vec::new(alloc),
+            alloc,
+            last: None,
+            before: None,
         }
     }
 
@@ -42,16 +50,14 @@ impl Lineage {
             cut: 0,
             start: 0,
         };
-        Ok(Lineage {
-            entries: vec![in alloc; first]?,
-        })
+        Lineage::empty(alloc).with(first)
     }
 
     /// The volume epoch of the last entry, 0 where there is none.
     pub fn last_epoch(&self) -> u32
         ensures { result ≡ last_epoch (lineage_of self.now) }
     {
-        match self.entries.last() {
+        match &self.last {
             Some(entry) => entry.volume_epoch,
             None => 0,
         }
@@ -61,7 +67,7 @@ impl Lineage {
     pub fn last_cut(&self) -> u64
         ensures { result ≡ last_cut (lineage_of self.now) }
     {
-        match self.entries.last() {
+        match &self.last {
             Some(entry) => entry.cut,
             None => 0,
         }
@@ -71,7 +77,7 @@ impl Lineage {
     pub fn last_start(&self) -> u64
         ensures { result ≡ last_start (lineage_of self.now) }
     {
-        match self.entries.last() {
+        match &self.last {
             Some(entry) => entry.start,
             None => 0,
         }
@@ -82,15 +88,19 @@ impl Lineage {
     pub fn is_live(&self, volume_epoch: u32, lsn: u64) -> bool
         ensures { result ≡ is_live (lineage_of self.now) volume_epoch lsn }
     {
-        for entry in self.entries.iter().rev() {
-            if entry.volume_epoch == volume_epoch {
-                return entry.start < lsn;
-            }
-            if entry.cut < lsn {
-                return false;
-            }
+        let Some(last) = self.last else {
+            return false;
+        };
+        if last.volume_epoch == volume_epoch {
+            return last.start < lsn;
         }
-        false
+        if last.cut < lsn {
+            return false;
+        }
+        match &self.before {
+            Some(past) => past.is_live(volume_epoch, lsn),
+            None => false,
+        }
     }
 
     /// The newer of two lineages: the one whose last epoch is greater, and this one where both have the same.
@@ -102,6 +112,32 @@ impl Lineage {
         } else {
             self
         }
+    }
+
+    /// All of its entries, as those before one more. Fails for want of memory alone.
+    fn all(&self) -> Result<Option<Arc<Past>>, AllocError>
+        ensures { IfOk result (λ before. kept_before before ≡ lineage_of self.now) }
+    {
+        let Some(last) = self.last else {
+            return Ok(None);
+        };
+        let past = match &self.before {
+            Some(past) => past.with(self.alloc, last)?,
+            None => Past::empty(self.alloc).with(self.alloc, last)?,
+        };
+        Ok(Some(Arc::new(self.alloc, past)?))
+    }
+
+    /// The lineage with one entry more. Fails for want of memory alone.
+    fn with(&self, entry: Entry) -> Result<Lineage, AllocError>
+        requires { is_lineage (entry_of entry ∷ lineage_of self.now) ≡ true }
+        ensures { IfOk result (λ lineage. lineage_of lineage ≡ entry_of entry ∷ lineage_of self.now) }
+    {
+        Ok(Lineage {
+            alloc: self.alloc,
+            last: Some(entry),
+            before: self.all()?,
+        })
     }
 
     /// The lineage with the entry that a recovery of a later volume epoch adds, whose own numbers begin `lal` above all that its log
@@ -122,9 +158,7 @@ impl Lineage {
             cut,
             start,
         };
-        let mut extended = self.clone()?;
-        extended.entries.push(entry)?;
-        Ok(extended)
+        Ok(self.with(entry)?)
     }
 }
 
@@ -135,7 +169,9 @@ impl Clone for Lineage {
 
     fn clone(&self) -> Result<Lineage, AllocError> {
         Ok(Lineage {
-            entries: self.entries.clone()?,
+            alloc: self.alloc,
+            last: self.last,
+            before: self.before.clone()?,
         })
     }
 }

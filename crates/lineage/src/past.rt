@@ -1,0 +1,77 @@
+//! The entries of a lineage before its last.
+
+ghost use Rattle.std.specs.Prelude.{◌≡◌, [], ◌∷◌, ◌++◌, IfOk, MatchOption};
+ghost use Rattle.volume_model.specs.Lineage as model;
+ghost use Rattle.volume_model.specs.Lineage.{is_live};
+ghost use Rattle.lineage.specs.Entries.{entry_of, entries_of, entries_before};
+
+use crate::entry::Entry;
+use std::alloc::{AllocError, Global};
+use std::sync::Arc;
+
+/// How many entries a chunk has at most.
+const MOST_ENTRIES: usize = 64;
+
+/// The entries before the last, oldest first.
+#[derive(Drop)]
+pub struct Past {
+    /// All but the recent ones, in chunks that are shared.
+    chunks: Vec<Arc<Vec<Entry>>>,
+    recent: Vec<Entry>,
+}
+
+/// Whether a record is live, where these entries tell.
+fn judge(entries: &[Entry], volume_epoch: u32, lsn: u64) -> Option<bool>
+    ensures { MatchOption result ((older : model.Lineage) → is_live (entries_of entries.now ++ older) volume_epoch lsn ≡ is_live older volume_epoch lsn) (λ live. (older : model.Lineage) → is_live (entries_of entries.now ++ older) volume_epoch lsn ≡ live) }
+{
+    for entry in entries.iter().rev() {
+        if entry.volume_epoch == volume_epoch {
+            return Some(entry.start < lsn);
+        }
+        if entry.cut < lsn {
+            return Some(false);
+        }
+    }
+    None
+}
+
+impl Past {
+    /// No entry.
+    pub fn empty(alloc: Global) -> Past
+        ensures { entries_before result ≡ [] }
+    {
+        Past {
+            chunks: Vec::new(alloc),
+            recent: Vec::new(alloc),
+        }
+    }
+
+    /// Whether a record of this volume epoch and number is live in these entries.
+    pub fn is_live(&self, volume_epoch: u32, lsn: u64) -> bool
+        ensures { result ≡ is_live (entries_before self.now) volume_epoch lsn }
+    {
+        if let Some(live) = judge(&self.recent, volume_epoch, lsn) {
+            return live;
+        }
+        for chunk in self.chunks.iter().rev() {
+            if let Some(live) = judge(chunk, volume_epoch, lsn) {
+                return live;
+            }
+        }
+        false
+    }
+
+    /// These entries and one more. Fails for want of memory alone.
+    pub fn with(&self, alloc: Global, entry: Entry) -> Result<Past, AllocError>
+        ensures { IfOk result (λ past. entries_before past ≡ entry_of entry ∷ entries_before self.now) }
+    {
+        let mut chunks = self.chunks.clone()?;
+        let mut recent = self.recent.clone()?;
+        if recent.len() >= MOST_ENTRIES {
+            chunks.push(Arc::new(alloc, recent)?)?;
+            recent = Vec::new(alloc);
+        }
+        recent.push(entry)?;
+        Ok(Past { chunks, recent })
+    }
+}
