@@ -13,6 +13,7 @@ use Rattle.volume_model.proofs.Worlds.{before_more, runs_push, world_at-push, me
 use Rattle.wire.specs.Message.{message_of}
 use Rattle.journal.specs.declared.entry.Entry.{Entry}
 use Rattle.journal.specs.Entries.{entry_of, entries_of}
+use Rattle.journal.specs.Listed.{listed}
 use Rattle.journal.proofs.Maps.{map-append, map-prefix, map-there, map-length}
 
 -- how many there are
@@ -49,20 +50,20 @@ module _ (plan : Plan) where
 
   -- the numbers of the messages that the entry at a place made
   pub made_within : (es : List Entry) (cell number : ℕ) (e : Entry) → IsRun plan (entries_of es) → slice_get es cell ≡ Some e → before plan (entries_of es) cell < number → number ≤ before plan (entries_of es) (cell + 1)
-      → (e.first < number) × (number ≤ e.first + length e.made.items)
+      → (e.first < number) × (number ≤ e.first + length (listed e.made))
   made_within es cell number e run at low high =
       let there = entry_there es cell e at in
       let first = (run cell (entry_of e) there).1 in
       let more = before_more plan (entries_of es) cell (entry_of e) run there in
       let next : before plan (entries_of es) (cell + 1) ≡ before plan (entries_of es) (suc cell) = ap (before plan (entries_of es)) (let n : cell + 1 ≡ suc cell = omega arith in n) in
-      (omega (arith, first, low), omega (arith, first, high, next, more, map-length message_of e.made.items))
+      (omega (arith, first, low), omega (arith, first, high, next, more, map-length message_of (listed e.made)))
 
   -- the message at a place of the entry at a place has this number
-  pub letter_numbered : (es : List Entry) (cell index number : ℕ) (e : Entry) → IsRun plan (entries_of es) → slice_get es cell ≡ Some e → index < length e.made.items → number ≡ e.first + index + 1
-      → numbered (world_at plan (entries_of es)).messages number ≡ option_map message_of (slice_get e.made.items index)
+  pub letter_numbered : (es : List Entry) (cell index number : ℕ) (e : Entry) → IsRun plan (entries_of es) → slice_get es cell ≡ Some e → index < length (listed e.made) → number ≡ e.first + index + 1
+      → numbered (world_at plan (entries_of es)).messages number ≡ option_map message_of (slice_get (listed e.made) index)
   letter_numbered es cell index number e run at inside is =
-      let x = get_there e.made.items index inside in
-      let here = map-there message_of e.made.items index x.0 x.1 in
+      let x = get_there (listed e.made) index inside in
+      let here = map-there message_of (listed e.made) index x.0 x.1 in
       ap (numbered (world_at plan (entries_of es)).messages) is
       ∙ made_numbered plan (entries_of es) cell index (message_of x.0) (entry_of e) run (entry_there es cell e at) here
       ∙ sym (ap (option_map message_of) x.1)
@@ -77,7 +78,7 @@ module _ (plan : Plan) where
 
   -- how many messages there are after one entry more
   pub entries_messages : (es now : List Entry) (e : Entry) → now ≡ es ++ e ∷ [] → Goes plan (world_at plan (entries_of es)) (entry_of e)
-      → length (world_at plan (entries_of now)).messages ≡ e.first + length e.made.items
+      → length (world_at plan (entries_of now)).messages ≡ e.first + length (listed e.made)
   entries_messages es now e longer goes =
       let more = messages_push plan (entries_of es) (entry_of e) goes in
-      ap (λ (l : List model.Entry). length (world_at plan l).messages) (entries_push es now e longer) ∙ more ∙ ap (λ n. e.first + n) (map-length message_of e.made.items)
+      ap (λ (l : List model.Entry). length (world_at plan l).messages) (entries_push es now e longer) ∙ more ∙ ap (λ n. e.first + n) (map-length message_of (listed e.made))

@@ -6,10 +6,11 @@ use Rattle.wire.specs.Message.{messages_of}
 use Rattle.world.specs.Events.{event_of}
 use Rattle.journal.specs.declared.entry.Entry.{Entry}
 use Rattle.journal.specs.declared.entry.Note.{Note}
+use Rattle.journal.specs.Listed.{listed}
 
 -- the entry that a program's entry is
 abbrev pub entry_of : Entry → model.Entry
-entry_of e = record { event = event_of e.event; made = messages_of e.made.items; first = e.first }
+entry_of e = record { event = event_of e.event; made = messages_of (listed e.made); first = e.first }
 
 -- the entries that these are, in their order
 abbrev pub entries_of : List Entry → List model.Entry

@@ -1,4 +1,5 @@
 pub mod Actors
+pub mod Listed
 pub mod Entries
 pub mod Standing
 pub mod History

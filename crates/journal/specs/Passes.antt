@@ -22,6 +22,7 @@ use Rattle.journal.specs.declared.log.Log.{Log}
 use Rattle.journal.specs.Actors.{seen_who}
 use Rattle.journal.specs.Entries.{entry_of, entries_of, note_of}
 use Rattle.journal.specs.Lasts.{last_in}
+use Rattle.journal.specs.Listed.{listed}
 use Rattle.journal.specs.Standing.{Made, made}
 use Rattle.journal.specs.Tokens.{shown}
 
@@ -97,7 +98,7 @@ module _ {X : Type 0} {s : SiteGhosts X} {l : LedgerGhosts X} where
 
   -- the message that a letter is
   abbrev pub letter_message : Letter X s l → Option Message
-  letter_message letter = option_map message_of (slice_get letter.entry.now.made.items letter.index)
+  letter_message letter = option_map message_of (slice_get (listed letter.entry.now.made) letter.index)
 
 -- each of these steps of an actor has at most this number
 abbrev pub AtMost : Actor → ℕ → List Made → Type 0

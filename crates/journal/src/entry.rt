@@ -1,7 +1,7 @@
 //! What is entered of a step, and what its caller is told.
 
+use crate::messages::Messages;
 use volume_model::Fault;
-use wire::Message;
 use world::Event;
 
 /// One step: what happened, the messages that it made, and how many were made before.
@@ -10,7 +10,7 @@ pub struct Entry {
     /// What happened.
     pub event: Event,
     /// The messages that it made, in their order.
-    pub made: Vec<Message>,
+    pub made: Messages,
     /// How many messages were made before.
     pub first: u64,
 }

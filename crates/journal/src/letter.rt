@@ -4,6 +4,7 @@ ghost use Rattle.std.specs.Prelude.{◌≡◌, ◌+◌, ◌<◌, length, slice_g
 ghost use Rattle.std.proofs.Props.{props};
 ghost use Rattle.std.specs.Coded.{Coded-set};
 ghost use Rattle.logbook.specs.Pages.{book_coded};
+ghost use Rattle.journal.specs.Listed.{listed};
 
 use crate::entry::Entry;
 use crate::history::Front;
@@ -22,7 +23,7 @@ pub struct Letter<'a, L: Site> {
     pub(crate) site: PhantomData<L>,
     ghost history: { seen.book ≡ L.history } by { Coded-set book_coded seen.book L.history },
     ghost is: { slice_get seen.log cell ≡ Some entry.now } by { Prim.hlevel props },
-    ghost inside: { index < length entry.now.made.items },
+    ghost inside: { index < length (listed entry.now.made) },
     ghost number_is: { number ≡ entry.now.first + index + 1 },
 }
 
@@ -43,6 +44,6 @@ impl<'a, L: Site> Letter<'a, L> {
         ensures { letter_message self.now ≡ Some (message_of result.now) }
     {
         let entry = self.entry;
-        &entry.made[self.index]
+        entry.made.at(self.index)
     }
 }

@@ -16,6 +16,7 @@ use crate::history::{Front, History};
 use crate::lasts::Lasts;
 use crate::letter::Letter;
 use crate::mark::Mark;
+use crate::messages::Messages;
 use crate::pass::{Held, Pass};
 use crate::row::{Row, Site};
 use crate::who::Who;
@@ -96,6 +97,7 @@ impl<'a, L: Site> Log<'a, L> {
     ghost use Rattle.world.specs.Slots.{members};
     ghost use Rattle.journal.specs.Actors.{seen_who};
     ghost use Rattle.journal.specs.Entries.{entry_of};
+    ghost use Rattle.journal.specs.Listed.{listed};
     ghost use Rattle.journal.specs.Standing.{durable_in, made, IsElse, NamesEarlier, Stands};
     ghost use Rattle.journal.specs.Passes.{journal_of, kept_in, letter_message, letter_number, letter_step, mark_number, marked, notes_of, seat_of, seen_at, steps_of, world_of, AddsRefusal, AddsStep, HasNoteRoom, HasPlace, HasRoom, HasStepRoom, SeesAll};
 
@@ -218,7 +220,7 @@ impl<'a, L: Site> Log<'a, L> {
         requires cell { 0 < length self.old.rest.now }
         requires settled { SeesAll pass.old self.old }
         requires who { IsSome (last_in self.old.lasts (actor_of (event_of entry.event))) }
-        requires goes { makes (step L.plan (world_of self.old) (event_of entry.event)) ≡ Some (messages_of entry.made.items) }
+        requires goes { makes (step L.plan (world_of self.old) (event_of entry.event)) ≡ Some (messages_of (listed entry.made)) }
         requires first { entry.first ≡ self.old.messages }
         requires durable { durable ≡ durable_in (after L.plan (world_of self.old) (event_of entry.event)) (event_of entry.event) }
         requires room { HasRoom self.old × HasStepRoom pass.old }
@@ -301,6 +303,7 @@ impl<'a, L: Site> Log<'a, L> {
         let cell = self.entries.len();
         let first = self.messages;
         let count = made.len();
+        let made = Messages::of(made);
         let entry = Entry { event, made, first };
         self.append(rt, height, entry, durable, pass);
         mark.advance(self.front(), self.entries.len());

@@ -10,6 +10,7 @@ use Rattle.journal.specs.declared.pass.Held.{Held}
 use Rattle.journal.specs.Actors.{seen_who}
 use Rattle.journal.specs.Entries.{entry_of, entries_of, note_of}
 use Rattle.journal.specs.Lasts.{last_known, or_zero}
+use Rattle.journal.specs.Listed.{listed}
 use Rattle.journal.specs.Standing.{made, Stands}
 use Rattle.journal.specs.Tokens.{shown}
 use Rattle.world.specs.Events.{event_of}
@@ -75,8 +76,7 @@ invariant_of-self g c =
     let goes : Goes plan (world_at plan (entries_of es)) (entry_of x) = (c.requires.goes, first) in
     let at : c.len-cell.result ≡ length (entries_of es) = omega (arith, long, length-entries es, c.len-cell.ensures) in
     let actor = c.of.ensures ∙ ap (λ (y : Entry). actor_of (event_of y.event)) c.write-entry.ensures.value in
-    let counted_made : vec_len c.write-entry.result.now.made ≡ length c.write-entry.result.now.made.items = search rules in
-    let more : c.len.result ≡ length x.made.items = c.len.ensures ∙ counted_made ∙ ap (λ (y : Entry). length y.made.items) c.write-entry.ensures.value in
+    let more : c.len.result ≡ length (listed x.made) = c.len.ensures ∙ ap (λ (y : Entry). length (listed y.made)) c.write-entry.ensures.value in
     record {
       same = longer ∙ sym (c.add.ensures ∙ (λ i. old i ++ c.write-entry.ensures.value i ∷ []));
       table = c.floor.ensures.same.0 ∙ c.rise.ensures.0 ∙ log.table;

@@ -3,6 +3,7 @@ use Rattle.volume_model.specs.Judging.{Exact}
 use Rattle.volume_model.specs.Journal.{Entry, world_at}
 use Rattle.volume_model.specs.World.Event.{Deliver}
 use Rattle.segment_core.specs.Segment.{node_of}
+use Rattle.journal.specs.Listed.{listed}
 use Rattle.journal.specs.Passes.{journal_of, letter_message, letter_number, marked, seen_at}
 use Rattle.node_fleet.specs.declared.halt.Halt.{Halt}
 use Rattle.node_fleet.specs.Halts.{IsExact}
@@ -16,7 +17,7 @@ refused-requires-clause-exact g c =
     let node = c.args.self.now in
     let letter = c.args.letter.now in
     let es = journal_of c.ready.new.log in
-    let own = letter_own plan node.group node.member (node_of node.segment) letter.entry.now.made.items letter.index letter.inside in
+    let own = letter_own plan node.group node.member (node_of node.segment) (listed letter.entry.now.made) letter.index letter.inside in
     declines plan g.L.Site.slots (length g.L.Site.cells) es (world_at plan (seen_at node.mark)) (marked node.mark) node.group node.member (node_of node.segment) node.who node.named node.state c.in_ok-ready.ensures.ready.agree
     (letter_number letter) c.number.result (letter_message letter) own c.number.ensures c.if-not-has.ensures c.args.fault c.requires.fails
 
@@ -29,7 +30,7 @@ returns-clause-exact g c =
     let letter = c.args.letter.now in
     let event = Deliver node.group node.member (letter_number letter) in
     let es = journal_of c.ready.new.log in
-    let own = letter_own plan node.group node.member (node_of node.segment) letter.entry.now.made.items letter.index letter.inside in
+    let own = letter_own plan node.group node.member (node_of node.segment) (listed letter.entry.now.made) letter.index letter.inside in
     let here =
     declines plan slots cells es (world_at plan (seen_at node.mark)) (marked node.mark) node.group node.member (node_of node.segment) node.who node.named node.state c.in_ok-ready.ensures.ready.agree
     (letter_number letter) (letter_number letter) (letter_message letter) own refl c.if-not-has.ensures c.args.fault c.requires.fails in
@@ -40,5 +41,5 @@ pub returns-clause-found : goal.returns-clause-found
 returns-clause-found g c e =
     let node = c.args.self.now in
     let letter = c.args.letter.now in
-    let own = letter_own g.L.Site.plan node.group node.member (node_of node.segment) letter.entry.now.made.items letter.index letter.inside in
+    let own = letter_own g.L.Site.plan node.group node.member (node_of node.segment) (listed letter.entry.now.made) letter.index letter.inside in
     not_lost (delivery_of node (letter_message letter)) c.args.fault own c.requires.fails cc

@@ -1,0 +1,56 @@
+//! The messages that one step made.
+
+ghost use Rattle.std.specs.Prelude.{◌≡◌, ◌<◌, length, slice_get, Some};
+ghost use Rattle.journal.specs.Listed.{listed};
+
+use wire::Message;
+
+/// The messages that one step made, in their order. None and one of them take no list.
+#[derive(Drop)]
+pub enum Messages {
+    /// There are none.
+    Empty,
+    /// There is one.
+    One(Message),
+    /// There are those of the list.
+    Many(Vec<Message>),
+}
+
+impl Messages {
+    /// Those of a list.
+    pub(crate) fn of(list: Vec<Message>) -> Messages
+        ensures { listed result ≡ list.items }
+    {
+        if list.len() > 1 {
+            return Messages::Many(list);
+        }
+        let mut list = list;
+        match list.pop() {
+            Some(message) => Messages::One(message),
+            None => Messages::Empty,
+        }
+    }
+
+    /// How many there are.
+    pub(crate) fn len(&self) -> usize
+        ensures { result ≡ length (listed self.now) }
+    {
+        match self {
+            Messages::Empty => 0,
+            Messages::One(_) => 1,
+            Messages::Many(list) => list.len(),
+        }
+    }
+
+    /// The one at a place.
+    pub(crate) fn at(&self, index: usize) -> &Message
+        requires { index < length (listed self.now) }
+        ensures { slice_get (listed self.now) index ≡ Some result.now }
+    {
+        match self {
+            Messages::Empty => unreachable!(),
+            Messages::One(message) => message,
+            Messages::Many(list) => &list[index],
+        }
+    }
+}
