@@ -213,7 +213,6 @@ impl<'a, L: Site> Log<'a, L> {
         rt: &R,
         height: &Height,
         entry: Entry,
-        durable: u64,
         pass: &mut Pass<'a, L>,
     )
         requires height { table_of height.now ≡ L.table }
@@ -222,11 +221,12 @@ impl<'a, L: Site> Log<'a, L> {
         requires who { IsSome (last_in self.old.lasts (actor_of (event_of entry.event))) }
         requires goes { makes (step L.plan (world_of self.old) (event_of entry.event)) ≡ Some (messages_of (listed entry.made)) }
         requires first { entry.first ≡ self.old.messages }
-        requires durable { durable ≡ durable_in (after L.plan (world_of self.old) (event_of entry.event)) (event_of entry.event) }
+        requires place { entry.cell ≡ vec_len self.old.entries }
+        requires durable { entry.durable ≡ durable_in (after L.plan (world_of self.old) (event_of entry.event)) (event_of entry.event) }
         requires room { HasRoom self.old × HasStepRoom pass.old }
         ensures entries { kept_in self.new ≡ kept_in self.old ++ entry ∷ [] }
         ensures seen { SeesAll pass.new self.new }
-        ensures steps { steps_of pass.new ≡ steps_of pass.old ++ made (length (kept_in self.old)) (entry_of entry) durable ∷ [] }
+        ensures steps { steps_of pass.new ≡ steps_of pass.old ++ made (length (kept_in self.old)) (entry_of entry) entry.durable ∷ [] }
         ensures notes { (notes_of pass.new ≡ notes_of pass.old) × (seat_of pass.new ≡ seat_of pass.old) }
     {
         let Log {
@@ -255,8 +255,6 @@ impl<'a, L: Site> Log<'a, L> {
         *seen = history.seen.again();
         book.add(share, 1);
         steps.push_reserved(Held {
-            cell,
-            durable,
             entry,
             site: PhantomData,
         });
@@ -304,8 +302,14 @@ impl<'a, L: Site> Log<'a, L> {
         let first = self.messages;
         let count = made.len();
         let made = Messages::of(made);
-        let entry = Entry { event, made, first };
-        self.append(rt, height, entry, durable, pass);
+        let entry = Entry {
+            event,
+            made,
+            first,
+            cell,
+            durable,
+        };
+        self.append(rt, height, entry, pass);
         mark.advance(self.front(), self.entries.len());
         Receipt {
             number: cell + 1,
