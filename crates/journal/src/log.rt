@@ -208,13 +208,7 @@ impl<'a, L: Site> Log<'a, L> {
     }
 
     // Enters an entry.
-    fn append<R: Wait>(
-        &mut self,
-        rt: &R,
-        height: &Height,
-        entry: Entry,
-        pass: &mut Pass<'a, L>,
-    )
+    fn append<R: Wait>(&mut self, rt: &R, height: &Height, entry: Entry, pass: &mut Pass<'a, L>)
         requires height { table_of height.now ≡ L.table }
         requires cell { 0 < length self.old.rest.now }
         requires settled { SeesAll pass.old self.old }
