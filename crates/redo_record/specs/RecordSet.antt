@@ -1,9 +1,9 @@
 -- Sets of records.
-use Rattle.std.specs.Prelude.{List, map}
+use Rattle.std.specs.Prelude.{List}
 use Rattle.volume_model.specs.Redo.{Redo}
 use Rattle.redo_record.specs.declared.record_set.RecordSet.{RecordSet}
-use Rattle.redo_record.specs.Packet.{packet_redo}
+use Rattle.redo_record.specs.Shared.{redos_in}
 
 -- the records of a set, in their order
 abbrev pub records_of : RecordSet → List Redo
-records_of set = map packet_redo set.packets.items
+records_of set = redos_in set.packets

@@ -8,6 +8,7 @@ mod packet;
 mod payload;
 mod record;
 mod record_set;
+mod shared;
 mod text;
 
 pub use decoding::decode;

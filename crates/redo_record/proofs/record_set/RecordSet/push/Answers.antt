@@ -1,24 +1,21 @@
-use Rattle.std.proofs.Common.{◌≡◌, sym, subst, List, [], ◌∷◌, ◌++◌, map, Bool, if◌then◌else◌}
-use Rattle.std.proofs.lemmas.List.{map-append}
-use Rattle.std.specs.Result.{is_ok}
-use Rattle.redo_record.specs.declared.packet.Packet.{Packet}
+use Rattle.std.proofs.Common.{◌≡◌, List, [], ◌∷◌, ◌++◌, Result, Ok, Err, sym, subst}
+use Rattle.std.specs.Result.{OnOk, OnErr}
+use Rattle.std.specs.declared.alloc.AllocError.{AllocError}
+use Rattle.volume_model.specs.Redo.{Redo}
 use Rattle.redo_record.specs.Packet.{packet_redo}
 use Rattle.redo_record.specs.Order.{IsInOrder, ComesAfter}
-use Rattle.redo_record.proofs.Places.{in_order-after, either}
+use Rattle.redo_record.specs.Shared.{redos_in}
+use Rattle.redo_record.proofs.Places.{in_order-after}
 use Rattle.redo_record.proofs.record_set.RecordSet.push.Goals as goal
 
--- the packets of records in order
-AreOrdered : List Packet → Type 0
-AreOrdered packets = IsInOrder (map packet_redo packets)
-
-ordered_either : (packets : List Packet) (packet : Packet) (now : List Packet) (b : Bool) → ComesAfter (map packet_redo packets) (packet_redo packet) → IsInOrder (map packet_redo packets) → now ≡ (if b then packets ++ packet ∷ [] else packets) → IsInOrder (map packet_redo now)
-unfolding AreOrdered
-ordered_either packets packet now b last order is =
-    let more : AreOrdered (packets ++ packet ∷ []) = subst IsInOrder (sym (map-append packet_redo packets (packet ∷ []))) (in_order-after (packet_redo packet) (map packet_redo packets) order last) in
-    subst AreOrdered (sym is) (either AreOrdered b (packets ++ packet ∷ []) packets more order)
+-- the order is kept either way
+in_order_either : (old now : List Redo) (r : Redo) (done : Result (Unit {0}) AllocError) → OnOk done (now ≡ old ++ r ∷ []) → OnErr done (now ≡ old) → ComesAfter old r → IsInOrder old → IsInOrder now
+in_order_either old now r (Ok u) ok err last before = subst IsInOrder (sym ok) (in_order-after r old before last)
+in_order_either old now r (Err e) ok err last before = subst IsInOrder (sym err) before
 
 pub invariant_of-self : goal.invariant_of-self
 invariant_of-self c = record {
   in_order =
-      ordered_either c.args.self.now.packets.items c.args.packet c.push.new.self.items (is_ok c.push.result) c.requires c.args.self.now.in_order c.push.ensures.items;
+      in_order_either (redos_in c.args.self.now.packets) (redos_in c.push.new.self) (packet_redo c.args.packet) c.push.result c.push.ensures.ok c.push.ensures.err c.requires
+      c.args.self.now.in_order;
 }

@@ -1,0 +1,116 @@
+//! Packets that are shared with their clones.
+
+use crate::packet::Packet;
+use std::alloc::{AllocError, Global};
+use std::sync::Arc;
+
+/// Packets that are shared with their clones, and copied where one of these is written.
+#[derive(Drop)]
+pub struct Shared {
+    alloc: Global,
+    packets: Option<Arc<Vec<Packet>>>,
+}
+
+impl Shared {
+    ghost use Rattle.std.specs.Prelude.{◌≡◌, ◌≤◌, [], ◌∷◌, ◌++◌, length, map, IfOk, OnOk, OnErr};
+    ghost use Rattle.std.specs.List.{insert};
+    ghost use Rattle.redo_record.specs.Packet.{packet_redo};
+    ghost use Rattle.redo_record.specs.Shared.{redos_in};
+
+    /// No packet.
+    pub fn new(alloc: Global) -> Shared
+        ensures { redos_in result ≡ [] }
+    {
+        Shared {
+            alloc,
+            packets: None,
+        }
+    }
+
+    /// These packets. Fails for want of memory alone.
+    pub fn from_vec(alloc: Global, packets: Vec<Packet>) -> Result<Shared, AllocError>
+        ensures { IfOk result (λ shared. redos_in shared ≡ map packet_redo packets.items) }
+    {
+        Ok(Shared {
+            alloc,
+            packets: Some(Arc::new(alloc, packets)?),
+        })
+    }
+
+    /// The packets.
+    pub fn as_slice(&self) -> &[Packet]
+        ensures { map packet_redo result.now ≡ redos_in self.now }
+    {
+        match &self.packets {
+            Some(packets) => packets.as_slice(),
+            None => &[],
+        }
+    }
+
+    /// Adds a packet at the end. Where memory runs out the packets are what they were.
+    pub fn push(&mut self, packet: Packet) -> Result<(), AllocError>
+        ensures ok { OnOk result (redos_in self.new ≡ redos_in self.old ++ packet_redo packet ∷ []) }
+        ensures err { OnErr result (redos_in self.new ≡ redos_in self.old) }
+    {
+        match &mut self.packets {
+            Some(shared) => {
+                let packets = Arc::make_mut(shared)?;
+                packets.push(packet)?;
+            }
+            None => {
+                let packets = vec![in self.alloc; packet]?;
+                self.packets = Some(Arc::new(self.alloc, packets)?);
+            }
+        }
+        Ok(())
+    }
+
+    /// Adds a packet at this place. Where memory runs out the packets are what they were.
+    pub fn insert(&mut self, place: usize, packet: Packet) -> Result<(), AllocError>
+        requires { place ≤ length (redos_in self.old) }
+        ensures ok { OnOk result (redos_in self.new ≡ insert (redos_in self.old) place (packet_redo packet)) }
+        ensures err { OnErr result (redos_in self.new ≡ redos_in self.old) }
+    {
+        match &mut self.packets {
+            Some(shared) => {
+                let packets = Arc::make_mut(shared)?;
+                packets.insert(place, packet)?;
+                Ok(())
+            }
+            None => self.push(packet),
+        }
+    }
+
+    /// Adds packets at the end. Where memory runs out the packets are what they were.
+    pub fn extend_from_slice(&mut self, more: &[Packet]) -> Result<(), AllocError>
+        ensures ok { OnOk result (redos_in self.new ≡ redos_in self.old ++ map packet_redo more.now) }
+        ensures err { OnErr result (redos_in self.new ≡ redos_in self.old) }
+    {
+        match &mut self.packets {
+            Some(shared) => {
+                let packets = Arc::make_mut(shared)?;
+                packets.extend_from_slice(more)?;
+            }
+            None => {
+                let mut packets: Vec<Packet> = Vec::new(self.alloc);
+                packets.extend_from_slice(more)?;
+                self.packets = Some(Arc::new(self.alloc, packets)?);
+            }
+        }
+        Ok(())
+    }
+}
+
+impl Clone for Shared {
+    ghost use Rattle.std.specs.Prelude.{◌≡◌};
+    ghost use Rattle.redo_record.specs.Shared.{redos_in};
+
+    ghost is_clone = { λ shared copy. redos_in copy ≡ redos_in shared };
+
+    fn clone(&self) -> Result<Shared, AllocError> {
+        Ok(Shared {
+            alloc: self.alloc,
+            packets: self.packets.clone()?,
+        })
+    }
+}
