@@ -4,3 +4,4 @@ pub mod Link
 pub mod Records
 pub mod Prepared
 pub mod Segment
+pub mod Told

@@ -3,6 +3,7 @@
 ghost use Rattle.std.specs.Prelude.{map};
 ghost use Rattle.redo_record.specs.Order.{IsInOrder};
 ghost use Rattle.redo_record.specs.Packet.{packet_redo};
+ghost use Rattle.segment_core.specs.Told.{TellsAll};
 
 use redo_record::{Packet, RecordSet};
 use std::alloc::{AllocError, Global};
@@ -11,7 +12,10 @@ use std::alloc::{AllocError, Global};
 #[derive(Drop)]
 pub struct Ordered {
     packets: Vec<Packet>,
+    /// The set of them all that was told last, where none has come since.
+    told: Option<RecordSet>,
     ghost in_order: { IsInOrder (map packet_redo packets.items) },
+    ghost tells: { ∥ TellsAll told (map packet_redo packets.items) ∥₁ },
 }
 
 impl Ordered {
@@ -27,6 +31,7 @@ impl Ordered {
     {
         Ordered {
             packets: Vec::new(alloc),
+            told: None,
         }
     }
 
@@ -44,14 +49,25 @@ impl Ordered {
         self.packets.as_slice()
     }
 
-    /// The set of the records. Fails for want of memory alone.
-    pub fn to_set(&self, alloc: Global) -> Result<RecordSet, AllocError>
+    /// A set of the records. Fails for want of memory alone.
+    fn collected(&self, alloc: Global) -> Result<RecordSet, AllocError>
         ensures { IfOk result (λ set. records_of set ≡ redos_in self.now) }
     {
-        let mut set = RecordSet::new(alloc);
-        for packet in &self.packets {
-            set.push(packet.clone()?)?;
+        let mut set = RecordSet::with_capacity(alloc, self.packets.len())?;
+        set.extend_from_slice(self.packets.as_slice())?;
+        Ok(set)
+    }
+
+    /// The set of the records, which is shared with later calls until a record comes. Fails for want of memory alone.
+    pub fn to_set(&mut self, alloc: Global) -> Result<RecordSet, AllocError>
+        ensures set { IfOk result (λ set. records_of set ≡ redos_in self.new) }
+        ensures same { redos_in self.new ≡ redos_in self.old }
+    {
+        if let Some(set) = &self.told {
+            return set.clone();
         }
+        let set = self.collected(alloc)?;
+        self.told = Some(set.clone()?);
         Ok(set)
     }
 
@@ -118,6 +134,7 @@ impl Ordered {
         requires place { IsPlaceFor (redos_in self.old) (packet_redo packet) place }
         ensures { redos_in self.new ≡ with_record (packet_redo packet) (redos_in self.old) }
     {
+        self.told = None;
         self.packets.insert(place, packet).unwrap();
     }
 

@@ -58,9 +58,10 @@ impl Records {
         Ok(records)
     }
 
-    /// The set of the records. Fails for want of memory alone.
-    pub fn to_set(&self, alloc: Global) -> Result<RecordSet, AllocError>
-        ensures { IfOk result (λ set. sets.records_of set ≡ records_of self.now) }
+    /// The set of the records, which is shared with later calls until a record comes. Fails for want of memory alone.
+    pub fn to_set(&mut self, alloc: Global) -> Result<RecordSet, AllocError>
+        ensures set { IfOk result (λ set. sets.records_of set ≡ records_of self.new) }
+        ensures same { records_of self.new ≡ records_of self.old }
     {
         self.ordered.to_set(alloc)
     }

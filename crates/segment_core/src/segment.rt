@@ -115,8 +115,10 @@ impl Segment {
     }
 
     /// What it holds, for another.
-    fn contents(&self, alloc: Global) -> Result<Contents, AllocError>
-        ensures { IfOk result (λ contents. contents_of contents ≡ (node_of self.now).contents) }
+    fn contents(&mut self, alloc: Global) -> Result<Contents, AllocError>
+        ensures contents { IfOk result (λ contents. contents_of contents ≡ (node_of self.new).contents) }
+        ensures node { node_of self.new ≡ node_of self.old }
+        ensures actor { IsSameActor self.old self.new }
     {
         Ok(Contents {
             lineage: self.lineage.clone()?,
@@ -169,9 +171,11 @@ impl Segment {
     }
 
     /// Makes ready to promise a recovery its volume epoch.
-    fn prepare_fence(&self, alloc: Global, fence: &Fence) -> Result<Prepared, Fault>
-        ensures step { Answers step_of (reaction_of self.now (message_of (Message.Fence fence.now))) (node_of self.now) result (node_of self.now) }
-        ensures ready { IfOk result (λ prepared. CanTake self.now prepared.effect) }
+    fn prepare_fence(&mut self, alloc: Global, fence: &Fence) -> Result<Prepared, Fault>
+        ensures step { Answers step_of (reaction_of self.old (message_of (Message.Fence fence.now))) (node_of self.old) result (node_of self.old) }
+        ensures ready { IfOk result (λ prepared. CanTake self.new prepared.effect) }
+        ensures node { node_of self.new ≡ node_of self.old }
+        ensures actor { IsSameActor self.old self.new }
     {
         if fence.group != self.group {
             return Err(Fault::NotAddressed);
@@ -278,9 +282,11 @@ impl Segment {
     }
 
     /// Makes ready to say what it holds to a node that isn't whole.
-    fn prepare_copy(&self, alloc: Global, ask: &CopyAsk) -> Result<Prepared, Fault>
-        ensures step { Answers step_of (reaction_of self.now (message_of (Message.CopyAsk ask.now))) (node_of self.now) result (node_of self.now) }
-        ensures ready { IfOk result (λ prepared. CanTake self.now prepared.effect) }
+    fn prepare_copy(&mut self, alloc: Global, ask: &CopyAsk) -> Result<Prepared, Fault>
+        ensures step { Answers step_of (reaction_of self.old (message_of (Message.CopyAsk ask.now))) (node_of self.old) result (node_of self.old) }
+        ensures ready { IfOk result (λ prepared. CanTake self.new prepared.effect) }
+        ensures node { node_of self.new ≡ node_of self.old }
+        ensures actor { IsSameActor self.old self.new }
     {
         if ask.group != self.group {
             return Err(Fault::NotAddressed);

@@ -1,24 +1,20 @@
-use Rattle.std.proofs.Common.{◌∙◌, ap, sym, subst, List, [], ◌∷◌, ◌++◌, map}
-use Rattle.redo_record.specs.declared.packet.Packet.{Packet}
-use Rattle.redo_record.specs.Order.{IsInOrder, ComesAfter}
-use Rattle.redo_record.specs.Packet.{packet_redo}
+use Rattle.std.proofs.Common.{◌≡◌, ◌∙◌, subst, List, Result, Ok, Err}
+use Rattle.std.proofs.Math.Logic.{∥∥₁_elim}
+use Rattle.std.proofs.Props.{props}
+use Rattle.std.specs.Prelude.{Option, Some}
+use Rattle.std.specs.Result.{IfOk, MatchResult}
+use Rattle.std.specs.declared.alloc.AllocError.{AllocError}
+use Rattle.volume_model.specs.Redo.{Redo}
+use Rattle.redo_record.specs.declared.record_set.RecordSet.{RecordSet}
 use Rattle.redo_record.specs.RecordSet.{records_of}
-use Rattle.segment_core.proofs.Sets.{after-earlier, taken-more, taken-all}
+use Rattle.segment_core.specs.Ordered.{redos_in}
+use Rattle.segment_core.specs.Told.{TellsAll}
 use Rattle.segment_core.proofs.ordered.Ordered.to_set.Goals as goal
 
-pub push-requires : goal.push-requires
-push-requires c =
-    let order : IsInOrder (map packet_redo c.deref-packet-items.result.now) = subst (λ (packets : List Packet). IsInOrder (map packet_redo packets)) (sym c.deref-packet-items.ensures.value) c.args.self.now.in_order in
-    let last : ComesAfter (records_of c.loop-packet.set) (packet_redo c.packet-item.result) = subst (λ rs. ComesAfter rs (packet_redo c.packet-item.result)) (sym c.loop-packet.invariant) (after-earlier c.deref-packet-items.result.now c.loop-packet.packet-index c.packet-item.result c.loop-packet-test.true c.packet-item.is order) in
-    subst (ComesAfter (records_of c.loop-packet.set)) (sym c.in_ok-clone.ensures.cases) last
+-- a clone of the set that was told last is that of these records
+told_again : (P : AllocError → Type 0) (r : Result RecordSet AllocError) (set : RecordSet) (told : Option RecordSet) (records : List Redo) → told ≡ Some set → ∥ TellsAll told records ∥₁ → MatchResult r (λ copy. records_of copy ≡ records_of set) P → IfOk r (λ copy. records_of copy ≡ records)
+told_again P (Ok copy) set told records is tells same = same ∙ ∥∥₁_elim tells (hlevel props) (λ t. subst (λ (o : Option RecordSet). TellsAll o records) is t)
+told_again P (Err e) set told records is tells same = tt
 
-pub loop-packet-preserved : goal.loop-packet-preserved
-loop-packet-preserved c =
-    c.in_ok-push.ensures.ok
-    ∙ ap (λ r. records_of c.loop-packet.set ++ r ∷ []) c.in_ok-clone.ensures.cases
-    ∙ ap (λ rs. rs ++ packet_redo c.packet-item.result ∷ []) c.loop-packet.invariant
-    ∙ sym (taken-more c.deref-packet-items.result.now c.loop-packet.packet-index c.packet-item.result c.loop-packet-test.true c.packet-item.is)
-
-pub returns : goal.returns
-returns c =
-    c.loop-packet.invariant ∙ taken-all c.deref-packet-items.result.now c.loop-packet.packet-index c.loop-packet-test.false ∙ ap (map packet_redo) c.deref-packet-items.ensures.value
+pub returns-in-Some-clause-set : goal.returns-in-Some-clause-set
+returns-in-Some-clause-set c = told_again _ c.clone.result c.in-Some.set c.args.self.now.told (redos_in c.args.self.now) c.in-Some.is c.args.self.now.tells c.clone.ensures.cases
