@@ -1,6 +1,6 @@
 //! The lines that the program prints.
 
-ghost use Rattle.std.specs.Prelude.{◌≡◌, ◌≤◌, ◌++◌, IfOk, OnOk, is_err, map, string_bytes};
+ghost use Rattle.std.specs.Prelude.{◌≡◌, ◌≤◌, ◌++◌, IfOk, OnOk, codes, decimal, is_err, map, string_bytes};
 ghost use Rattle.std.specs.List.{list_any};
 ghost use Rattle.std.specs.Option.{option_copied};
 ghost use Rattle.volume_model.specs.Redo.{last_lsn};
@@ -14,12 +14,16 @@ ghost use Rattle.jobs.specs.ToldLines.{AppendsLine, AppendsLines};
 
 use crate::reply::Reply;
 use drivers::Driven;
+use itoa::Buffer;
 use plan::CheckedPlan;
 use redo_record::Packet;
 use script::Step;
 use std::alloc::{AllocError, Global};
 use volume_model::Fault;
 use world::{FindEnd, Outcome, WriterEnd};
+
+/// As many bytes as most lines of steps have.
+const LINE_BYTES: usize = 12;
 
 /// How many configurations the groups have together.
 fn configurations(plan: &CheckedPlan) -> u64
@@ -91,12 +95,38 @@ fn add_refusal(text: &mut String, line: usize, fault: Fault) -> Result<(), Alloc
     write!(text, "{line} refused {fault}\n")
 }
 
+/// Adds a number in decimal.
+fn add_number(text: &mut String, number: u64) -> Result<(), AllocError>
+    ensures { OnOk result (string_bytes text.new ≡ string_bytes text.old ++ decimal number) }
+{
+    let mut digits = Buffer::new();
+    text.push_str(digits.format(number))
+}
+
+/// Adds the line of a step whose event made so many messages.
+fn add_made(text: &mut String, line: usize, made: u64) -> Result<(), AllocError>
+    ensures { OnOk result (string_bytes text.new ≡ string_bytes text.old ++ (decimal line ++ codes " ok " ++ decimal made ++ codes "\n")) }
+{
+    add_number(text, line as u64)?;
+    text.push_str(" ok ")?;
+    add_number(text, made)?;
+    text.push_str("\n")
+}
+
+/// Adds the line of a step that has no event.
+fn add_wait(text: &mut String, line: usize) -> Result<(), AllocError>
+    ensures { OnOk result (string_bytes text.new ≡ string_bytes text.old ++ (decimal line ++ codes " ok 0\n")) }
+{
+    add_number(text, line as u64)?;
+    text.push_str(" ok 0\n")
+}
+
 /// Adds what is told of a step's event.
 fn add_told(text: &mut String, line: usize, told: &Result<u64, Fault>) -> Result<(), AllocError>
     ensures { OnOk result (AppendsLine line (Some told.now) (string_bytes text.old) (string_bytes text.new)) }
 {
     match told {
-        Ok(made) => write!(text, "{line} ok {made}\n"),
+        Ok(made) => add_made(text, line, *made),
         Err(fault) => add_refusal(text, line, *fault),
     }
 }
@@ -110,7 +140,7 @@ fn add_step(
     ensures { OnOk result (AppendsLine line (option_copied told.entry) (string_bytes text.old) (string_bytes text.new)) }
 {
     match told {
-        None => write!(text, "{line} ok 0\n"),
+        None => add_wait(text, line),
         Some(told) => add_told(text, line, told),
     }
 }
@@ -196,7 +226,7 @@ fn add_writers(text: &mut String, writers: &[WriterEnd]) -> Result<(), AllocErro
 pub fn run_lines(alloc: Global, steps: &[Step], outcome: &Outcome) -> Result<Reply, AllocError>
     ensures { IfOk result (λ reply. TellsOf steps.now outcome.now.results.items (map opened_of outcome.now.writers.items) (map find_of outcome.now.finds.items) reply.status (string_bytes reply.text)) }
 {
-    let mut text = String::new(alloc);
+    let mut text = String::with_capacity(alloc, steps.len().saturating_mul(LINE_BYTES))?;
     add_steps(&mut text, steps, outcome.results.as_slice())?;
     add_writers(&mut text, outcome.writers.as_slice())?;
     add_finds(&mut text, outcome.finds.as_slice())?;

@@ -1,35 +1,60 @@
 -- What numerals and digits spell.
-use Rattle.std.proofs.Common.{◌≡◌, ap, sym, ℕ, List, [], ◌∷◌, ◌++◌, ◌&&◌, ◌<◌, ◌≤◌, ◌^◌, Bool, true, false, Option, Some, None, Err, length, drop, take, ◌-◌, get_or, arith, rules, refl, option_map, nat_le}
-use Rattle.std.specs.Char.{is_ascii_digit}
+use Rattle.std.proofs.Common.{◌≡◌, ◌∙◌, ap, sym, ℕ, ◌+◌, ◌-◌, ◌*◌, List, [], ◌∷◌, ◌++◌, ◌&&◌, ◌||◌, not, ◌<◌, ◌≤◌, Bool, true, false, Option, Some, None, length, drop, take, take_all, get_or, arith, refl, option_map, leb, eqb, lit≤}
+use Rattle.std.specs.Char.{digit_value, is_ascii_digit}
 use Rattle.std.specs.List.{list_all}
-use Rattle.std.specs.Str.Parse.{ParsesUnsigned, digits_value}
-use Rattle.std.proofs.lemmas.Bool.{lt-leb}
+use Rattle.std.specs.Str.Parse.{digits_value}
+use Rattle.std.proofs.lemmas.Bool.{le-leb, lt-leb}
 use Rattle.std.proofs.lemmas.Bool.Decides.{nat_tests}
 use Rattle.std.proofs.lemmas.Grind.{common_steps}
+use Rattle.std.proofs.lemmas.Int.Digits.{digits_value_more}
 use Rattle.std.proofs.lemmas.List.{append_assoc}
-use Rattle.std.proofs.lemmas.Str.Parse.{IsDigitsTest, IsNumeralModel, numerals_by_value, parse_digits}
+use Rattle.std.proofs.lemmas.List.Folds.{list_all_at, list_all_more}
+use Rattle.std.proofs.lemmas.Str.Parse.{digits_value-take-le}
 use Rattle.script.specs.Words.{is_numeral, number_in, byte_in, all_bytes_in}
 
--- the test of all digits is one
-are_tested : IsDigitsTest (λ ds. list_all is_ascii_digit ds ≡ true)
-are_tested = search rules
+and_false : (a : Bool) → (a && false) ≡ false
+and_false true = refl
+and_false false = refl
 
-own : IsNumeralModel (λ ds. list_all is_ascii_digit ds ≡ true) (digits_value 10)
-own = numerals_by_value _ are_tested
+-- whether the first of the digits may stand there
+abbrev pub begins : List ℕ → Bool
+begins word = leb 1 (length word) && (leb (length word) 1 || not (eqb (get_or word 0 0) 48))
 
-and_right : (a b : Bool) → (a && b) ≡ true → b ≡ true
-and_right true b h = h
-and_right false b h = cc
+none_by : (most : ℕ) (word : List ℕ) → is_numeral word ≡ false → number_in most word ≡ None
+none_by most word e = rw e refl
 
-not_below : (n most : ℕ) → most < 2 ^ 64 → (n < 2 ^ 64 → ⊥) → nat_le n most ≡ false
-not_below n most small large = lt-leb n most (omega arith)
+-- a text that doesn't begin as a numeral is none
+pub not_begun : (most : ℕ) (word : List ℕ) → begins word ≡ false → number_in most word ≡ None
+not_begun most word e = none_by most word (ap (λ b. b && list_all is_ascii_digit word) e)
 
--- a numeral that isn't read is too large
-pub number_too_large : {E : Type 0} (most : ℕ) (word : List ℕ) (e : E) → most < 2 ^ 64 → ParsesUnsigned 64 10 word (Err e) → is_numeral word ≡ true → number_in most word ≡ None
-number_too_large most word e small h numeral =
-    let some : 0 < length word = grind (arith, nat_tests) in
-    let over = not_below (digits_value 10 word) most small (λ fits. parse_digits own 64 word (Err e) h (and_right _ _ numeral) (some, fits)) in
-    rw (numeral, over) refl
+-- nor is one with another byte than digits
+pub not_digits : (most : ℕ) (word : List ℕ) (i : ℕ) → i < length word → is_ascii_digit (get_or word i 0) ≡ false → number_in most word ≡ None
+not_digits most word i inside other = none_by most word (ap (λ b. begins word && b) (list_all_at is_ascii_digit word i 0 inside other) ∙ and_false (begins word))
+
+-- one digit more
+pub digit_more : (word : List ℕ) (i value : ℕ) → i < length word → is_ascii_digit (get_or word i 0) ≡ true → value ≡ digits_value 10 (take i word) → value * 10 + (get_or word i 0 - 48) ≡ digits_value 10 (take (i + 1) word)
+digit_more word i value inside digit is =
+    let worth : digit_value (get_or word i 0) ≡ get_or word i 0 - 48 = grind (arith, nat_tests) in
+    rw (digits_value_more 10 word i inside, worth, is) refl
+
+pub digits_more : (word : List ℕ) (i : ℕ) → i < length word → list_all is_ascii_digit (take i word) ≡ true → is_ascii_digit (get_or word i 0) ≡ true → list_all is_ascii_digit (take (i + 1) word) ≡ true
+digits_more word i inside before digit = rw (list_all_more is_ascii_digit word i 0 inside, before, digit) refl
+
+-- digits whose first ones are too large spell no number
+pub too_large : (most : ℕ) (word : List ℕ) (i longer : ℕ) → longer ≡ digits_value 10 (take i word) → most < longer → number_in most word ≡ None
+too_large most word i longer is more =
+    let over : leb (digits_value 10 word) most ≡ false = lt-leb (digits_value 10 word) most (omega (arith, is, more, digits_value-take-le 10 word i (lit≤ tt))) in
+    rw (over, and_false (is_numeral word)) refl
+
+-- digits that are all read spell what was read
+pub all_read : (most : ℕ) (word : List ℕ) (i value : ℕ) → length word ≤ i → begins word ≡ true → list_all is_ascii_digit (take i word) ≡ true → value ≡ digits_value 10 (take i word) → value ≤ most → number_in most word ≡ Some value
+all_read most word i value over begun digits is within =
+    let whole = take_all i word over in
+    let all : list_all is_ascii_digit word ≡ true = ap (list_all is_ascii_digit) (sym whole) ∙ digits in
+    let worth : digits_value 10 word ≡ value = ap (digits_value 10) (sym whole) ∙ sym is in
+    let numeral : is_numeral word ≡ true = ap (λ b. b && list_all is_ascii_digit word) begun ∙ all in
+    let fits : leb value most ≡ true = le-leb value most within in
+    rw (numeral, worth, fits) refl
 
 all_after : (bytes : List ℕ) (b : ℕ) (there : Option (List ℕ)) → option_map (λ more. bytes ++ more) (option_map (λ more. b ∷ more) there) ≡ option_map (λ more. (bytes ++ b ∷ []) ++ more) there
 all_after bytes b None = refl

@@ -6,6 +6,7 @@ mod examples;
 mod line;
 mod names;
 mod numbers;
+mod parts;
 mod pieces;
 mod reading;
 mod word;

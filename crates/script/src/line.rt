@@ -1,15 +1,16 @@
 //! What one line of a script says.
 
-ghost use Rattle.std.specs.Prelude.{◌≡◌, [], length, map, option_map};
+ghost use Rattle.std.specs.Prelude.{◌≡◌, [], length, option_map};
 ghost use Rattle.world.specs.Events.{event_of};
 ghost use Rattle.script.specs.Grammar.{deed_of, is_silent, said_by, verb_in, wait_in};
 ghost use Rattle.script.specs.Reads.{ReadsBy};
+ghost use Rattle.script.specs.Parts.{parts_left};
 ghost use Rattle.script.specs.Seen.{Asked, Seen, seen, seen_deed};
 
 use crate::changes::issue;
 use crate::names::{deliver, take};
 use crate::numbers::{advance, assign, cut, hydrate, offer, open, read, refresh, resend, restart};
-use crate::pieces::words_of;
+use crate::parts::Parts;
 use std::alloc::Global;
 use volume_model::Fault;
 use world::{Event, Order};
@@ -66,50 +67,55 @@ fn verb_of(word: &str) -> Option<Verb>
     }
 }
 
+/// The verb that these bytes are.
+fn verb_by(word: &[u8]) -> Option<Verb>
+    ensures { result ≡ verb_in word.now }
+{
+    match str::from_utf8(word) {
+        Ok(word) => verb_of(word),
+        Err(_) => None,
+    }
+}
+
 /// Whether a line does nothing.
-fn is_silent(line: &str) -> bool
+fn is_silent(line: &[u8]) -> bool
     ensures { result ≡ is_silent line.now }
 {
-    line.is_empty() || line.as_bytes()[0] == b'#'
+    line.is_empty() || line[0] == b'#'
 }
 
 /// What a line does, or that it isn't one of a script. `events` has the index of each earlier line's event.
-pub fn line_of(alloc: Global, text: &str, events: &[Option<usize>]) -> Result<Line, Fault>
+pub fn line_of(alloc: Global, text: &[u8], events: &[Option<usize>]) -> Result<Line, Fault>
     ensures { ReadsBy seen (option_map (seen_deed events.now) (deed_of (length events.now) text.now)) result }
 {
     if is_silent(text) {
         return Ok(Line::Empty);
     }
-    let words = words_of(alloc, text)?;
-    let Some((verb, words)) = words.as_slice().split_first() else {
+    let mut words = Parts::new(text, b' ');
+    let Some(verb) = words.take_first() else {
         return Err(Fault::Malformed);
     };
-    let Some(verb) = verb_of(verb) else {
+    let Some(verb) = verb_by(verb) else {
         return Err(Fault::Malformed);
     };
     said_by(alloc, verb, words, events)
 }
 
 /// What a verb says with the words after it.
-fn said_by(
-    alloc: Global,
-    verb: Verb,
-    words: &[&str],
-    events: &[Option<usize>],
-) -> Result<Line, Fault>
-    ensures { ReadsBy seen (option_map (seen_deed events.now) (said_by (length events.now) verb (map (λ w. w.now) words.now))) result }
+fn said_by(alloc: Global, verb: Verb, words: Parts, events: &[Option<usize>]) -> Result<Line, Fault>
+    ensures { ReadsBy seen (option_map (seen_deed events.now) (said_by (length events.now) verb (parts_left words.entry))) result }
 {
     match verb {
         Verb::Assign => Ok(line_by(assign(words)?)),
         Verb::Advance => Ok(line_by(advance(words)?)),
         Verb::Refresh => Ok(line_by(refresh(words)?)),
         Verb::Issue => Ok(line_by(issue(alloc, words)?)),
-        Verb::Take => Ok(Line::Order(take(alloc, words, events)?)),
+        Verb::Take => Ok(Line::Order(take(words, events)?)),
         Verb::Cut => Ok(line_by(cut(words)?)),
         Verb::Open => Ok(line_by(open(words)?)),
         Verb::Resend => Ok(line_by(resend(words)?)),
         Verb::Read => Ok(line_by(read(words)?)),
-        Verb::Deliver => Ok(Line::Order(deliver(alloc, words, events)?)),
+        Verb::Deliver => Ok(Line::Order(deliver(words, events)?)),
         Verb::Hydrate => Ok(line_by(hydrate(words)?)),
         Verb::Restart => Ok(line_by(restart(words)?)),
         Verb::Offer => Ok(line_by(offer(words)?)),
@@ -125,8 +131,8 @@ fn line_by(event: Event) -> Line
 }
 
 /// `wait`
-fn wait(words: &[&str]) -> Result<Line, Fault>
-    ensures { ReadsBy seen (option_map (seen_deed []) (wait_in (map (λ w. w.now) words.now))) result }
+fn wait(words: Parts) -> Result<Line, Fault>
+    ensures { ReadsBy seen (option_map (seen_deed []) (wait_in (parts_left words.entry))) result }
 {
     if words.is_empty() {
         Ok(Line::Wait)

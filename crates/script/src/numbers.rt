@@ -1,17 +1,18 @@
 //! Events that numbers alone say.
 
-ghost use Rattle.std.specs.Prelude.{◌≡◌, map};
 ghost use Rattle.world.specs.Events.{event_of};
 ghost use Rattle.script.specs.Grammar.{advance_in, assign_in, cut_in, hydrate_in, offer_in, open_in, read_in, refresh_in, resend_in, restart_in};
 ghost use Rattle.script.specs.Reads.{ReadsBy};
+ghost use Rattle.script.specs.Parts.{parts_left};
 
+use crate::parts::Parts;
 use crate::word::{block_of, group_of, lsn_of, member_of, volume_of};
 use volume_model::Fault;
 use world::Event;
 
 /// `assign`
-pub fn assign(words: &[&str]) -> Result<Event, Fault>
-    ensures { ReadsBy event_of (assign_in (map (λ w. w.now) words.now)) result }
+pub fn assign(words: Parts) -> Result<Event, Fault>
+    ensures { ReadsBy event_of (assign_in (parts_left words.entry)) result }
 {
     if words.is_empty() {
         Ok(Event::Assign)
@@ -21,10 +22,11 @@ pub fn assign(words: &[&str]) -> Result<Event, Fault>
 }
 
 /// `advance G C`
-pub fn advance(words: &[&str]) -> Result<Event, Fault>
-    ensures { ReadsBy event_of (advance_in (map (λ w. w.now) words.now)) result }
+#[tactic(auto, using(crate::proofs::Parsing::no_advance))]
+pub fn advance(words: Parts) -> Result<Event, Fault>
+    ensures { ReadsBy event_of (advance_in (parts_left words.entry)) result }
 {
-    let [group, configuration] = words else {
+    let Some((group, configuration)) = words.two() else {
         return Err(Fault::Malformed);
     };
     let group = group_of(group)?;
@@ -36,10 +38,11 @@ pub fn advance(words: &[&str]) -> Result<Event, Fault>
 }
 
 /// `refresh V`
-pub fn refresh(words: &[&str]) -> Result<Event, Fault>
-    ensures { ReadsBy event_of (refresh_in (map (λ w. w.now) words.now)) result }
+#[tactic(auto, using(crate::proofs::Parsing::no_refresh))]
+pub fn refresh(words: Parts) -> Result<Event, Fault>
+    ensures { ReadsBy event_of (refresh_in (parts_left words.entry)) result }
 {
-    let [volume] = words else {
+    let Some(volume) = words.one() else {
         return Err(Fault::Malformed);
     };
     let volume = volume_of(volume)?;
@@ -47,10 +50,11 @@ pub fn refresh(words: &[&str]) -> Result<Event, Fault>
 }
 
 /// `cut V`
-pub fn cut(words: &[&str]) -> Result<Event, Fault>
-    ensures { ReadsBy event_of (cut_in (map (λ w. w.now) words.now)) result }
+#[tactic(auto, using(crate::proofs::Parsing::no_cut))]
+pub fn cut(words: Parts) -> Result<Event, Fault>
+    ensures { ReadsBy event_of (cut_in (parts_left words.entry)) result }
 {
-    let [volume] = words else {
+    let Some(volume) = words.one() else {
         return Err(Fault::Malformed);
     };
     let volume = volume_of(volume)?;
@@ -58,10 +62,11 @@ pub fn cut(words: &[&str]) -> Result<Event, Fault>
 }
 
 /// `open V`
-pub fn open(words: &[&str]) -> Result<Event, Fault>
-    ensures { ReadsBy event_of (open_in (map (λ w. w.now) words.now)) result }
+#[tactic(auto, using(crate::proofs::Parsing::no_opening))]
+pub fn open(words: Parts) -> Result<Event, Fault>
+    ensures { ReadsBy event_of (open_in (parts_left words.entry)) result }
 {
-    let [volume] = words else {
+    let Some(volume) = words.one() else {
         return Err(Fault::Malformed);
     };
     let volume = volume_of(volume)?;
@@ -69,10 +74,11 @@ pub fn open(words: &[&str]) -> Result<Event, Fault>
 }
 
 /// `resend V N`
-pub fn resend(words: &[&str]) -> Result<Event, Fault>
-    ensures { ReadsBy event_of (resend_in (map (λ w. w.now) words.now)) result }
+#[tactic(auto, using(crate::proofs::Parsing::no_resending))]
+pub fn resend(words: Parts) -> Result<Event, Fault>
+    ensures { ReadsBy event_of (resend_in (parts_left words.entry)) result }
 {
-    let [volume, lsn] = words else {
+    let Some((volume, lsn)) = words.two() else {
         return Err(Fault::Malformed);
     };
     let volume = volume_of(volume)?;
@@ -81,16 +87,16 @@ pub fn resend(words: &[&str]) -> Result<Event, Fault>
 }
 
 /// `read V G B`
-#[tactic(auto, using(crate::proofs::Parsing::no_reading_by))]
-pub fn read(words: &[&str]) -> Result<Event, Fault>
-    ensures { ReadsBy event_of (read_in (map (λ w. w.now) words.now)) result }
+#[tactic(auto, using(crate::proofs::Parsing::no_reading))]
+pub fn read(words: Parts) -> Result<Event, Fault>
+    ensures { ReadsBy event_of (read_in (parts_left words.entry)) result }
 {
-    if words.len() != 3 {
+    let Some((volume, group, block)) = words.three() else {
         return Err(Fault::Malformed);
-    }
-    let volume = volume_of(words[0])?;
-    let group = group_of(words[1])?;
-    let block = block_of(words[2])?;
+    };
+    let volume = volume_of(volume)?;
+    let group = group_of(group)?;
+    let block = block_of(block)?;
     Ok(Event::Read {
         volume,
         group,
@@ -99,10 +105,11 @@ pub fn read(words: &[&str]) -> Result<Event, Fault>
 }
 
 /// `hydrate G M`
-pub fn hydrate(words: &[&str]) -> Result<Event, Fault>
-    ensures { ReadsBy event_of (hydrate_in (map (λ w. w.now) words.now)) result }
+#[tactic(auto, using(crate::proofs::Parsing::no_hydration))]
+pub fn hydrate(words: Parts) -> Result<Event, Fault>
+    ensures { ReadsBy event_of (hydrate_in (parts_left words.entry)) result }
 {
-    let [group, member] = words else {
+    let Some((group, member)) = words.two() else {
         return Err(Fault::Malformed);
     };
     let group = group_of(group)?;
@@ -111,10 +118,11 @@ pub fn hydrate(words: &[&str]) -> Result<Event, Fault>
 }
 
 /// `restart G M`
-pub fn restart(words: &[&str]) -> Result<Event, Fault>
-    ensures { ReadsBy event_of (restart_in (map (λ w. w.now) words.now)) result }
+#[tactic(auto, using(crate::proofs::Parsing::no_restart))]
+pub fn restart(words: Parts) -> Result<Event, Fault>
+    ensures { ReadsBy event_of (restart_in (parts_left words.entry)) result }
 {
-    let [group, member] = words else {
+    let Some((group, member)) = words.two() else {
         return Err(Fault::Malformed);
     };
     let group = group_of(group)?;
@@ -123,15 +131,15 @@ pub fn restart(words: &[&str]) -> Result<Event, Fault>
 }
 
 /// `offer G M N`
-#[tactic(auto, using(crate::proofs::Parsing::no_offer_by))]
-pub fn offer(words: &[&str]) -> Result<Event, Fault>
-    ensures { ReadsBy event_of (offer_in (map (λ w. w.now) words.now)) result }
+#[tactic(auto, using(crate::proofs::Parsing::no_offer))]
+pub fn offer(words: Parts) -> Result<Event, Fault>
+    ensures { ReadsBy event_of (offer_in (parts_left words.entry)) result }
 {
-    if words.len() != 3 {
+    let Some((group, member, lsn)) = words.three() else {
         return Err(Fault::Malformed);
-    }
-    let group = group_of(words[0])?;
-    let member = member_of(words[1])?;
-    let lsn = lsn_of(words[2])?;
+    };
+    let group = group_of(group)?;
+    let member = member_of(member)?;
+    let lsn = lsn_of(lsn)?;
     Ok(Event::Offer { group, member, lsn })
 }

@@ -1,10 +1,7 @@
-//! The lines of a text, and the words of a line.
+//! The lines of a text.
 
-ghost use Rattle.std.specs.Prelude.{◌≡◌, ◌==◌, ◌-◌, ◌<◌, ◌∷◌, IfOk, length, map, position, take};
-ghost use Rattle.std.specs.List.{slice_split};
+ghost use Rattle.std.specs.Prelude.{◌≡◌, ◌==◌, ◌-◌, ◌<◌, ◌∷◌, length, position, take};
 ghost use Rattle.script.specs.Pieces.{pieces, before_newline};
-
-use std::alloc::{AllocError, Global};
 
 /// Where the first newline of a text stands.
 fn newline_in(text: &[u8]) -> Option<usize>
@@ -23,25 +20,4 @@ pub fn first_line(text: &[u8]) -> (&[u8], &[u8])
         Some(end) => (&text[..end], &text[end + 1..]),
         None => (text, &[]),
     }
-}
-
-/// What stands between spaces in a text.
-pub fn words_of(alloc: Global, text: &str) -> Result<Vec<&str>, AllocError>
-    ensures { IfOk result (λ v. map (λ w. w.now) v.items ≡ slice_split (λ b. b == 32) text.now) }
-{
-    text.split(' ').collect(alloc)
-}
-
-/// What stands between colons in a text.
-pub fn fields_of(alloc: Global, text: &str) -> Result<Vec<&str>, AllocError>
-    ensures { IfOk result (λ v. map (λ w. w.now) v.items ≡ slice_split (λ b. b == 58) text.now) }
-{
-    text.split(':').collect(alloc)
-}
-
-/// What stands between dots in a text.
-pub fn sides_of(alloc: Global, text: &str) -> Result<Vec<&str>, AllocError>
-    ensures { IfOk result (λ v. map (λ w. w.now) v.items ≡ slice_split (λ b. b == 46) text.now) }
-{
-    text.split('.').collect(alloc)
 }

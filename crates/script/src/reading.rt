@@ -1,6 +1,7 @@
 //! The lines of a script in turn: one event a line.
 
-ghost use Rattle.std.specs.Prelude.{◌≡◌, OnOk};
+ghost use Rattle.std.specs.Prelude.{◌≡◌, ◌≤◌, ◌↔◌, IsTrue, OnOk};
+ghost use Rattle.std.specs.Str.{IsUtf8};
 ghost use Rattle.script.specs.Seen.{seen};
 ghost use Rattle.script.specs.Script.{AddsLine, ReadsScript, kept_in, stop_at, with_line};
 
@@ -69,6 +70,13 @@ fn keep(script: &mut Script, events: &mut Vec<Option<usize>>, line: Line) -> Res
     Ok(())
 }
 
+/// Whether a line is UTF-8.
+fn is_utf8(line: &[u8]) -> bool
+    ensures { IsTrue result ↔ IsUtf8 line.now }
+{
+    str::from_utf8(line).is_ok()
+}
+
 /// Adds what a line says.
 fn add_line(
     alloc: Global,
@@ -78,11 +86,10 @@ fn add_line(
 ) -> Result<(), Fault>
     ensures { AddsLine line.now (kept_in script.old events.old.items) result (kept_in script.new events.new.items) }
 {
-    let text = match str::from_utf8(line) {
-        Ok(text) => text,
-        Err(_) => return Err(Fault::Malformed),
-    };
-    match line_of(alloc, text, events.as_slice()) {
+    if !is_utf8(line) {
+        return Err(Fault::Malformed);
+    }
+    match line_of(alloc, line, events.as_slice()) {
         Ok(line) => {
             keep(script, events, line)?;
             Ok(())
@@ -101,16 +108,36 @@ fn stop_at(fault: Fault, line: usize) -> ScriptFault
     }
 }
 
+/// For how many lines of a text room is made: as many as it has, but no more than a script may have.
+fn lines_in(text: &[u8]) -> usize
+    ensures { result ≤ SCRIPT_LINES }
+{
+    let newlines = text.iter().filter(|byte| **byte == b'\n').count();
+    newlines.saturating_add(1).min(SCRIPT_LINES)
+}
+
+impl From<AllocError> for ScriptFault {
+    ghost use Rattle.std.specs.Prelude.{◌≡◌};
+    ghost use Rattle.script.specs.declared.reading.ScriptFault.TheVariants.{NoMemory};
+
+    ghost from_gives = { λ _ e. e ≡ NoMemory };
+
+    fn from(_e: AllocError) -> Self {
+        ScriptFault::NoMemory
+    }
+}
+
 /// What a text does as a script, or its first line that isn't one of a script: at most 100,000 lines in 16,777,216 bytes,
 /// each of them UTF-8. Want of memory may be told in the place of a bad line.
 pub fn read_script(alloc: Global, text: &[u8]) -> Result<Script, ScriptFault>
     ensures { ReadsScript text.now result }
 {
+    let lines = lines_in(text);
     let mut script = Script {
-        steps: Vec::new(alloc),
-        orders: Vec::new(alloc),
+        steps: Vec::with_capacity(alloc, lines)?,
+        orders: Vec::with_capacity(alloc, lines)?,
     };
-    let mut events = Vec::new(alloc);
+    let mut events = Vec::with_capacity(alloc, lines)?;
     let mut room = SCRIPT_BYTES;
     let mut rest = text;
     while !rest.is_empty() {

@@ -7,7 +7,10 @@ use Rattle.script.proofs.reading.read_script.Goals.{then-bytes-room-via-then-byt
 
 pub loop-rest-init : goal.loop-rest-init
 loop-rest-init c =
-    starts_empty c.args.text.now (record { steps = c.new.result; orders = c.new-2.result }) c.new-events.result.items c.new.ensures.items c.new-2.ensures.items c.new-events.ensures.items
+    let steps = c.in_ok-with_capacity in
+    let orders = c.in_ok-with_capacity-2 in
+    let events = c.in_ok-events in
+    starts_empty c.args.text.now (record { steps = steps.field-0; orders = orders.field-0 }) events.events.items steps.ensures.items orders.ensures.items events.ensures.items
 
 pub returns-then-bytes-room : goal.returns-then-bytes-room
 returns-then-bytes-room c =
