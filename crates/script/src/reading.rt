@@ -44,6 +44,17 @@ pub enum ScriptFault {
     NoMemory,
 }
 
+impl From<AllocError> for ScriptFault {
+    ghost use Rattle.std.specs.Prelude.{◌≡◌};
+    ghost use Rattle.script.specs.declared.reading.ScriptFault.TheVariants.{NoMemory};
+
+    ghost from_gives = { λ _ e. e ≡ NoMemory };
+
+    fn from(_e: AllocError) -> Self {
+        ScriptFault::NoMemory
+    }
+}
+
 /// Adds a line. `events` has the index of each earlier line's event.
 fn keep(script: &mut Script, events: &mut Vec<Option<usize>>, line: Line) -> Result<(), AllocError>
     ensures { OnOk result (kept_in script.new events.new.items ≡ with_line (kept_in script.old events.old.items) (seen line)) }
@@ -114,17 +125,6 @@ fn lines_in(text: &[u8]) -> usize
 {
     let newlines = text.iter().filter(|byte| **byte == b'\n').count();
     newlines.saturating_add(1).min(SCRIPT_LINES)
-}
-
-impl From<AllocError> for ScriptFault {
-    ghost use Rattle.std.specs.Prelude.{◌≡◌};
-    ghost use Rattle.script.specs.declared.reading.ScriptFault.TheVariants.{NoMemory};
-
-    ghost from_gives = { λ _ e. e ≡ NoMemory };
-
-    fn from(_e: AllocError) -> Self {
-        ScriptFault::NoMemory
-    }
 }
 
 /// What a text does as a script, or its first line that isn't one of a script: at most 100,000 lines in 16,777,216 bytes,
