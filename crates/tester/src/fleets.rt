@@ -1,0 +1,54 @@
+//! Whether what a fleet prints goes with what a run prints.
+
+use crate::broken::Broken;
+use crate::judge::check_promises;
+use crate::outcome::{Find, Outcome, Writer};
+use crate::said::Said;
+
+/// Whether two lists of writers are the same.
+fn same_writers(run: &[Writer], fleet: &[Writer]) -> bool {
+    run.len() == fleet.len() && run.iter().zip(fleet.iter()).all(|(a, b)| *a == *b)
+}
+
+/// Whether two lists of recoveries are the same.
+fn same_finds(run: &[Find], fleet: &[Find]) -> bool {
+    run.len() == fleet.len() && run.iter().zip(fleet.iter()).all(|(a, b)| *a == *b)
+}
+
+/// Whether a fleet's journal is a run of all events, and its status and its recoveries are right.
+pub fn check_fleet(said: &Said, fleet: &Outcome, drivers: u8, events: u64) -> Result<(), Broken> {
+    if fleet.journal != Some(true) {
+        return Err(Broken::Journal { drivers });
+    }
+    let (Some(steps), Some(refused)) = (fleet.steps, fleet.refused) else {
+        return Err(Broken::Strange("fleet"));
+    };
+    if steps.saturating_add(refused) != events {
+        return Err(Broken::Differ {
+            drivers,
+            what: "events",
+        });
+    }
+    if (said.status == 0) != (refused == 0) {
+        return Err(Broken::Differ {
+            drivers,
+            what: "status",
+        });
+    }
+    check_promises(fleet)?;
+    Ok(())
+}
+
+/// Whether a fleet with one driver says what the run says.
+pub fn check_alike(run: &Outcome, fleet: &Outcome) -> Result<(), Broken> {
+    let what = if !same_writers(run.writers.as_slice(), fleet.writers.as_slice()) {
+        "writers"
+    } else if !same_finds(run.finds.as_slice(), fleet.finds.as_slice()) {
+        "recoveries"
+    } else if fleet.refused != Some(run.refusals()) {
+        "refused"
+    } else {
+        return Ok(());
+    };
+    Err(Broken::Differ { drivers: 1, what })
+}

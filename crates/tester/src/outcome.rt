@@ -1,0 +1,191 @@
+//! What a run or a fleet prints, read back.
+
+use std::alloc::{AllocError, Global};
+
+/// What was answered to a line of the script.
+#[derive(Clone, Copy)]
+pub struct Answer {
+    pub line: u64,
+    /// How many messages it made, unless it was refused.
+    pub made: Option<u64>,
+}
+
+/// An open writer at the end.
+#[derive(Clone, Copy, Debug, PartialEq, Eq)]
+pub struct Writer {
+    pub client: u64,
+    pub durable: u64,
+    pub next: u64,
+}
+
+/// What a recovery has found.
+#[derive(Clone, Copy, Debug, PartialEq, Eq)]
+pub struct Find {
+    pub client: u64,
+    pub cut: u64,
+    pub start: u64,
+}
+
+/// One printed line.
+enum Printed {
+    Answer(Answer),
+    Writer(Writer),
+    Find(Find),
+    Steps(u64),
+    Refused(u64),
+    Journal(bool),
+}
+
+/// All that was printed.
+#[derive(Drop)]
+pub struct Outcome {
+    pub answers: Vec<Answer>,
+    pub writers: Vec<Writer>,
+    pub finds: Vec<Find>,
+    /// How many events happened, as a fleet says.
+    pub steps: Option<u64>,
+    /// How many were refused, as a fleet says.
+    pub refused: Option<u64>,
+    /// Whether the journal is a run, as a fleet says.
+    pub journal: Option<bool>,
+    /// How many lines are none of these.
+    pub strange: u64,
+}
+
+/// A number in decimal.
+fn number(word: &str) -> Option<u64> {
+    word.parse::<u64>().ok()
+}
+
+/// The line of a writer, of these numbers.
+fn of_writer(client: &str, durable: &str, next: &str) -> Option<Printed> {
+    Some(Printed::Writer(Writer {
+        client: number(client)?,
+        durable: number(durable)?,
+        next: number(next)?,
+    }))
+}
+
+/// The line of a recovery, of these numbers.
+fn of_find(client: &str, cut: &str, start: &str) -> Option<Printed> {
+    Some(Printed::Find(Find {
+        client: number(client)?,
+        cut: number(cut)?,
+        start: number(start)?,
+    }))
+}
+
+/// An answer that isn't a refusal.
+fn done(line: &str, made: &str) -> Option<Printed> {
+    Some(Printed::Answer(Answer {
+        line: number(line)?,
+        made: Some(number(made)?),
+    }))
+}
+
+/// A refusal.
+fn refusal(line: &str, fault: &str) -> Option<Printed> {
+    number(fault)?;
+    Some(Printed::Answer(Answer {
+        line: number(line)?,
+        made: None,
+    }))
+}
+
+/// What a line of six words says.
+fn of_six(words: [&str; 6]) -> Option<Printed> {
+    let [who, client, first, low, second, high] = words;
+    if who == "writer" && first == "durable" && second == "next" {
+        return of_writer(client, low, high);
+    }
+    if who == "recovery" && first == "cut" && second == "start" {
+        return of_find(client, low, high);
+    }
+    None
+}
+
+/// What a line of two words says.
+fn of_two(what: &str, word: &str) -> Option<Printed> {
+    if what == "steps" {
+        return Some(Printed::Steps(number(word)?));
+    }
+    if what == "refused" {
+        return Some(Printed::Refused(number(word)?));
+    }
+    if what == "journal" {
+        return Some(Printed::Journal(word == "yes"));
+    }
+    None
+}
+
+/// What a line says.
+fn of_line(words: &[&str]) -> Option<Printed> {
+    match words {
+        [who, client, first, low, second, high] => {
+            of_six([*who, *client, *first, *low, *second, *high])
+        }
+        [line, word, made] if *word == "ok" => done(*line, *made),
+        [line, word, fault, _] if *word == "refused" => refusal(*line, *fault),
+        [what, word] => of_two(*what, *word),
+        _ => None,
+    }
+}
+
+impl Outcome {
+    /// Nothing printed yet.
+    fn new(alloc: Global) -> Outcome {
+        Outcome {
+            answers: Vec::new(alloc),
+            writers: Vec::new(alloc),
+            finds: Vec::new(alloc),
+            steps: None,
+            refused: None,
+            journal: None,
+            strange: 0,
+        }
+    }
+
+    /// Adds what a line says.
+    fn add(&mut self, line: Option<Printed>) -> Result<(), AllocError> {
+        match line {
+            Some(Printed::Answer(answer)) => self.answers.push(answer)?,
+            Some(Printed::Writer(writer)) => self.writers.push(writer)?,
+            Some(Printed::Find(find)) => self.finds.push(find)?,
+            Some(Printed::Steps(steps)) => self.steps = Some(steps),
+            Some(Printed::Refused(refused)) => self.refused = Some(refused),
+            Some(Printed::Journal(journal)) => self.journal = Some(journal),
+            None => self.strange = self.strange.saturating_add(1),
+        }
+        Ok(())
+    }
+
+    /// What this text says, line by line.
+    pub fn read(alloc: Global, text: &str) -> Result<Outcome, AllocError> {
+        let mut outcome = Outcome::new(alloc);
+        for line in text.split('\n') {
+            if !line.is_empty() {
+                let words: Vec<&str> = line.split(' ').collect(alloc)?;
+                outcome.add(of_line(words.as_slice()))?;
+            }
+        }
+        Ok(outcome)
+    }
+
+    /// How many lines weren't refused.
+    pub fn happened(&self) -> u64 {
+        self.answers.iter().filter(|a| a.made.is_some()).count() as u64
+    }
+
+    /// How many lines were refused.
+    pub fn refusals(&self) -> u64 {
+        self.answers.iter().filter(|a| a.made.is_none()).count() as u64
+    }
+
+    /// What the recovery of a client has found.
+    pub fn find_of(&self, client: u64) -> Option<Find> {
+        self.finds
+            .iter()
+            .find(|find| find.client == client)
+            .copied()
+    }
+}

@@ -1,0 +1,136 @@
+//! Certified plans, and which sets of members read and write in them.
+
+use crate::dice::Dice;
+use crate::groups::{FULL_AND_TAIL, MEMBER_REPLACED, SIX_COPIES, TWO_REPLACED};
+use std::alloc::{AllocError, Global};
+
+/// The groups of a plan by what they are about.
+#[derive(Clone, Copy, Debug, PartialEq, Eq)]
+pub enum Family {
+    SixCopies,
+    FullAndTail,
+    MemberReplaced,
+    TwoReplaced,
+}
+
+/// Members of which any `least` are a read set, or a write set.
+#[derive(Clone, Copy)]
+pub struct Side {
+    pub members: &'static [u8],
+    pub least: usize,
+}
+
+const OLD: &[u8] = &[0, 1, 2, 3, 4, 5];
+
+const NEW: &[u8] = &[0, 1, 2, 3, 4, 6];
+
+const SEVEN: &[u8] = &[0, 1, 2, 3, 4, 5, 6];
+
+const EIGHT: &[u8] = &[0, 1, 2, 3, 4, 5, 6, 7];
+
+impl Family {
+    /// The text of a group.
+    fn text(self) -> &'static str {
+        match self {
+            Family::SixCopies => SIX_COPIES,
+            Family::FullAndTail => FULL_AND_TAIL,
+            Family::MemberReplaced => MEMBER_REPLACED,
+            Family::TwoReplaced => TWO_REPLACED,
+        }
+    }
+
+    /// The members of a configuration.
+    pub fn members(self, configuration: u8) -> &'static [u8] {
+        match (self, configuration) {
+            (Family::MemberReplaced | Family::TwoReplaced, 1) => SEVEN,
+            (Family::MemberReplaced, 2) => NEW,
+            (Family::TwoReplaced, 2) => EIGHT,
+            _ => OLD,
+        }
+    }
+
+    /// The configurations to which a group may step from this one.
+    pub fn children(self, configuration: u8) -> &'static [u8] {
+        match (self, configuration) {
+            (Family::MemberReplaced | Family::TwoReplaced, 0) => &[1],
+            (Family::MemberReplaced, 1) => &[2, 3],
+            (Family::TwoReplaced, 1) => &[2],
+            _ => &[],
+        }
+    }
+
+    /// The member that a configuration has and its parent lacks.
+    pub fn fresh(self, configuration: u8) -> Option<u8> {
+        match (self, configuration) {
+            (Family::MemberReplaced | Family::TwoReplaced, 1) => Some(6),
+            (Family::TwoReplaced, 2) => Some(7),
+            _ => None,
+        }
+    }
+
+    /// Members of which any three read.
+    pub fn read_side(self, configuration: u8, dice: &mut Dice) -> Side {
+        let choice = dice.below(4);
+        let members: &'static [u8] = match (self, configuration, choice) {
+            (Family::MemberReplaced | Family::TwoReplaced, 1, 0 | 1) => NEW,
+            (Family::MemberReplaced, 2, _) => NEW,
+            (Family::TwoReplaced, 2, 0) => NEW,
+            (Family::TwoReplaced, 2, 1) => &[0, 1, 2, 3, 5, 7],
+            (Family::TwoReplaced, 2, 2) => &[0, 1, 2, 3, 6, 7],
+            _ => OLD,
+        };
+        Side { members, least: 3 }
+    }
+
+    /// Members of which so many write.
+    pub fn write_side(self, configuration: u8, dice: &mut Dice) -> Side {
+        let is_small = dice.chance(40);
+        let (members, least): (&'static [u8], usize) = match (self, configuration) {
+            (Family::FullAndTail, _) if is_small => (&[0, 1, 2], 3),
+            (Family::MemberReplaced | Family::TwoReplaced, 1) if is_small => (&[0, 1, 2, 3, 4], 4),
+            (Family::TwoReplaced, 2) if is_small => (&[0, 1, 2, 3], 4),
+            (Family::MemberReplaced | Family::TwoReplaced, 1) => (SEVEN, 5),
+            (Family::TwoReplaced, 2) => (EIGHT, 6),
+            (Family::MemberReplaced, 2) => (NEW, 4),
+            _ => (OLD, 4),
+        };
+        Side { members, least }
+    }
+}
+
+/// A plan of groups that are alike.
+#[derive(Clone, Copy)]
+pub struct Plan {
+    pub family: Family,
+    pub groups: u8,
+    allowance: usize,
+}
+
+impl Plan {
+    /// A plan by chance.
+    pub fn draw(dice: &mut Dice) -> Plan {
+        let family = match dice.below(6) {
+            0 | 1 => Family::MemberReplaced,
+            2 => Family::TwoReplaced,
+            3 => Family::FullAndTail,
+            _ => Family::SixCopies,
+        };
+        Plan {
+            family,
+            groups: if dice.chance(25) { 2 } else { 1 },
+            allowance: dice.one_of(&[4, 10, 10, 30]).unwrap_or(10),
+        }
+    }
+
+    /// Its text, on one line.
+    pub fn text(&self, alloc: Global) -> Result<String, AllocError> {
+        let allowance = self.allowance;
+        let group = self.family.text();
+        if self.groups == 2 {
+            return format!(in alloc;
+                "{{\"format\":1,\"lal\":{allowance},\"groups\":[{group},{group}]}}"
+            );
+        }
+        format!(in alloc; "{{\"format\":1,\"lal\":{allowance},\"groups\":[{group}]}}")
+    }
+}

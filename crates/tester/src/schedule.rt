@@ -1,0 +1,311 @@
+//! A random script: tasks that go on by turns, and lines that belong to none.
+
+use crate::dice::Dice;
+use crate::plans::{Plan, Side};
+use crate::tasks::{Answered, Stage, Task};
+use crate::written::{Delivery, Message, Receiver, Written};
+use std::alloc::{AllocError, Global};
+
+/// The most clients of a script.
+const MOST_CLIENTS: u32 = 24;
+
+/// The most tasks at a time.
+const MOST_TASKS: usize = 3;
+
+/// A script in the making.
+#[derive(Drop)]
+pub struct Schedule {
+    pub plan: Plan,
+    pub dice: Dice,
+    pub written: Written,
+    /// How many clients there are.
+    pub clients: u32,
+    /// Those that may be open, in the order of their opening.
+    pub open: Vec<u32>,
+    /// The configuration of each group.
+    pub places: [u8; 2],
+    /// Members in the order in which writes prefer them.
+    favourites: Vec<u8>,
+    /// Messages that weren't delivered in their time.
+    late: Vec<Delivery>,
+    tasks: Vec<Task>,
+    /// How many of 100 messages are lost.
+    loss: usize,
+}
+
+impl Schedule {
+    /// The beginning of a script over this plan.
+    pub fn new(alloc: Global, plan: Plan, mut dice: Dice) -> Result<Schedule, AllocError> {
+        let favourites = dice.shuffled(alloc, &[0, 1, 2, 3, 4, 5, 6, 7])?;
+        let loss = dice.one_of(&[0, 0, 10, 40]).unwrap_or(0);
+        let mut open = Vec::new(alloc);
+        open.push(1)?;
+        Ok(Schedule {
+            plan,
+            dice,
+            written: Written::new(alloc),
+            clients: 1,
+            open,
+            places: [0; 2],
+            favourites,
+            late: Vec::new(alloc),
+            tasks: Vec::new(alloc),
+            loss,
+        })
+    }
+
+    /// Where a group stands.
+    pub fn place(&self, group: u8) -> u8 {
+        let [first, second] = self.places;
+        if group == 0 { first } else { second }
+    }
+
+    /// The members of a group.
+    pub fn members(&self, group: u8) -> &'static [u8] {
+        self.plan.family.members(self.place(group))
+    }
+
+    /// The newest writer.
+    pub fn newest(&self) -> u32 {
+        self.open.last().copied().unwrap_or(1)
+    }
+
+    /// A writer, mostly the newest.
+    pub fn writer(&mut self) -> u32 {
+        if self.dice.chance(85) {
+            return self.newest();
+        }
+        self.dice.one_of(self.open.as_slice()).unwrap_or(1)
+    }
+
+    /// Some of these members, at least as many as do.
+    fn some_of(&mut self, alloc: Global, side: Side) -> Result<Vec<u8>, AllocError> {
+        let mut members = self.dice.shuffled(alloc, side.members)?;
+        let more = members.len().saturating_sub(side.least);
+        let count = self.dice.from(side.least, more.saturating_add(1));
+        members.truncate(count);
+        Ok(members)
+    }
+
+    /// The first of these members that writes prefer, as many as do.
+    fn preferred(&self, alloc: Global, side: Side) -> Result<Vec<u8>, AllocError> {
+        let mut members = Vec::new(alloc);
+        for member in self.favourites.iter() {
+            if members.len() < side.least && side.members.contains(member) {
+                members.push(*member)?;
+            }
+        }
+        Ok(members)
+    }
+
+    /// The members of a group that a write reaches.
+    fn write_reach(&mut self, alloc: Global, group: u8) -> Result<Vec<u8>, AllocError> {
+        let family = self.plan.family;
+        let place = self.place(group);
+        let side = family.write_side(place, &mut self.dice);
+        match self.dice.below(10) {
+            0..=4 => self.dice.shuffled(alloc, family.members(place)),
+            5..=7 => self.preferred(alloc, side),
+            _ => self.some_of(alloc, side),
+        }
+    }
+
+    /// The members of a group that a recovery reads.
+    fn read_reach(&mut self, alloc: Global, group: u8) -> Result<Vec<u8>, AllocError> {
+        let family = self.plan.family;
+        let place = self.place(group);
+        let side = family.read_side(place, &mut self.dice);
+        if self.loss > 0 && self.dice.chance(50) {
+            return self.dice.shuffled(alloc, family.members(place));
+        }
+        self.some_of(alloc, side)
+    }
+
+    /// Has a task send a message to members of a group.
+    pub fn send(
+        &mut self,
+        task: &mut Task,
+        message: (u64, u64),
+        group: u8,
+        members: &[u8],
+    ) -> Result<(), AllocError> {
+        let (line, place) = message;
+        for member in members.iter() {
+            let member = *member;
+            task.deliveries.push(Delivery {
+                line,
+                place,
+                group,
+                member,
+            })?;
+        }
+        Ok(())
+    }
+
+    /// Has a recovery send what a line made, a message a group, to members that read, or that write.
+    pub fn send_each(
+        &mut self,
+        alloc: Global,
+        task: &mut Task,
+        line: u64,
+        reads: bool,
+    ) -> Result<(), AllocError> {
+        self.written.note_each(line, self.plan.groups)?;
+        for group in 0..self.plan.groups {
+            let members = if reads {
+                self.read_reach(alloc, group)?
+            } else {
+                self.write_reach(alloc, group)?
+            };
+            let place = u64::from(group).saturating_add(1);
+            self.send(task, (line, place), group, members.as_slice())?;
+        }
+        Ok(())
+    }
+
+    /// Has a writer send its records, which lie in these groups.
+    pub fn send_records(
+        &mut self,
+        alloc: Global,
+        task: &mut Task,
+        line: u64,
+        groups: &[u8],
+    ) -> Result<(), AllocError> {
+        for group in 0..self.plan.groups {
+            let members = self.write_reach(alloc, group)?;
+            let mut place = 0u64;
+            for other in groups.iter() {
+                place = place.saturating_add(1);
+                if *other == group {
+                    self.written.note(line, place, Receiver::Nodes(group))?;
+                    self.send(task, (line, place), group, members.as_slice())?;
+                }
+            }
+        }
+        Ok(())
+    }
+
+    /// Delivers a message of a task, unless it is lost.
+    fn deliver(
+        &mut self,
+        alloc: Global,
+        task: &mut Task,
+        delivery: Delivery,
+    ) -> Result<(), AllocError> {
+        let loss = self.loss;
+        if self.dice.chance(loss) {
+            self.late.push(delivery)?;
+            return Ok(());
+        }
+        let Delivery { group, member, .. } = delivery;
+        let answer = if task.takes() {
+            Receiver::Client(task.client)
+        } else {
+            Receiver::Nodes(group)
+        };
+        let line = self.written.deliver(alloc, delivery, answer)?;
+        if self.dice.chance(70) {
+            task.forget(group, member);
+        }
+        task.answers.push(Answered {
+            line,
+            group,
+            member,
+        })?;
+        Ok(())
+    }
+
+    /// Has a task's client take an answer, unless it is lost.
+    fn take(&mut self, alloc: Global, client: u32, answer: Answered) -> Result<(), AllocError> {
+        let loss = self.loss / 2;
+        if !self.dice.chance(loss) {
+            self.written.take(alloc, client, answer.line, 1)?;
+        }
+        Ok(())
+    }
+
+    /// The next line of a task.
+    fn go_on(&mut self, alloc: Global, task: &mut Task) -> Result<(), AllocError> {
+        let chosen = self.dice.below(task.deliveries.len());
+        if chosen < task.deliveries.len() {
+            let delivery = task.deliveries.swap_remove(chosen);
+            return self.deliver(alloc, task, delivery);
+        }
+        let chosen = self.dice.below(task.answers.len());
+        if task.takes() && chosen < task.answers.len() {
+            let answer = task.answers.swap_remove(chosen);
+            return self.take(alloc, task.client, answer);
+        }
+        self.next_stage(alloc, task)
+    }
+
+    /// A task that was begun goes on, or a new one begins.
+    fn take_turn(&mut self, alloc: Global) -> Result<(), AllocError> {
+        let chosen = self.dice.below(self.tasks.len());
+        if chosen < self.tasks.len() {
+            let mut task = self.tasks.swap_remove(chosen);
+            self.go_on(alloc, &mut task)?;
+            return self.keep(task);
+        }
+        self.begin(alloc)
+    }
+
+    /// Keeps a task in which something is left to do.
+    pub fn keep(&mut self, task: Task) -> Result<(), AllocError> {
+        if !task.is_done() {
+            self.tasks.push(task)?;
+        }
+        Ok(())
+    }
+
+    /// Begins a task.
+    fn begin(&mut self, alloc: Global) -> Result<(), AllocError> {
+        match self.dice.below(20) {
+            0..=3 if self.clients < MOST_CLIENTS => self.begin_recovery(alloc),
+            4..=5 => self.begin_step(alloc),
+            6..=7 => self.begin_late(alloc),
+            _ => self.begin_write(alloc),
+        }
+    }
+
+    /// Messages that are late are delivered after all.
+    fn begin_late(&mut self, alloc: Global) -> Result<(), AllocError> {
+        let client = self.newest();
+        let mut task = Task::new(alloc, Stage::Finished, client);
+        for _ in 0..8 {
+            let chosen = self.dice.below(self.late.len());
+            if chosen < self.late.len() {
+                task.deliveries.push(self.late.swap_remove(chosen))?;
+            }
+        }
+        self.keep(task)
+    }
+
+    /// Writes a line, or lets one be lost.
+    fn turn(&mut self, alloc: Global) -> Result<(), AllocError> {
+        match self.dice.below(100) {
+            0..=9 if self.tasks.len() < MOST_TASKS => self.begin(alloc),
+            10..=19 => self.stray(alloc),
+            _ => self.take_turn(alloc),
+        }
+    }
+
+    /// A message, mostly a recent one.
+    pub fn any_message(&mut self) -> Option<Message> {
+        let all = self.written.messages.as_slice();
+        let count = all.len();
+        let recent = count.saturating_sub(24);
+        let first = if self.dice.chance(70) { recent } else { 0 };
+        let chosen = self.dice.from(first, count.saturating_sub(first));
+        all.get(chosen).copied()
+    }
+
+    /// Writes the turns of a script, the more of two draws between 30 and 400; each is a line at most.
+    pub fn fill(&mut self, alloc: Global) -> Result<(), AllocError> {
+        let turns = self.dice.from(30, 371).max(self.dice.from(30, 371));
+        for _ in 0..turns {
+            self.turn(alloc)?;
+        }
+        Ok(())
+    }
+}

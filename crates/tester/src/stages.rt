@@ -1,0 +1,186 @@
+//! How tasks begin, and what they do stage by stage.
+
+use crate::schedule::Schedule;
+use crate::tasks::{Stage, Task};
+use crate::written::{Issue, Receiver};
+use std::alloc::{AllocError, Global};
+
+impl Schedule {
+    /// A change by chance, as a script spells it.
+    fn change(&mut self, alloc: Global, group: u8) -> Result<String, AllocError> {
+        let block = self.dice.below(3);
+        let offset = self.dice.below(500);
+        let mut text = format!(in alloc; " {group}:{block}:{offset}:")?;
+        let bytes = self.dice.from(1, 8);
+        for _ in 0..bytes {
+            let byte = self.dice.below(256);
+            write!(text, "{byte:02x}")?;
+        }
+        Ok(text)
+    }
+
+    /// The groups of a transaction's changes.
+    fn groups_of_changes(&mut self, alloc: Global) -> Result<Vec<u8>, AllocError> {
+        let mut groups = Vec::new(alloc);
+        let changes = self.dice.from(1, 4);
+        for _ in 0..changes {
+            let is_second = self.plan.groups == 2 && self.dice.chance(50);
+            groups.push(u8::from(is_second))?;
+        }
+        Ok(groups)
+    }
+
+    /// A writer issues a transaction, and sends its records.
+    pub fn begin_write(&mut self, alloc: Global) -> Result<(), AllocError> {
+        let client = self.writer();
+        let groups = self.groups_of_changes(alloc)?;
+        let mut text = format!(in alloc; "issue {client}")?;
+        for group in groups.iter() {
+            let change = self.change(alloc, *group)?;
+            text.push_str(change.as_str())?;
+        }
+        let line = self.written.put(text.as_str())?;
+        let changes = groups.len() as u64;
+        self.written.issues.push(Issue {
+            line,
+            client,
+            changes,
+        })?;
+        let mut task = Task::new(alloc, Stage::Finished, client);
+        self.send_records(alloc, &mut task, line, groups.as_slice())?;
+        self.keep(task)
+    }
+
+    /// The authority assigns a volume epoch to a recovery.
+    pub fn begin_recovery(&mut self, alloc: Global) -> Result<(), AllocError> {
+        let line = self.written.put("assign")?;
+        self.clients = self.clients.saturating_add(1);
+        let client = self.clients;
+        self.written.note(line, 1, Receiver::Client(client))?;
+        self.keep(Task::new(alloc, Stage::View(line), client))
+    }
+
+    /// A group steps to a child of its configuration.
+    pub fn begin_step(&mut self, alloc: Global) -> Result<(), AllocError> {
+        let group = if self.plan.groups == 2 && self.dice.chance(50) {
+            1
+        } else {
+            0
+        };
+        let children = self.plan.family.children(self.place(group));
+        let Some(child) = self.dice.one_of(children) else {
+            return self.begin_write(alloc);
+        };
+        let line = self.written.of_node(alloc, "advance", group, child)?;
+        self.written.note(line, 1, Receiver::Nodes(group))?;
+        let [first, second] = self.places;
+        self.places = if group == 0 {
+            [child, second]
+        } else {
+            [first, child]
+        };
+        let mut task = Task::new(alloc, Stage::Ask, self.clients);
+        task.group = group;
+        let members = self.members(group);
+        self.send(&mut task, (line, 1), group, members)?;
+        self.keep(task)
+    }
+
+    /// A task has delivered and taken all: it goes on to its next stage.
+    pub fn next_stage(&mut self, alloc: Global, task: &mut Task) -> Result<(), AllocError> {
+        match task.stage {
+            Stage::View(line) => self.be_born(alloc, task, line),
+            Stage::Cut => self.cut(alloc, task),
+            Stage::Open => self.open(alloc, task),
+            Stage::Ask => self.ask(task),
+            Stage::Send => self.copy(task),
+            Stage::Hydrate => self.hydrate(alloc, task),
+            Stage::Refresh => self.refresh(alloc, task),
+            Stage::Learn(line) => self.learn(alloc, task, line),
+            Stage::Finished => Ok(()),
+        }
+    }
+
+    /// A recovery takes its View, and fences members that read.
+    fn be_born(&mut self, alloc: Global, task: &mut Task, view: u64) -> Result<(), AllocError> {
+        let line = self.written.take(alloc, task.client, view, 1)?;
+        task.stage = Stage::Cut;
+        self.send_each(alloc, task, line, true)
+    }
+
+    /// A recovery cuts, and installs what it has found.
+    fn cut(&mut self, alloc: Global, task: &mut Task) -> Result<(), AllocError> {
+        let line = self.written.of_client(alloc, "cut", task.client)?;
+        task.stage = Stage::Open;
+        self.send_each(alloc, task, line, false)
+    }
+
+    /// A recovery opens.
+    fn open(&mut self, alloc: Global, task: &mut Task) -> Result<(), AllocError> {
+        self.written.of_client(alloc, "open", task.client)?;
+        self.open.push(task.client)?;
+        task.stage = Stage::Finished;
+        Ok(())
+    }
+
+    /// A fresh member's question for copies goes to the old members.
+    fn ask(&mut self, task: &mut Task) -> Result<(), AllocError> {
+        let group = task.group;
+        let members = self.members(group);
+        let fresh = self.plan.family.fresh(self.place(group));
+        let asked = task
+            .answers
+            .iter()
+            .find(|a| Some(a.member) == fresh)
+            .copied();
+        task.answers.clear();
+        task.stage = Stage::Send;
+        if let Some(asked) = asked {
+            self.send(task, (asked.line, 1), group, members)?;
+        }
+        Ok(())
+    }
+
+    /// The copies go to the fresh member.
+    fn copy(&mut self, task: &mut Task) -> Result<(), AllocError> {
+        let group = task.group;
+        task.stage = Stage::Hydrate;
+        let Some(fresh) = self.plan.family.fresh(self.place(group)) else {
+            task.answers.clear();
+            return Ok(());
+        };
+        for _ in 0..task.answers.len() {
+            let Some(copy) = task.answers.pop() else {
+                break;
+            };
+            self.send(task, (copy.line, 1), group, &[fresh])?;
+        }
+        Ok(())
+    }
+
+    /// The fresh member becomes whole.
+    fn hydrate(&mut self, alloc: Global, task: &mut Task) -> Result<(), AllocError> {
+        task.answers.clear();
+        task.stage = Stage::Refresh;
+        if let Some(fresh) = self.plan.family.fresh(self.place(task.group)) {
+            self.written.of_node(alloc, "hydrate", task.group, fresh)?;
+        }
+        Ok(())
+    }
+
+    /// The newest client is told of the places.
+    fn refresh(&mut self, alloc: Global, task: &mut Task) -> Result<(), AllocError> {
+        task.client = self.clients;
+        let line = self.written.of_client(alloc, "refresh", task.client)?;
+        self.written.note(line, 1, Receiver::Client(task.client))?;
+        task.stage = Stage::Learn(line);
+        Ok(())
+    }
+
+    /// The newest client takes what it is told.
+    fn learn(&mut self, alloc: Global, task: &mut Task, view: u64) -> Result<(), AllocError> {
+        let line = self.written.take(alloc, task.client, view, 1)?;
+        task.stage = Stage::Finished;
+        self.written.note_each(line, self.plan.groups)
+    }
+}

@@ -1,0 +1,130 @@
+//! Lines that belong to no task: repetitions, restarts, and mistakes.
+
+use crate::schedule::Schedule;
+use crate::tasks::{Stage, Task};
+use crate::written::{Delivery, Receiver};
+use std::alloc::{AllocError, Global};
+
+impl Schedule {
+    /// A group by chance.
+    fn any_group(&mut self) -> u8 {
+        u8::from(self.plan.groups == 2 && self.dice.chance(50))
+    }
+
+    /// A member of a group by chance.
+    fn any_member(&mut self, group: u8) -> u8 {
+        let members = self.members(group);
+        self.dice.one_of(members).unwrap_or(0)
+    }
+
+    /// The number of a record that there may be.
+    fn any_record(&mut self) -> usize {
+        self.dice.from(1, 24)
+    }
+
+    /// A line that belongs to no task.
+    pub fn stray(&mut self, alloc: Global) -> Result<(), AllocError> {
+        match self.dice.below(20) {
+            0..=9 => self.repeat(alloc),
+            10..=11 => self.restart(alloc),
+            12..=13 => self.offer(alloc),
+            14..=15 => self.resend(alloc),
+            16 => self.read(alloc),
+            17 => self.tell(alloc),
+            18 => self.written.wait().map(|_| ()),
+            _ => self.mistake(alloc),
+        }
+    }
+
+    /// A message is delivered or taken once more.
+    fn repeat(&mut self, alloc: Global) -> Result<(), AllocError> {
+        let Some(message) = self.any_message() else {
+            return Ok(());
+        };
+        match message.to {
+            Receiver::Client(client) => {
+                self.written
+                    .take(alloc, client, message.line, message.place)?;
+            }
+            Receiver::Nodes(group) => {
+                let member = self.any_member(group);
+                let delivery = Delivery {
+                    line: message.line,
+                    place: message.place,
+                    group,
+                    member,
+                };
+                let client = self.newest();
+                self.written
+                    .deliver(alloc, delivery, Receiver::Client(client))?;
+            }
+        }
+        Ok(())
+    }
+
+    /// A node starts again.
+    fn restart(&mut self, alloc: Global) -> Result<(), AllocError> {
+        let group = self.any_group();
+        let member = self.any_member(group);
+        self.written.of_node(alloc, "restart", group, member)?;
+        Ok(())
+    }
+
+    /// A node offers a record to its peers.
+    fn offer(&mut self, alloc: Global) -> Result<(), AllocError> {
+        let group = self.any_group();
+        let member = self.any_member(group);
+        let record = self.any_record();
+        let text = format!(in alloc; "offer {group} {member} {record}")?;
+        let line = self.written.put(text.as_str())?;
+        self.written.note(line, 1, Receiver::Nodes(group))
+    }
+
+    /// A writer sends a record again, to all members of a group.
+    fn resend(&mut self, alloc: Global) -> Result<(), AllocError> {
+        let client = self.writer();
+        let group = self.any_group();
+        let record = self.any_record();
+        let text = format!(in alloc; "resend {client} {record}")?;
+        let line = self.written.put(text.as_str())?;
+        self.written.note(line, 1, Receiver::Nodes(group))?;
+        let mut task = Task::new(alloc, Stage::Finished, client);
+        let members = self.members(group);
+        self.send(&mut task, (line, 1), group, members)?;
+        self.keep(task)
+    }
+
+    /// A writer asks for a block.
+    fn read(&mut self, alloc: Global) -> Result<(), AllocError> {
+        let client = self.writer();
+        let group = self.any_group();
+        let block = self.dice.below(3);
+        let text = format!(in alloc; "read {client} {group} {block}")?;
+        let line = self.written.put(text.as_str())?;
+        self.written.note(line, 1, Receiver::Nodes(group))
+    }
+
+    /// A client is told where the groups stand.
+    fn tell(&mut self, alloc: Global) -> Result<(), AllocError> {
+        let client = self.clients;
+        let line = self.written.of_client(alloc, "refresh", client)?;
+        self.keep(Task::new(alloc, Stage::Learn(line), client))
+    }
+
+    /// A line that is wrong on purpose.
+    fn mistake(&mut self, alloc: Global) -> Result<(), AllocError> {
+        let client = self.writer();
+        let line: &str = match self.dice.below(8) {
+            0 => "issue 1 7:0:0:61",
+            1 => "issue 1 0:0:511:6162",
+            2 => "advance 0 9",
+            3 => "advance 9 1",
+            4 => "restart 3 1",
+            5 => "hydrate 0 1",
+            6 => "read 1 0 4294967295",
+            _ => return self.written.of_client(alloc, "open", client).map(|_| ()),
+        };
+        self.written.put(line)?;
+        Ok(())
+    }
+}

@@ -1,0 +1,119 @@
+//! One run of a seed: a plan, a script, and what is said of them.
+
+use crate::broken::Broken;
+use crate::dice::Dice;
+use crate::fleets::{check_alike, check_fleet};
+use crate::judge::{Shown, check_run};
+use crate::outcome::Outcome;
+use crate::plans::Plan;
+use crate::said::{fleet, run, say};
+use crate::schedule::Schedule;
+use crate::written::Written;
+use std::alloc::{AllocError, Global};
+use std::sync::Wait;
+use std::thread::Threads;
+
+/// The plan and the script of a seed.
+#[derive(Drop)]
+pub struct Trial {
+    pub plan: String,
+    pub script: Written,
+}
+
+/// What many runs have shown.
+#[derive(Clone, Copy, Debug, PartialEq, Eq)]
+pub struct Counts {
+    pub runs: u64,
+    /// Events that weren't refused.
+    pub events: u64,
+    /// Transactions that are acknowledged: at or below their writer's durable point.
+    pub acknowledged: u64,
+    /// Pairs of a writer and a later recovery that were compared.
+    pub finds: u64,
+}
+
+impl Counts {
+    /// Nothing was run yet.
+    pub fn new() -> Counts {
+        Counts {
+            runs: 0,
+            events: 0,
+            acknowledged: 0,
+            finds: 0,
+        }
+    }
+
+    /// Adds a run.
+    fn add(&mut self, events: u64, shown: Shown) {
+        self.runs = self.runs.saturating_add(1);
+        self.events = self.events.saturating_add(events);
+        self.acknowledged = self.acknowledged.saturating_add(shown.acknowledged);
+        self.finds = self.finds.saturating_add(shown.finds);
+    }
+}
+
+impl Trial {
+    /// The plan and the script of this seed.
+    pub fn new(alloc: Global, seed: u64) -> Result<Trial, AllocError> {
+        let mut dice = Dice::new(seed);
+        let plan = Plan::draw(&mut dice);
+        let text = plan.text(alloc)?;
+        let mut schedule = Schedule::new(alloc, plan, dice)?;
+        schedule.fill(alloc)?;
+        Ok(Trial {
+            plan: text,
+            script: schedule.written,
+        })
+    }
+
+    /// How many events a fleet counts.
+    fn events(&self) -> u64 {
+        self.script.lines.saturating_sub(self.script.waits)
+    }
+
+    /// Runs the script on threads by so many drivers, and judges what is said.
+    fn try_fleet<H: Threads + Wait + Sync>(
+        &self,
+        rt: &H,
+        alloc: Global,
+        run: Option<&Outcome>,
+    ) -> Result<(), Broken> {
+        let drivers: u8 = if run.is_some() { 1 } else { 4 };
+        let plan = self.plan.as_str();
+        let said = say(rt, alloc, &fleet(drivers), plan, self.script.text.as_str());
+        let fleet = said.outcome(alloc, "fleet")?;
+        check_fleet(&said, &fleet, drivers, self.events())?;
+        match run {
+            Some(run) => check_alike(run, &fleet),
+            None => Ok(()),
+        }
+    }
+
+    /// Runs the script, judges what is said, and counts it; on several drivers too where that is wanted.
+    pub fn try_all<H: Threads + Wait + Sync>(
+        &self,
+        rt: &H,
+        alloc: Global,
+        several: bool,
+        counts: &mut Counts,
+    ) -> Result<(), Broken> {
+        let plan = self.plan.as_str();
+        let said = say(rt, alloc, &run(), plan, self.script.text.as_str());
+        let outcome = said.outcome(alloc, "run")?;
+        let shown = check_run(
+            alloc,
+            &outcome,
+            self.script.lines,
+            self.script.issues.as_slice(),
+        )?;
+        if (said.status == 0) != (outcome.refusals() == 0) {
+            return Err(Broken::Strange("run"));
+        }
+        self.try_fleet(rt, alloc, Some(&outcome))?;
+        if several {
+            self.try_fleet(rt, alloc, None)?;
+        }
+        counts.add(outcome.happened(), shown);
+        Ok(())
+    }
+}

@@ -1,0 +1,145 @@
+//! The text of a script as it grows, and what may be named in it.
+
+use std::alloc::{AllocError, Global};
+
+/// Who takes a message.
+#[derive(Clone, Copy)]
+pub enum Receiver {
+    /// The nodes of a group.
+    Nodes(u8),
+    /// The client of a volume epoch.
+    Client(u32),
+}
+
+/// A message that a line may have made.
+#[derive(Clone, Copy)]
+pub struct Message {
+    pub line: u64,
+    /// Which of the line's messages it is, from 1.
+    pub place: u64,
+    pub to: Receiver,
+}
+
+/// A message that a node is to take.
+#[derive(Clone, Copy)]
+pub struct Delivery {
+    pub line: u64,
+    pub place: u64,
+    pub group: u8,
+    pub member: u8,
+}
+
+/// A line that asks for a transaction.
+#[derive(Clone, Copy)]
+pub struct Issue {
+    pub line: u64,
+    pub client: u32,
+    pub changes: u64,
+}
+
+/// A script, and what its lines may have made.
+#[derive(Drop)]
+pub struct Written {
+    pub text: String,
+    /// How many lines it has.
+    pub lines: u64,
+    /// How many of them are a `wait`.
+    pub waits: u64,
+    pub issues: Vec<Issue>,
+    pub messages: Vec<Message>,
+}
+
+impl Written {
+    /// An empty script.
+    pub fn new(alloc: Global) -> Written {
+        Written {
+            text: String::new(alloc),
+            lines: 0,
+            waits: 0,
+            issues: Vec::new(alloc),
+            messages: Vec::new(alloc),
+        }
+    }
+
+    /// Adds a line, and gives its number.
+    pub fn put(&mut self, line: &str) -> Result<u64, AllocError> {
+        self.text.push_str(line)?;
+        self.text.push('\n')?;
+        self.lines = self.lines.saturating_add(1);
+        Ok(self.lines)
+    }
+
+    /// Notes a message.
+    pub fn note(&mut self, line: u64, place: u64, to: Receiver) -> Result<(), AllocError> {
+        self.messages.push(Message { line, place, to })?;
+        Ok(())
+    }
+
+    /// Notes a message for each of so many groups.
+    pub fn note_each(&mut self, line: u64, groups: u8) -> Result<(), AllocError> {
+        for group in 0..groups {
+            self.note(
+                line,
+                u64::from(group).saturating_add(1),
+                Receiver::Nodes(group),
+            )?;
+        }
+        Ok(())
+    }
+
+    /// Delivers a message to a node; whom its answer is for is given.
+    pub fn deliver(
+        &mut self,
+        alloc: Global,
+        delivery: Delivery,
+        answer: Receiver,
+    ) -> Result<u64, AllocError> {
+        let Delivery {
+            line,
+            place,
+            group,
+            member,
+        } = delivery;
+        let text = format!(in alloc; "deliver {group} {member} {line}.{place}")?;
+        let number = self.put(text.as_str())?;
+        self.note(number, 1, answer)?;
+        Ok(number)
+    }
+
+    /// A client takes a message.
+    pub fn take(
+        &mut self,
+        alloc: Global,
+        client: u32,
+        line: u64,
+        place: u64,
+    ) -> Result<u64, AllocError> {
+        let text = format!(in alloc; "take {client} {line}.{place}")?;
+        self.put(text.as_str())
+    }
+
+    /// A line of a word and a client.
+    pub fn of_client(&mut self, alloc: Global, word: &str, client: u32) -> Result<u64, AllocError> {
+        let text = format!(in alloc; "{word} {client}")?;
+        self.put(text.as_str())
+    }
+
+    /// A line of a word, a group and a member.
+    pub fn of_node(
+        &mut self,
+        alloc: Global,
+        word: &str,
+        group: u8,
+        member: u8,
+    ) -> Result<u64, AllocError> {
+        let text = format!(in alloc; "{word} {group} {member}")?;
+        self.put(text.as_str())
+    }
+
+    /// A line that does nothing.
+    pub fn wait(&mut self) -> Result<u64, AllocError> {
+        let number = self.put("wait")?;
+        self.waits = self.waits.saturating_add(1);
+        Ok(number)
+    }
+}
