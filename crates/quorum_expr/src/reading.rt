@@ -8,7 +8,7 @@ ghost use Rattle.volume_model.specs.Formula.{member, each_once};
 ghost use Rattle.volume_model.specs.Sets.{listed};
 ghost use Rattle.quorum_expr.specs.Expr.{formula_of};
 ghost use Rattle.quorum_expr.specs.Valid.{good_count, nodes, row_nodes, expression_fault};
-ghost use Rattle.quorum_expr.specs.Forms.{child_list, form_data, formulas_of};
+ghost use Rattle.quorum_expr.specs.Forms.{child_list, form_data, formulas_of, WeighOnce};
 ghost use Rattle.quorum_expr.specs.Reading.{at_key, whole_of, child_list_of, choice_of, form_of, children_at, formula_from, formula_at, expression_in};
 
 use crate::expression::Expr;
@@ -89,14 +89,15 @@ fn each_member(
     alloc: Global,
     members: MemberSet,
     room: &mut u32,
-) -> Result<Vec<Expr<Global>>, Fault>
+) -> Result<Vec<(u8, Expr<Global>)>, Fault>
     ensures read { Gives (λ v. formulas_of v.items) result (Ok (map member (listed members))) }
+    ensures once { IfOk result (λ v. WeighOnce v.items) }
     ensures counted { IfOk result (λ v. room.new ≡ room.old - row_nodes (each_once (formulas_of v.items))) }
 {
     let mut of = Vec::new(alloc);
     for m in 0..MEMBERS {
         if members.contains(m) {
-            of.push(Expr::Member(m))?;
+            of.push((1, Expr::Member(m)))?;
             *room = room.saturating_sub(1);
         }
     }
@@ -147,7 +148,7 @@ fn tree_of_form(
             }
             *room = room.saturating_sub(1);
             let of = child_trees(alloc, lists, left, list, room)?;
-            Ok(Expr::KOf { k: *k as u8, of })
+            Ok(Expr::KOf { k: *k as u16, of })
         }
     }
 }
@@ -159,8 +160,9 @@ fn child_trees(
     left: u8,
     list: &Children<'_>,
     room: &mut u32,
-) -> Result<Vec<Expr<Global>>, Fault>
+) -> Result<Vec<(u8, Expr<Global>)>, Fault>
     ensures read { Gives (λ v. formulas_of v.items) result (children_at lists.now left (formula_at lists.now left) (child_list list.now)) }
+    ensures once { IfOk result (λ v. WeighOnce v.items) }
     ensures counted { IfOk result (λ v. room.new ≡ room.old - row_nodes (each_once (formulas_of v.items))) }
 {
     match list {
@@ -173,7 +175,7 @@ fn child_trees(
         Children::Each(values) => {
             let mut of = Vec::new(alloc);
             'children: for value in *values {
-                of.push(tree(alloc, lists, left, value, room)?)?;
+                of.push((1, tree(alloc, lists, left, value, room)?))?;
             }
             Ok(of)
         }
