@@ -55,13 +55,13 @@ returns-after-loop-child-clause-counted g t c =
 pub returns-then-not-is_good_choice-clause-fault : goal.returns-then-not-is_good_choice-clause-fault
 returns-then-not-is_good_choice-clause-fault g t c =
     let bad : c.is_good_choice.result ≡ false = search rules in
-    no_choice c.args.expr.now c.in-KOf.k c.in-KOf.of c.as_slice.result.now c.args.levels c.if-levels-eq0.false c.in-KOf.is c.as_slice.ensures (sym c.is_good_choice.ensures ∙ bad)
+    no_choice c.args.expr.now c.in-KOf.k c.in-KOf.of c.as_slice.result.now c.args.levels c.if-levels-eq0.false c.in-KOf.is c.as_slice.ensures.value (sym c.is_good_choice.ensures ∙ bad)
 
 pub returns-in-Some-clause-fault : goal.returns-in-Some-clause-fault
 returns-in-Some-clause-fault g t c =
     let good : c.is_good_choice.result ≡ true = search rules in
     let choice : good_choice c.in-KOf.k (weighed formula_of c.deref-child-items.result.now) ≡ true =
-    ap (λ ys. good_choice c.in-KOf.k (weighed formula_of ys)) (c.deref-child-items.ensures.value ∙ sym c.as_slice.ensures) ∙ sym c.is_good_choice.ensures ∙ good in
+    ap (λ ys. good_choice c.in-KOf.k (weighed formula_of ys)) (c.deref-child-items.ensures.value ∙ sym c.as_slice.ensures.value) ∙ sym c.is_good_choice.ensures ∙ good in
     let row : row_fault (weighed formula_of c.deref-child-items.result.now) (c.args.levels - 1) ≡ Some c.in-Some.fault =
     sym c.loop-child.invariant.fault ∙ row_step c.deref-child-items.result.now c.loop-child.child-index (c.args.levels - 1) c.loop-child-item.result c.loop-child-test.true c.loop-child-item.is
     ∙ ap (λ o. or_then o (row_fault (weighed formula_of (drop (c.loop-child.child-index + 1) c.deref-child-items.result.now)) (c.args.levels - 1))) (sym c.fault_within.ensures.fault ∙ c.in-Some.is) in
@@ -71,6 +71,6 @@ pub returns-after-loop-child-clause-fault : goal.returns-after-loop-child-clause
 returns-after-loop-child-clause-fault g t c =
     let good : c.is_good_choice.result ≡ true = search rules in
     let choice : good_choice c.in-KOf.k (weighed formula_of c.deref-child-items.result.now) ≡ true =
-    ap (λ ys. good_choice c.in-KOf.k (weighed formula_of ys)) (c.deref-child-items.ensures.value ∙ sym c.as_slice.ensures) ∙ sym c.is_good_choice.ensures ∙ good in
+    ap (λ ys. good_choice c.in-KOf.k (weighed formula_of ys)) (c.deref-child-items.ensures.value ∙ sym c.as_slice.ensures.value) ∙ sym c.is_good_choice.ensures ∙ good in
     row-is c.args.expr.now c.in-KOf.k c.in-KOf.of c.deref-child-items.result.now c.args.levels None c.if-levels-eq0.false c.in-KOf.is c.deref-child-items.ensures.value choice
     (sym c.loop-child.invariant.fault ∙ row_done c.deref-child-items.result.now c.loop-child.child-index (c.args.levels - 1) c.loop-child-test.false)
