@@ -11,6 +11,7 @@ mod plans;
 mod said;
 mod schedule;
 mod stages;
+mod stragglers;
 mod strays;
 mod tasks;
 mod trial;

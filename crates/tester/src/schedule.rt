@@ -300,8 +300,12 @@ impl Schedule {
         all.get(chosen).copied()
     }
 
-    /// Writes the turns of a script, the more of two draws between 30 and 400; each is a line at most.
+    /// Writes a script: one in three begins by a write that arrives late, where the plan has a step; then come its turns, the
+    /// more of two draws between 30 and 400, each of which is a line at most.
     pub fn fill(&mut self, alloc: Global) -> Result<(), AllocError> {
+        if self.dice.chance(33) {
+            self.straggle(alloc)?;
+        }
         let turns = self.dice.from(30, 371).max(self.dice.from(30, 371));
         for _ in 0..turns {
             self.turn(alloc)?;
