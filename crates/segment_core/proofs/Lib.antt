@@ -1,5 +1,4 @@
 pub mod Rises
-pub mod Numbered
 pub mod Sets
 pub mod BlockLists
 pub mod Reaching

@@ -38,16 +38,3 @@ taken-all packets n past = take-past n (map packet_redo packets) (simp length-ma
     take-past (suc n) [] h = refl
     take-past zero (x ∷ xs) h = absurd (omega arith)
     take-past (suc n) (x ∷ xs) h = ap (λ ys. x ∷ ys) (take-past n xs (omega arith))
-
-insert-end : {A : Type 0} (xs : List A) (x : A) → insert xs (length xs) x ≡ xs ++ x ∷ []
-insert-end [] x = refl
-insert-end (y ∷ ys) x = ap (λ zs. y ∷ zs) (insert-end ys x)
-
--- a record that comes after all others would stand at the end
-pub place-after : (records : List Redo) (r : Redo) → ComesAfter records r → IsPlaceFor records r (length records)
-unfolding IsBefore
-place-after records r last = record {
-  within = omega arith;
-  new = ap (holds_record r) (sym (append-nil records)) ∙ (with_record-last r records last).1;
-  joins = with_record-after r records last ∙ sym (insert-end records r);
-}

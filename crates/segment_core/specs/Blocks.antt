@@ -3,12 +3,12 @@ use Rattle.std.specs.Prelude.{◌≡◌, ℕ, ◌==◌, List, [], filter, Option
 use Rattle.std.specs.Ordering.{nat_cmp}
 use Rattle.std.specs.BTreeMap.{get}
 use Rattle.volume_model.specs.Redo.{Redo}
-use Rattle.segment_core.specs.declared.ordered.Ordered.{Ordered}
+use Rattle.segment_core.specs.declared.block_list.BlockList.{BlockList}
 use Rattle.segment_core.specs.declared.blocks.Blocks.{Blocks}
-use Rattle.segment_core.specs.Ordered.{redos_in, HasRoomInside}
+use Rattle.segment_core.specs.BlockList.{redos_in, HasRoomInside}
 
 -- the records of a list, none where there is no list
-abbrev pub listed : Option Ordered → List Redo
+abbrev pub listed : Option BlockList → List Redo
 listed None = []
 listed (Some list) = redos_in list
 
@@ -25,7 +25,7 @@ abbrev pub AreBlocksOf : List Redo → Blocks → Type 0
 AreBlocksOf records blocks = (b : ℕ) → block_records blocks b ≡ of_block b records
 
 -- the list is there and has room for one more
-abbrev pub IsRoomy : Option Ordered → Type 0
+abbrev pub IsRoomy : Option BlockList → Type 0
 IsRoomy None = ⊥
 IsRoomy (Some list) = HasRoomInside list
 

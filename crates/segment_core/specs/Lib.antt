@@ -1,4 +1,5 @@
 pub mod Ordered
+pub mod BlockList
 pub mod Blocks
 pub mod Link
 pub mod Records

@@ -2,10 +2,9 @@
 use Rattle.std.specs.Prelude.{◌≡◌, List}
 use Rattle.volume_model.specs.Redo.{Redo}
 use Rattle.redo_record.specs.Packet.{packet_redo}
-use Rattle.redo_record.specs.Places.{IsPlaceFor}
 use Rattle.segment_core.specs.declared.entrant.Entrant.{Entrant}
 use Rattle.segment_core.specs.declared.records.Records.{Records}
-use Rattle.segment_core.specs.Ordered.{redos_in, HasRoomInside}
+use Rattle.segment_core.specs.Ordered.{redos_in, HasRoomFor, StandsAt}
 use Rattle.segment_core.specs.Blocks.{HasRoomAt}
 use Rattle.segment_core.specs.Link.{CanTie, IsLinkOf}
 
@@ -15,8 +14,8 @@ records_of records = redos_in records.ordered
 
 -- The record is none of these, its place and its link are right, and there is room for it everywhere.
 pub record CanEnter (records : Records) (entrant : Entrant) : Type 0 where
-  pub place : IsPlaceFor (records_of records) (packet_redo entrant.packet) entrant.place
-  pub room : HasRoomInside records.ordered
+  pub place : StandsAt entrant.place records.ordered (packet_redo entrant.packet)
+  pub room : HasRoomFor entrant.place records.ordered
   pub same : packet_redo entrant.of_block ≡ packet_redo entrant.packet
   pub room_of_block : HasRoomAt (packet_redo entrant.packet).block records.blocks
   pub room_of_chains : CanTie entrant.link records.chains (packet_redo entrant.packet)

@@ -1,6 +1,6 @@
 //! The packets of each block.
 
-use crate::ordered::Ordered;
+use crate::block_list::BlockList;
 use redo_record::Packet;
 use std::alloc::{AllocError, Global};
 use std::collections::BTreeMap;
@@ -8,7 +8,7 @@ use std::collections::BTreeMap;
 /// Under each block the packets of its records, in order.
 #[derive(Drop)]
 pub struct Blocks {
-    lists: BTreeMap<u32, Ordered>,
+    lists: BTreeMap<u32, BlockList>,
 }
 
 impl Blocks {
@@ -47,7 +47,7 @@ impl Blocks {
         match self.lists.get_mut(&block) {
             Some(list) => list.make_room(),
             None => {
-                let mut list = Ordered::new(alloc);
+                let mut list = BlockList::new(alloc);
                 list.make_room()?;
                 self.lists.insert(block, list)?;
                 Ok(())

@@ -2,6 +2,7 @@
 
 use chains::Chains;
 use redo_record::Packet;
+use runs::Place;
 
 /// What a record that enters does to the chains.
 #[derive(Drop)]
@@ -17,7 +18,7 @@ pub enum Link {
 /// A record that is made ready to enter: where it will stand, and what it does to the chains.
 #[derive(Drop)]
 pub struct Entrant {
-    pub place: usize,
+    pub place: Place,
     pub packet: Packet,
     /// The same record, for the list of its block.
     pub of_block: Packet,

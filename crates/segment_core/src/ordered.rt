@@ -1,36 +1,36 @@
 //! Packets in order.
 
-ghost use Rattle.std.specs.Prelude.{map};
-ghost use Rattle.redo_record.specs.Order.{IsInOrder};
-ghost use Rattle.redo_record.specs.Packet.{packet_redo};
+ghost use Rattle.runs.specs.Runs.{records_of as records_in};
 ghost use Rattle.segment_core.specs.Told.{TellsAll};
 
 use redo_record::{Packet, RecordSet};
+use runs::{Place, Runs};
 use std::alloc::{AllocError, Global};
 
 /// Packets in the order of their records' bytes, each once.
 #[derive(Drop)]
 pub struct Ordered {
-    packets: Vec<Packet>,
+    runs: Runs,
     /// The set of them all that was told last, where none has come since.
     told: Option<RecordSet>,
-    ghost in_order: { IsInOrder (map packet_redo packets.items) },
-    ghost tells: { ∥ TellsAll told (map packet_redo packets.items) ∥₁ },
+    ghost tells: { ∥ TellsAll told (records_in runs) ∥₁ },
 }
 
 impl Ordered {
-    ghost use Rattle.std.specs.Prelude.{◌≡◌, ◌≤◌, [], length, IfOk, OnOk, MatchOption, option_map};
+    ghost use Rattle.std.specs.Prelude.{◌≡◌, [], length, IfOk, OnOk, MatchOption, option_map};
     ghost use Rattle.volume_model.specs.Redo.{record_at, with_record};
-    ghost use Rattle.redo_record.specs.Places.{IsHeldIn, IsPlaceFor};
+    ghost use Rattle.redo_record.specs.Packet.{packet_redo};
+    ghost use Rattle.redo_record.specs.Places.{IsHeldIn};
     ghost use Rattle.redo_record.specs.RecordSet.{records_of};
-    ghost use Rattle.segment_core.specs.Ordered.{redos_in, of_number, HasRoomInside, IsCountBefore};
+    ghost use Rattle.runs.specs.Runs.{runs_of};
+    ghost use Rattle.segment_core.specs.Ordered.{redos_in, HasRoomFor, StandsAt};
 
     /// No packet.
     pub fn new(alloc: Global) -> Ordered
         ensures { redos_in result ≡ [] }
     {
         Ordered {
-            packets: Vec::new(alloc),
+            runs: Runs::new(alloc),
             told: None,
         }
     }
@@ -39,112 +39,61 @@ impl Ordered {
     pub fn len(&self) -> usize
         ensures { result ≡ length (redos_in self.now) }
     {
-        self.packets.len()
+        self.runs.len()
     }
 
-    /// The packets, in their order.
-    pub fn as_slice(&self) -> &[Packet]
-        ensures { map packet_redo result.now ≡ redos_in self.now }
+    /// The packets in their runs.
+    pub fn runs(&self) -> &Runs
+        ensures { result.now ≡ self.now.runs }
     {
-        self.packets.as_slice()
-    }
-
-    /// A set of the records. Fails for want of memory alone.
-    fn collected(&self, alloc: Global) -> Result<RecordSet, AllocError>
-        ensures { IfOk result (λ set. records_of set ≡ redos_in self.now) }
-    {
-        let mut set = RecordSet::with_capacity(alloc, self.packets.len())?;
-        set.extend_from_slice(self.packets.as_slice())?;
-        Ok(set)
+        &self.runs
     }
 
     /// The set of the records, which is shared with later calls until a record comes. Fails for want of memory alone.
     pub fn to_set(&mut self, alloc: Global) -> Result<RecordSet, AllocError>
         ensures set { IfOk result (λ set. records_of set ≡ redos_in self.new) }
-        ensures same { redos_in self.new ≡ redos_in self.old }
+        ensures same { self.new.runs ≡ self.old.runs }
     {
         if let Some(set) = &self.told {
             return set.clone();
         }
-        let set = self.collected(alloc)?;
+        let set = self.runs.to_set(alloc)?;
         self.told = Some(set.clone()?);
         Ok(set)
-    }
-
-    /// The packets with this number.
-    pub fn of_number(&self, number: u64) -> &[Packet]
-        ensures { map packet_redo result.now ≡ of_number number (redos_in self.now) }
-    {
-        let from = self.packets.partition_point(|packet| packet.lsn() < number);
-        let rest = &self.packets[from..];
-        let count = rest.partition_point(|packet| packet.lsn() <= number);
-        &rest[..count]
     }
 
     /// The first packet with this number.
     pub fn first_of(&self, number: u64) -> Option<&Packet>
         ensures { option_map (λ packet. packet_redo packet.now) result ≡ record_at (redos_in self.now) number }
     {
-        self.of_number(number).first()
-    }
-
-    /// How many packets come before this one: often all of them.
-    fn count_before(&self, packet: &Packet) -> usize
-        ensures bound { result ≤ length (redos_in self.now) }
-        ensures split { IsCountBefore self.now (packet_redo packet.now) result }
-    {
-        if let Some(last) = self.packets.last() {
-            if last.is_before(packet) {
-                return self.packets.len();
-            }
-        }
-        self.packets
-            .partition_point(|other| other.is_before(packet))
+        self.runs.record_at(number)
     }
 
     /// Where the record would stand, `None` where it is there already.
-    pub fn place_for(&self, packet: &Packet) -> Option<usize>
-        ensures { MatchOption result (IsHeldIn (redos_in self.now) (packet_redo packet.now)) (λ place. IsPlaceFor (redos_in self.now) (packet_redo packet.now) place) }
+    pub fn place_for(&self, packet: &Packet) -> Option<Place>
+        ensures { MatchOption result (IsHeldIn (redos_in self.now) (packet_redo packet.now)) (λ place. StandsAt place self.now (packet_redo packet.now)) }
     {
-        let place = self.count_before(packet);
-        if place == self.packets.len() {
-            return Some(place);
-        }
-        if packet.is_same(&self.packets[place]) {
-            None
-        } else {
-            Some(place)
-        }
+        self.runs.place_for(packet)
     }
 
-    /// Makes room for one more packet.
+    /// Makes room for one more packet in this place.
     ///
     /// # Errors
     /// Where a growth was refused; then nothing has changed.
-    pub fn make_room(&mut self) -> Result<(), AllocError>
-        ensures room { OnOk result (HasRoomInside self.new) }
-        ensures same { redos_in self.new ≡ redos_in self.old }
+    pub fn make_room(&mut self, alloc: Global, place: Place) -> Result<(), AllocError>
+        ensures room { OnOk result (HasRoomFor place self.new) }
+        ensures same { runs_of self.new.runs ≡ runs_of self.old.runs }
     {
-        self.packets.reserve(1)
+        self.runs.make_room(alloc, place)
     }
 
     /// Takes a packet into its place.
-    pub fn insert(&mut self, place: usize, packet: Packet)
-        requires room { HasRoomInside self.old }
-        requires place { IsPlaceFor (redos_in self.old) (packet_redo packet) place }
+    pub fn insert(&mut self, place: Place, packet: Packet)
+        requires room { HasRoomFor place self.old }
+        requires place { StandsAt place self.old (packet_redo packet) }
         ensures { redos_in self.new ≡ with_record (packet_redo packet) (redos_in self.old) }
     {
         self.told = None;
-        self.packets.insert(place, packet).unwrap();
-    }
-
-    /// Takes a packet into its place, where it isn't there.
-    pub fn add(&mut self, packet: Packet)
-        requires { HasRoomInside self.old }
-        ensures { redos_in self.new ≡ with_record (packet_redo packet) (redos_in self.old) }
-    {
-        if let Some(place) = self.place_for(&packet) {
-            self.insert(place, packet);
-        }
+        self.runs.insert(place, packet);
     }
 }

@@ -11,6 +11,7 @@ use crate::ordered::Ordered;
 use chains::Chains;
 use pages::{BLOCK, page_of};
 use redo_record::{Packet, RecordSet};
+use runs::Place;
 use std::alloc::{AllocError, Global};
 
 /// The records that a segment holds, each once, in the order of their bytes, how far they hang together, and which are of
@@ -29,11 +30,11 @@ impl Records {
     ghost use Rattle.volume_model.specs.Redo.{record_at, scl, with_record};
     ghost use Rattle.volume_model.specs.Node.{page_of};
     ghost use Rattle.redo_record.specs.Packet.{packet_redo};
-    ghost use Rattle.redo_record.specs.Order.{ComesAfter};
-    ghost use Rattle.redo_record.specs.Places.{IsHeldIn, IsPlaceFor};
+    ghost use Rattle.redo_record.specs.Places.{IsHeldIn};
     ghost use Rattle.redo_record.specs.RecordSet as sets;
     ghost use Rattle.chains.specs.Waiting.{is_reached};
     ghost use Rattle.segment_core.specs.Link.{CanTie, IsLinkOf};
+    ghost use Rattle.segment_core.specs.Ordered.{StandsAt};
     ghost use Rattle.segment_core.specs.Records.{records_of, CanEnter};
 
     /// No record.
@@ -95,8 +96,8 @@ impl Records {
     }
 
     /// Where the record would stand, `None` where it is held already.
-    pub fn place_for(&self, packet: &Packet) -> Option<usize>
-        ensures { MatchOption result (IsHeldIn (records_of self.now) (packet_redo packet.now)) (λ place. IsPlaceFor (records_of self.now) (packet_redo packet.now) place) }
+    pub fn place_for(&self, packet: &Packet) -> Option<Place>
+        ensures { MatchOption result (IsHeldIn (records_of self.now) (packet_redo packet.now)) (λ place. StandsAt place self.now.ordered (packet_redo packet.now)) }
     {
         self.ordered.place_for(packet)
     }
@@ -108,10 +109,16 @@ impl Records {
         if number == 0 || number == self.chains.point() {
             return true;
         }
-        for packet in self.ordered.of_number(number) {
+        let runs = self.ordered.runs();
+        let mut place = runs.first_at_least(number);
+        while let Some(packet) = runs.get(place) {
+            if packet.lsn() != number {
+                return false;
+            }
             if !self.chains.is_waited_for(packet.prev_group()) {
                 return true;
             }
+            place = runs.next(place);
         }
         false
     }
@@ -142,15 +149,15 @@ impl Records {
     pub fn prepare(
         &mut self,
         alloc: Global,
-        place: usize,
+        place: Place,
         packet: &Packet,
     ) -> Result<Entrant, AllocError>
-        requires { IsPlaceFor (records_of self.old) (packet_redo packet.now) place }
+        requires { StandsAt place self.old.ordered (packet_redo packet.now) }
         ensures ready { IfOk result (λ entrant. CanEnter self.new entrant) }
         ensures packet { IfOk result (λ entrant. packet_redo entrant.packet ≡ packet_redo packet.now) }
         ensures same { records_of self.new ≡ records_of self.old }
     {
-        self.ordered.make_room()?;
+        self.ordered.make_room(alloc, place)?;
         self.blocks.make_room(alloc, packet.record().block)?;
         let link = self.link(alloc, packet)?;
         Ok(Entrant {
@@ -185,17 +192,17 @@ impl Records {
         self.ordered.insert(place, packet);
     }
 
-    /// Takes a record that comes after all others.
+    /// Takes a record up, where it isn't held.
     ///
     /// # Errors
     /// Where a growth was refused.
     fn push(&mut self, alloc: Global, packet: &Packet) -> Result<(), AllocError>
-        requires { ComesAfter (records_of self.old) (packet_redo packet.now) }
         ensures { OnOk result (records_of self.new ≡ with_record (packet_redo packet.now) (records_of self.old)) }
     {
-        let place = self.len();
-        let entrant = self.prepare(alloc, place, packet)?;
-        self.enter(entrant);
+        if let Some(place) = self.place_for(packet) {
+            let entrant = self.prepare(alloc, place, packet)?;
+            self.enter(entrant);
+        }
         Ok(())
     }
 }

@@ -8,11 +8,6 @@ use Rattle.segment_core.specs.Records.{records_of}
 use Rattle.segment_core.proofs.Sets.{after-earlier, taken-more}
 use Rattle.segment_core.proofs.records.Records.from_set.Goals as goal
 
-pub push-requires : goal.push-requires
-push-requires c =
-    let order : IsInOrder (map packet_redo c.as_slice-packet-items.result.now) = subst IsInOrder (sym c.as_slice-packet-items.ensures.records) c.as_slice-packet-items.ensures.in_order in
-    subst (λ (rs : List Redo). ComesAfter rs (packet_redo c.packet-item.result)) (sym c.loop-packet.invariant) (after-earlier c.as_slice-packet-items.result.now c.loop-packet.packet-index c.packet-item.result c.loop-packet-test.true c.packet-item.is order)
-
 pub loop-packet-preserved : goal.loop-packet-preserved
 loop-packet-preserved c =
     let items : List Packet = c.as_slice-packet-items.result.now in

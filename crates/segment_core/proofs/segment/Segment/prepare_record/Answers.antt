@@ -36,7 +36,7 @@ pub returns-clause-step : goal.returns-clause-step
 returns-clause-step c =
     let node : Node = node_of c.args.self.now in
     let r : Redo = packet_redo c.args.packet.now in
-    let place : IsPlaceFor node.contents.records r c.in-Some.place = c.in-Some.ensures in
+    let place : IsPlaceFor node.contents.records r _ = c.in-Some.ensures.stands in
     let told : lineage_epoch node ≡ c.args.label.volume = omega arith in
     let few : length node.contents.records < most_records = omega arith in
     let fits : (not (holds_record r node.contents.records) && nat_le most_records (length node.contents.records)) ≡ false = ap (λ b. not b && nat_le most_records (length node.contents.records)) place.new ∙ lt-leb most_records (length node.contents.records) few in
@@ -50,7 +50,7 @@ pub returns-in_err-acknowledged-2-clause-step : goal.returns-in_err-acknowledged
 returns-in_err-acknowledged-2-clause-step c =
     let node : Node = node_of c.args.self.now in
     let r : Redo = packet_redo c.args.packet.now in
-    let place : IsPlaceFor node.contents.records r c.in-Some.place = c.in-Some.ensures in
+    let place : IsPlaceFor node.contents.records r _ = c.in-Some.ensures.stands in
     let told : lineage_epoch node ≡ c.args.label.volume = omega arith in
     let few : length node.contents.records < most_records = omega arith in
     let fits : (not (holds_record r node.contents.records) && nat_le most_records (length node.contents.records)) ≡ false = ap (λ b. not b && nat_le most_records (length node.contents.records)) place.new ∙ lt-leb most_records (length node.contents.records) few in

@@ -1,0 +1,97 @@
+//! The packets of one block.
+
+ghost use Rattle.std.specs.Prelude.{map};
+ghost use Rattle.redo_record.specs.Order.{IsInOrder};
+ghost use Rattle.redo_record.specs.Packet.{packet_redo};
+
+use redo_record::Packet;
+use std::alloc::{AllocError, Global};
+
+/// Packets of one block in the order of their records' bytes, each once.
+#[derive(Drop)]
+pub struct BlockList {
+    packets: Vec<Packet>,
+    ghost in_order: { IsInOrder (map packet_redo packets.items) },
+}
+
+impl BlockList {
+    ghost use Rattle.std.specs.Prelude.{◌≡◌, ◌≤◌, [], length, OnOk, MatchOption};
+    ghost use Rattle.volume_model.specs.Redo.{with_record};
+    ghost use Rattle.redo_record.specs.Places.{IsHeldIn, IsPlaceFor};
+    ghost use Rattle.segment_core.specs.BlockList.{redos_in, HasRoomInside, IsCountBefore};
+
+    /// No packet.
+    pub fn new(alloc: Global) -> BlockList
+        ensures { redos_in result ≡ [] }
+    {
+        BlockList {
+            packets: Vec::new(alloc),
+        }
+    }
+
+    /// The packets, in their order.
+    pub fn as_slice(&self) -> &[Packet]
+        ensures { map packet_redo result.now ≡ redos_in self.now }
+    {
+        self.packets.as_slice()
+    }
+
+    /// How many packets come before this one: often all of them.
+    fn count_before(&self, packet: &Packet) -> usize
+        ensures bound { result ≤ length (redos_in self.now) }
+        ensures split { IsCountBefore self.now (packet_redo packet.now) result }
+    {
+        if let Some(last) = self.packets.last() {
+            if last.is_before(packet) {
+                return self.packets.len();
+            }
+        }
+        self.packets
+            .partition_point(|other| other.is_before(packet))
+    }
+
+    /// Where the record would stand, `None` where it is there already.
+    fn place_for(&self, packet: &Packet) -> Option<usize>
+        ensures { MatchOption result (IsHeldIn (redos_in self.now) (packet_redo packet.now)) (λ place. IsPlaceFor (redos_in self.now) (packet_redo packet.now) place) }
+    {
+        let place = self.count_before(packet);
+        if place == self.packets.len() {
+            return Some(place);
+        }
+        if packet.is_same(&self.packets[place]) {
+            None
+        } else {
+            Some(place)
+        }
+    }
+
+    /// Makes room for one more packet.
+    ///
+    /// # Errors
+    /// Where a growth was refused; then nothing has changed.
+    pub fn make_room(&mut self) -> Result<(), AllocError>
+        ensures room { OnOk result (HasRoomInside self.new) }
+        ensures same { redos_in self.new ≡ redos_in self.old }
+    {
+        self.packets.reserve(1)
+    }
+
+    /// Takes a packet into its place.
+    fn insert(&mut self, place: usize, packet: Packet)
+        requires room { HasRoomInside self.old }
+        requires place { IsPlaceFor (redos_in self.old) (packet_redo packet) place }
+        ensures { redos_in self.new ≡ with_record (packet_redo packet) (redos_in self.old) }
+    {
+        self.packets.insert(place, packet).unwrap();
+    }
+
+    /// Takes a packet into its place, where it isn't there.
+    pub fn add(&mut self, packet: Packet)
+        requires { HasRoomInside self.old }
+        ensures { redos_in self.new ≡ with_record (packet_redo packet) (redos_in self.old) }
+    {
+        if let Some(place) = self.place_for(&packet) {
+            self.insert(place, packet);
+        }
+    }
+}
