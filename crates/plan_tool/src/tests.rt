@@ -18,5 +18,6 @@ mod scripts;
 mod searches;
 mod texts;
 mod volumes;
+mod weights;
 mod words;
 mod written;
