@@ -13,13 +13,13 @@ use Rattle.journal.proofs.Steps.{stands_below}
 
 module _ {X : Type 0} (plan : Plan) where
   -- the steps of an actor that stand in the journal are not after its last one
-  pub at_most : (es : List Entry) (hs : List (Held X)) (actor : Actor) (number : ℕ) → All (λ h. Stands plan es (made h.cell (entry_of h.entry.now) h.durable)) hs → number ≡ last_of actor es → AtMost actor number (map made_of hs)
+  pub at_most : (es : List Entry) (hs : List (Held X)) (actor : Actor) (number : ℕ) → All (λ h. Stands plan es (made h.entry.now.cell (entry_of h.entry.now) h.entry.now.durable)) hs → number ≡ last_of actor es → AtMost actor number (map made_of hs)
   at_most es hs actor number stand last =
       all_map (λ (h : Held X). made_of h) (λ (s : Made). same_actor (actor_of s.entry.event) actor ≡ true → s.at < number) hs
-      (λ k d lt same. let h = get_or hs k d in let c = stands_below plan es actor (made h.cell (entry_of h.entry.now) h.durable) (stand k d lt) same in omega (arith, c, last))
+      (λ k d lt same. let h = get_or hs k d in let c = stands_below plan es actor (made h.entry.now.cell (entry_of h.entry.now) h.entry.now.durable) (stand k d lt) same in omega (arith, c, last))
 
   -- and not after the journal's end
-  pub at_most_all : (es : List Entry) (hs : List (Held X)) (actor : Actor) (number : ℕ) → All (λ h. Stands plan es (made h.cell (entry_of h.entry.now) h.durable)) hs → number ≡ length es → AtMost actor number (map made_of hs)
+  pub at_most_all : (es : List Entry) (hs : List (Held X)) (actor : Actor) (number : ℕ) → All (λ h. Stands plan es (made h.entry.now.cell (entry_of h.entry.now) h.entry.now.durable)) hs → number ≡ length es → AtMost actor number (map made_of hs)
   at_most_all es hs actor number stand last =
       all_map (λ (h : Held X). made_of h) (λ (s : Made). same_actor (actor_of s.entry.event) actor ≡ true → s.at < number) hs
-      (λ k d lt same. let h = get_or hs k d in let s = stand k d lt in let c = get_within es (entry_of h.entry.now) h.cell s.stands in omega (arith, c, last))
+      (λ k d lt same. let h = get_or hs k d in let s = stand k d lt in let c = get_within es (entry_of h.entry.now) h.entry.now.cell s.stands in omega (arith, c, last))

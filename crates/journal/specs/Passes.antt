@@ -28,7 +28,7 @@ use Rattle.journal.specs.Tokens.{shown}
 
 -- a step that a pass holds
 abbrev pub made_of : {X : Type 0} → Held X → Made
-made_of h = made h.cell (entry_of h.entry.now) h.durable
+made_of h = made h.entry.now.cell (entry_of h.entry.now) h.entry.now.durable
 
 module _ {X : Type 0} {s : SiteGhosts X} where
   -- the steps of a pass

@@ -4,7 +4,7 @@ use crate::messages::Messages;
 use volume_model::Fault;
 use world::Event;
 
-/// One step: what happened, the messages that it made, and how many were made before.
+/// One step: what happened, the messages that it made, what was made before, and the durable point that it shows.
 #[derive(Drop)]
 pub struct Entry {
     /// What happened.
@@ -13,6 +13,10 @@ pub struct Entry {
     pub made: Messages,
     /// How many messages were made before.
     pub first: u64,
+    /// How many steps were entered before.
+    pub cell: usize,
+    /// The client's durable point after the step, where it may move that; else 0.
+    pub durable: u64,
 }
 
 /// A refusal: of which event, and the number of the actor's last entry then.

@@ -82,6 +82,14 @@ fn total<R: Wait>(rt: &R, messages: u64, more: usize) -> u64
     }
 }
 
+// A place between two others, so many steps behind the first or before the second.
+fn probe(low: usize, high: usize, step: usize, ahead: bool) -> usize
+    requires { (0 < step) × (low + step < high) }
+    ensures { (low < result) × (result < high) }
+{
+    if ahead { low + step } else { high - step }
+}
+
 impl<'a, L: Site> Log<'a, L> {
     ghost use Rattle.std.specs.Prelude.{◌++◌, [], ◌∷◌, ◌^◌, slice_get, None, All, IsSome, IfSome, IfNone, IfOk, MatchBool, sum_by, take};
     ghost use Rattle.height.specs.Seats.{table_of};
@@ -208,25 +216,19 @@ impl<'a, L: Site> Log<'a, L> {
     }
 
     // Enters an entry.
-    fn append<R: Wait>(
-        &mut self,
-        rt: &R,
-        height: &Height,
-        entry: Entry,
-        durable: u64,
-        pass: &mut Pass<'a, L>,
-    )
+    fn append<R: Wait>(&mut self, rt: &R, height: &Height, entry: Entry, pass: &mut Pass<'a, L>)
         requires height { table_of height.now ≡ L.table }
         requires cell { 0 < length self.old.rest.now }
         requires settled { SeesAll pass.old self.old }
         requires who { IsSome (last_in self.old.lasts (actor_of (event_of entry.event))) }
         requires goes { makes (step L.plan (world_of self.old) (event_of entry.event)) ≡ Some (messages_of (listed entry.made)) }
         requires first { entry.first ≡ self.old.messages }
-        requires durable { durable ≡ durable_in (after L.plan (world_of self.old) (event_of entry.event)) (event_of entry.event) }
+        requires place { entry.cell ≡ vec_len self.old.entries }
+        requires durable { entry.durable ≡ durable_in (after L.plan (world_of self.old) (event_of entry.event)) (event_of entry.event) }
         requires room { HasRoom self.old × HasStepRoom pass.old }
         ensures entries { kept_in self.new ≡ kept_in self.old ++ entry ∷ [] }
         ensures seen { SeesAll pass.new self.new }
-        ensures steps { steps_of pass.new ≡ steps_of pass.old ++ made (length (kept_in self.old)) (entry_of entry) durable ∷ [] }
+        ensures steps { steps_of pass.new ≡ steps_of pass.old ++ made (length (kept_in self.old)) (entry_of entry) entry.durable ∷ [] }
         ensures notes { (notes_of pass.new ≡ notes_of pass.old) × (seat_of pass.new ≡ seat_of pass.old) }
     {
         let Log {
@@ -243,6 +245,7 @@ impl<'a, L: Site> Log<'a, L> {
             share,
             steps,
             notes: _,
+            near: _,
             floor,
             seen,
             seat: _,
@@ -255,8 +258,6 @@ impl<'a, L: Site> Log<'a, L> {
         *seen = history.seen.again();
         book.add(share, 1);
         steps.push_reserved(Held {
-            cell,
-            durable,
             entry,
             site: PhantomData,
         });
@@ -304,8 +305,14 @@ impl<'a, L: Site> Log<'a, L> {
         let first = self.messages;
         let count = made.len();
         let made = Messages::of(made);
-        let entry = Entry { event, made, first };
-        self.append(rt, height, entry, durable, pass);
+        let entry = Entry {
+            event,
+            made,
+            first,
+            cell,
+            durable,
+        };
+        self.append(rt, height, entry, pass);
         mark.advance(self.front(), self.entries.len());
         Receipt {
             number: cell + 1,
@@ -337,29 +344,45 @@ impl<'a, L: Site> Log<'a, L> {
         Ok(made)
     }
 
-    // The place of the step that made a message, looked for from the end on, in steps that double.
-    fn maker(&self, number: u64) -> usize
-        requires { (0 < number) × (number ≤ self.now.messages) }
+    // The place of the step that made a message, looked for between two places: from the one or from the other on, in
+    // steps that double.
+    fn between(&self, first: usize, end: usize, ahead: bool, number: u64) -> usize
+        requires within { (first < end) × (end ≤ vec_len self.now.entries) }
+        requires made { (before L.plan (journal_of self.now) first < number) × (number ≤ before L.plan (journal_of self.now) end) }
         ensures { (result < vec_len self.now.entries) × (before L.plan (journal_of self.now) result < number) × (number ≤ before L.plan (journal_of self.now) (result + 1)) }
     {
-        let mut low = 0;
-        let mut high = self.firsts.len();
+        let mut low = first;
+        let mut high = end;
         let mut back = 1;
         while low + 1 < high {
             let step = ((high - low) / 2).min(back);
-            let middle = high - step;
+            let middle = probe(low, high, step, ahead);
+            back = 2 * step;
             if self.firsts[middle] < number {
                 low = middle;
             } else {
                 high = middle;
-                back = 2 * step;
             }
         }
         low
     }
 
-    /// Looks a message up by its number. None where no step has made it.
-    pub fn find(&self, number: u64) -> Option<Letter<'a, L>>
+    // The place of the step that made a message: looked for behind this place where it stands there, else from the end on.
+    fn maker(&self, near: usize, number: u64) -> usize
+        requires { (0 < number) × (number ≤ self.now.messages) }
+        ensures { (result < vec_len self.now.entries) × (before L.plan (journal_of self.now) result < number) × (number ≤ before L.plan (journal_of self.now) (result + 1)) }
+    {
+        let end = self.firsts.len();
+        if near < end {
+            if self.firsts[near] < number {
+                return self.between(near, end, true, number);
+            }
+        }
+        self.between(0, end, false, number)
+    }
+
+    // Looks a message up by its number, beginning near this place. None where no step has made it.
+    fn find_near(&self, near: usize, number: u64) -> Option<Letter<'a, L>>
         ensures some { IfSome result (λ l. letter_number l ≡ number) }
         ensures is { IfSome result (λ l. numbered (world_of self.now).messages number ≡ letter_message l) }
         ensures none { IfNone result (numbered (world_of self.now).messages number ≡ None) }
@@ -367,7 +390,7 @@ impl<'a, L: Site> Log<'a, L> {
         if number == 0 || number > self.messages {
             return None;
         }
-        let cell = self.maker(number);
+        let cell = self.maker(near, number);
         let entry = self.entry(cell);
         Some(Letter {
             number,
@@ -377,6 +400,15 @@ impl<'a, L: Site> Log<'a, L> {
             seen: self.front(),
             site: PhantomData,
         })
+    }
+
+    /// Looks a message up by its number. None where no step has made it.
+    pub fn find(&self, number: u64) -> Option<Letter<'a, L>>
+        ensures some { IfSome result (λ l. letter_number l ≡ number) }
+        ensures is { IfSome result (λ l. numbered (world_of self.now).messages number ≡ letter_message l) }
+        ensures none { IfNone result (numbered (world_of self.now).messages number ≡ None) }
+    {
+        self.find_near(usize::MAX, number)
     }
 
     /// Whether the journal has a letter that was found before, as it always has: then its message has the letter's
@@ -410,7 +442,12 @@ impl<'a, L: Site> Log<'a, L> {
         ensures own { IfNone result (All (IsElse number) (steps_of pass.old)) }
     {
         self.settle(height, pass);
-        self.find(number)
+        let found = self.find_near(pass.near, number);
+        let near = found
+            .as_ref()
+            .map_or(self.entries.len(), |letter| letter.cell);
+        pass.stay(near);
+        found
     }
 
     /// Notes a refusal of an actor, whose lock the caller holds: it is the model's.

@@ -22,11 +22,9 @@ use std::sync::ledger::Share;
 use volume_model::Fault;
 use world::Event;
 
-/// A step that a pass made: its entry, and the durable point that it showed.
+/// A step that a pass made: its entry.
 #[derive(Drop)]
 pub struct Held<'a, L: Site> {
-    pub(crate) cell: usize,
-    pub(crate) durable: u64,
     pub(crate) entry: &'a Entry,
     pub(crate) site: PhantomData<L>,
 }
@@ -37,6 +35,8 @@ pub struct Pass<'a, L: Site> {
     pub(crate) share: Share<L>,
     pub(crate) steps: Vec<Held<'a, L>>,
     pub(crate) notes: Vec<Note>,
+    /// Where the step stands that made the message which was found last.
+    pub(crate) near: usize,
     pub(crate) floor: Floor,
     pub(crate) seen: Front,
     pub(crate) seat: BoardSeat,
@@ -46,7 +46,7 @@ pub struct Pass<'a, L: Site> {
     ghost history: { seen.book ≡ L.history } by { Coded-set book_coded seen.book L.history },
     ghost long: { length seen.log ≡ floor_of floor },
     ghost room: { length seen.log ≤ length L.cells },
-    ghost stand: { All (λ h. Stands L.plan (entries_of seen.log) (made h.cell (entry_of h.entry.now) h.durable)) steps.items } by { Prim.hlevel props },
+    ghost stand: { All (λ h. Stands L.plan (entries_of seen.log) (made h.entry.now.cell (entry_of h.entry.now) h.entry.now.durable)) steps.items } by { Prim.hlevel props },
     ghost refused: { All (λ n. IsRefused L.plan L.slots (length L.cells) (entries_of seen.log) (note_of n)) notes.items } by { Prim.hlevel props },
     ghost part: { share.parts ≡ 1 },
     ghost counted: { share.amount ≡ vec_len steps },
@@ -79,6 +79,7 @@ impl<'a, L: Site> Pass<'a, L> {
             share,
             steps: Vec::new(alloc),
             notes: Vec::new(alloc),
+            near: usize::MAX,
             floor,
             seen: history.seen.again(),
             seat,
@@ -95,6 +96,14 @@ impl<'a, L: Site> Pass<'a, L> {
     {
         self.steps.reserve(1)?;
         self.notes.reserve(1)
+    }
+
+    // Keeps where the step stands that made the message which was found last.
+    pub(crate) fn stay(&mut self, near: usize)
+        ensures did { (self.new.steps ≡ self.old.steps) × (self.new.notes ≡ self.old.notes) × (seat_of self.new ≡ seat_of self.old) }
+        ensures seen { self.new.seen.log ≡ self.old.seen.log }
+    {
+        self.near = near;
     }
 
     // Notes a refusal.

@@ -1,27 +1,22 @@
-use Rattle.std.proofs.Common.{◌≡◌, ◌-◌, ◌<◌, length, vec_len, ◌∙◌, arith, rules}
+use Rattle.std.proofs.Common.{◌≡◌, ◌<◌, ◌≤◌, List, length, vec_len, sym, ap, ◌∙◌, arith, rules, subst}
+use Rattle.volume_model.specs.Journal as model
+use Rattle.volume_model.specs.Journal.{world_at}
+use Rattle.journal.specs.declared.entry.Entry.{Entry}
+use Rattle.volume_model.proofs.Worlds.{take_rest}
+use Rattle.journal.specs.Entries.{entries_of}
 use Rattle.journal.specs.Tokens.{shown}
-use Rattle.journal.proofs.Entered.{before_at}
-use Rattle.journal.proofs.Tokens.{length-shown}
+use Rattle.journal.proofs.Entered.{before_at, length-entries}
+use Rattle.journal.proofs.Maps.{map-length}
 use Rattle.journal.proofs.log.Log.maker.Goals as goal
 
-pub loop-low-preserved-then-index-number : goal.loop-low-preserved-then-index-number
-loop-low-preserved-then-index-number g c =
+pub between-requires-clause-made : goal.between-requires-clause-made
+between-requires-clause-made g c =
     let log = c.args.self.now in
     let es = shown log.entries.items in
-    let inv = c.loop-low.invariant in
-    let k = c.loop-low.high - c.min-step.result in
-    let long : length es ≡ vec_len log.entries = length-shown log.entries.items ∙ search rules in
-    let lt : k < length es = omega (arith, inv.within, inv.back, long, c.min-step.ensures, c.loop-low-test.true) in
-    let b = before_at g.L.Site.plan es log.firsts.items k c.index.result.now log.run log.firsts_are lt c.index.ensures in
-    record { within = (omega (arith, inv.within, inv.back, c.min-step.ensures, c.loop-low-test.true), inv.within.1); back = inv.back; low = omega (arith, b, c.if-index-number.true); high = inv.high }
-
-pub loop-low-preserved : goal.loop-low-preserved
-loop-low-preserved g c =
-    let log = c.args.self.now in
-    let es = shown log.entries.items in
-    let inv = c.loop-low.invariant in
-    let k = c.loop-low.high - c.min-step.result in
-    let long : length es ≡ vec_len log.entries = length-shown log.entries.items ∙ search rules in
-    let lt : k < length es = omega (arith, inv.within, inv.back, long, c.min-step.ensures, c.loop-low-test.true) in
-    let b = before_at g.L.Site.plan es log.firsts.items k c.index.result.now log.run log.firsts_are lt c.index.ensures in
-    record { within = (omega (arith, inv.within, inv.back, c.min-step.ensures, c.loop-low-test.true), omega (arith, inv.within, c.loop-low-test.true)); back = omega (arith, inv.within, inv.back, c.min-step.ensures, c.loop-low-test.true); low = inv.low; high = omega (arith, b, c.if-index-number.false) }
+    let kept : length log.firsts.items ≡ length es = ap length log.firsts_are ∙ map-length (λ (e : Entry). e.first) es in
+    let end : c.len-end.result ≡ length es = c.len-end.ensures ∙ sym (let n : length log.firsts.items ≡ vec_len log.firsts = search rules in n) ∙ kept in
+    let lt : c.args.near < length es = omega (arith, end, c.if-near-end.true) in
+    let b = before_at g.L.Site.plan es log.firsts.items c.args.near c.index.result.now log.run log.firsts_are lt c.index.ensures in
+    let whole = take_rest (entries_of es) c.len-end.result (omega (arith, end, length-entries es)) in
+    let high = subst (λ (l : List model.Entry). c.args.number ≤ length (world_at g.L.Site.plan l).messages) (sym whole) (omega (arith, c.requires, log.messages_are)) in
+    (omega (arith, b, c.if-index-number.true), high)

@@ -34,5 +34,5 @@ returns-clause-note g c =
     let es = shown log.entries.items in
     let event = event_of c.args.event in
     let last = c.requires.last ∙ ap (λ a. last_of a (entries_of es)) (sym c.requires.who) in
-    let stand = subst (λ (l : List Entry). All (λ (h : Held g.row.L.Denot). Stands plan (entries_of l) (made h.cell (entry_of h.entry.now) h.durable)) pass.steps.items) c.requires.settled pass.stand in
+    let stand = subst (λ (l : List Entry). All (λ (h : Held g.row.L.Denot). Stands plan (entries_of l) (made h.entry.now.cell (entry_of h.entry.now) h.entry.now.durable)) pass.steps.items) c.requires.settled pass.stand in
     (mark.number, c.note.ensures.note, at_most plan (entries_of es) pass.steps.items (actor_of event) mark.number stand last)

@@ -33,5 +33,5 @@ returns-clause-note g c =
     let es = shown log.entries.items in
     let event = event_of c.args.event in
     let long : c.len.result ≡ length (entries_of es) = c.len.ensures ∙ search rules ∙ sym (length-shown log.entries.items) ∙ sym (length-entries es) in
-    let stand = subst (λ (l : List Entry). All (λ (h : Held g.row.L.Denot). Stands plan (entries_of l) (made h.cell (entry_of h.entry.now) h.durable)) pass.steps.items) c.requires.settled pass.stand in
+    let stand = subst (λ (l : List Entry). All (λ (h : Held g.row.L.Denot). Stands plan (entries_of l) (made h.entry.now.cell (entry_of h.entry.now) h.entry.now.durable)) pass.steps.items) c.requires.settled pass.stand in
     (c.len.result, c.note.ensures.note, at_most_all plan (entries_of es) pass.steps.items (actor_of event) c.len.result stand long)

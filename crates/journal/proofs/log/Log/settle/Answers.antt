@@ -35,7 +35,7 @@ invariant_of-pass g c =
       history = ap (λ s. s.book) c.again.ensures ∙ log.history.history;
       long = omega (arith, count, c.meet.ensures.floor.1, log.risen);
       room = room;
-      stand = λ k d lt. let h = get_or pass.steps.items k d in stands_longer plan (entries_of pass.seen.log) (entries_of c.again.result.log) (made h.cell (entry_of h.entry.now) h.durable) begin (pass.stand k d lt);
+      stand = λ k d lt. let h = get_or pass.steps.items k d in stands_longer plan (entries_of pass.seen.log) (entries_of c.again.result.log) (made h.entry.now.cell (entry_of h.entry.now) h.entry.now.durable) begin (pass.stand k d lt);
       refused = λ k d lt. refused_longer plan g.L.Site.slots (length g.L.Site.cells) (entries_of pass.seen.log) (entries_of c.again.result.log) (note_of (get_or pass.notes.items k d)) begin few (pass.refused k d lt);
       part = pass.part;
       counted = pass.counted;

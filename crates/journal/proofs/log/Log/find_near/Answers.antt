@@ -6,8 +6,8 @@ use Rattle.journal.specs.declared.entry.Entry.{Entry}
 use Rattle.journal.specs.Entries.{entries_of}
 use Rattle.journal.specs.Tokens.{shown}
 use Rattle.journal.proofs.Entered.{letter_numbered, made_within}
-use Rattle.journal.proofs.log.Log.find.Goals as goal
-use Rattle.journal.proofs.log.Log.find.Goals.{then-number-eq0-via-then-number-eq0, then-number-eq0-via-else-number-eq0+then-number-self}
+use Rattle.journal.proofs.log.Log.find_near.Goals as goal
+use Rattle.journal.proofs.log.Log.find_near.Goals.{then-number-eq0-via-then-number-eq0, then-number-eq0-via-else-number-eq0+then-number-self}
 
 pub returns-then-number-eq0-clause-none : goal.returns-then-number-eq0-clause-none
 returns-then-number-eq0-clause-none g c =

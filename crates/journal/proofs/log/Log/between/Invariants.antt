@@ -1,7 +1,7 @@
 use Rattle.std.proofs.Common.{◌-◌, ◌<◌, ◌≤◌, vec_len}
 use Rattle.volume_model.specs.Journal.{before}
 use Rattle.journal.specs.Passes.{journal_of}
-use Rattle.journal.proofs.log.Log.maker.Given as goal
+use Rattle.journal.proofs.log.Log.between.Given as goal
 
 abbrev pub invariant-loop-low : goal.invariant-loop-low
 invariant-loop-low g l = record {
