@@ -24,8 +24,9 @@ def below(crates, stands_on):
     return wanted
 
 
-def built(folder, name, program, crates, words):
-    """The program of this name, built and run once with these words. It takes some minutes where the crates weren't proved before."""
+def built(folder, name, program, crates, words, proofs=None):
+    """The program of this name, with these texts in its proofs/, built and run once with these words. It takes some minutes where the
+    crates weren't proved before."""
     stands_on = lines()
     wanted = below(crates, stands_on)
     shutil.copy(TOP / "HANDLES", folder)
@@ -34,6 +35,9 @@ def built(folder, name, program, crates, words):
     work = folder / "crates" / name
     (work / "src").mkdir(parents=True)
     (work / "src" / "main.rt").write_text(program)
+    for file, text in (proofs or {}).items():
+        (work / "proofs" / file).parent.mkdir(parents=True, exist_ok=True)
+        (work / "proofs" / file).write_text(text)
     listed = [f"{crate}: {' '.join(stands_on[crate])}\n" for crate in stands_on if crate in wanted]
     (folder / "crates.txt").write_text("".join(listed) + f"{name}: {' '.join(crates)}\n")
     subprocess.run(["rt", "run", "--", *words], cwd=work, check=True, stdout=subprocess.DEVNULL)
