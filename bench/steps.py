@@ -4,8 +4,8 @@
     python3 bench/steps.py [OTHER]
 
 It builds a small program over the crate `node_fleet` in a folder of its own, which takes some minutes, and then times it, with one pass and with four that
-step in turn. A round issues sixteen transactions of one change of 8 bytes, or of eight, delivers each record to four of six nodes, takes each
-acknowledgement, and restarts a node 64 times; each of the four is a window. Where OTHER is named, a program that takes the same words and prints the
+step in turn. A round issues sixteen transactions of one change of 8 bytes, or of eight, of which the journal keeps a copy (issued), or which it is given, in turn,
+delivers each record to four of six nodes, takes each acknowledgement, and restarts a node 64 times; each of the four is a window. Where OTHER is named, a program that takes the same words and prints the
 same lines, both run in turn. Told are, in nanoseconds a call, the least of the runs' lower quarters, and the least window.
 """
 import pathlib
@@ -114,6 +114,7 @@ impl Times {
 #[derive(Drop)]
 struct Table {
     issued: Times,
+    given: Times,
     delivered: Times,
     taken: Times,
     restarted: Times,
@@ -168,6 +169,26 @@ fn issue<'a, L: Site, R: Wait + Clock>(
     times.add(rt, start, deeds.len())
 }
 
+/// Issues the transactions of a round, which the fleet is given.
+fn give<'a, L: Site, R: Wait + Clock>(
+    rt: &R,
+    fleet: &Fleet<'a, L>,
+    callers: &mut Callers<'a, L>,
+    deeds: Vec<ClientDeed>,
+    writes: &mut Vec<u64>,
+    times: &mut Times,
+) -> Option<()> {
+    let count = deeds.len();
+    let start = Instant::now(rt).ok()?;
+    for deed in deeds {
+        let receipt = fleet.client_does(rt, callers.next()?, 1, deed).ok()?;
+        for place in 0..receipt.made as u64 {
+            writes.push(receipt.first_message.wrapping_add(place)).ok()?;
+        }
+    }
+    times.add(rt, start, count)
+}
+
 /// Delivers the records of a round to the nodes.
 fn deliver<'a, L: Site, R: Wait + Clock>(
     rt: &R,
@@ -220,25 +241,31 @@ fn restart<'a, L: Site, R: Wait + Clock>(
     times.add(rt, start, count)
 }
 
-/// One round: its records are issued, delivered and acknowledged, and the nodes are restarted as often.
+/// One round: its records are issued, delivered and acknowledged, and the nodes are restarted.
 fn round<'a, L: Site, R: Wait + Clock>(
     rt: &R,
     fleet: &Fleet<'a, L>,
     callers: &mut Callers<'a, L>,
-    deeds: &[ClientDeed],
+    deeds: &Vec<ClientDeed>,
+    gives: bool,
     made: &mut Made,
     table: &mut Table,
 ) -> Option<()> {
     let Made { writes, acks } = made;
     let Table {
         issued,
+        given,
         delivered,
         taken,
         restarted,
     } = table;
     writes.clear();
     acks.clear();
-    issue(rt, fleet, callers, deeds, writes, issued)?;
+    if gives {
+        give(rt, fleet, callers, deeds.clone().ok()?, writes, given)?;
+    } else {
+        issue(rt, fleet, callers, deeds.as_slice(), writes, issued)?;
+    }
     deliver(rt, fleet, callers, writes.as_slice(), acks, delivered)?;
     take(rt, fleet, callers, acks.as_slice(), taken)?;
     restart(rt, fleet, callers, 64, restarted)
@@ -256,6 +283,7 @@ fn rounds<'a, L: Site, R: Wait + Clock>(
     let windows = count as usize;
     let mut table = Table {
         issued: Times::new(alloc, windows).ok()?,
+        given: Times::new(alloc, windows).ok()?,
         delivered: Times::new(alloc, windows).ok()?,
         taken: Times::new(alloc, windows).ok()?,
         restarted: Times::new(alloc, windows).ok()?,
@@ -266,8 +294,9 @@ fn rounds<'a, L: Site, R: Wait + Clock>(
     };
     let deeds = transactions(alloc, changes).ok()?;
     let mut callers = Callers { passes, at: 0 };
-    for _ in 0..count {
-        round(rt, fleet, &mut callers, deeds.as_slice(), &mut made, &mut table)?;
+    for number in 0..count {
+        let gives = number % 2 == 1;
+        round(rt, fleet, &mut callers, &deeds, gives, &mut made, &mut table)?;
     }
     Some(table)
 }
@@ -327,6 +356,7 @@ fn run<R: Clock + Print + Env + Wait>(rt: &R, alloc: Global) -> io::Result<bool>
         return Ok(false);
     };
     told(rt, "issued", &mut table.issued)?;
+    told(rt, "given", &mut table.given)?;
     told(rt, "delivered", &mut table.delivered)?;
     told(rt, "taken", &mut table.taken)?;
     told(rt, "restarted", &mut table.restarted)?;

@@ -134,14 +134,40 @@ impl<'a, L: Site> Fleet<'a, L> {
         Ok(receipt)
     }
 
-    /// A client does what it is asked to. After a message taken or an opening its durable point, 0 before its opening,
-    /// is raised on the board under the client's lock.
+    /// A client does what it is asked to, which the journal keeps: nothing of it is copied. After a message taken or an
+    /// opening its durable point, 0 before its opening, is raised on the board under the client's lock.
     ///
     /// # Errors
     /// `NoMessage` where no step has made the message that it is to take, which isn't noted; then the client's own
     /// refusal, as [`ClientActor::act`](crate::ClientActor::act) gives it, and `JournalFull` where no cell is left. A
     /// client that has no slot is one that no View has reached. `NoMemory`, which isn't noted, where a growth was
     /// refused.
+    pub fn client_does<R: Wait>(
+        &self,
+        rt: &R,
+        pass: &mut Pass<'a, L>,
+        volume: u32,
+        deed: ClientDeed,
+    ) -> Result<Receipt, Fault>
+        ensures told { Tells (event_by volume deed) result (steps_of pass.old) (steps_of pass.new) (notes_of pass.old) (notes_of pass.new) }
+        ensures raised { IfOk result (λ r. RaisesBy (event_by volume deed) r.durable (seat_of pass.old) (seat_of pass.new)) }
+        ensures still { OnErr result (seat_of pass.new ≡ seat_of pass.old) }
+        ensures unmade { IfErr result (λ fault. fault ≡ NoMessage → NamesElse (event_by volume deed) (steps_of pass.old)) }
+    {
+        match self.try_client(rt, pass, volume, deed) {
+            Ok(receipt) => Ok(receipt),
+            Err(Halt::Refused(fault)) => Err(fault),
+            Err(Halt::Again) => {
+                for _ in rt.forever() {}
+                unreachable!()
+            }
+        }
+    }
+
+    /// A client does what it is asked to, of which the journal keeps a copy: else as [`Fleet::client_does`].
+    ///
+    /// # Errors
+    /// As [`Fleet::client_does`] says.
     pub fn client_step<R: Wait>(
         &self,
         rt: &R,
@@ -154,14 +180,7 @@ impl<'a, L: Site> Fleet<'a, L> {
         ensures still { OnErr result (seat_of pass.new ≡ seat_of pass.old) }
         ensures unmade { IfErr result (λ fault. fault ≡ NoMessage → NamesElse (event_by volume deed.now) (steps_of pass.old)) }
     {
-        for _ in rt.forever() {
-            let asked = deed.clone()?;
-            match self.try_client(rt, pass, volume, asked) {
-                Ok(receipt) => return Ok(receipt),
-                Err(Halt::Again) => {}
-                Err(Halt::Refused(fault)) => return Err(fault),
-            }
-        }
-        unreachable!()
+        let asked = deed.clone()?;
+        self.client_does(rt, pass, volume, asked)
     }
 }
