@@ -21,8 +21,8 @@ const STARVED: u64 = 3;
 /// The order was made. What the state is above this is the number of its messages.
 const MADE: u64 = 4;
 
-/// How often a thread looks before it sleeps.
-const LOOKS: u32 = 200;
+/// How often a thread looks before it sleeps: for about as long as another one takes to wake and to make a step.
+const LOOKS: u32 = 600;
 
 /// What an order came to.
 #[derive(Clone, Copy)]
