@@ -22,13 +22,13 @@ const STARVED: u64 = 3;
 const MADE: u64 = 4;
 
 /// How often a thread looks before it sleeps: for about as long as another one takes to wake and to make a step.
-const LOOKS: u32 = 600;
+const LOOKS: u32 = 1000;
 
 /// What an order came to.
 #[derive(Clone, Copy)]
 pub enum Told {
-    /// It was made, with so many messages, of which the first has this number.
-    Made { first: u64, count: u64 },
+    /// It was made, as the entry of the journal with this number, with so many messages, of which the first has this one.
+    Made { number: u64, first: u64, count: u64 },
     /// It was refused.
     Refused,
     /// It was refused for want of memory.
@@ -40,6 +40,7 @@ impl Told {
     pub fn of(call: Result<Receipt, Fault>) -> Told {
         match call {
             Ok(receipt) => Told::Made {
+                number: receipt.number as u64,
                 first: receipt.first_message,
                 count: receipt.made as u64,
             },
@@ -53,7 +54,10 @@ impl Told {
 #[derive(Drop)]
 pub struct Word {
     state: AtomicU64,
-    /// The number of the first message; written before the state, so whoever reads a state that says so finds it.
+    /// The number of its entry. This and the next are written before the state, so whoever reads a state that says so finds
+    /// them.
+    number: AtomicU64,
+    /// The number of the first message.
     first: AtomicU64,
 }
 
@@ -62,6 +66,7 @@ impl Word {
     pub fn new() -> Word {
         Word {
             state: AtomicU64::new(UNTOLD),
+            number: AtomicU64::new(0),
             first: AtomicU64::new(0),
         }
     }
@@ -69,7 +74,12 @@ impl Word {
     /// Tells it, and wakes all that sleep until it is told.
     pub fn tell(&self, told: Told) {
         let state = match told {
-            Told::Made { first, count } => {
+            Told::Made {
+                number,
+                first,
+                count,
+            } => {
+                self.number.store(number, Ordering::Release);
                 if count > 0 {
                     self.first.store(first, Ordering::Release);
                 }
@@ -90,6 +100,7 @@ impl Word {
             REFUSED => Some(Told::Refused),
             STARVED => Some(Told::Starved),
             made => Some(Told::Made {
+                number: self.number.load(Ordering::Acquire),
                 first: self.first.load(Ordering::Acquire),
                 count: made - MADE,
             }),

@@ -25,4 +25,4 @@ pub use event::{Event, Order};
 pub use nodes::slot;
 pub use outcome::{FindEnd, Outcome, WriterEnd};
 pub use recovery::Found;
-pub use running::{promised, run, run_orders};
+pub use running::{Course, Followed, promised, run, run_course, run_orders};
