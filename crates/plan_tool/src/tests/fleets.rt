@@ -4,5 +4,5 @@ mod calls;
 mod drive;
 mod looks;
 mod refusals;
-mod runs;
+mod tables;
 mod threads;
