@@ -150,20 +150,20 @@ impl<B: Allocator> Closing<B> {
 
     /// A pick of a right threshold's children, where enough of them close with the left side.
     fn pick_right(&self, left: usize, choice: Choice) -> Option<Way> {
-        let closed = self.grid.window(left, choice.first, choice.count);
         let weight = if choice.is_of_ones() {
+            let closed = self.grid.window(left, choice.first, choice.count);
             closed.count_ones() as usize
         } else {
-            self.weight_of(choice, closed)
+            self.weight_with(left, choice)
         };
         (weight >= choice.needed()).then_some(Way::Pick(Side::Right, choice))
     }
 
-    /// What those children of a right threshold weigh that have a bit.
-    fn weight_of(&self, choice: Choice, bits: u64) -> usize {
+    /// What those children of a right threshold weigh that close with the left side.
+    fn weight_with(&self, left: usize, choice: Choice) -> usize {
         let mut weight = 0usize;
-        for (number, child) in (0..64u32).zip(choice.first..choice.end()) {
-            if (bits >> number) & 1 == 1 {
+        for child in choice.first..choice.end() {
+            if self.grid.has(left, child) {
                 weight = weight.saturating_add(weight_in(&self.rights, child));
             }
         }

@@ -85,13 +85,15 @@ impl Reach {
 impl<'e> Heaviest<'e> {
     /// What a pair weighs: the smaller of its two weights where it closes.
     fn weight(&self, left: u8, right: usize) -> i32 {
-        let edge = self.edges.get(usize::from(left)).copied().unwrap_or(0);
+        let (edges, lefts, rights) = (self.edges, self.lefts, self.rights);
+        let edge = edges.get(usize::from(left)).copied().unwrap_or(0);
         if right >= 64 || (edge >> right) & 1 == 0 {
             return 0;
         }
-        let one = self.lefts.get(usize::from(left)).copied().unwrap_or(0);
-        let other = self.rights.get(right).copied().unwrap_or(0);
-        i32::from(one.min(other))
+        let one = lefts.get(usize::from(left)).copied().unwrap_or(0);
+        let other = rights.get(right).copied().unwrap_or(0);
+        let smaller = if one < other { one } else { other };
+        i32::from(smaller)
     }
 
     /// What a pair costs more than its prices.
