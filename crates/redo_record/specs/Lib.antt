@@ -9,4 +9,5 @@ pub mod Text
 pub mod Order
 pub mod Places
 pub mod Union
+pub mod Groups
 pub mod RecordSet

@@ -3,6 +3,7 @@
 
 mod decoding;
 mod encoding;
+mod group;
 mod head;
 mod packet;
 mod payload;

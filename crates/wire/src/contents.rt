@@ -22,10 +22,7 @@ impl Contents {
     pub fn is_of(&self, group: u8) -> bool
         ensures { result ≡ in_group group (contents_of self.now) }
     {
-        self.records
-            .as_slice()
-            .iter()
-            .all(|packet| packet.group() == group)
+        self.records.is_of(group)
     }
 }
 

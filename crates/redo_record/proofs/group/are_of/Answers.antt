@@ -5,7 +5,7 @@ use Rattle.std.proofs.lemmas.Iterator.Search.{all_from_yields_List}
 use Rattle.volume_model.specs.Lists.{every}
 use Rattle.redo_record.specs.declared.packet.Packet.{Packet}
 use Rattle.redo_record.specs.Packet.{packet_redo}
-use Rattle.wire.proofs.contents.Contents.is_of.Goals as goal
+use Rattle.redo_record.proofs.group.are_of.Goals as goal
 
 -- each packet's record is one of the group
 every-packet : (group : ℕ) (packets : List Packet) → list_all (λ p. (packet_redo p).group == group) packets ≡ every (λ r. r.group == group) (map packet_redo packets)
@@ -14,6 +14,5 @@ every-packet group (p ∷ ps) = ap (λ b. (packet_redo p).group == group && b) (
 
 pub returns : goal.returns
 returns c =
-    all_from_yields_List (λ (p : Packet). (packet_redo p).group == c.args.group) _ _ c.all.result c.all.ensures.ran (YieldsList-from_slice c.as_slice.result.now c.iter.ensures.rest) (λ x b q k. search (rules, tests))
-    ∙ every-packet c.args.group c.as_slice.result.now
-    ∙ ap (every (λ r. r.group == c.args.group)) c.as_slice.ensures.records
+    all_from_yields_List (λ (p : Packet). (packet_redo p).group == c.args.group) _ _ c.all.result c.all.ensures.ran (YieldsList-from_slice c.args.packets.now c.iter.ensures.rest) (λ x b q k. search (rules, tests))
+    ∙ every-packet c.args.group c.args.packets.now

@@ -1,0 +1,51 @@
+-- Records of one group
+use Rattle.std.proofs.Common.{◌≡◌, ◌==◌, ℕ, true, List, [], ◌∷◌, ◌++◌, Option, Some, None, refl, sym, ap, subst, inl, inr, eq-eqb, eqb-true}
+use Rattle.std.proofs.lemmas.Bool.{and_parts}
+use Rattle.volume_model.specs.Lists.{every}
+use Rattle.volume_model.specs.Redo.{Redo, with_record}
+use Rattle.volume_model.proofs.Basics.{IsIn-append}
+use Rattle.redo_record.specs.Groups.{AreOf, IsHome}
+use Rattle.redo_record.specs.Union.{with_records}
+use Rattle.redo_record.proofs.Places.{with_record-from}
+use Rattle.redo_record.proofs.Merging.{with_records-from}
+
+-- the test that each passes, and what it says
+pub every-of : (group : ℕ) (records : List Redo) → AreOf group records → every (λ r. r.group == group) records ≡ true
+every-of group [] all = refl
+every-of group (r ∷ rest) all = rw (eq-eqb r.group group (all r (inl refl)), every-of group rest (λ s i. all s (inr i))) refl
+
+pub of-every : (group : ℕ) (records : List Redo) → every (λ r. r.group == group) records ≡ true → AreOf group records
+of-every group [] h s i = absurd i
+of-every group (r ∷ rest) h s (inl e) = subst (λ (z : Redo). z.group ≡ group) (sym e) (eqb-true r.group group (and_parts (r.group == group) (every (λ t. t.group == group) rest) h).0)
+of-every group (r ∷ rest) h s (inr i) = of-every group rest (and_parts (r.group == group) (every (λ t. t.group == group) rest) h).1 s i
+
+-- a group that is kept, and none
+pub home-some : (group : ℕ) (records : List Redo) → AreOf group records → IsHome (Some group) records
+home-some group records all other e = subst (λ n. AreOf n records) (ap (λ o. held o) e) all
+  where
+    held : Option ℕ → ℕ
+    held None = group
+    held (Some n) = n
+
+pub home-none : (records : List Redo) → IsHome None records
+home-none records group e = absurd (none_some group e)
+  where
+    none_some : (n : ℕ) → None ≡ Some n → ⊥
+    none_some n h = cc
+
+-- one more of the group
+pub of-more : (group : ℕ) (r : Redo) (records : List Redo) → group ≡ r.group → AreOf group records → AreOf group (r ∷ records)
+of-more group r records is all s (inl e) = subst (λ (z : Redo). z.group ≡ group) (sym e) (sym is)
+of-more group r records is all s (inr i) = all s i
+
+-- the records of two lists
+pub of-both : (group : ℕ) (records more : List Redo) → AreOf group records → AreOf group more → AreOf group (records ++ more)
+of-both group records more all also s i = elim (IsIn-append records more s i) [ inl j ↦ all s j | inr j ↦ also s j ]
+
+-- what is kept for a list is kept for the same records in another order
+pub home-with_record : (home : Option ℕ) (r : Redo) (records : List Redo) → IsHome home (r ∷ records) → IsHome home (with_record r records)
+home-with_record home r records kept group e s i = kept group e s (with_record-from r records s i)
+
+pub home-with_records : (home : Option ℕ) (records others : List Redo) → IsHome home records → IsHome home others → IsHome home (with_records records others)
+home-with_records home records others own also group e s i =
+    elim (with_records-from records others s i) [ inl j ↦ own group e s j | inr j ↦ also group e s j ]
