@@ -5,11 +5,13 @@
 
 It builds a small program over the crates `plan` and `cert_search` in a folder of its own, which takes some minutes, and then searches each claim of each
 family three times, with the budget of the program `plan_tool`. With `--false` it does the same for claims that don't hold, close to those of the families. With
-`--plans FOLDER` it writes the plans there and builds nothing.
+`--weighted` it searches claims of weighted thresholds over up to 16 members, by a fixed seed, and compares what is found with what holds, worked out by trying
+every set of members. With `--plans FOLDER` it writes the plans there and builds nothing.
 """
 import itertools
 import json
 import pathlib
+import random
 import subprocess
 import sys
 import tempfile
@@ -227,6 +229,122 @@ def false_claims():
     ]
 
 
+def weighted(k, of, weights):
+    """Children that weigh at least k."""
+    return {"k": k, "of": list(of), "weights": list(weights)}
+
+
+def weights_of(expression):
+    return expression.get("weights", [1] * len(expression["of"]))
+
+
+def held(expression, n):
+    """For each set of n members, a number whose bits are its members, what the children weigh that hold in it."""
+    if all(isinstance(child, int) for child in expression["of"]):
+        sums = [0]
+        of_member = dict.fromkeys(range(n), 0)
+        for child, weight in zip(expression["of"], weights_of(expression)):
+            of_member[child] += weight
+        for member in range(n):
+            sums += [old + of_member[member] for old in sums]
+        return sums
+    sums = [0] * 2**n
+    for child, weight in zip(expression["of"], weights_of(expression)):
+        holds = [x >> child & 1 for x in range(2**n)] if isinstance(child, int) else [x >= child["k"] for x in held(child, n)]
+        sums = [old + weight if yes else old for old, yes in zip(sums, holds)]
+    return sums
+
+
+def heaviest_apart(read, write, n):
+    """The most that the children of the write quorum weigh in a set that a read set doesn't meet."""
+    apart = zip(held(read, n), reversed(held(write, n)))
+    return max(other for one, other in apart if one >= read["k"])
+
+
+def some_weights(rng, count, most=255):
+    return [rng.randint(1, most) for _ in range(count)]
+
+
+def at_random(rng, of, weights):
+    """These children with a number at random."""
+    return weighted(rng.randint(1, sum(weights)), of, weights)
+
+
+def two_sides(rng, n, weights, others):
+    return at_random(rng, block(0, n), weights), weighted(1, block(0, n), others)
+
+
+def deciding(rng, n):
+    """Small weights, and one that is more than all of them."""
+    weights = some_weights(rng, n, 6)
+    weights[rng.randrange(n)] = rng.randint(100, 255)
+    return weights
+
+
+def zone(rng, first, size, is_weighted):
+    weights = some_weights(rng, size) if is_weighted else [1] * size
+    k = rng.randint(1, sum(weights))
+    return weighted(k, block(first, size), weights) if is_weighted else some(k, block(first, size))
+
+
+def some_zones(rng, n, count, is_weighted):
+    """Two quorums of the same zones, of which one is heavier than the others."""
+    ends = sorted(rng.sample(range(1, n), count - 1))
+    sizes = [end - start for start, end in zip([0, *ends], [*ends, n])]
+    sides = []
+    for _ in range(2):
+        weights = [1] * count
+        weights[0] = rng.randint(2, 5)
+        rng.shuffle(weights)
+        of = [zone(rng, sum(sizes[:i]), size, is_weighted) for i, size in enumerate(sizes)]
+        sides.append(at_random(rng, of, weights))
+    return sides
+
+
+def closest(n, read, write):
+    """The least number with which the quorums meet, where there is one, and the one below it."""
+    most_apart = heaviest_apart(read, write, n)
+    if most_apart < sum(weights_of(write)):
+        yield n, read, write | {"k": most_apart + 1}
+    if most_apart:
+        yield n, read, write | {"k": most_apart}
+
+
+def weighted_claims():
+    """Each family with its claims: how many members, a read and a write expression. Whether they hold is worked out of them."""
+    rng = random.Random(15)
+    numbers = [n for n in range(2, 17) for _ in range(4)] + [16] * 40
+    pairs = []
+    for n in numbers:
+        weights = some_weights(rng, n)
+        read = at_random(rng, block(0, n), weights)
+        pairs.append((n, read, weighted(sum(weights) + 1 - read["k"], block(0, n), weights)))
+    yield "weighted majorities", pairs
+
+    def near(name, sides, least=2):
+        return name, [claim for n in numbers if n >= least for claim in closest(n, *sides(n))]
+
+    def equal(n):
+        weights = some_weights(rng, n)
+        return two_sides(rng, n, weights, weights)
+
+    def like(n):
+        return two_sides(rng, n, [rng.randint(200, 255) for _ in range(n)], [rng.randint(200, 255) for _ in range(n)])
+
+    yield near("the same weights on both sides", equal)
+    yield near("other weights on each side", lambda n: two_sides(rng, n, some_weights(rng, n), some_weights(rng, n)))
+    yield near("weights of 1 to 4", lambda n: two_sides(rng, n, some_weights(rng, n, 4), some_weights(rng, n, 4)))
+    yield near("weights of 200 to 255", like)
+    yield near("one member that decides on both sides", lambda n: two_sides(rng, n, *[deciding(rng, n)] * 2))
+    yield near("one member that decides on each side", lambda n: two_sides(rng, n, deciding(rng, n), deciding(rng, n)))
+    yield near("weighted reads, plain writes", lambda n: two_sides(rng, n, some_weights(rng, n), [1] * n))
+    yield near("plain reads, weighted writes", lambda n: two_sides(rng, n, [1] * n, some_weights(rng, n)))
+    yield near("two zones, one of them heavier", lambda n: some_zones(rng, n, 2, False))
+    yield near("two zones of weighted members", lambda n: some_zones(rng, n, 2, True))
+    yield near("three zones, one of them heavier", lambda n: some_zones(rng, n, 3, False), 3)
+    yield near("three zones of weighted members", lambda n: some_zones(rng, n, 3, True), 3)
+
+
 def configuration(parent, read, write):
     members = sorted(members_of(read) | members_of(write))
     return {"parent": parent, "members": members, "full": members, "read": read, "write": write, "meets": None, "step": None}
@@ -238,14 +356,14 @@ def members_of(expression):
     return set().union(*(members_of(child) for child in expression["of"]))
 
 
-def plan_text(groups):
-    return json.dumps({"format": 1, "lal": 10, "groups": groups}, separators=(",", ":"))
+def plan_text(groups, form=1):
+    return json.dumps({"format": form, "lal": 10, "groups": groups}, separators=(",", ":"))
 
 
-def plans_of(claims):
+def plans_of(claims, form=1):
     """Plans of one configuration a group, sixteen groups each."""
     groups = [{"configurations": [configuration(None, read, write)]} for _, read, write in claims]
-    return [plan_text(groups[i : i + 16]) for i in range(0, len(groups), 16)]
+    return [plan_text(groups[i : i + 16], form) for i in range(0, len(groups), 16)]
 
 
 def among(parent, sets, k):
@@ -266,6 +384,10 @@ def step_plans(base, k, less=0):
 
 def families(chosen):
     """Each family with the texts of its plans, and how many claims they have."""
+    if chosen == "weighted":
+        for name, claims in weighted_claims():
+            yield name, plans_of(claims, 2)
+        return
     for name, claims in true_claims() if chosen == "true" else false_claims():
         yield name, plans_of(claims)
     if chosen == "true":
@@ -282,20 +404,41 @@ def searched(program, files):
     return [tuple(map(int, line.split())) for line in out.splitlines()]
 
 
-def row(program, folder, name, texts):
-    """A line of the table: of three searches of a claim the quickest counts."""
+def searches(program, folder, texts):
+    """How many nodes the certificate of each claim has, and the milliseconds it took, the least of three searches."""
     files = []
     for number, text in enumerate(texts):
         files.append(folder / f"plan_{number}.json")
         files[-1].write_text(text)
     seen = [searched(program, files) for _ in range(3)]
-    found = [size for size, _ in seen[0] if size]
-    slowest = max(min(took for _, took in one) for one in zip(*seen))
-    print(f"| {name} | {len(seen[0]):,} | {len(found):,} | {max(found, default=0):,} | {slowest / 1e6:,.2f} ms |", flush=True)
+    return [(one[0][0], min(took for _, took in one) / 1e6) for one in zip(*seen)]
+
+
+def row(program, folder, name, texts):
+    """A line of the table."""
+    seen = searches(program, folder, texts)
+    found = [size for size, _ in seen if size]
+    slowest = max(took for _, took in seen)
+    print(f"| {name} | {len(seen):,} | {len(found):,} | {max(found, default=0):,} | {slowest:,.2f} ms |", flush=True)
+
+
+def weighted_row(program, folder, name, claims):
+    """A line of the table of weighted claims, and below it the claims that were missed; none that doesn't hold may be found."""
+    holds = [heaviest_apart(read, write, n) < write["k"] for n, read, write in claims]
+    seen = searches(program, folder, plans_of(claims, 2))
+    true = [one for one, holding in zip(seen, holds) if holding]
+    false = [one for one, holding in zip(seen, holds) if not holding]
+    assert not any(size for size, _ in false), name
+    found = [size for size, _ in true if size]
+    slowest = [max((took for _, took in some), default=0) for some in (true, false)]
+    print(f"| {name} | {len(true):,} | {len(found):,} | {max(found, default=0):,} | {slowest[0]:,.2f} ms | {len(false):,} | {slowest[1]:,.2f} ms |", flush=True)
+    for (size, _), holding, claim in zip(seen, holds, claims):
+        if holding and not size:
+            print("missed:", json.dumps(claim))
 
 
 def main():
-    chosen = "false" if "--false" in sys.argv else "true"
+    chosen = next((kind for kind in ("false", "weighted") if f"--{kind}" in sys.argv), "true")
     if "--plans" in sys.argv:
         folder = pathlib.Path(sys.argv[sys.argv.index("--plans") + 1])
         folder.mkdir(parents=True, exist_ok=True)
@@ -309,6 +452,11 @@ def main():
         first = top / "first.json"
         first.write_text(plans_of([("", most([0, 1, 2]), most([0, 1, 2]))])[0])
         program = built(top, "family_work", PROGRAM, ["quorum_expr", "refutation", "plan", "cert_search", "quorum_checker"], [str(first)])
+        if chosen == "weighted":
+            print("| Family | Claims that hold | Found | Nodes, at most | Slowest | Others | Slowest |\n|---|---|---|---|---|---|---|")
+            for name, claims in weighted_claims():
+                weighted_row(program, top, name, claims)
+            return
         print("| Family | Claims | Found | Nodes, at most | Slowest |\n|---|---|---|---|---|")
         for name, texts in families(chosen):
             row(program, top, name, texts)

@@ -1,6 +1,8 @@
 -- Lists that are gone through from the front, and the trees that plain claims have.
-use Rattle.std.proofs.Common.{◌≡◌, ℕ, ◌+◌, ◌<◌, ◌≤◌, List, [], ◌∷◌, ◌++◌, length, drop, map, append_assoc, refl, ap, ◌∙◌, sym, arith, add-one, drop-cons, rules}
-use Rattle.std.specs.Prelude.{None, Option, Some, true, nat_le, ◌&&◌, Bool}
+use Rattle.std.proofs.Common.{◌≡◌, ℕ, ◌+◌, ◌<◌, ◌≤◌, List, [], ◌∷◌, ◌++◌, length, drop, get_or, map, append_assoc, refl, ap, ◌∙◌, sym, arith, add-one, drop-cons, rules}
+use Rattle.std.specs.Prelude.{None, Option, Some, true, false, nat_le, ◌&&◌, Bool, cond}
+use Rattle.std.specs.List.{position_from}
+use Rattle.refutation.proofs.Loop.{next}
 use Rattle.std.proofs.lemmas.List.{map-append}
 use Rattle.std.proofs.lemmas.Bool.Decides.{nat_tests}
 use Rattle.refutation.specs.declared.Refutation.{Refutation}
@@ -31,6 +33,16 @@ kept all before now rest found so_far is none = so_far ∙ ap (λ xs. before ++ 
 pub paired : {A : Type 0} (all before after now rest : List A) (found : Option A) (x : A) → all ≡ before ++ now → now ≡ onto found rest → found ≡ Some x → after ≡ before ++ x ∷ [] → all ≡ after ++ rest
 paired all before after now rest found x so_far is some more =
     so_far ∙ ap (λ xs. before ++ xs) (is ∙ ap (λ o. onto o rest) some) ∙ sym (append_assoc before (x ∷ []) rest) ∙ ap (λ xs. xs ++ rest) (sym more)
+
+-- ---- the place of the first that passes a test
+
+pub found_at : {X Y : Type 0} (f : X → Y) (test : Y → Bool) (xs : List X) (j : ℕ) (x : X) (all : Option ℕ) → j < length xs → x ≡ get_or xs j x → test (f x) ≡ true → all ≡ position_from test j (map f (drop j xs)) → Some j ≡ all
+found_at f test xs j x all h is here so_far =
+    sym (so_far ∙ ap (position_from test j) (next f xs j x h is) ∙ ap (λ b. cond b (Some j) (position_from test (j + 1) (map f (drop (j + 1) xs)))) here)
+
+pub not_at : {X Y : Type 0} (f : X → Y) (test : Y → Bool) (xs : List X) (j : ℕ) (x : X) (all : Option ℕ) → j < length xs → x ≡ get_or xs j x → test (f x) ≡ false → all ≡ position_from test j (map f (drop j xs)) → all ≡ position_from test (j + 1) (map f (drop (j + 1) xs))
+not_at f test xs j x all h is none so_far =
+    so_far ∙ ap (position_from test j) (next f xs j x h is) ∙ ap (λ b. cond b (Some j) (position_from test (j + 1) (map f (drop (j + 1) xs)))) none
 
 -- ---- the limits of a match of the only items
 

@@ -32,7 +32,7 @@ pub fn closed<B: Allocator + Clone>(
     }
 }
 
-/// The pick of those children of a side's only item that close with that of the other side, as many as are needed.
+/// The pick of those children of a side's only item that close with that of the other side, of as much weight as is needed.
 #[cycle(closed)]
 fn picked<B: Allocator + Clone>(
     search: &mut Search<B>,
@@ -44,13 +44,14 @@ fn picked<B: Allocator + Clone>(
 ) -> Result<Option<Refutation<B>>, AllocError> {
     let mut children = Vec::new(search.arena.clone()?);
     let mut then = Vec::new(search.arena.clone()?);
+    let mut missing = choice.needed();
     for (number, child) in (0..64u8).zip(choice.first..choice.end()) {
-        if then.len() >= choice.needed() {
+        if missing == 0 {
             break;
         }
-        let (left, right) = match side {
-            Side::Left => (child, other),
-            Side::Right => (other, child),
+        let (left, right, weight) = match side {
+            Side::Left => (child, other, closing.left_weight(child)),
+            Side::Right => (other, child, closing.right_weight(child)),
         };
         if closing.closes(left, right) {
             let Some(tree) = closed(search, closing, left, right, levels)? else {
@@ -58,6 +59,7 @@ fn picked<B: Allocator + Clone>(
             };
             children.push(number)?;
             then.push(tree)?;
+            missing = missing.saturating_sub(weight);
         }
     }
     Ok(Some(Refutation::Pick {

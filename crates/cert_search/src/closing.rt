@@ -3,6 +3,7 @@
 
 use crate::grid::Grid;
 use crate::matching::Mates;
+use crate::order::ordered;
 use crate::parts::{Choice, Form, Part};
 use refutation::Side;
 use std::alloc::{AllocError, Allocator};
@@ -24,7 +25,22 @@ pub struct Closing<B: Allocator> {
     grid: Grid<B>,
 }
 
+/// What a subexpression weighs as a child.
+fn weight_in<B: Allocator>(parts: &Vec<Part, B>, at: usize) -> usize {
+    parts.get(at).map_or(0, |part| usize::from(part.weight))
+}
+
 impl<B: Allocator> Closing<B> {
+    /// What a left subexpression weighs as a child.
+    pub fn left_weight(&self, at: usize) -> usize {
+        weight_in(&self.lefts, at)
+    }
+
+    /// What a right subexpression weighs as a child.
+    pub fn right_weight(&self, at: usize) -> usize {
+        weight_in(&self.rights, at)
+    }
+
     /// Goes through all pairs, those of children before those of their thresholds.
     pub fn new(
         arena: B,
@@ -42,6 +58,14 @@ impl<B: Allocator> Closing<B> {
             closing.close_next(left, &mut rows);
         }
         Ok(closing)
+    }
+
+    /// The members that matter on both sides, in the order in which their cases are tried.
+    pub fn members(&self, arena: &B) -> Result<Vec<u8, B>, AllocError>
+    where
+        B: Clone,
+    {
+        ordered(arena, self.lefts.as_slice(), self.rights.as_slice())
     }
 
     /// How many subexpressions there are on both sides.
@@ -110,7 +134,7 @@ impl<B: Allocator> Closing<B> {
         if self.mates(of, others).is_some() {
             return Some(Way::Match(of, others));
         }
-        if others.k == others.count {
+        if others.k == others.total {
             self.pick_right(left, others)
                 .or_else(|| self.pick_left(of, right))
         } else {
@@ -127,7 +151,7 @@ impl<B: Allocator> Closing<B> {
                 break;
             }
             if self.grid.has(child, right) {
-                missing -= 1;
+                missing = missing.saturating_sub(weight_in(&self.lefts, child));
             }
         }
         (missing == 0).then_some(Way::Pick(Side::Left, choice))
@@ -135,21 +159,50 @@ impl<B: Allocator> Closing<B> {
 
     /// A pick of a right threshold's children, where enough of them close with the left side.
     fn pick_right(&self, left: usize, choice: Choice) -> Option<Way> {
-        let closed = self.grid.window(left, choice.first, choice.count);
-        let is_enough = closed.count_ones() as usize >= choice.needed();
-        is_enough.then_some(Way::Pick(Side::Right, choice))
+        let weight = if choice.is_of_ones() {
+            let closed = self.grid.window(left, choice.first, choice.count);
+            closed.count_ones() as usize
+        } else {
+            self.weight_with(left, choice)
+        };
+        (weight >= choice.needed()).then_some(Way::Pick(Side::Right, choice))
     }
 
-    /// As many pairs of children that close as a match of two thresholds takes.
+    /// What those children of a right threshold weigh that close with the left side.
+    fn weight_with(&self, left: usize, choice: Choice) -> usize {
+        let mut weight = 0usize;
+        for child in choice.first..choice.end() {
+            if self.grid.has(left, child) {
+                weight = weight.saturating_add(weight_in(&self.rights, child));
+            }
+        }
+        weight
+    }
+
+    /// Pairs of children that close, of as much weight as a match of two thresholds takes.
     pub fn mates(&self, of: Choice, others: Choice) -> Option<Mates> {
         let wanted = (of.needed().saturating_add(others.needed())).saturating_sub(1);
-        if wanted > of.count.min(others.count) {
+        if wanted > of.total.min(others.total) {
             return None;
         }
         let mut edges = [0u64; 64];
         for (edge, child) in edges.iter_mut().zip(of.first..of.end()) {
             *edge = self.grid.window(child, others.first, others.count);
         }
-        Mates::find(edges.get(..of.count)?, wanted)
+        let edges = edges.get(..of.count)?;
+        if of.is_of_ones() && others.is_of_ones() {
+            return Mates::find(edges, wanted);
+        }
+        let (mut lefts, mut rights) = ([0u8; 64], [0u8; 64]);
+        for (weight, part) in lefts.iter_mut().zip(self.lefts.get(of.first..of.end())?) {
+            *weight = part.weight;
+        }
+        for (weight, part) in rights
+            .iter_mut()
+            .zip(self.rights.get(others.first..others.end())?)
+        {
+            *weight = part.weight;
+        }
+        Mates::heaviest(edges, &lefts, &rights, wanted)
     }
 }

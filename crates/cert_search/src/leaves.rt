@@ -7,14 +7,17 @@ use refutation::{Refutation, Side};
 use std::alloc::Allocator;
 
 /// The item of a side that can't hold, as a refutation.
-fn dead_on<A: Allocator, B: Allocator>(state: &State<'_, A>, side: Side) -> Option<Refutation<B>> {
+pub fn dead_on<A: Allocator, B: Allocator>(
+    state: &State<'_, A>,
+    side: Side,
+) -> Option<Refutation<B>> {
     let row = state.row(side);
     let item = row.number(row.first_dead()?)?;
     Some(Refutation::Dead { side, item })
 }
 
 /// An item that can't hold, as a refutation.
-pub fn dead<A: Allocator, B: Allocator>(state: &State<'_, A>) -> Option<Refutation<B>> {
+fn dead<A: Allocator, B: Allocator>(state: &State<'_, A>) -> Option<Refutation<B>> {
     match dead_on(state, Side::Left) {
         Some(tree) => Some(tree),
         None => dead_on(state, Side::Right),

@@ -15,6 +15,7 @@ mod leaves;
 mod matching;
 mod members;
 mod one;
+mod order;
 mod own;
 mod parts;
 mod plain;

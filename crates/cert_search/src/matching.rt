@@ -32,7 +32,221 @@ fn augment(edges: &[u64], left: u8, tried: &mut u64, mates: &mut [u8; 64], depth
     false
 }
 
+/// No right child: the column from which a search for a mate starts.
+const START: usize = 64;
+
+/// A heaviest matching in the making: for each right child the left one that it is matched with, and prices by which the
+/// pairs of the matching are the cheapest of all. A pair costs what it doesn't weigh.
+#[derive(Drop)]
+struct Heaviest<'e> {
+    edges: &'e [u64],
+    lefts: &'e [u8; 64],
+    rights: &'e [u8; 64],
+    /// How many columns there are: no fewer than children on either side.
+    columns: usize,
+    mates: [u8; 65],
+    left_prices: [i32; 65],
+    right_prices: [i32; 65],
+}
+
+/// The number at a place, and 0 beyond the list.
+fn at(list: &[i32; 65], place: usize) -> i32 {
+    list.get(place).copied().unwrap_or(0)
+}
+
+/// Adds to the number at a place.
+fn add(list: &mut [i32; 65], place: usize, number: i32) {
+    if let Some(old) = list.get_mut(place) {
+        *old = old.wrapping_add(number);
+    }
+}
+
+/// How far a search for a mate has come: the columns that it has been at, and for each other one the least that it costs
+/// more, and from which column.
+#[derive(Drop)]
+struct Reach {
+    seen: u64,
+    least: [i32; 65],
+    from: [u8; 65],
+}
+
+impl Reach {
+    /// The column that costs the least more, of so many, where the search hasn't been.
+    fn next(&self, columns: usize) -> (usize, i32) {
+        let mut best = (START, i32::MAX);
+        for column in 0..columns.min(64) {
+            let more = at(&self.least, column);
+            if (self.seen >> column) & 1 == 0 && more < best.1 {
+                best = (column, more);
+            }
+        }
+        best
+    }
+}
+
+impl<'e> Heaviest<'e> {
+    /// What a pair weighs: the smaller of its two weights where it closes.
+    fn weight(&self, left: u8, right: usize) -> i32 {
+        let (edges, lefts, rights) = (self.edges, self.lefts, self.rights);
+        let edge = edges.get(usize::from(left)).copied().unwrap_or(0);
+        if right >= 64 || (edge >> right) & 1 == 0 {
+            return 0;
+        }
+        let one = lefts.get(usize::from(left)).copied().unwrap_or(0);
+        let other = rights.get(right).copied().unwrap_or(0);
+        let smaller = if one < other { one } else { other };
+        i32::from(smaller)
+    }
+
+    /// What a pair costs more than its prices.
+    fn excess(&self, left: u8, right: usize) -> i32 {
+        let prices = at(&self.left_prices, usize::from(left)).wrapping_add(at(
+            &self.right_prices,
+            right,
+        ));
+        0i32.wrapping_sub(self.weight(left, right))
+            .wrapping_sub(prices)
+    }
+
+    /// The left child at a column.
+    fn mate(&self, column: usize) -> u8 {
+        self.mates.get(column).copied().unwrap_or(NOBODY)
+    }
+
+    /// Looks on from a column.
+    fn look(&self, reach: &mut Reach, column: usize) {
+        let left = self.mate(column);
+        for right in 0..self.columns.min(64) {
+            let more = self.excess(left, right);
+            if (reach.seen >> right) & 1 == 0 && more < at(&reach.least, right) {
+                if let (Some(least), Some(from)) = (
+                    reach.least.get_mut(right),
+                    reach.from.get_mut(right),
+                ) {
+                    *least = more;
+                    *from = column.min(START) as u8;
+                }
+            }
+        }
+    }
+
+    /// Changes the prices by what the next column costs more.
+    fn raise(&mut self, reach: &mut Reach, by: i32) {
+        let first = self.mate(START);
+        add(&mut self.left_prices, usize::from(first), by);
+        for column in 0..self.columns.min(64) {
+            if (reach.seen >> column) & 1 == 1 {
+                let left = self.mate(column);
+                add(&mut self.left_prices, usize::from(left), by);
+                add(&mut self.right_prices, column, 0i32.wrapping_sub(by));
+            } else {
+                add(&mut reach.least, column, 0i32.wrapping_sub(by));
+            }
+        }
+    }
+
+    /// Gives each column on the way back the mate of the one before it.
+    fn turn(&mut self, reach: &Reach, mut column: usize) {
+        for _ in 0..65 {
+            if column == START {
+                break;
+            }
+            let before = usize::from(reach.from.get(column).copied().unwrap_or(64)).min(START);
+            let mate = self.mate(before);
+            if let Some(place) = self.mates.get_mut(column) {
+                *place = mate;
+            }
+            column = before;
+        }
+    }
+
+    /// Finds a mate for a left child, by the way that costs the least more.
+    fn place(&mut self, left: u8) {
+        if let Some(start) = self.mates.get_mut(START) {
+            *start = left;
+        }
+        let mut reach = Reach {
+            seen: 0,
+            least: [i32::MAX; 65],
+            from: [64; 65],
+        };
+        let mut column = START;
+        for _ in 0..65 {
+            self.look(&mut reach, column);
+            let (next, more) = reach.next(self.columns);
+            if next >= START {
+                return;
+            }
+            self.raise(&mut reach, more);
+            reach.seen |= 1u64 << next;
+            column = next;
+            if self.mate(column) == NOBODY {
+                self.turn(&reach, column);
+                return;
+            }
+        }
+    }
+}
+
+/// What those children weigh that close with some other.
+fn weight_of_closed(edges: &[u64], lefts: &[u8; 64]) -> usize {
+    let mut weight = 0usize;
+    for (edge, left) in edges.iter().zip(lefts) {
+        if *edge != 0 {
+            weight = weight.saturating_add(usize::from(*left));
+        }
+    }
+    weight
+}
+
+/// How many columns a search for mates takes: one for each left child, and for each right one that closes with some other.
+fn columns_of(edges: &[u64]) -> usize {
+    let mut closed = 0u64;
+    for edge in edges {
+        closed |= *edge;
+    }
+    edges
+        .len()
+        .max(64usize.saturating_sub(closed.leading_zeros() as usize))
+}
+
 impl Mates {
+    /// A matching of pairs that close and weigh so much, where there is one. A pair weighs the smaller of its two weights;
+    /// `edges` has for each left child a bit for each right child with which it closes.
+    pub fn heaviest(
+        edges: &[u64],
+        lefts: &[u8; 64],
+        rights: &[u8; 64],
+        wanted: usize,
+    ) -> Option<Mates> {
+        if weight_of_closed(edges, lefts) < wanted {
+            return None;
+        }
+        let mut heaviest = Heaviest {
+            edges,
+            lefts,
+            rights,
+            columns: columns_of(edges),
+            mates: [NOBODY; 65],
+            left_prices: [0; 65],
+            right_prices: [0; 65],
+        };
+        for left in 0..edges.len().min(64) as u8 {
+            heaviest.place(left);
+        }
+        let mut mates = [NOBODY; 64];
+        let mut weight = 0usize;
+        for (right, place) in mates.iter_mut().enumerate() {
+            let left = heaviest.mate(right);
+            let more = heaviest.weight(left, right);
+            if left != NOBODY && more > 0 {
+                *place = left;
+                weight = weight.saturating_add(more.unsigned_abs() as usize);
+            }
+        }
+        (weight >= wanted).then_some(Mates { mates })
+    }
+
     /// A matching of so many pairs that can close, where there is one: `edges` has for each left child a bit for each
     /// right child with which it closes.
     pub fn find(edges: &[u64], wanted: usize) -> Option<Mates> {

@@ -16,7 +16,7 @@ fn members_of<A: Allocator>(expr: &Expr<A>) -> MemberSet {
         }
         Expr::KOf { of, .. } => {
             let mut members = MemberSet::empty();
-            for child in of {
+            for (_, child) in of {
                 members = members.union(members_of(child));
             }
             members

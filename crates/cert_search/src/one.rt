@@ -14,7 +14,6 @@ use crate::cases::split;
 use crate::closed::closed;
 use crate::closing::Closing;
 use crate::leaves::has_counterexample;
-use crate::members::common;
 use crate::parts::parts;
 use crate::plain::plain_tree;
 use crate::rules::{Search, refute};
@@ -22,7 +21,7 @@ use crate::state::{Row, State};
 use bumpalo::Bump;
 use quorum_checker::{Claim, check};
 use quorum_expr::MemberSet;
-use refutation::{Certificate, MAX_DEPTH, MAX_NODES, Refutation};
+use refutation::{Certificate, MAX_DEPTH, MAX_NODES, Refutation, Side};
 use std::alloc::{AllocError, Allocator, Global};
 use volume_model::Fault;
 
@@ -88,9 +87,10 @@ fn closing_of<A: Allocator, B: Allocator + Clone>(
 fn searched<A: Allocator, B: Allocator + Clone>(
     search: &mut Search<B>,
     claim: &Claim<A>,
+    closing: &Closing<B>,
     budget: u64,
-    size: u64,
 ) -> Result<Option<Refutation<B>>, AllocError> {
+    let size = (closing.size() as u64).max(1);
     let lefts = [&claim.left];
     let rights = [&claim.right];
     let state = State {
@@ -105,15 +105,16 @@ fn searched<A: Allocator, B: Allocator + Clone>(
             absent: MemberSet::empty(),
         },
     };
-    search.budget = (budget / 2).min(ITEM_WORK / size.max(1));
+    search.budget = (budget / 2).min(ITEM_WORK / size);
     if let Some(tree) = refute(search, &state, MAX_DEPTH)? {
         return Ok(Some(tree));
     }
     if has_counterexample(&state) {
         return Ok(None);
     }
-    search.budget = (budget / 2).min(CASE_WORK / size.max(1));
-    split(search, &state, common(&state), 0, MAX_DEPTH)
+    search.budget = (budget / 2).min(CASE_WORK / size);
+    let members = closing.members(&search.arena)?;
+    split(search, &state, Side::Left, members.as_slice(), MAX_DEPTH)
 }
 
 /// What refutes a claim, where it is found: first by the pairs of its subexpressions that close, each by itself.
@@ -131,7 +132,7 @@ fn tree_of<A: Allocator, B: Allocator + Clone>(
     };
     match closed(&mut search, &closing, 0, 0, MAX_DEPTH)? {
         Some(tree) => Ok(Some(tree)),
-        None => searched(&mut search, claim, budget, closing.size() as u64),
+        None => searched(&mut search, claim, &closing, budget),
     }
 }
 

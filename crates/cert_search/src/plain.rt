@@ -1,8 +1,9 @@
 //! Claims that hold by the number of equal members alone.
 
-ghost use Rattle.std.specs.Prelude.{◌≡◌, ◌<◌, ◌≤◌, IfOk, IfSome, None, Ok, length, map, true};
+ghost use Rattle.std.specs.Prelude.{◌≡◌, ◌<◌, ◌≤◌, IfOk, IfSome, None, Ok, length, true};
 ghost use Rattle.volume_model.specs.Answer.{Gives};
 ghost use Rattle.quorum_expr.specs.Expr.{formula_of};
+ghost use Rattle.quorum_expr.specs.Forms.{formulas_of};
 ghost use Rattle.quorum_expr.specs.Valid.{expression_fault};
 ghost use Rattle.refutation.specs.Refutation.{rule_of};
 ghost use Rattle.refutation.specs.Forms.{rules_of};
@@ -27,11 +28,11 @@ pub fn is_member<A: Allocator>(member: u8, expr: &Expr<A>) -> bool
 }
 
 /// The place of the first expression that is this member.
-fn place_of<A: Allocator>(member: u8, others: &[Expr<A>]) -> Option<usize>
+fn place_of<A: Allocator>(member: u8, others: &[(u8, Expr<A>)]) -> Option<usize>
     ensures within { IfSome result (λ j. j < length others.now) }
-    ensures place { result ≡ place_of member (map formula_of others.now) }
+    ensures place { result ≡ place_of member (formulas_of others.now) }
 {
-    for (j, other) in others.iter().enumerate() {
+    for (j, (_, other)) in others.iter().enumerate() {
         if is_member(member, other) {
             return Some(j);
         }
@@ -40,9 +41,9 @@ fn place_of<A: Allocator>(member: u8, others: &[Expr<A>]) -> Option<usize>
 }
 
 /// The place of a member with that of an equal one among others, if there is one.
-fn pair_at<A: Allocator>(i: u8, child: &Expr<A>, others: &[Expr<A>]) -> Option<(u8, u8)>
+fn pair_at<A: Allocator>(i: u8, child: &Expr<A>, others: &[(u8, Expr<A>)]) -> Option<(u8, u8)>
     requires { length others.now ≤ 64 }
-    ensures { result ≡ pair_at i (formula_of child.now) (map formula_of others.now) }
+    ensures { result ≡ pair_at i (formula_of child.now) (formulas_of others.now) }
 {
     match child {
         Expr::Member(member) => place_of(*member, others).map(|j| (i, j as u8)),
@@ -53,15 +54,15 @@ fn pair_at<A: Allocator>(i: u8, child: &Expr<A>, others: &[Expr<A>]) -> Option<(
 /// The places of equal members of two lists.
 fn equal_pairs<A: Allocator, B: Allocator + Clone>(
     arena: &B,
-    of: &[Expr<A>],
-    others: &[Expr<A>],
+    of: &[(u8, Expr<A>)],
+    others: &[(u8, Expr<A>)],
 ) -> Result<Vec<(u8, u8), B>, Fault>
     requires { (length of.now ≤ 64) × (length others.now ≤ 64) }
-    ensures pairs { Gives (λ v. v.items) result (Ok (equal_pairs 0 (map formula_of of.now) (map formula_of others.now))) }
+    ensures pairs { Gives (λ v. v.items) result (Ok (equal_pairs 0 (formulas_of of.now) (formulas_of others.now))) }
     ensures few { IfOk result (λ v. length v.items ≤ 64) }
 {
     let mut pairs = Vec::new(arena.clone()?);
-    for (i, child) in of.iter().enumerate() {
+    for (i, (_, child)) in of.iter().enumerate() {
         if let Some(pair) = pair_at(i as u8, child, others) {
             pairs.push(pair)?;
         }

@@ -3,6 +3,7 @@
 
 use crate::leaves::{has_counterexample, leaf};
 use crate::matching::Mates;
+use crate::parts::total;
 use crate::state::{Row, State};
 use quorum_expr::Expr;
 use refutation::{Refutation, Side};
@@ -47,7 +48,7 @@ impl<B: Allocator> Search<B> {
 fn first_all<A: Allocator>(row: &Row<'_, A>) -> Option<usize> {
     row.items.iter().position(|item| match *item {
         Expr::Member(_) => false,
-        Expr::KOf { k, of } => usize::from(*k) == of.len(),
+        Expr::KOf { k, of } => usize::from(*k) == total(of.as_slice()),
     })
 }
 
@@ -55,8 +56,17 @@ fn first_all<A: Allocator>(row: &Row<'_, A>) -> Option<usize> {
 fn first_any<A: Allocator>(row: &Row<'_, A>) -> Option<usize> {
     row.items.iter().position(|item| match *item {
         Expr::Member(_) => false,
-        Expr::KOf { k, .. } => *k == 1,
+        Expr::KOf { k, of } => of.iter().all(|child| u16::from(child.0) >= *k),
     })
+}
+
+/// What the first 64 children weigh.
+fn weights<A: Allocator>(of: &[(u8, Expr<A>)]) -> [u8; 64] {
+    let mut weights = [0u8; 64];
+    for (place, child) in weights.iter_mut().zip(of) {
+        *place = child.0;
+    }
+    weights
 }
 
 /// Whether it is worth while to look for what closes a pair of children.
@@ -125,7 +135,7 @@ fn open<A: Allocator, B: Allocator + Clone>(
     Ok(Some(Refutation::Open { side, item, then }))
 }
 
-/// What refutes a state whose item is replaced by one of its children, for as many of them as leave too few.
+/// What refutes a state whose item is replaced by one of its children, for so many of them that what is left weighs too little.
 #[cycle(rules)]
 fn pick<A: Allocator, B: Allocator + Clone>(
     search: &mut Search<B>,
@@ -142,13 +152,14 @@ fn pick<A: Allocator, B: Allocator + Clone>(
         return Ok(None);
     };
     let mut spare = usize::from(*k).saturating_sub(1);
-    let wanted = of.len().saturating_sub(spare);
+    let mut missing = total(of.as_slice()).saturating_sub(spare);
     let mut children = Vec::new(search.arena.clone()?);
     let mut then = Vec::new(search.arena.clone()?);
-    for (number, child) in of.iter().enumerate() {
-        if then.len() >= wanted {
+    for (number, (weight, child)) in of.iter().enumerate() {
+        if missing == 0 {
             break;
         }
+        let weight = usize::from(*weight);
         let list = row.replaced_by_one(search.arena.clone()?, at, child)?;
         match refute(search, &state.changed(side, &list), levels)? {
             Some(tree) => {
@@ -157,9 +168,12 @@ fn pick<A: Allocator, B: Allocator + Clone>(
                 };
                 children.push(number)?;
                 then.push(tree)?;
+                missing = missing.saturating_sub(weight);
             }
-            None if spare == 0 => return Ok(None),
-            None => spare -= 1,
+            None => match spare.checked_sub(weight) {
+                Some(rest) => spare = rest,
+                None => return Ok(None),
+            },
         }
     }
     Ok(Some(Refutation::Pick {
@@ -210,15 +224,15 @@ fn pick_some<A: Allocator, B: Allocator + Clone>(
 fn close_pairs<A: Allocator, B: Allocator + Clone>(
     search: &mut Search<B>,
     state: &State<'_, A>,
-    of: &[Expr<A>],
-    others: &[Expr<A>],
+    of: &[(u8, Expr<A>)],
+    others: &[(u8, Expr<A>)],
     levels: u8,
 ) -> Result<Closing<B>, AllocError> {
     let mut pairs = Vec::new(search.arena.clone()?);
     let mut edges = Vec::new(search.arena.clone()?);
-    for (left, child) in (0..64u8).zip(of) {
+    for (left, (_, child)) in (0..64u8).zip(of) {
         let mut edge = 0u64;
-        for (right, other) in (0..64u8).zip(others) {
+        for (right, (_, other)) in (0..64u8).zip(others) {
             if !may_close(state, child, other) {
                 continue;
             }
@@ -257,12 +271,24 @@ fn match_two<A: Allocator, B: Allocator + Clone>(
         return Ok(None);
     };
     let spare = usize::from(*k).saturating_add(usize::from(*l));
-    let wanted = (of.len().saturating_add(others.len()).saturating_add(1)).saturating_sub(spare);
-    if wanted > of.len().min(others.len()) {
+    let (all, rest) = (total(of.as_slice()), total(others.as_slice()));
+    let wanted = (all.saturating_add(rest).saturating_add(1)).saturating_sub(spare);
+    if wanted > all.min(rest) {
         return Ok(None);
     }
     let closing = close_pairs(search, state, of, others, levels)?;
-    let Some(mates) = Mates::find(&closing.edges, wanted) else {
+    let edges = closing.edges.as_slice();
+    let mates = if all == of.len() && rest == others.len() {
+        Mates::find(edges, wanted)
+    } else {
+        Mates::heaviest(
+            edges,
+            &weights(of.as_slice()),
+            &weights(others.as_slice()),
+            wanted,
+        )
+    };
+    let Some(mates) = mates else {
         return Ok(None);
     };
     Ok(Some(matched(&search.arena, left, right, &mates, closing.pairs)?))

@@ -87,10 +87,10 @@ impl<'a, A: Allocator> Row<'a, A> {
         &self,
         alloc: B,
         at: usize,
-        children: &'a [Expr<A>],
+        children: &'a [(u8, Expr<A>)],
     ) -> Result<Vec<&'a Expr<A>, B>, AllocError> {
         let mut list = self.rest(alloc, at)?;
-        for child in children {
+        for (_, child) in children {
             list.push(child)?;
         }
         Ok(list)

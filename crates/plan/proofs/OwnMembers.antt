@@ -1,5 +1,5 @@
 -- An expression that was read names none but members.
-use Rattle.std.proofs.Common.{◌≡◌, ℕ, zero, suc, List, [], ◌∷◌, ◌++◌, map, Result, Ok, Err, refl, ◌∙◌, sym, subst}
+use Rattle.std.proofs.Common.{◌≡◌, ℕ, zero, suc, ◌+◌, List, [], ◌∷◌, ◌++◌, map, Result, Ok, Err, refl, ap, ◌∙◌, sym, subst}
 use Rattle.std.specs.Prelude.{Bool, true, false, not, ◌&&◌, nat_lt, nat_le, if◌then◌else◌}
 use Rattle.std.proofs.lemmas.Bool.{and_parts, and_from}
 use Rattle.std.proofs.lemmas.List.{map-append}
@@ -15,8 +15,8 @@ use Rattle.volume_model.specs.Sets.{listed}
 use Rattle.quorum_expr.specs.declared.form.Lists.{Lists}
 use Rattle.quorum_expr.specs.declared.form.ListName.{ListName}
 use Rattle.quorum_expr.specs.declared.form.ListName.TheVariants.{All, Full, Tail}
-use Rattle.quorum_expr.specs.Valid.{good_count, nodes}
-use Rattle.quorum_expr.specs.Reading.{ChildList, each, named, Form, single, choice, set_of, form_of, child_count, each_of, members_at, children_at, formula_from, formula_at, expression_in}
+use Rattle.quorum_expr.specs.Valid.{nodes}
+use Rattle.quorum_expr.specs.Reading.{ChildList, each, named, Weights, weighing, good_row, Form, single, choice, set_of, form_of, child_count, each_of, members_at, children_at, formula_from, formula_at, expression_in}
 use Rattle.plan.specs.PlanData.{names_only, each_names_only}
 
 -- what an answer has, if there is one
@@ -43,6 +43,11 @@ module _ (lists : Lists) (within : is_subset lists.full lists.members ≡ true) 
   -- each of the formulas does
   abbrev AllOwn : List Formula → Type 0
   AllOwn fs = each_names_only (each_once fs) lists.members ≡ true
+
+  -- whatever they weigh
+  own-weighing : (ws : Weights) (i : ℕ) (fs : List Formula) → each_names_only (weighing ws i fs) lists.members ≡ each_names_only (each_once fs) lists.members
+  own-weighing ws i [] = refl
+  own-weighing ws i (f ∷ fs) = ap (λ b. names_only f lists.members && b) (own-weighing ws (i + 1) fs)
 
   in-named : (name : ListName) (x : ℕ) → contains (set_of lists name) x ≡ true → contains lists.members x ≡ true
   in-named All x h = h
@@ -82,14 +87,14 @@ module _ (lists : Lists) (within : is_subset lists.full lists.members ≡ true) 
   own-from : (left : ℕ) (read : Data → Result Formula Fault) → ((d : Data) → OkHas Own (read d)) → (form : Form) → OkHas Own (formula_from lists left read form)
   own-from left read h (single n) =
       if_has (nat_lt n 64 && contains lists.members n) (Ok (member n)) (Err NotAMember) Own (λ both. (and_parts (nat_lt n 64) (contains lists.members n) both).1) tt
-  own-from left read h (choice k list) =
-      if_has (good_count k (child_count lists list)) (children_at lists left read list >>= λ fs. Ok (at_least k (each_once fs))) (Err BadCount) Own
-      (λ counted. bind_has (children_at lists left read list) (λ fs. Ok (at_least k (each_once fs))) Own (λ fs are. has_at (children_at lists left read list) AllOwn fs (own-children left read h list) are)) tt
+  own-from left read h (choice k list ws) =
+      if_has (good_row k (child_count lists list) ws) (children_at lists left read list >>= λ fs. Ok (at_least k (weighing ws 0 fs))) (Err BadCount) Own
+      (λ counted. bind_has (children_at lists left read list) (λ fs. Ok (at_least k (weighing ws 0 fs))) Own (λ fs are. own-weighing ws 0 fs ∙ has_at (children_at lists left read list) AllOwn fs (own-children left read h list) are)) tt
 
   own-at : (left : ℕ) (d : Data) → OkHas Own (formula_at lists left d)
   unfolding formula_at
-  own-at zero d = bind_has (form_of d) (λ form. Err TooDeep) Own (λ form is. tt)
-  own-at (suc left) d = bind_has (form_of d) (formula_from lists left (formula_at lists left)) Own (λ form is. own-from left (formula_at lists left) (own-at left) form)
+  own-at zero d = bind_has (form_of lists d) (λ form. Err TooDeep) Own (λ form is. tt)
+  own-at (suc left) d = bind_has (form_of lists d) (formula_from lists left (formula_at lists left)) Own (λ form is. own-from left (formula_at lists left) (own-at left) form)
 
   pub own-read : (d : Data) (f : Formula) → expression_in lists d ≡ Ok f → names_only f lists.members ≡ true
   unfolding expression_in

@@ -122,21 +122,21 @@ made parent lists reads writes meets step = record { parent = parent; members = 
 abbrev from_writes : ℕ → Fields → Option ℕ → Lists → Formula → Formula → Result ConfigurationData PlanFault
 from_writes c f parent lists reads writes = in_text (certificate_or_null f.meets) >=> λ meets. in_text (step_of c f.step) >=> λ step. Ok (made parent lists reads writes meets step)
 
-abbrev from_reads : ℕ → ℕ → Fields → Option ℕ → Lists → Formula → Result ConfigurationData PlanFault
-from_reads g c f parent lists reads = in_quorum g c Write (expression_in lists f.write) >=> from_writes c f parent lists reads
+abbrev from_reads : Bool → ℕ → ℕ → Fields → Option ℕ → Lists → Formula → Result ConfigurationData PlanFault
+from_reads w g c f parent lists reads = in_quorum g c Write (expression_in lists f.write) >=> from_writes c f parent lists reads
 
-abbrev from_lists : ℕ → ℕ → Fields → Option ℕ → Lists → Result ConfigurationData PlanFault
-from_lists g c f parent lists = in_quorum g c Read (expression_in lists f.read) >=> from_reads g c f parent lists
+abbrev from_lists : Bool → ℕ → ℕ → Fields → Option ℕ → Lists → Result ConfigurationData PlanFault
+from_lists w g c f parent lists = in_quorum g c Read (expression_in lists f.read) >=> from_reads w g c f parent lists
 
-abbrev from_parent : ℕ → ℕ → Fields → Option ℕ → Result ConfigurationData PlanFault
-from_parent g c f parent = in_text (lists_of f) >=> from_lists g c f parent
+abbrev from_parent : Bool → ℕ → ℕ → Fields → Option ℕ → Result ConfigurationData PlanFault
+from_parent w g c f parent = in_text (lists_of w f) >=> from_lists w g c f parent
 
-abbrev from_fields : ℕ → ℕ → Fields → Result ConfigurationData PlanFault
-from_fields g c f = in_text (parent_of f.parent) >=> from_parent g c f
+abbrev from_fields : Bool → ℕ → ℕ → Fields → Result ConfigurationData PlanFault
+from_fields w g c f = in_text (parent_of f.parent) >=> from_parent w g c f
 
-lists_kept : (f : Fields) (meets step : Data) → lists_of (record f { meets = meets; step = step }) ≡ lists_of f
+lists_kept : (w : Bool) (f : Fields) (meets step : Data) → lists_of w (record f { meets = meets; step = step }) ≡ lists_of w f
 unfolding lists_of
-lists_kept f meets step = refl
+lists_kept w f meets step = refl
 
 fields_of-object : (f : Fields) (meets step : Data) → fields_of (fields_object f meets step) ≡ Ok (record f { meets = meets; step = step })
 unfolding fields_of
@@ -151,14 +151,14 @@ last c f meets step parent lists reads writes m s x (Ok a) (Ok b) em es h =
 last c f meets step parent lists reads writes m s x (Ok a) (Err e) em es h = absurd (cc)
 last c f meets step parent lists reads writes m s x (Err e) old em es h = absurd (cc)
 
-kept : (g c : ℕ) (f : Fields) (meets step : Data) (m s : Option Rule) (x : ConfigurationData) → certificate_or_null meets ≡ Ok m → step_of c step ≡ Ok s → from_fields g c f ≡ Ok x
-    → from_fields g c (record f { meets = meets; step = step }) ≡ Ok (record x { meets = m; step = s })
-kept g c f meets step m s x em es =
+kept : (w : Bool) (g c : ℕ) (f : Fields) (meets step : Data) (m s : Option Rule) (x : ConfigurationData) → certificate_or_null meets ≡ Ok m → step_of c step ≡ Ok s → from_fields w g c f ≡ Ok x
+    → from_fields w g c (record f { meets = meets; step = step }) ≡ Ok (record x { meets = m; step = s })
+kept w g c f meets step m s x em es =
     let new : Fields = record f { meets = meets; step = step } in
     let other : ConfigurationData = record x { meets = m; step = s } in
-    then_kept (in_text (parent_of f.parent)) (in_text (parent_of f.parent)) (from_parent g c f) (from_parent g c new) x other refl (λ parent.
-    then_kept (in_text (lists_of f)) (in_text (lists_of new)) (from_lists g c f parent) (from_lists g c new parent) x other (ap in_text (lists_kept f meets step)) (λ lists.
-    then_kept (in_quorum g c Read (expression_in lists f.read)) (in_quorum g c Read (expression_in lists f.read)) (from_reads g c f parent lists) (from_reads g c new parent lists) x other refl (λ reads.
+    then_kept (in_text (parent_of f.parent)) (in_text (parent_of f.parent)) (from_parent w g c f) (from_parent w g c new) x other refl (λ parent.
+    then_kept (in_text (lists_of w f)) (in_text (lists_of w new)) (from_lists w g c f parent) (from_lists w g c new parent) x other (ap in_text (lists_kept w f meets step)) (λ lists.
+    then_kept (in_quorum g c Read (expression_in lists f.read)) (in_quorum g c Read (expression_in lists f.read)) (from_reads w g c f parent lists) (from_reads w g c new parent lists) x other refl (λ reads.
     then_kept (in_quorum g c Write (expression_in lists f.write)) (in_quorum g c Write (expression_in lists f.write)) (from_writes c f parent lists reads) (from_writes c new parent lists reads) x other refl (λ writes h.
     last c f meets step parent lists reads writes m s x (in_text (certificate_or_null f.meets)) (in_text (step_of c f.step)) em es h))))
 
@@ -172,17 +172,17 @@ pub record Rewritten (old : Data) (written : Data → Type 0) (reads : Data → 
   pub read : reads value
   pub nests : (n : ℕ) → depth old ≤ n → most ≤ n → depth value ≤ n
 
-pub configuration-reread : (g c : ℕ) (d : Data) (x : ConfigurationData) (vs : List Data) (m s : Option Rule) → certificate_or_null (meets_value c vs) ≡ Ok m → step_of c (step_value c vs) ≡ Ok s → depth (meets_value c vs) ≤ 81 → depth (step_value c vs) ≤ 81
-    → configuration_in g c d ≡ Ok x → Rewritten d (λ y. configuration_written c d vs ≡ Ok y) (λ y. configuration_in g c y ≡ Ok (record x { meets = m; step = s })) 82
+pub configuration-reread : (w : Bool) (g c : ℕ) (d : Data) (x : ConfigurationData) (vs : List Data) (m s : Option Rule) → certificate_or_null (meets_value c vs) ≡ Ok m → step_of c (step_value c vs) ≡ Ok s → depth (meets_value c vs) ≤ 81 → depth (step_value c vs) ≤ 81
+    → configuration_in w g c d ≡ Ok x → Rewritten d (λ y. configuration_written c d vs ≡ Ok y) (λ y. configuration_in w g c y ≡ Ok (record x { meets = m; step = s })) 82
 unfolding configuration_in configuration_written
-configuration-reread g c d x vs m s em es dm ds h =
-    let f = then_ok (in_text (fields_of d)) (from_fields g c) x h in
+configuration-reread w g c d x vs m s em es dm ds h =
+    let f = then_ok (in_text (fields_of d)) (from_fields w g c) x h in
     let is : fields_of d ≡ Ok f.0 = text_ok (fields_of d) f.0 f.1 in
     let y : Data = fields_object f.0 (meets_value c vs) (step_value c vs) in
     record {
       value = y;
       is = (λ i. is i >>= λ f. Ok (fields_object f (meets_value c vs) (step_value c vs)));
-      read = (λ i. in_text (fields_of-object f.0 (meets_value c vs) (step_value c vs) i) >=> from_fields g c) ∙ kept g c f.0 (meets_value c vs) (step_value c vs) m s x em es f.2;
+      read = (λ i. in_text (fields_of-object f.0 (meets_value c vs) (step_value c vs) i) >=> from_fields w g c) ∙ kept w g c f.0 (meets_value c vs) (step_value c vs) m s x em es f.2;
       nests = λ n h k. object-nests n f.0 (meets_value c vs) (step_value c vs) (fields-up n f.0 (fields-nest d f.0 is) h) (omega arith) (omega arith);
     }
   where

@@ -130,23 +130,23 @@ record Relisted (old : Items) (written : List Data → Type 0) (reads : Items �
   counted : items_len (items_of values) ≡ items_len old
   nests : (n : ℕ) → items_depth old ≤ n → most ≤ n → items_depth (items_of values) ≤ n
 
-configurations-reread : (g c : ℕ) (ds : Items) (xs : List ConfigurationData) (vs : List Data) (rs : List (Option Rule)) → AreRead vs rs → GoodFrom c xs → configurations_in g c ds ≡ Ok xs
-    → Relisted ds (λ ys. configurations_written c ds vs ≡ Ok ys) (λ ys. configurations_in g c ys ≡ Ok (configurations_with xs (drop (before c) rs))) 82
-configurations-reread g c no_items [] vs rs h good is = record { values = []; is = refl; read = refl; counted = refl; nests = λ n h k. omega arith }
-configurations-reread g c no_items (x ∷ xs) vs rs h good is = absurd (cc)
-configurations-reread g c (item d ds) [] vs rs h good is =
-    let one = then_ok (configuration_in g c d) (λ x. configurations_in g (c + 1) ds >=> λ xs. Ok (x ∷ xs)) [] is in
-    let more = then_ok (configurations_in g (c + 1) ds) (λ xs. Ok (one.0 ∷ xs)) [] one.2 in
+configurations-reread : (w : Bool) (g c : ℕ) (ds : Items) (xs : List ConfigurationData) (vs : List Data) (rs : List (Option Rule)) → AreRead vs rs → GoodFrom c xs → configurations_in w g c ds ≡ Ok xs
+    → Relisted ds (λ ys. configurations_written c ds vs ≡ Ok ys) (λ ys. configurations_in w g c ys ≡ Ok (configurations_with xs (drop (before c) rs))) 82
+configurations-reread w g c no_items [] vs rs h good is = record { values = []; is = refl; read = refl; counted = refl; nests = λ n h k. omega arith }
+configurations-reread w g c no_items (x ∷ xs) vs rs h good is = absurd (cc)
+configurations-reread w g c (item d ds) [] vs rs h good is =
+    let one = then_ok (configuration_in w g c d) (λ x. configurations_in w g (c + 1) ds >=> λ xs. Ok (x ∷ xs)) [] is in
+    let more = then_ok (configurations_in w g (c + 1) ds) (λ xs. Ok (one.0 ∷ xs)) [] one.2 in
     let no : one.0 ∷ more.0 ≡ [] = ok_is (one.0 ∷ more.0) [] more.2 in
     absurd (cc)
-configurations-reread g c (item d ds) (x ∷ xs) vs rs h good is =
-    let one = then_ok (configuration_in g c d) (λ x. configurations_in g (c + 1) ds >=> λ xs. Ok (x ∷ xs)) (x ∷ xs) is in
-    let more = then_ok (configurations_in g (c + 1) ds) (λ xs. Ok (one.0 ∷ xs)) (x ∷ xs) one.2 in
+configurations-reread w g c (item d ds) (x ∷ xs) vs rs h good is =
+    let one = then_ok (configuration_in w g c d) (λ x. configurations_in w g (c + 1) ds >=> λ xs. Ok (x ∷ xs)) (x ∷ xs) is in
+    let more = then_ok (configurations_in w g (c + 1) ds) (λ xs. Ok (one.0 ∷ xs)) (x ∷ xs) one.2 in
     let same : one.0 ∷ more.0 ≡ x ∷ xs = ok_is (one.0 ∷ more.0) (x ∷ xs) more.2 in
     let first : one.0 ≡ x = cc in
     let others : more.0 ≡ xs = cc in
-    let here = configuration-reread g c d x vs (certificate_at (drop (before c) rs) 0) (by_parent x.parent None (λ p. certificate_at (drop (before c) rs) 1)) (meets-read c vs rs h) (step-read c x.parent vs rs h good.0) (h.nest (before c)) (step-nests c vs h.nest) (one.1 ∙ ap Ok first) in
-    let there = configurations-reread g (c + 1) ds xs vs rs h good.1 (more.1 ∙ ap Ok others) in
+    let here = configuration-reread w g c d x vs (certificate_at (drop (before c) rs) 0) (by_parent x.parent None (λ p. certificate_at (drop (before c) rs) 1)) (meets-read c vs rs h) (step-read c x.parent vs rs h good.0) (h.nest (before c)) (step-nests c vs h.nest) (one.1 ∙ ap Ok first) in
+    let there = configurations-reread w g (c + 1) ds xs vs rs h good.1 (more.1 ∙ ap Ok others) in
     let left : drop (claim_count x) (drop (before c) rs) ≡ drop (before (c + 1)) rs = drop-drop (claim_count x) (before c) rs ∙ ap (λ n. drop n rs) (next-places c x.parent good.0) in
     record {
       values = here.value ∷ there.values;
@@ -156,13 +156,13 @@ configurations-reread g c (item d ds) (x ∷ xs) vs rs h good is =
       nests = λ n k l. omega (arith, here.nests n (omega arith) l, there.nests n (omega arith) l);
     }
 
-configurations-counted : (g c : ℕ) (ds : Items) (xs : List ConfigurationData) → configurations_in g c ds ≡ Ok xs → length xs ≡ items_len ds
-configurations-counted g c no_items xs is = ap length (sym (ok_is [] xs is))
-configurations-counted g c (item d ds) xs is =
-    let one = then_ok (configuration_in g c d) (λ x. configurations_in g (c + 1) ds >=> λ xs. Ok (x ∷ xs)) xs is in
-    let more = then_ok (configurations_in g (c + 1) ds) (λ xs. Ok (one.0 ∷ xs)) xs one.2 in
+configurations-counted : (w : Bool) (g c : ℕ) (ds : Items) (xs : List ConfigurationData) → configurations_in w g c ds ≡ Ok xs → length xs ≡ items_len ds
+configurations-counted w g c no_items xs is = ap length (sym (ok_is [] xs is))
+configurations-counted w g c (item d ds) xs is =
+    let one = then_ok (configuration_in w g c d) (λ x. configurations_in w g (c + 1) ds >=> λ xs. Ok (x ∷ xs)) xs is in
+    let more = then_ok (configurations_in w g (c + 1) ds) (λ xs. Ok (one.0 ∷ xs)) xs one.2 in
     let same : one.0 ∷ more.0 ≡ xs = ok_is (one.0 ∷ more.0) xs more.2 in
-    let rest = configurations-counted g (c + 1) ds more.0 more.1 in
+    let rest = configurations-counted w g (c + 1) ds more.0 more.1 in
     omega (arith, ap length same)
 
 children-counted : (c : ℕ) (xs : List ConfigurationData) → GoodFrom (suc c) xs → claim_counts xs ≡ 2 * length xs
@@ -200,44 +200,44 @@ group_items-ok d ds h =
       nests = omega (arith, key-nests (codes "configurations") d found.0 found.1, array-nests found.0 listed.0 listed.1);
     })
 
-group-reread : (g : ℕ) (d : Data) (ds : Items) (xs : List ConfigurationData) (vs : List Data) (rs : List (Option Rule)) → AreRead vs rs → GoodFrom 0 xs → group_items d ≡ Ok ds → configurations_in g 0 ds ≡ Ok xs
-    → Rewritten d (λ y. group_written ds vs ≡ Ok y) (λ y. group_in g y ≡ Ok (configurations_with xs rs)) 84
+group-reread : (w : Bool) (g : ℕ) (d : Data) (ds : Items) (xs : List ConfigurationData) (vs : List Data) (rs : List (Option Rule)) → AreRead vs rs → GoodFrom 0 xs → group_items d ≡ Ok ds → configurations_in w g 0 ds ≡ Ok xs
+    → Rewritten d (λ y. group_written ds vs ≡ Ok y) (λ y. group_in w g y ≡ Ok (configurations_with xs rs)) 84
 unfolding group_written group_in
-group-reread g d ds xs vs rs h good items is =
+group-reread w g d ds xs vs rs h good items is =
     let grouped = group_items-ok d ds items in
-    let all = configurations-reread g 0 ds xs vs rs h good is in
+    let all = configurations-reread w g 0 ds xs vs rs h good is in
     record {
       value = group_object all.values;
       is = λ i. all.is i >>= λ ys. Ok (group_object ys);
-      read = (λ i. in_text (group_items-object all.values (ap (is_from_1 64) all.counted ∙ grouped.few) i) >=> configurations_in g 0) ∙ all.read;
+      read = (λ i. in_text (group_items-object all.values (ap (is_from_1 64) all.counted ∙ grouped.few) i) >=> configurations_in w g 0) ∙ all.read;
       nests = λ n k l. omega (arith, grouped.nests, all.nests (n - 2) (omega (arith, grouped.nests)) (omega arith));
     }
 
-group-split : (g : ℕ) (d : Data) (xs : List ConfigurationData) → group_in g d ≡ Ok xs → (ds : Items) × (group_items d ≡ Ok ds) × (configurations_in g 0 ds ≡ Ok xs)
+group-split : (w : Bool) (g : ℕ) (d : Data) (xs : List ConfigurationData) → group_in w g d ≡ Ok xs → (ds : Items) × (group_items d ≡ Ok ds) × (configurations_in w g 0 ds ≡ Ok xs)
 unfolding group_in
-group-split g d xs h =
-    let items = then_ok (in_text (group_items d)) (configurations_in g 0) xs h in
+group-split w g d xs h =
+    let items = then_ok (in_text (group_items d)) (configurations_in w g 0) xs h in
     (items.0, text_ok (group_items d) items.0 items.1, items.2)
 
-groups-reread : (g : ℕ) (ds : Items) (groups : List (List ConfigurationData)) (vs : List Data) (rs : List (Option Rule)) → AreRead vs rs → AllGood groups → groups_in g ds ≡ Ok groups
-    → Relisted ds (λ ys. groups_written ds vs ≡ Ok ys) (λ ys. groups_in g ys ≡ Ok (groups_with groups rs)) 84
-groups-reread g no_items [] vs rs h good is = record { values = []; is = refl; read = refl; counted = refl; nests = λ n h k. omega arith }
-groups-reread g no_items (xs ∷ groups) vs rs h good is = absurd (cc)
-groups-reread g (item d ds) [] vs rs h good is =
-    let one = then_ok (group_in g d) (λ x. groups_in (g + 1) ds >=> λ xs. Ok (x ∷ xs)) [] is in
-    let more = then_ok (groups_in (g + 1) ds) (λ xs. Ok (one.0 ∷ xs)) [] one.2 in
+groups-reread : (w : Bool) (g : ℕ) (ds : Items) (groups : List (List ConfigurationData)) (vs : List Data) (rs : List (Option Rule)) → AreRead vs rs → AllGood groups → groups_in w g ds ≡ Ok groups
+    → Relisted ds (λ ys. groups_written ds vs ≡ Ok ys) (λ ys. groups_in w g ys ≡ Ok (groups_with groups rs)) 84
+groups-reread w g no_items [] vs rs h good is = record { values = []; is = refl; read = refl; counted = refl; nests = λ n h k. omega arith }
+groups-reread w g no_items (xs ∷ groups) vs rs h good is = absurd (cc)
+groups-reread w g (item d ds) [] vs rs h good is =
+    let one = then_ok (group_in w g d) (λ x. groups_in w (g + 1) ds >=> λ xs. Ok (x ∷ xs)) [] is in
+    let more = then_ok (groups_in w (g + 1) ds) (λ xs. Ok (one.0 ∷ xs)) [] one.2 in
     let no : one.0 ∷ more.0 ≡ [] = ok_is (one.0 ∷ more.0) [] more.2 in
     absurd (cc)
-groups-reread g (item d ds) (xs ∷ groups) vs rs h good is =
-    let one = then_ok (group_in g d) (λ x. groups_in (g + 1) ds >=> λ xs. Ok (x ∷ xs)) (xs ∷ groups) is in
-    let more = then_ok (groups_in (g + 1) ds) (λ xs. Ok (one.0 ∷ xs)) (xs ∷ groups) one.2 in
+groups-reread w g (item d ds) (xs ∷ groups) vs rs h good is =
+    let one = then_ok (group_in w g d) (λ x. groups_in w (g + 1) ds >=> λ xs. Ok (x ∷ xs)) (xs ∷ groups) is in
+    let more = then_ok (groups_in w (g + 1) ds) (λ xs. Ok (one.0 ∷ xs)) (xs ∷ groups) one.2 in
     let same : one.0 ∷ more.0 ≡ xs ∷ groups = ok_is (one.0 ∷ more.0) (xs ∷ groups) more.2 in
     let first : one.0 ≡ xs = cc in
     let others : more.0 ≡ groups = cc in
-    let split = group-split g d xs (one.1 ∙ ap Ok first) in
-    let here = group-reread g d split.0 xs vs rs h good.0 split.1 split.2 in
-    let places : claim_counts xs ≡ 2 * items_len split.0 - 1 = claims-counted xs good.0 ∙ ap (λ n. 2 * n - 1) (configurations-counted g 0 split.0 xs split.2) in
-    let there = groups-reread (g + 1) ds groups (drop (2 * items_len split.0 - 1) vs) (drop (2 * items_len split.0 - 1) rs) (AreRead-drop (2 * items_len split.0 - 1) vs rs h) good.1 (more.1 ∙ ap Ok others) in
+    let split = group-split w g d xs (one.1 ∙ ap Ok first) in
+    let here = group-reread w g d split.0 xs vs rs h good.0 split.1 split.2 in
+    let places : claim_counts xs ≡ 2 * items_len split.0 - 1 = claims-counted xs good.0 ∙ ap (λ n. 2 * n - 1) (configurations-counted w g 0 split.0 xs split.2) in
+    let there = groups-reread w (g + 1) ds groups (drop (2 * items_len split.0 - 1) vs) (drop (2 * items_len split.0 - 1) rs) (AreRead-drop (2 * items_len split.0 - 1) vs rs h) good.1 (more.1 ∙ ap Ok others) in
     record {
       values = here.value ∷ there.values;
       is = ap (λ (r : Result Items Fault). r >>= λ cs. group_written cs vs >>= λ x. groups_written ds (drop (2 * items_len cs - 1) vs) >>= λ xs. Ok (x ∷ xs)) split.1 ∙ (λ i. here.is i >>= λ y. there.is i >>= λ ys. Ok (y ∷ ys));
@@ -268,7 +268,7 @@ group_list-ok d ds h =
     (subst (λ es. is_from_1 16 (items_len es) ≡ true) few.1 few.0, subst (λ es. items_depth es < depth d) few.1 (array-nests d listed.0 listed.1))
 
 abbrev from_values : Data → Data → Data → Result Header Fault
-from_values f l g = format_of f >>= λ format. lal_of l >>= λ lal. group_list g >>= λ groups. Ok (record { lal = lal; groups = groups })
+from_values f l g = format_of f >>= λ w. lal_of l >>= λ lal. group_list g >>= λ groups. Ok (record { is_weighed = w; lal = lal; groups = groups })
 
 header_of-ok : (d : Data) (h : Header) → header_of d ≡ Ok h → Headed d h
 unfolding header_of
@@ -277,10 +277,10 @@ header_of-ok d h is =
     let f = bind_ok (at_key (codes "format") d) (λ f. at_key (codes "lal") d >>= λ l. at_key (codes "groups") d >>= λ g. from_values f l g) h keys.2 in
     let l = bind_ok (at_key (codes "lal") d) (λ l. at_key (codes "groups") d >>= λ g. from_values f.0 l g) h f.2 in
     let g = bind_ok (at_key (codes "groups") d) (λ g. from_values f.0 l.0 g) h l.2 in
-    let one = bind_ok (format_of f.0) (λ format. lal_of l.0 >>= λ lal. group_list g.0 >>= λ groups. Ok (record { lal = lal; groups = groups })) h g.2 in
-    let lal = bind_ok (lal_of l.0) (λ lal. group_list g.0 >>= λ groups. Ok (record { lal = lal; groups = groups })) h one.2 in
-    let list = bind_ok (group_list g.0) (λ groups. Ok (record { lal = lal.0; groups = groups })) h lal.2 in
-    let made : Header = record { lal = lal.0; groups = list.0 } in
+    let one = bind_ok (format_of f.0) (λ w. lal_of l.0 >>= λ lal. group_list g.0 >>= λ groups. Ok (record { is_weighed = w; lal = lal; groups = groups })) h g.2 in
+    let lal = bind_ok (lal_of l.0) (λ lal. group_list g.0 >>= λ groups. Ok (record { is_weighed = one.0; lal = lal; groups = groups })) h one.2 in
+    let list = bind_ok (group_list g.0) (λ groups. Ok (record { is_weighed = one.0; lal = lal.0; groups = groups })) h lal.2 in
+    let made : Header = record { is_weighed = one.0; lal = lal.0; groups = list.0 } in
     let few = group_list-ok g.0 list.0 list.1 in
     subst (Headed d) (ok_is made h list.2) (record {
       lal = lal_of-ok l.0 lal.0 lal.1;
@@ -288,27 +288,28 @@ header_of-ok d h is =
       nests = omega (arith, few.1, key-nests (codes "groups") d g.0 g.1);
     })
 
-header_of-object : (lal : ℕ) (ys : List Data) → is_from_1 10000000 lal ≡ true → is_from_1 16 (items_len (items_of ys)) ≡ true → header_of (plan_object lal ys) ≡ Ok (record { lal = lal; groups = items_of ys })
+header_of-object : (w : Bool) (lal : ℕ) (ys : List Data) → is_from_1 10000000 lal ≡ true → is_from_1 16 (items_len (items_of ys)) ≡ true → header_of (plan_object w lal ys) ≡ Ok (record { is_weighed = w; lal = lal; groups = items_of ys })
 unfolding header_of format_of lal_of group_list
-header_of-object lal ys h k = rw (h, k) refl
+header_of-object true lal ys h k = rw (h, k) refl
+header_of-object false lal ys h k = rw (h, k) refl
 
 -- A plan that is written with other certificates is read as the plan with these.
 pub plan-reread : (d : Data) (plan : PlanData) (vs : List Data) (rs : List (Option Rule)) → AreRead vs rs → AllGood plan.groups → plan_in d ≡ Ok plan
     → Rewritten d (λ y. plan_written d vs ≡ Ok y) (λ y. plan_in y ≡ Ok (with_certificates plan rs)) 86
 unfolding plan_in plan_written
 plan-reread d plan vs rs h good is =
-    let header = then_ok (in_text (header_of d)) (λ header. groups_in 0 header.groups >=> λ groups. Ok (record { lal = header.lal; groups = groups })) plan is in
+    let header = then_ok (in_text (header_of d)) (λ header. groups_in header.is_weighed 0 header.groups >=> λ groups. Ok (record { lal = header.lal; groups = groups })) plan is in
     let found : header_of d ≡ Ok header.0 = text_ok (header_of d) header.0 header.1 in
-    let groups = then_ok (groups_in 0 header.0.groups) (λ groups. Ok (record { lal = header.0.lal; groups = groups })) plan header.2 in
+    let groups = then_ok (groups_in header.0.is_weighed 0 header.0.groups) (λ groups. Ok (record { lal = header.0.lal; groups = groups })) plan header.2 in
     let made : PlanData = record { lal = header.0.lal; groups = groups.0 } in
     let same : made ≡ plan = ok_is made plan groups.2 in
     let headed = header_of-ok d header.0 found in
-    let all = groups-reread 0 header.0.groups groups.0 vs rs h (subst (λ (p : PlanData). AllGood p.groups) (sym same) good) groups.1 in
+    let all = groups-reread header.0.is_weighed 0 header.0.groups groups.0 vs rs h (subst (λ (p : PlanData). AllGood p.groups) (sym same) good) groups.1 in
     let few : is_from_1 16 (items_len (items_of all.values)) ≡ true = ap (is_from_1 16) all.counted ∙ headed.few in
     record {
-      value = plan_object header.0.lal all.values;
-      is = ap (λ (r : Result Header Fault). r >>= λ h. groups_written h.groups vs >>= λ xs. Ok (plan_object h.lal xs)) found ∙ (λ i. all.is i >>= λ xs. Ok (plan_object header.0.lal xs));
-      read = (λ i. in_text (header_of-object header.0.lal all.values headed.lal few i) >=> λ header. groups_in 0 header.groups >=> λ groups. Ok (record { lal = header.lal; groups = groups }))
+      value = plan_object header.0.is_weighed header.0.lal all.values;
+      is = ap (λ (r : Result Header Fault). r >>= λ h. groups_written h.groups vs >>= λ xs. Ok (plan_object h.is_weighed h.lal xs)) found ∙ (λ i. all.is i >>= λ xs. Ok (plan_object header.0.is_weighed header.0.lal xs));
+      read = (λ i. in_text (header_of-object header.0.is_weighed header.0.lal all.values headed.lal few i) >=> λ header. groups_in header.is_weighed 0 header.groups >=> λ groups. Ok (record { lal = header.lal; groups = groups }))
           ∙ (λ i. all.read i >=> λ groups. Ok (record { lal = header.0.lal; groups = groups })) ∙ ap (λ (p : PlanData). Ok (with_certificates p rs)) same;
       nests = λ n k l. omega (arith, headed.nests, all.nests (n - 2) (omega (arith, headed.nests)) (omega arith));
     }

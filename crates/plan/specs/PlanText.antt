@@ -78,9 +78,9 @@ members_of d = array_of d >>= members_from 0 empty
 unfoldable pub some_members_of : Data → Result (FinSet nat_cmp) Fault
 some_members_of d = array_of d >>= λ ds. if nat_le 1 (items_len ds) then members_from 0 empty ds else Err Malformed
 
--- the members and those that are full, which are members
-unfoldable pub lists_of : Fields → Result Lists Fault
-lists_of f = some_members_of f.members >>= λ members. members_of f.full >>= λ full. if is_subset full members then Ok (record { members = members; full = full }) else Err Malformed
+-- the members and those that are full, which are members, and whether expressions may have weights
+unfoldable pub lists_of : Bool → Fields → Result Lists Fault
+lists_of w f = some_members_of f.members >>= λ members. members_of f.full >>= λ full. if is_subset full members then Ok (record { members = members; full = full; is_weighed = w }) else Err Malformed
 
 -- a fault of an expression stands at its place, where it isn't one of the text
 abbrev pub expression_error : ℕ → ℕ → Quorum → Fault → PlanFault
@@ -114,10 +114,10 @@ is_null (object ms) = false
 unfoldable pub step_of : ℕ → Data → Result (Option Rule) Fault
 step_of c d = if c == 0 then (if is_null d then Ok None else Err Malformed) else certificate_or_null d
 
--- the configuration that a value spells, its keys first and then each field in order
-unfoldable pub configuration_in : ℕ → ℕ → Data → Result ConfigurationData PlanFault
-configuration_in g c d =
-    in_text (fields_of d) >=> λ f. in_text (parent_of f.parent) >=> λ parent. in_text (lists_of f) >=> λ lists.
+-- the configuration that a value spells, with weights or without, its keys first and then each field in order
+unfoldable pub configuration_in : Bool → ℕ → ℕ → Data → Result ConfigurationData PlanFault
+configuration_in w g c d =
+    in_text (fields_of d) >=> λ f. in_text (parent_of f.parent) >=> λ parent. in_text (lists_of w f) >=> λ lists.
     in_quorum g c Read (expression_in lists f.read) >=> λ reads. in_quorum g c Write (expression_in lists f.write) >=> λ writes.
     in_text (certificate_or_null f.meets) >=> λ meets. in_text (step_of c f.step) >=> λ step.
     Ok (record { parent = parent; members = lists.members; full = lists.full; read = reads; write = writes; meets = meets; step = step })
@@ -125,9 +125,9 @@ configuration_in g c d =
 -- ---- groups
 
 -- the configurations that values spell, numbered from c, up to the first fault
-abbrev pub configurations_in : ℕ → ℕ → Items → Result (List ConfigurationData) PlanFault
-configurations_in g c no_items = Ok []
-configurations_in g c (item d ds) = configuration_in g c d >=> λ x. configurations_in g (c + 1) ds >=> λ xs. Ok (x ∷ xs)
+abbrev pub configurations_in : Bool → ℕ → ℕ → Items → Result (List ConfigurationData) PlanFault
+configurations_in w g c no_items = Ok []
+configurations_in w g c (item d ds) = configuration_in w g c d >=> λ x. configurations_in w g (c + 1) ds >=> λ xs. Ok (x ∷ xs)
 
 -- from 1 to a limit
 abbrev pub is_from_1 : ℕ → ℕ → Bool
@@ -137,18 +137,19 @@ is_from_1 most n = nat_le 1 n && nat_le n most
 unfoldable pub group_items : Data → Result Items Fault
 group_items d = has_keys 1 d >>= λ u. at_key (codes "configurations") d >>= λ cs. array_of cs >>= λ ds. if is_from_1 64 (items_len ds) then Ok ds else Err OverLimit
 
-unfoldable pub group_in : ℕ → Data → Result (List ConfigurationData) PlanFault
-group_in g d = in_text (group_items d) >=> configurations_in g 0
+unfoldable pub group_in : Bool → ℕ → Data → Result (List ConfigurationData) PlanFault
+group_in w g d = in_text (group_items d) >=> configurations_in w g 0
 
 -- the groups that values spell, numbered from g, up to the first fault
-abbrev pub groups_in : ℕ → Items → Result (List (List ConfigurationData)) PlanFault
-groups_in g no_items = Ok []
-groups_in g (item d ds) = group_in g d >=> λ x. groups_in (g + 1) ds >=> λ xs. Ok (x ∷ xs)
+abbrev pub groups_in : Bool → ℕ → Items → Result (List (List ConfigurationData)) PlanFault
+groups_in w g no_items = Ok []
+groups_in w g (item d ds) = group_in w g d >=> λ x. groups_in w (g + 1) ds >=> λ xs. Ok (x ∷ xs)
 
 -- ---- the whole
 
--- how far numbers may run ahead, and the values of the groups
+-- whether expressions may have weights, how far numbers may run ahead, and the values of the groups
 pub record Header : Type 0 where
+  pub is_weighed : Bool
   pub lal : ℕ
   pub groups : Items
 
@@ -160,19 +161,19 @@ group_list d = array_of d >>= λ ds. if is_from_1 16 (items_len ds) then Ok ds e
 unfoldable pub lal_of : Data → Result ℕ Fault
 lal_of d = whole_of d >>= λ n. if is_from_1 10000000 n then Ok n else Err OverLimit
 
--- the number 1
-unfoldable pub format_of : Data → Result ℕ Fault
-format_of d = whole_of d >>= λ n. if n == 1 then Ok n else Err Malformed
+-- the number 1, or 2, by which expressions may have weights
+unfoldable pub format_of : Data → Result Bool Fault
+format_of d = whole_of d >>= λ n. if n == 1 then Ok false else (if n == 2 then Ok true else Err Malformed)
 
--- an object of the keys format, lal and groups alone, the format being 1
+-- an object of the keys format, lal and groups alone, the format being 1 or 2
 unfoldable pub header_of : Data → Result Header Fault
 header_of d =
     has_keys 3 d >>= λ u. at_key (codes "format") d >>= λ f. at_key (codes "lal") d >>= λ l. at_key (codes "groups") d >>= λ g.
-    format_of f >>= λ format. lal_of l >>= λ lal. group_list g >>= λ groups. Ok (record { lal = lal; groups = groups })
+    format_of f >>= λ w. lal_of l >>= λ lal. group_list g >>= λ groups. Ok (record { is_weighed = w; lal = lal; groups = groups })
 
 -- the plan that a value spells
 unfoldable pub plan_in : Data → Result PlanData PlanFault
-plan_in d = in_text (header_of d) >=> λ header. groups_in 0 header.groups >=> λ groups. Ok (record { lal = header.lal; groups = groups })
+plan_in d = in_text (header_of d) >=> λ header. groups_in header.is_weighed 0 header.groups >=> λ groups. Ok (record { lal = header.lal; groups = groups })
 
 -- what a text spells as JSON
 unfoldable pub json_of : List ℕ → Result Data Fault

@@ -1,5 +1,5 @@
 -- The JSON of a plan with other certificates, where all other values are kept.
-use Rattle.std.specs.Prelude.{ℕ, ◌+◌, ◌-◌, ◌*◌, ◌==◌, List, [], ◌∷◌, drop, Result, Ok, codes, slice_index_or, if◌then◌else◌}
+use Rattle.std.specs.Prelude.{ℕ, Bool, ◌+◌, ◌-◌, ◌*◌, ◌==◌, List, [], ◌∷◌, drop, Result, Ok, codes, slice_index_or, if◌then◌else◌}
 use Rattle.serde_json.specs.Data as json
 use Rattle.serde_json.specs.Data.{Data, null, unsigned, Items, no_items, item, no_members}
 use Rattle.serde_json.specs.Events.{items_len}
@@ -46,10 +46,14 @@ groups_written no_items certificates = Ok []
 groups_written (item d ds) certificates =
     group_items d >>= λ cs. group_written cs certificates >>= λ x. groups_written ds (drop (2 * items_len cs - 1) certificates) >>= λ xs. Ok (x ∷ xs)
 
-abbrev pub plan_object : ℕ → List Data → Data
-plan_object lal xs =
-    json.object (json.member (codes "format") (json.number (unsigned 1)) (json.member (codes "groups") (json.array (items_of xs)) (json.member (codes "lal") (json.number (unsigned lal)) no_members)))
+-- the number of the format, by which expressions may have weights or not
+abbrev pub format_number : Bool → ℕ
+format_number w = if w then 2 else 1
+
+abbrev pub plan_object : Bool → ℕ → List Data → Data
+plan_object w lal xs =
+    json.object (json.member (codes "format") (json.number (unsigned (format_number w))) (json.member (codes "groups") (json.array (items_of xs)) (json.member (codes "lal") (json.number (unsigned lal)) no_members)))
 
 -- the whole
 unfoldable pub plan_written : Data → List Data → Result Data Fault
-plan_written d certificates = header_of d >>= λ h. groups_written h.groups certificates >>= λ xs. Ok (plan_object h.lal xs)
+plan_written d certificates = header_of d >>= λ h. groups_written h.groups certificates >>= λ xs. Ok (plan_object h.is_weighed h.lal xs)

@@ -14,9 +14,12 @@ pub struct Fields<'v> {
     pub step: &'v Value,
 }
 
-/// How far numbers may run ahead, and the values of the groups.
+/// What stands at the head of a plan, and the values of its groups.
 #[derive(Drop)]
 pub struct Header<'v> {
+    /// Whether expressions may have weights.
+    pub is_weighed: bool,
+    /// How far numbers may run ahead.
     pub lal: u64,
     pub groups: &'v Vec<Value>,
 }

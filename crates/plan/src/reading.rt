@@ -86,8 +86,8 @@ fn members(values: &[Value]) -> Result<MemberSet, Fault>
 
 /// The members, and those of them that are full.
 #[tactic(auto, unfolding(crate::specs::PlanText::lists_of, crate::specs::PlanText::members_of, crate::specs::PlanText::some_members_of))]
-fn lists(fields: &Fields<'_>) -> Result<Lists, Fault>
-    ensures read { Gives (λ l. l) result (lists_of (fields_data fields.now)) }
+fn lists(is_weighed: bool, fields: &Fields<'_>) -> Result<Lists, Fault>
+    ensures read { Gives (λ l. l) result (lists_of is_weighed (fields_data fields.now)) }
     ensures within { IfOk result (λ l. is_subset l.full l.members ≡ true) }
 {
     let values = array(fields.members)?;
@@ -99,7 +99,11 @@ fn lists(fields: &Fields<'_>) -> Result<Lists, Fault>
     if !full.is_subset(all) {
         return Err(Fault::Malformed);
     }
-    Ok(Lists { members: all, full })
+    Ok(Lists {
+        members: all,
+        full,
+        is_weighed,
+    })
 }
 
 /// A fault of an expression at its place, where it isn't one of the text.
@@ -169,15 +173,16 @@ fn step(
 #[tactic(auto, unfolding(crate::specs::PlanText::configuration_in))]
 fn configuration(
     alloc: Global,
+    is_weighed: bool,
     group: u8,
     number: u8,
     value: &Value,
 ) -> Result<Configuration, PlanFault>
-    ensures { Reads configuration_data result (configuration_in group number (view value.now)) }
+    ensures { Reads configuration_data result (configuration_in is_weighed group number (view value.now)) }
 {
     let fields = fields(value)?;
     let parent = parent(fields.parent)?;
-    let lists = lists(&fields)?;
+    let lists = lists(is_weighed, &fields)?;
     let read = expression(alloc, group, number, Quorum::Read, fields.read, &lists)?;
     let write = expression(alloc, group, number, Quorum::Write, fields.write, &lists)?;
     let meets = certificate(alloc, fields.meets)?;
@@ -196,16 +201,17 @@ fn configuration(
 /// The configurations that values spell, in order.
 fn configurations(
     alloc: Global,
+    is_weighed: bool,
     group: u8,
     values: &[Value],
 ) -> Result<Vec<Configuration>, PlanFault>
     requires { length values.now ≤ 64 }
-    ensures read { Reads (λ v. map configuration_data v.items) result (configurations_in group 0 (items_view values.now)) }
+    ensures read { Reads (λ v. map configuration_data v.items) result (configurations_in is_weighed group 0 (items_view values.now)) }
     ensures counted { IfOk result (λ v. length v.items ≡ length values.now) }
 {
     let mut list = Vec::new(alloc);
     for (number, value) in values.iter().enumerate() {
-        list.push(configuration(alloc, group, number as u8, value)?)?;
+        list.push(configuration(alloc, is_weighed, group, number as u8, value)?)?;
     }
     Ok(list)
 }
@@ -227,37 +233,37 @@ pub(crate) fn group_values(value: &Value) -> Result<&Vec<Value>, Fault>
 
 /// The group that a value spells.
 #[tactic(auto, unfolding(crate::specs::PlanText::group_in))]
-fn group(alloc: Global, number: u8, value: &Value) -> Result<Group, PlanFault>
-    ensures { Reads group_data result (group_in number (view value.now)) }
+fn group(alloc: Global, is_weighed: bool, number: u8, value: &Value) -> Result<Group, PlanFault>
+    ensures { Reads group_data result (group_in is_weighed number (view value.now)) }
 {
     let values = group_values(value)?;
-    let configurations = configurations(alloc, number, values)?;
+    let configurations = configurations(alloc, is_weighed, number, values)?;
     Ok(Group { configurations })
 }
 
 /// The groups that values spell, in order.
-fn groups(alloc: Global, values: &[Value]) -> Result<Vec<Group>, PlanFault>
+fn groups(alloc: Global, is_weighed: bool, values: &[Value]) -> Result<Vec<Group>, PlanFault>
     requires { length values.now ≤ 16 }
-    ensures read { Reads (λ v. map group_data v.items) result (groups_in 0 (items_view values.now)) }
+    ensures read { Reads (λ v. map group_data v.items) result (groups_in is_weighed 0 (items_view values.now)) }
     ensures counted { IfOk result (λ v. length v.items ≡ length values.now) }
 {
     let mut list = Vec::new(alloc);
     for (number, value) in values.iter().enumerate() {
-        list.push(group(alloc, number as u8, value)?)?;
+        list.push(group(alloc, is_weighed, number as u8, value)?)?;
     }
     Ok(list)
 }
 
-/// The number 1.
+/// The number 1, or 2, by which expressions may have weights.
 #[tactic(auto, unfolding(crate::specs::PlanText::format_of))]
-fn format(value: &Value) -> Result<u64, Fault>
-    ensures { Gives (λ n. n) result (format_of (view value.now)) }
+fn format(value: &Value) -> Result<bool, Fault>
+    ensures { Gives (λ w. w) result (format_of (view value.now)) }
 {
-    let format = whole(value)?;
-    if format != 1 {
-        return Err(Fault::Malformed);
+    match whole(value)? {
+        1 => Ok(false),
+        2 => Ok(true),
+        _ => Err(Fault::Malformed),
     }
-    Ok(format)
 }
 
 /// How far numbers may run ahead: from 1 to 10,000,000.
@@ -291,7 +297,7 @@ fn group_list(value: &Value) -> Result<&Vec<Value>, Fault>
     Ok(list)
 }
 
-/// How far numbers may run ahead, and the values of the groups.
+/// The head of a plan, and the values of its groups.
 #[tactic(auto, unfolding(crate::specs::PlanText::header_of))]
 pub(crate) fn header(value: &Value) -> Result<Header<'_>, Fault>
     ensures read { Gives header_data result (header_of (view value.now)) }
@@ -304,10 +310,14 @@ pub(crate) fn header(value: &Value) -> Result<Header<'_>, Fault>
     let first = value_at(value, "format")?;
     let second = value_at(value, "lal")?;
     let third = value_at(value, "groups")?;
-    format(first)?;
+    let is_weighed = format(first)?;
     let lal = lal(second)?;
     let groups = group_list(third)?;
-    Ok(Header { lal, groups })
+    Ok(Header {
+        is_weighed,
+        lal,
+        groups,
+    })
 }
 
 /// The plan that a value spells.
@@ -316,7 +326,7 @@ pub(crate) fn plan(alloc: Global, value: &Value) -> Result<Plan, PlanFault>
     ensures { Reads plan_data result (plan_in (view value.now)) }
 {
     let header = header(value)?;
-    let groups = groups(alloc, header.groups)?;
+    let groups = groups(alloc, header.is_weighed, header.groups)?;
     Ok(Plan {
         lal: header.lal,
         groups,

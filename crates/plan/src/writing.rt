@@ -7,7 +7,7 @@ ghost use Rattle.volume_model.specs.Answer.{Gives};
 ghost use Rattle.refutation.specs.Certificate.{certificate_rule};
 ghost use Rattle.plan.specs.PlanText.{certificate_or_null};
 ghost use Rattle.plan.specs.TextForms.{fields_data};
-ghost use Rattle.plan.specs.Rewriting.{value_or_null, fields_object, step_value, configuration_written, configurations_written, group_object, group_written, groups_written, plan_object, plan_written};
+ghost use Rattle.plan.specs.Rewriting.{value_or_null, fields_object, step_value, configuration_written, configurations_written, group_object, group_written, groups_written, format_number, plan_object, plan_written};
 ghost use Rattle.plan.specs.Written.{rewritten, HasPlaces, Writes, IsCompact};
 
 use crate::fault::PlanFault;
@@ -169,11 +169,24 @@ fn groups_json(alloc: Global, values: &[Value], certificates: &[Value]) -> Resul
     Ok(list)
 }
 
-fn plan_object(alloc: Global, lal: u64, groups: Vec<Value>) -> Result<Value, AllocError>
-    ensures { IfOk result (λ v. view v ≡ plan_object lal (map view groups.items)) }
+/// The number of the format, by which expressions may have weights or not.
+fn format_number(is_weighed: bool) -> u64
+    ensures { result ≡ format_number is_weighed }
 {
+    if is_weighed { 2 } else { 1 }
+}
+
+fn plan_object(
+    alloc: Global,
+    is_weighed: bool,
+    lal: u64,
+    groups: Vec<Value>,
+) -> Result<Value, AllocError>
+    ensures { IfOk result (λ v. view v ≡ plan_object is_weighed lal (map view groups.items)) }
+{
+    let format = format_number(is_weighed);
     let groups = Value::Array(groups);
-    json!(in alloc; {"format": 1, "groups": groups, "lal": lal})
+    json!(in alloc; {"format": format, "groups": groups, "lal": lal})
 }
 
 /// The plan of a value, with other certificates.
@@ -183,7 +196,7 @@ fn plan_json(alloc: Global, value: &Value, certificates: &[Value]) -> Result<Val
 {
     let header = header(value)?;
     let groups = groups_json(alloc, header.groups, certificates)?;
-    Ok(plan_object(alloc, header.lal, groups)?)
+    Ok(plan_object(alloc, header.is_weighed, header.lal, groups)?)
 }
 
 /// The text of a plan, as compact JSON, with these certificates for its claims in their order, and null for a claim

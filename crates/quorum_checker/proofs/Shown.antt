@@ -1,46 +1,47 @@
 -- What items stand for, and lists of them.
-use Rattle.std.proofs.Common.{◌≡◌, ℕ, zero, suc, ◌+◌, ◌-◌, ◌<◌, ◌≤◌, List, [], ◌∷◌, ◌++◌, length, take, map, vec_len, arith, refl, ap, ◌∙◌, sym}
+use Rattle.std.proofs.Common.{◌≡◌, ℕ, zero, suc, ◌+◌, ◌-◌, ◌<◌, ◌≤◌, List, [], ◌∷◌, ◌++◌, length, take, map, get_or, arith, refl, ap, ◌∙◌, sym, append_assoc}
 use Rattle.std.specs.Prelude.{Bool, true, false, Vec, Some, remove, insert, slice_get, if◌then◌else◌}
 use Rattle.std.specs.Ordering.{nat_cmp}
 use Rattle.std.specs.FinSet.{FinSet}
 use Rattle.std.specs.FinSet.{insert as put}
 use Rattle.std.proofs.Math.Seq.{take-append_seam}
-use Rattle.std.proofs.lemmas.List.{length-map}
-use Rattle.volume_model.specs.Formula.{Formula, member, at_least, each_once, dual_of}
-use Rattle.volume_model.proofs.FormulaLaws.{formulas-each_once}
+use Rattle.std.proofs.lemmas.List.{map_more}
+use Rattle.volume_model.specs.Formula.{Formula, member, at_least, total_weight, dual_of}
 use Rattle.quorum_expr.specs.declared.expression.Expr.{Expr}
 use Rattle.quorum_expr.specs.declared.expression.Expr.TheVariants.{Member, KOf}
-use Rattle.quorum_expr.specs.Expr.{formula_of}
+use Rattle.quorum_expr.specs.Expr.{formula_of, weighed}
 use Rattle.quorum_expr.proofs.ExprLaws.{formula_of-Member, formula_of-KOf}
 use Rattle.quorum_expr.proofs.Rebuilt.{dual_of-KOf}
 use Rattle.refutation.specs.declared.Side.{Side}
 use Rattle.refutation.specs.declared.Side.TheVariants.{Left, Right}
-use Rattle.quorum_checker.specs.Items.{shown_as, IsThreshold}
+use Rattle.quorum_checker.specs.Items.{shown_as, bare}
+use Rattle.quorum_checker.proofs.Sums.{bare-total, formulas-weighed}
 use Rattle.quorum_checker.specs.Refutes.{State, items_of, absent_of, with_items, with_absent, without, paired}
 use Rattle.quorum_checker.specs.FirstFault.{children_of}
 use Rattle.quorum_checker.proofs.Nodes.{index_of-Some}
 
--- how many children a threshold or its dual asks for
+-- what a threshold or its dual asks for, of what all children weigh
 abbrev pub asked : Bool → ℕ → ℕ → ℕ
 asked is_dual k all = (if is_dual then all + 1 - k else k)
 
-pub shown_as-KOf : {A : Type 0} (is_dual : Bool) (e : Expr A) (k : ℕ) (of : Vec (Expr A) A) → e ≡ KOf k of → shown_as is_dual e ≡ at_least (asked is_dual k (vec_len of)) (each_once (map (shown_as is_dual) of.items))
-shown_as-KOf true e k of is = ap (shown_as true) is ∙ dual_of-KOf k of
+pub shown_as-KOf : {A : Type 0} (is_dual : Bool) (e : Expr A) (k : ℕ) (of : Vec (ℕ × Expr A) A) → e ≡ KOf k of → shown_as is_dual e ≡ at_least (asked is_dual k (total_weight (bare of.items))) (weighed (shown_as is_dual) of.items)
+shown_as-KOf true e k of is = ap (shown_as true) is ∙ dual_of-KOf k of ∙ ap (λ n. at_least (n + 1 - k) (weighed (λ c. dual_of (formula_of c)) of.items)) (bare-total formula_of of.items)
 shown_as-KOf false e k of is = ap formula_of is ∙ formula_of-KOf k of
 
 pub shown_as-Member : {A : Type 0} (is_dual : Bool) (e : Expr A) (m : ℕ) → e ≡ Member m → shown_as is_dual e ≡ member m
 shown_as-Member {A} true e m is = ap (λ x. dual_of (formula_of x)) is ∙ ap dual_of (formula_of-Member A m)
 shown_as-Member {A} false e m is = ap formula_of is ∙ formula_of-Member A m
 
-pub shown_children : {A : Type 0} (is_dual : Bool) (e : Expr A) (k : ℕ) (of : Vec (Expr A) A) → e ≡ KOf k of → children_of (shown_as is_dual e) ≡ map (shown_as is_dual) of.items
-shown_children is_dual e k of is = ap children_of (shown_as-KOf is_dual e k of is) ∙ formulas-each_once (map (shown_as is_dual) of.items)
+pub shown_children : {A : Type 0} (is_dual : Bool) (e : Expr A) (k : ℕ) (of : Vec (ℕ × Expr A) A) → e ≡ KOf k of → children_of (shown_as is_dual e) ≡ map (λ (c : ℕ × Expr A). shown_as is_dual c.1) of.items
+shown_children is_dual e k of is = ap children_of (shown_as-KOf is_dual e k of is) ∙ formulas-weighed (shown_as is_dual) of.items
 
 pub no_children : {A : Type 0} (is_dual : Bool) (e : Expr A) (m : ℕ) → e ≡ Member m → children_of (shown_as is_dual e) ≡ []
 no_children is_dual e m is = ap children_of (shown_as-Member is_dual e m is)
 
-pub threshold-is : {A : Type 0} (is_dual : Bool) (e : Expr A) (k n all : ℕ) (of : Vec (Expr A) A) → e ≡ KOf k of → n ≡ asked is_dual k (vec_len of) → all ≡ vec_len of → IsThreshold (shown_as is_dual e) n all
-threshold-is is_dual e k n all of is asks many =
-    (map (shown_as is_dual) of.items, shown_as-KOf is_dual e k of is ∙ ap (λ m. at_least m (each_once (map (shown_as is_dual) of.items))) (sym asks), length-map of.items (shown_as is_dual) ∙ sym of.ok.0 ∙ sym many)
+pub threshold-is : {A : Type 0} (is_dual : Bool) (e : Expr A) (k n all : ℕ) (of : Vec (ℕ × Expr A) A) (xs : List (ℕ × Expr A)) → e ≡ KOf k of → xs ≡ of.items → all ≡ total_weight (bare xs) → n ≡ asked is_dual k all
+    → (shown_as is_dual e ≡ at_least n (weighed (shown_as is_dual) xs)) × (all ≡ total_weight (bare xs))
+threshold-is is_dual e k n all of xs is list sum asks =
+    (shown_as-KOf is_dual e k of is ∙ (λ i. at_least (asked is_dual k ((ap (λ ys. total_weight (bare ys)) (sym list) ∙ sym sum) i)) (weighed (shown_as is_dual) (sym list i))) ∙ ap (λ m. at_least m (weighed (shown_as is_dual) xs)) (sym asks), sum)
 
 -- ---- an item is taken out and put back
 
@@ -99,6 +100,12 @@ pub pushed_on : (side : Side) (fs gs : List Formula) (st now after : State) → 
 pushed_on side fs gs st now after out is =
     is ∙ ap (λ s. with_items side (items_of side s ++ gs) s) out ∙ with_again side fs (items_of side (with_items side fs st) ++ gs) st
     ∙ ap (λ hs. with_items side (hs ++ gs) st) (items_with side fs st)
+
+-- one more of what is seen through f
+pub more_pushed : {X : Type 0} (side : Side) (f : X → Formula) (xs : List X) (i : ℕ) (x : X) (st now after : State) → i < length xs → x ≡ get_or xs i x → now ≡ with_items side (items_of side st ++ map f (take i xs)) st → after ≡ with_items side (items_of side now ++ f x ∷ []) now → after ≡ with_items side (items_of side st ++ map f (take (i + 1) xs)) st
+more_pushed side f xs i x st now after h is so_far put_in =
+    pushed_on side (items_of side st ++ map f (take i xs)) (f x ∷ []) st now after so_far put_in
+    ∙ ap (λ fs. with_items side fs st) (append_assoc (items_of side st) (map f (take i xs)) (f x ∷ []) ∙ ap (λ ys. items_of side st ++ ys) (ap (λ y. map f (take i xs) ++ f y ∷ []) is ∙ sym (map_more f xs i x h)))
 
 -- it is dropped again
 pub dropped : (side : Side) (fs gs : List Formula) (n : ℕ) (st now after : State) → now ≡ with_items side (fs ++ gs) st → after ≡ with_items side (take n (items_of side now)) now → n ≡ length fs → after ≡ with_items side fs st

@@ -1,9 +1,10 @@
 -- What the items of a state mean.
 use Rattle.std.specs.Prelude.{◌≡◌, ℕ, Bool, if◌then◌else◌, List, length, map, Result, Ok, Err, Some, None, slice_get}
 use Rattle.quorum_expr.specs.declared.expression.Expr.{Expr}
-use Rattle.volume_model.specs.Formula.{Formula, member, at_least, each_once, dual_of}
-use Rattle.quorum_expr.specs.Expr.{formula_of}
+use Rattle.volume_model.specs.Formula.{Formula, Children, member, at_least, total_weight, dual_of}
+use Rattle.quorum_expr.specs.Expr.{formula_of, weighed}
 use Rattle.quorum_checker.specs.declared.item.Item.{Item}
+use Rattle.quorum_checker.specs.declared.item.Threshold.{Threshold}
 use Rattle.quorum_checker.specs.declared.items.Items.{Items}
 use Rattle.volume_model.specs.declared.fault.Fault.TheVariants.{NoSuchItem}
 use Rattle.quorum_checker.specs.declared.fault.FaultAt.{FaultAt}
@@ -36,6 +37,10 @@ FindsItem (Err e) items at = (slice_get items at ≡ None) × (e ≡ here NoSuch
 abbrev pub IsMember : Formula → Type 0
 IsMember f = (x : ℕ) × (f ≡ member x)
 
--- the formula asks for so many of so many children, each of which counts as one
-abbrev pub IsThreshold : Formula → ℕ → ℕ → Type 0
-IsThreshold f k all = (fs : List Formula) × (f ≡ at_least k (each_once fs)) × (length fs ≡ all)
+-- children by their weights alone
+abbrev pub bare : {X : Type 0} → List (ℕ × X) → Children
+bare = weighed (λ x. member 0)
+
+-- the formula is this threshold, whose children are seen as they are or as their duals
+abbrev pub IsThreshold : {A : Type 0} → Bool → Formula → Threshold A → Type 0
+IsThreshold is_dual f t = (f ≡ at_least t.asked (weighed (shown_as is_dual) t.of.now)) × (t.total ≡ total_weight (bare t.of.now))

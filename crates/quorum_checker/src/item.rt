@@ -7,8 +7,19 @@ ghost use Rattle.quorum_expr.specs.Expr.{formula_of};
 ghost use Rattle.quorum_checker.specs.Items.{shown, shown_as, IsMember, IsThreshold};
 ghost use Rattle.quorum_checker.specs.FirstFault.{children_of, place};
 
+use crate::weights::total;
 use quorum_expr::{Expr, MemberSet, holds, holds_dual};
 use std::alloc::Allocator;
+
+/// A threshold over weighted children, of which all are seen as they are, or all as their duals.
+#[derive_where(Clone, Copy)]
+pub(crate) struct Threshold<'e, A: Allocator> {
+    /// The weight that has to hold.
+    pub(crate) asked: u128,
+    /// The weight of all children.
+    pub(crate) total: u128,
+    pub(crate) of: &'e [(u8, Expr<A>)],
+}
 
 /// An expression that is lent, as itself or as its dual.
 #[derive_where(Clone, Copy)]
@@ -39,8 +50,8 @@ impl<'e, A: Allocator> Item<'e, A> {
     }
 
     /// The expressions that its children lend, and of a member none.
-    pub(crate) fn children(self) -> &'e [Expr<A>]
-        ensures { map (shown_as self.entry.is_dual) result.now ≡ children_of (shown self.entry) }
+    pub(crate) fn children(self) -> &'e [(u8, Expr<A>)]
+        ensures { map (λ c. shown_as self.entry.is_dual c.1) result.now ≡ children_of (shown self.entry) }
     {
         match self.expr {
             Expr::Member(_) => &[],
@@ -55,25 +66,31 @@ impl<'e, A: Allocator> Item<'e, A> {
     {
         let children = self.children();
         Item {
-            expr: &children[usize::from(number)],
+            expr: &children[usize::from(number)].1,
             is_dual: self.is_dual,
         }
     }
 
-    /// How many of how many children it asks for, and nothing of a member.
-    pub(crate) fn threshold(self) -> Option<(u128, usize)>
-        ensures meaning { MatchOption result (IsMember (shown self.entry)) (λ t. IsThreshold (shown self.entry) t.0 t.1) }
-        ensures few { IfSome result (λ t. t.0 ≤ 2 ^ 64) }
+    /// What it asks for of its children, and nothing of a member.
+    pub(crate) fn threshold(self) -> Option<Threshold<'e, A>>
+        ensures meaning { MatchOption result (IsMember (shown self.entry)) (λ t. IsThreshold self.entry.is_dual (shown self.entry) t) }
+        ensures small { IfSome result (λ t. (t.total ≤ 2 ^ 72) × (t.asked ≤ 2 ^ 73)) }
     {
         match self.expr {
             Expr::Member(_) => None,
             Expr::KOf { k, of } => {
                 let k = u128::from(*k);
-                let all = of.len();
+                let of = of.as_slice();
+                let total = total(of);
                 if self.is_dual {
-                    Some(((all as u128 + 1).saturating_sub(k), all))
+                    let asked = (total + 1).saturating_sub(k);
+                    Some(Threshold { asked, total, of })
                 } else {
-                    Some((k, all))
+                    Some(Threshold {
+                        asked: k,
+                        total,
+                        of,
+                    })
                 }
             }
         }

@@ -21,6 +21,7 @@ mod items;
 mod node;
 mod path;
 mod rules;
+mod weights;
 
 pub use claim::Claim;
 pub use fault::FaultAt;

@@ -1,5 +1,5 @@
 -- A value of JSON, and what it spells at its own level.
-use Rattle.std.proofs.Common.{◌≡◌, ◌<◌, ℕ, zero, suc, List, map, length, String, Global, BTreeMap, Result, Ok, Err, refl, nat_eq, false, arith}
+use Rattle.std.proofs.Common.{◌≡◌, ◌<◌, ℕ, zero, suc, List, map, length, String, Global, BTreeMap, Result, Ok, Err, refl, true, false, arith}
 use Rattle.serde_json.specs.Data.{Data}
 use Rattle.serde_json.specs.View.{view}
 use Rattle.serde_json.specs.declared.value.Value.{Value, Object}
@@ -9,7 +9,7 @@ use Rattle.volume_model.specs.declared.fault.Fault.TheVariants.{Short, BadField,
 use Rattle.volume_model.specs.Answer.{Fails}
 use Rattle.volume_model.specs.Formula.{member}
 use Rattle.quorum_expr.specs.declared.form.Lists.{Lists}
-use Rattle.quorum_expr.specs.Reading.{members_at, Form, choice_of, form_of, formula_from, formula_at}
+use Rattle.quorum_expr.specs.Reading.{members_at, Form, good_keys, choice_of, form_of, formula_from, formula_at}
 
 -- a definition that fails wherever another does
 pub Fails-at : {X Y : Type 0} (f : Fault) (r : Result X Fault) (s : Result Y Fault) → (r ≡ Err f → s ≡ Err f) → Fails f r → Fails f s
@@ -62,28 +62,26 @@ Fails-at NoActor r s k h = k h
 Fails-at NoSlot r s k h = k h
 Fails-at JournalFull r s k h = k h
 
-pub two_keys : (m : BTreeMap (String Global) Value) → length m.entries ≡ 2 → form_of (view (Object m)) ≡ choice_of (view (Object m))
+pub enough_keys : (lists : Lists) (m : BTreeMap (String Global) Value) (keys : ℕ) → keys ≡ length m.entries → good_keys lists.is_weighed keys ≡ true → form_of lists (view (Object m)) ≡ choice_of lists keys (view (Object m))
 unfolding form_of
-two_keys m h = rw (view-Object m, members_len-members_view m.entries, h) refl
+enough_keys lists m keys same h = rw (view-Object m, members_len-members_view m.entries, ← same, h) refl
 
-pub other_keys : (m : BTreeMap (String Global) Value) → ¬ (length m.entries ≡ 2) → form_of (view (Object m)) ≡ Err Malformed
+pub other_keys : (lists : Lists) (m : BTreeMap (String Global) Value) (keys : ℕ) → keys ≡ length m.entries → good_keys lists.is_weighed keys ≡ false → form_of lists (view (Object m)) ≡ Err Malformed
 unfolding form_of
-other_keys m h =
-    let no : nat_eq (length m.entries) 2 ≡ false = grind arith in
-    rw (view-Object m, members_len-members_view m.entries, no) refl
+other_keys lists m keys same h = rw (view-Object m, members_len-members_view m.entries, ← same, h) refl
 
-pub too_deep : (lists : Lists) (left : ℕ) (d : Data) (f : Form) → left ≡ 0 → form_of d ≡ Ok f → formula_at lists left d ≡ Err TooDeep
+pub too_deep : (lists : Lists) (left : ℕ) (d : Data) (f : Form) → left ≡ 0 → form_of lists d ≡ Ok f → formula_at lists left d ≡ Err TooDeep
 unfolding formula_at
 too_deep lists left d f none e = rw (none, e) refl
 
-pub one_level : (lists : Lists) (left below : ℕ) (d : Data) (f : Form) → left ≡ suc below → form_of d ≡ Ok f → formula_at lists left d ≡ formula_from lists below (formula_at lists below) f
+pub one_level : (lists : Lists) (left below : ℕ) (d : Data) (f : Form) → left ≡ suc below → form_of lists d ≡ Ok f → formula_at lists left d ≡ formula_from lists below (formula_at lists below) f
 unfolding formula_at
 one_level lists left below d f more e = rw (more, e) refl
 
-pub no_form : (lists : Lists) (left : ℕ) (d : Data) (f : Fault) → Fails f (form_of d) → Fails f (formula_at lists left d)
+pub no_form : (lists : Lists) (left : ℕ) (d : Data) (f : Fault) → Fails f (form_of lists d) → Fails f (formula_at lists left d)
 unfolding formula_at
-no_form lists zero d f h = Fails-at f (form_of d) (formula_at lists zero d) (λ e. rw e refl) h
-no_form lists (suc left) d f h = Fails-at f (form_of d) (formula_at lists (suc left) d) (λ e. rw e refl) h
+no_form lists zero d f h = Fails-at f (form_of lists d) (formula_at lists zero d) (λ e. rw e refl) h
+no_form lists (suc left) d f h = Fails-at f (form_of lists d) (formula_at lists (suc left) d) (λ e. rw e refl) h
 
 pub some_level : (left : ℕ) (ms : List ℕ) → 0 < left → members_at left ms ≡ Ok (map member ms)
 some_level zero ms h = absurd (omega arith)

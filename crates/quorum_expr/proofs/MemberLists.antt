@@ -100,9 +100,9 @@ least_of n s is some fits =
     not_below : (m x : ℕ) → ¬ (x < m) → m ≤ x
     not_below m x h = omega arith
 
--- ---- the nodes of lists of expressions
+-- ---- the nodes of lists of weighted expressions
 
-pub pushed_nodes : {A : Type 0} (es : List (Expr A)) (e : Expr A) → row_nodes (each_once (formulas_of (es ++ e ∷ []))) ≡ row_nodes (each_once (formulas_of es)) + nodes (formula_of e)
+pub pushed_nodes : {A : Type 0} (es : List (ℕ × Expr A)) (e : ℕ × Expr A) → row_nodes (each_once (formulas_of (es ++ e ∷ []))) ≡ row_nodes (each_once (formulas_of es)) + nodes (formula_of e.1)
 pushed_nodes [] e = omega arith
 pushed_nodes (x ∷ es) e = omega (arith, pushed_nodes es e)
 
@@ -112,22 +112,22 @@ members_nodes (m ∷ ms) = omega (arith, members_nodes ms)
 
 -- ---- a list of members that grows by one
 
-pub formulas_pushed : {A : Type 0} (es : List (Expr A)) (e : Expr A) → formulas_of (es ++ e ∷ []) ≡ formulas_of es ++ formula_of e ∷ []
+pub formulas_pushed : {A : Type 0} (es : List (ℕ × Expr A)) (e : ℕ × Expr A) → formulas_of (es ++ e ∷ []) ≡ formulas_of es ++ formula_of e.1 ∷ []
 formulas_pushed [] e = refl
-formulas_pushed (x ∷ es) e = ap (λ fs. formula_of x ∷ fs) (formulas_pushed es e)
+formulas_pushed (x ∷ es) e = ap (λ fs. formula_of x.1 ∷ fs) (formulas_pushed es e)
 
 members_pushed : (ms : List ℕ) (m : ℕ) → map member (ms ++ m ∷ []) ≡ map member ms ++ member m ∷ []
 members_pushed [] m = refl
 members_pushed (x ∷ ms) m = ap (λ fs. member x ∷ fs) (members_pushed ms m)
 
-pub member_pushed : {A : Type 0} (before after : List (Expr A)) (m : ℕ) (test : ℕ → Bool) → after ≡ before ++ Member m ∷ [] → test m ≡ true → formulas_of before ≡ map member (each_below m test (λ x. x)) → formulas_of after ≡ map member (each_below (m + 1) test (λ x. x))
-member_pushed {A} before after m test more here h =
-    ap formulas_of more ∙ formulas_pushed before (Member m) ∙ (λ i. h i ++ formula_of-Member A m i ∷ []) ∙ sym (members_pushed (each_below m test (λ x. x)) m) ∙ ap (map member) (sym (one_more m test (λ x. x) here))
+pub member_pushed : {A : Type 0} (before after : List (ℕ × Expr A)) (w m : ℕ) (test : ℕ → Bool) → after ≡ before ++ (w, Member m) ∷ [] → test m ≡ true → formulas_of before ≡ map member (each_below m test (λ x. x)) → formulas_of after ≡ map member (each_below (m + 1) test (λ x. x))
+member_pushed {A} before after w m test more here h =
+    ap formulas_of more ∙ formulas_pushed before (w, Member m) ∙ (λ i. h i ++ formula_of-Member A m i ∷ []) ∙ sym (members_pushed (each_below m test (λ x. x)) m) ∙ ap (map member) (sym (one_more m test (λ x. x) here))
 
-pub member_skipped : {A : Type 0} (before : List (Expr A)) (m : ℕ) (test : ℕ → Bool) → test m ≡ false → formulas_of before ≡ map member (each_below m test (λ x. x)) → formulas_of before ≡ map member (each_below (m + 1) test (λ x. x))
+pub member_skipped : {A : Type 0} (before : List (ℕ × Expr A)) (m : ℕ) (test : ℕ → Bool) → test m ≡ false → formulas_of before ≡ map member (each_below m test (λ x. x)) → formulas_of before ≡ map member (each_below (m + 1) test (λ x. x))
 member_skipped before m test none h = h ∙ ap (map member) (sym (no_more m test (λ x. x) none))
 
-pub member_counted : {A : Type 0} (before after : List (Expr A)) (m room left whole : ℕ) → after ≡ before ++ Member m ∷ [] → left ≡ room - 1 → room ≡ whole - row_nodes (each_once (formulas_of before)) → left ≡ whole - row_nodes (each_once (formulas_of after))
-member_counted {A} before after m room left whole more less h =
-    let one : row_nodes (each_once (formulas_of after)) ≡ row_nodes (each_once (formulas_of before)) + 1 = ap (λ es. row_nodes (each_once (formulas_of es))) more ∙ pushed_nodes before (Member m) ∙ ap (λ f. row_nodes (each_once (formulas_of before)) + nodes f) (formula_of-Member A m) in
+pub member_counted : {A : Type 0} (before after : List (ℕ × Expr A)) (w m room left whole : ℕ) → after ≡ before ++ (w, Member m) ∷ [] → left ≡ room - 1 → room ≡ whole - row_nodes (each_once (formulas_of before)) → left ≡ whole - row_nodes (each_once (formulas_of after))
+member_counted {A} before after w m room left whole more less h =
+    let one : row_nodes (each_once (formulas_of after)) ≡ row_nodes (each_once (formulas_of before)) + 1 = ap (λ es. row_nodes (each_once (formulas_of es))) more ∙ pushed_nodes before (w, Member m) ∙ ap (λ f. row_nodes (each_once (formulas_of before)) + nodes f) (formula_of-Member A m) in
     omega (arith, one)

@@ -1,5 +1,5 @@
 -- What is read is valid.
-use Rattle.std.proofs.Common.{◌≡◌, ℕ, zero, suc, ◌-◌, ◌≤◌, arith, refl, ap, ◌∙◌, sym}
+use Rattle.std.proofs.Common.{◌≡◌, ℕ, zero, suc, ◌+◌, ◌-◌, ◌≤◌, arith, refl, ap, ◌∙◌, sym}
 use Rattle.std.specs.Prelude.{Bool, true, false, ◌&&◌, ◌==◌, nat_lt, nat_le, if◌then◌else◌, List, [], ◌∷◌, ◌++◌, length, map, Some, None, Result, Ok, Err}
 use Rattle.std.specs.FinSet.{FinSet, contains}
 use Rattle.std.specs.Ordering.{nat_cmp}
@@ -10,14 +10,14 @@ use Rattle.serde_json.specs.Events.{items_len}
 use Rattle.volume_model.specs.declared.fault.Fault.{Fault}
 use Rattle.volume_model.specs.declared.fault.Fault.TheVariants.{BadCount, TooDeep, NotAMember, OverLimit}
 use Rattle.volume_model.specs.Answer.{◌>>=◌}
-use Rattle.volume_model.specs.Formula.{Formula, member, at_least, each_once, formulas, total_weight}
-use Rattle.volume_model.proofs.FormulaLaws.{formulas-each_once, total_weight-each_once}
+use Rattle.volume_model.specs.Formula.{Formula, member, at_least, each_once}
 use Rattle.volume_model.specs.Lists.{each_below}
 use Rattle.volume_model.specs.Sets.{listed}
 use Rattle.quorum_expr.specs.declared.form.Lists.{Lists}
-use Rattle.quorum_expr.specs.Valid.{good_count, good_threshold, shape_fault, row_fault, nodes, expression_fault}
+use Rattle.quorum_expr.specs.Valid.{or_then, good_choice, shape_fault, row_fault, nodes, expression_fault}
 use Rattle.quorum_expr.proofs.ValidLaws.{neither}
-use Rattle.quorum_expr.specs.Reading.{ChildList, each, named, Form, single, choice, set_of, form_of, child_count, each_of, members_at, children_at, formula_from, formula_at, expression_in}
+use Rattle.quorum_expr.proofs.Rows.{row-read}
+use Rattle.quorum_expr.specs.Reading.{ChildList, each, named, Weights, weighing, good_row, Form, single, choice, set_of, form_of, child_count, each_of, members_at, children_at, formula_from, formula_at, expression_in}
 
 -- ---- the parts of a reading without a fault
 
@@ -41,13 +41,17 @@ member_within n left h =
     ap (λ (b : Bool). if b then Some TooDeep else (if nat_lt n 64 then None else Some NotAMember)) some
     ∙ ap (λ (b : Bool). if b then None else Some NotAMember) h
 
-choice_within : (k left : ℕ) (fs : List Formula) → good_count k (length fs) ≡ true → row_fault (each_once fs) left ≡ None → shape_fault (at_least k (each_once fs)) (suc left) ≡ None
-choice_within k left fs count row =
+row_weighing : (ws : Weights) (i : ℕ) (fs : List Formula) (left : ℕ) → row_fault (weighing ws i fs) left ≡ row_fault (each_once fs) left
+row_weighing ws i [] left = refl
+row_weighing ws i (f ∷ fs) left = ap (λ rest. or_then (shape_fault f left) rest) (row_weighing ws (i + 1) fs left)
+
+choice_within : (k left : ℕ) (ws : Weights) (fs : List Formula) → good_row k (length fs) ws ≡ true → row_fault (each_once fs) left ≡ None → shape_fault (at_least k (weighing ws 0 fs)) (suc left) ≡ None
+choice_within k left ws fs count row =
     let some : (suc left == 0) ≡ false = grind (arith, nat_tests) in
     let below : suc left - 1 ≡ left = omega arith in
-    ap (λ (b : Bool). if b then Some TooDeep else (if good_threshold k (total_weight (each_once fs)) (length (formulas (each_once fs))) then row_fault (each_once fs) (suc left - 1) else Some BadCount)) some
-    ∙ ap (λ (b : Bool). if b then row_fault (each_once fs) (suc left - 1) else Some BadCount) ((λ i. good_threshold k (total_weight-each_once fs i) (length (formulas-each_once fs i))) ∙ count)
-    ∙ ap (row_fault (each_once fs)) below ∙ row
+    ap (λ (b : Bool). if b then Some TooDeep else (if good_choice k (weighing ws 0 fs) then row_fault (weighing ws 0 fs) (suc left - 1) else Some BadCount)) some
+    ∙ ap (λ (b : Bool). if b then row_fault (weighing ws 0 fs) (suc left - 1) else Some BadCount) (row-read k ws fs ∙ count)
+    ∙ ap (row_fault (weighing ws 0 fs)) below ∙ row_weighing ws 0 fs left ∙ row
 
 -- ---- lists of members
 
@@ -103,18 +107,18 @@ form_within : (lists : Lists) (left : ℕ) (read : Data → Result Formula Fault
 form_within lists left read good (single n) f h =
     let here = if_ok (nat_lt n 64 && contains lists.members n) (Ok (member n)) NotAMember f h in
     ap (λ g. shape_fault g (suc left)) (sym (same_ok (member n) f here.1)) ∙ member_within n left (both_true (nat_lt n 64) (contains lists.members n) here.0).0
-form_within lists left read good (choice k list) f h =
-    let here = if_ok (good_count k (child_count lists list)) (children_at lists left read list >>= λ fs. Ok (at_least k (each_once fs))) BadCount f h in
-    let below = bind_ok (children_at lists left read list) (λ fs. Ok (at_least k (each_once fs))) f here.1 in
+form_within lists left read good (choice k list ws) f h =
+    let here = if_ok (good_row k (child_count lists list) ws) (children_at lists left read list >>= λ fs. Ok (at_least k (weighing ws 0 fs))) BadCount f h in
+    let below = bind_ok (children_at lists left read list) (λ fs. Ok (at_least k (weighing ws 0 fs))) f here.1 in
     let row = children_within lists left read good list below.0 below.1 in
-    ap (λ g. shape_fault g (suc left)) (sym (same_ok (at_least k (each_once below.0)) f below.2))
-    ∙ choice_within k left below.0 (ap (good_count k) row.0 ∙ here.0) row.1
+    ap (λ g. shape_fault g (suc left)) (sym (same_ok (at_least k (weighing ws 0 below.0)) f below.2))
+    ∙ choice_within k left ws below.0 (ap (λ n. good_row k n ws) row.0 ∙ here.0) row.1
 
 pub formula_within : (lists : Lists) (left : ℕ) (d : Data) (f : Formula) → formula_at lists left d ≡ Ok f → shape_fault f left ≡ None
 unfolding formula_at
-formula_within lists zero d f h = let form = bind_ok (form_of d) (λ form. Err TooDeep) f h in absurd (let no : ◌≡◌ {A = Result Formula Fault} (Err TooDeep) (Ok f) = form.2 in cc)
+formula_within lists zero d f h = let form = bind_ok (form_of lists d) (λ form. Err TooDeep) f h in absurd (let no : ◌≡◌ {A = Result Formula Fault} (Err TooDeep) (Ok f) = form.2 in cc)
 formula_within lists (suc left) d f h =
-    let form = bind_ok (form_of d) (formula_from lists left (formula_at lists left)) f h in
+    let form = bind_ok (form_of lists d) (formula_from lists left (formula_at lists left)) f h in
     form_within lists left (formula_at lists left) (formula_within lists left) form.0 f form.2
 
 -- what is read of few nodes is valid

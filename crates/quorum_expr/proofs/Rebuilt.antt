@@ -1,17 +1,16 @@
 -- Expressions that are rebuilt child by child.
-use Rattle.std.proofs.Common.{◌≡◌, ℕ, suc, ◌+◌, ◌-◌, ◌<◌, ◌≤◌, List, [], ◌∷◌, ◌++◌, length, get_or, drop, map, arith, ap, subst, vec_len, ◌∙◌, sym, append_assoc, add-one, drop-cons}
+use Rattle.std.proofs.Common.{◌≡◌, ℕ, suc, ◌+◌, ◌-◌, ◌*◌, ◌<◌, ◌≤◌, List, [], ◌∷◌, ◌++◌, length, get_or, drop, map, arith, refl, ap, subst, ◌∙◌, sym, append_assoc, add-one, drop-cons}
 use Rattle.std.specs.Prelude.{Vec, Result, Ok}
-use mir.Syntax.{w64}
+use mir.Syntax.{w16, w128}
 use mir.Val.{Fits}
 use Rattle.volume_model.specs.declared.fault.Fault.{Fault}
 use Rattle.std.proofs.lemmas.List.{drop_all}
-use Rattle.std.proofs.lemmas.List.{append-nil, map-append, length-map}
-use Rattle.std.proofs.lemmas.Simd.{map-map}
+use Rattle.std.proofs.lemmas.List.{append-nil, map-append}
 use Rattle.quorum_expr.specs.declared.expression.Expr.{Expr}
 use Rattle.quorum_expr.specs.declared.expression.Expr.TheVariants.{Member, KOf}
-use Rattle.volume_model.specs.Formula.{Formula, at_least, each_once, formulas, total_weight, dual_of, HasCounts, EachHasCounts}
-use Rattle.volume_model.proofs.FormulaLaws.{formulas-each_once, total_weight-each_once, dual_of-once}
-use Rattle.quorum_expr.specs.Expr.{formula_of}
+use Rattle.volume_model.specs.Formula.{Formula, at_least, child, total_weight, dual_of, duals_of, HasCounts, EachHasCounts}
+use Rattle.quorum_expr.specs.Expr.{formula_of, weighed}
+use Rattle.quorum_expr.proofs.Weighed.{weighed-step, length-weighed}
 use Rattle.quorum_expr.proofs.ExprLaws.{formula_of-Member, formula_of-KOf}
 
 -- what a call gave is what its definition gives
@@ -39,25 +38,33 @@ pub finish : {P Q : Type 0} (f : P → Q) (xs : List P) (i : ℕ) (done all : Li
 finish f xs i done all h so_far = sym (append-nil done) ∙ ap (λ ys. done ++ map f ys) (sym (drop_all i xs h)) ∙ so_far
 
 -- the thresholds of the child at hand and of those after it
-pub counts_step : {A : Type 0} (xs : List (Expr A)) (i : ℕ) (x : Expr A) → i < length xs → x ≡ get_or xs i x → EachHasCounts (each_once (map formula_of (drop i xs))) → HasCounts (formula_of x) × EachHasCounts (each_once (map formula_of (drop (i + 1) xs)))
-counts_step {A} xs i x h is counts =
-    let split : drop i xs ≡ x ∷ drop (suc i) xs = drop-cons xs i x h ∙ ap (λ y. y ∷ drop (suc i) xs) (sym is) in
-    let here : HasCounts (formula_of x) × EachHasCounts (each_once (map formula_of (drop (suc i) xs))) = subst (λ (ys : List (Expr A)). EachHasCounts (each_once (map formula_of ys))) split counts in
-    (here.0, subst (λ (n : ℕ). EachHasCounts (each_once (map formula_of (drop n xs)))) (sym (add-one i)) here.1)
+pub counts_step : {A : Type 0} (xs : List (ℕ × Expr A)) (i : ℕ) (x : ℕ × Expr A) → i < length xs → x ≡ get_or xs i x → EachHasCounts (weighed formula_of (drop i xs)) → HasCounts (formula_of x.1) × EachHasCounts (weighed formula_of (drop (i + 1) xs))
+counts_step xs i x h is counts = subst EachHasCounts (weighed-step formula_of xs i x h is) counts
 
 -- the threshold of an expression
-pub counts-KOf : {A : Type 0} (k : ℕ) (of : Vec (Expr A) A) → HasCounts (formula_of (KOf k of)) → (0 < k) × (k ≤ vec_len of) × (vec_len of ≤ 64)
-counts-KOf k of h =
-    let here : HasCounts (at_least k (each_once (map formula_of of.items))) = subst HasCounts (formula_of-KOf k of) h in
-    let many : total_weight (each_once (map formula_of of.items)) ≡ vec_len of = total_weight-each_once (map formula_of of.items) ∙ length-map of.items formula_of ∙ sym (of.ok.0) in
-    let children : length (formulas (each_once (map formula_of of.items))) ≡ vec_len of = ap length (formulas-each_once (map formula_of of.items)) ∙ length-map of.items formula_of ∙ sym (of.ok.0) in
-    (here.0, omega (arith, many, here.1), omega (arith, children, here.2))
+pub counts-KOf : {A : Type 0} (e : Expr A) (k : ℕ) (of : Vec (ℕ × Expr A) A) (xs : List (ℕ × Expr A)) → e ≡ KOf k of → xs ≡ of.items → HasCounts (formula_of e) → (0 < k) × (k ≤ total_weight (weighed formula_of xs)) × (length xs ≤ 64)
+counts-KOf e k of xs is list h =
+    let here : HasCounts (at_least k (weighed formula_of xs)) = subst HasCounts (ap formula_of is ∙ formula_of-KOf k of ∙ ap (λ ys. at_least k (weighed formula_of ys)) (sym list)) h in
+    (here.0, here.1, subst (λ n. n ≤ 64) (length-weighed formula_of xs) here.2)
 
 -- the thresholds of its children
-pub counts-children : {A : Type 0} (e : Expr A) (k : ℕ) (of : Vec (Expr A) A) (xs : List (Expr A)) → e ≡ KOf k of → xs ≡ of.items → HasCounts (formula_of e) → EachHasCounts (each_once (map formula_of xs))
+pub counts-children : {A : Type 0} (e : Expr A) (k : ℕ) (of : Vec (ℕ × Expr A) A) (xs : List (ℕ × Expr A)) → e ≡ KOf k of → xs ≡ of.items → HasCounts (formula_of e) → EachHasCounts (weighed formula_of xs)
 counts-children e k of xs is list h =
-    let here : HasCounts (at_least k (each_once (map formula_of of.items))) = subst HasCounts (ap formula_of is ∙ formula_of-KOf k of) h in
-    subst (λ ys. EachHasCounts (each_once (map formula_of ys))) (sym list) here.3
+    let here : HasCounts (at_least k (weighed formula_of of.items)) = subst HasCounts (ap formula_of is ∙ formula_of-KOf k of) h in
+    subst (λ ys. EachHasCounts (weighed formula_of ys)) (sym list) here.3
+
+-- so many weights are a small number
+pub small_total : (all i n : ℕ) → all ≤ 255 * i → i ≤ n → n ≤ 64 → all ≤ 16320
+small_total all i n h e f = omega arith
+
+pub one_more_fits : (all : ℕ) → all ≤ 16320 → Fits w128 (all + 1)
+one_more_fits all h = omega arith
+
+pub within_all : (n k all whole : ℕ) → n ≡ k → k ≤ whole → all ≡ whole → n ≤ all + 1
+within_all n k all whole h e f = omega arith
+
+pub rest_fits : (n k all : ℕ) → n ≡ k → 0 < k → all ≤ 16320 → Fits w16 (all + 1 - n)
+rest_fits n k all h e f = omega arith
 
 -- a member is its own dual
 pub dual_of-Member : {A : Type 0} (B : Type 0) (e : Expr A) (m : ℕ) → e ≡ Member m → dual_of (formula_of e) ≡ formula_of {A = B} (Member m)
@@ -67,12 +74,12 @@ dual_of-Member {A} B e m is = ap (λ x. dual_of (formula_of x)) is ∙ ap dual_o
 pub copy_of-Member : {A : Type 0} (B : Type 0) (e : Expr A) (m : ℕ) → e ≡ Member m → formula_of e ≡ formula_of {A = B} (Member m)
 copy_of-Member {A} B e m is = ap formula_of is ∙ formula_of-Member A m ∙ sym (formula_of-Member B m)
 
--- the sum of a threshold's children and one fits a word
-pub few_fit : (n : ℕ) → n ≤ 64 → Fits w64 (n + 1)
-few_fit n h = omega arith
+-- the duals of children, with their weights
+duals-weighed : {A : Type 0} (xs : List (ℕ × Expr A)) → duals_of (weighed formula_of xs) ≡ weighed (λ e. dual_of (formula_of e)) xs
+duals-weighed [] = refl
+duals-weighed (x ∷ xs) = ap (child x.0 (dual_of (formula_of x.1))) (duals-weighed xs)
 
 -- the dual, child by child
-pub dual_of-KOf : {A : Type 0} (k : ℕ) (of : Vec (Expr A) A) → dual_of (formula_of (KOf k of)) ≡ at_least (vec_len of + 1 - k) (each_once (map (λ e. dual_of (formula_of e)) of.items))
+pub dual_of-KOf : {A : Type 0} (k : ℕ) (of : Vec (ℕ × Expr A) A) → dual_of (formula_of (KOf k of)) ≡ at_least (total_weight (weighed formula_of of.items) + 1 - k) (weighed (λ e. dual_of (formula_of e)) of.items)
 dual_of-KOf k of =
-    ap dual_of (formula_of-KOf k of) ∙ dual_of-once k (map formula_of of.items)
-    ∙ (λ i. at_least ((length-map of.items formula_of ∙ sym of.ok.0) i + 1 - k) (each_once (map-map dual_of formula_of of.items i)))
+    ap dual_of (formula_of-KOf k of) ∙ ap (at_least (total_weight (weighed formula_of of.items) + 1 - k)) (duals-weighed of.items)

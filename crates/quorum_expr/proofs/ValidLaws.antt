@@ -1,11 +1,11 @@
 -- What follows from an expression having no fault.
 use Rattle.std.proofs.Common.{◌≡◌, ℕ, suc, ◌+◌, ◌-◌, ◌<◌, ◌≤◌, arith, refl, ap, ◌∙◌}
-use Rattle.std.specs.Prelude.{Bool, true, false, ◌==◌, nat_lt, nat_le, if◌then◌else◌, Option, Some, None, length}
+use Rattle.std.specs.Prelude.{Bool, true, false, ◌&&◌, ◌==◌, nat_lt, nat_le, if◌then◌else◌, Option, Some, None, length}
 use Rattle.std.proofs.lemmas.Bool.Decides.{nat_tests}
 use Rattle.volume_model.specs.declared.fault.Fault.{Fault}
 use Rattle.volume_model.specs.declared.fault.Fault.TheVariants.{BadCount, TooDeep, NotAMember, OverLimit}
 use Rattle.volume_model.specs.Formula.{Formula, Children, Members, member, at_least, no_child, child, formulas, total_weight, dual_of, duals_of, HasCounts, EachHasCounts, SpeaksOf, EachSpeaksOf}
-use Rattle.quorum_expr.specs.Valid.{or_then, good_threshold, shape_fault, row_fault, nodes, row_nodes, expression_fault}
+use Rattle.quorum_expr.specs.Valid.{or_then, each_fits, good_choice, good_threshold, shape_fault, row_fault, nodes, row_nodes, expression_fault}
 
 -- ---- the parts of a test without a fault
 
@@ -27,8 +27,19 @@ pub neither : (a b : Option Fault) → a ≡ None → b ≡ None → or_then a b
 neither None b h i = i
 neither (Some e) b h i = absurd (cc)
 
-counted : (k weight children : ℕ) → good_threshold k weight children ≡ true → (0 < k) × (k ≤ weight) × (children ≤ 64)
-counted k weight children h = grind (arith, nat_tests)
+both_hold : (a b : Bool) → (a && b) ≡ true → (a ≡ true) × (b ≡ true)
+both_hold true b h = (refl, h)
+both_hold false b h = absurd (cc)
+
+both_so : (a b : Bool) → a ≡ true → b ≡ true → (a && b) ≡ true
+both_so true b h i = i
+both_so false b h i = absurd (cc)
+
+within : (k weight children : ℕ) → good_threshold k weight children ≡ true → (0 < k) × (k ≤ weight) × (children ≤ 64)
+within k weight children h = grind (arith, nat_tests)
+
+counted : (k : ℕ) (of : Children) → good_choice k of ≡ true → (0 < k) × (k ≤ total_weight of) × (length (formulas of) ≤ 64)
+counted k of h = within k (total_weight of) (length (formulas of)) (both_hold (each_fits of) (good_threshold k (total_weight of) (length (formulas of))) h).1
 
 -- ---- good thresholds
 
@@ -36,8 +47,8 @@ mutual
   pub counts : (f : Formula) (levels : ℕ) → shape_fault f levels ≡ None → HasCounts f
   counts (member x) levels h = tt
   counts (at_least k of) levels h =
-      let all = passes (levels == 0) (good_threshold k (total_weight of) (length (formulas of))) (row_fault of (levels - 1)) h in
-      let count = counted k (total_weight of) (length (formulas of)) all.1 in
+      let all = passes (levels == 0) (good_choice k of) (row_fault of (levels - 1)) h in
+      let count = counted k of all.1 in
       (count.0, count.1, count.2, row_counts of (levels - 1) all.2)
 
   row_counts : (of : Children) (levels : ℕ) → row_fault of levels ≡ None → EachHasCounts of
@@ -70,7 +81,7 @@ mutual
   pub speaks : (f : Formula) (levels : ℕ) → shape_fault f levels ≡ None → SpeaksOf f below_64
   speaks (member x) levels h = (passes_member (levels == 0) (nat_lt x 64) h).1
   speaks (at_least k of) levels h =
-      row_speaks of (levels - 1) (passes (levels == 0) (good_threshold k (total_weight of) (length (formulas of))) (row_fault of (levels - 1)) h).2
+      row_speaks of (levels - 1) (passes (levels == 0) (good_choice k of) (row_fault of (levels - 1)) h).2
 
   row_speaks : (of : Children) (levels : ℕ) → row_fault of levels ≡ None → EachSpeaksOf of below_64
   row_speaks no_child levels h = tt
@@ -104,15 +115,22 @@ children-duals_of : (of : Children) → length (formulas (duals_of of)) ≡ leng
 children-duals_of no_child = refl
 children-duals_of (child w f fs) = ap suc (children-duals_of fs)
 
+-- they weigh the same
+fits-duals_of : (of : Children) → each_fits (duals_of of) ≡ each_fits of
+fits-duals_of no_child = refl
+fits-duals_of (child w f fs) = ap (λ b. nat_le 1 w && (nat_le w 255 && b)) (fits-duals_of fs)
+
 mutual
   shape-dual_of : (f : Formula) (levels : ℕ) → shape_fault f levels ≡ None → shape_fault (dual_of f) levels ≡ None
   shape-dual_of (member x) levels h = h
   shape-dual_of (at_least k of) levels h =
-      let all = passes (levels == 0) (good_threshold k (total_weight of) (length (formulas of))) (row_fault of (levels - 1)) h in
+      let all = passes (levels == 0) (good_choice k of) (row_fault of (levels - 1)) h in
+      let good = both_hold (each_fits of) (good_threshold k (total_weight of) (length (formulas of))) all.1 in
       let count : good_threshold (total_weight of + 1 - k) (total_weight (duals_of of)) (length (formulas (duals_of of))) ≡ true =
-      (λ i. good_threshold (total_weight of + 1 - k) (total_weight-duals_of of i) (children-duals_of of i)) ∙ dual_count k (total_weight of) (length (formulas of)) all.1 in
-      ap (λ (b : Bool). if b then Some TooDeep else (if good_threshold (total_weight of + 1 - k) (total_weight (duals_of of)) (length (formulas (duals_of of))) then row_fault (duals_of of) (levels - 1) else Some BadCount)) all.0
-      ∙ ap (λ (b : Bool). if b then row_fault (duals_of of) (levels - 1) else Some BadCount) count ∙ row-duals_of of (levels - 1) all.2
+      (λ i. good_threshold (total_weight of + 1 - k) (total_weight-duals_of of i) (children-duals_of of i)) ∙ dual_count k (total_weight of) (length (formulas of)) good.1 in
+      let choice : good_choice (total_weight of + 1 - k) (duals_of of) ≡ true = both_so _ _ (fits-duals_of of ∙ good.0) count in
+      ap (λ (b : Bool). if b then Some TooDeep else (if good_choice (total_weight of + 1 - k) (duals_of of) then row_fault (duals_of of) (levels - 1) else Some BadCount)) all.0
+      ∙ ap (λ (b : Bool). if b then row_fault (duals_of of) (levels - 1) else Some BadCount) choice ∙ row-duals_of of (levels - 1) all.2
 
   row-duals_of : (of : Children) (levels : ℕ) → row_fault of levels ≡ None → row_fault (duals_of of) levels ≡ None
   row-duals_of no_child levels h = refl

@@ -1,13 +1,19 @@
 -- What an expression means.
+use Rattle.std.specs.Prelude.{ℕ, List, [], ◌∷◌}
 use Rattle.quorum_expr.specs.declared.expression.Expr.{Expr}
 use Rattle.quorum_expr.specs.declared.expression.Expr.TheOpen.{Expr-F, Member, KOf}
 use Rattle.quorum_expr.specs.declared.expression.Expr.TheFolds.{fold-Expr}
-use Rattle.volume_model.specs.Formula.{Formula, member, at_least, each_once}
+use Rattle.volume_model.specs.Formula.{Formula, Children, member, at_least, no_child, child}
+
+-- children with their weights, each seen through f
+abbrev pub weighed : {X : Type 0} → (X → Formula) → List (ℕ × X) → Children
+weighed f [] = no_child
+weighed f (x ∷ xs) = child x.0 (f x.1) (weighed f xs)
 
 -- one expression, with the formulas of its children in their places
 abbrev pub formula_step : {A : Type 0} → Expr-F A Formula → Formula
 formula_step (Member x) = member x
-formula_step (KOf k of) = at_least k (each_once of.items)
+formula_step (KOf k of) = at_least k (weighed (λ f. f) of.items)
 
 -- the formula that an expression spells, whatever memory it lies in
 abbrev pub formula_of : {A : Type 0} → Expr A → Formula

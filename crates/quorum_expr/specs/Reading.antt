@@ -1,5 +1,5 @@
 -- The expression that a JSON value spells, or the first fault in reading order.
-use Rattle.std.specs.Prelude.{◌&&◌, ◌==◌, ℕ, zero, suc, List, [], ◌∷◌, length, map, Option, Some, None, Result, Ok, Err, nat_lt, nat_le, codes, if◌then◌else◌}
+use Rattle.std.specs.Prelude.{◌&&◌, ◌||◌, ◌==◌, ℕ, zero, suc, ◌+◌, Bool, List, [], ◌∷◌, length, map, get_or, Option, Some, None, Result, Ok, Err, nat_lt, nat_le, codes, if◌then◌else◌}
 use Rattle.std.specs.Str.{bytes_eq}
 use Rattle.std.specs.Ordering.{nat_cmp}
 use Rattle.std.specs.FinSet.{FinSet, contains, difference}
@@ -9,22 +9,26 @@ use Rattle.serde_json.specs.Find.{get}
 use Rattle.volume_model.specs.declared.fault.Fault.{Fault}
 use Rattle.volume_model.specs.declared.fault.Fault.TheVariants.{BadCount, TooDeep, NotAMember, Malformed, OverLimit}
 use Rattle.volume_model.specs.Answer.{◌>>=◌}
-use Rattle.volume_model.specs.Formula.{Formula, member, at_least, each_once}
+use Rattle.volume_model.specs.Formula.{Formula, Children, member, at_least, no_child, child}
 use Rattle.volume_model.specs.Sets.{listed}
 use Rattle.quorum_expr.specs.declared.form.Lists.{Lists}
 use Rattle.quorum_expr.specs.declared.form.ListName.{ListName}
 use Rattle.quorum_expr.specs.declared.form.ListName.TheVariants.{All, Full, Tail}
-use Rattle.quorum_expr.specs.Valid.{good_count, nodes}
+use Rattle.quorum_expr.specs.Valid.{good_choice, nodes}
 
 -- the children of a threshold: written out, or a list that is called by name
 pub data ChildList : Type 0 where
   each : Items → ChildList
   named : ListName → ChildList
 
--- what a value spells at its own level: a number, or a threshold over children
+-- what children weigh: what is spelled of each, or one each where nothing is spelled
+abbrev pub Weights : Type 0
+Weights = Option (List ℕ)
+
+-- what a value spells at its own level: a number, or a threshold over children with their weights
 pub data Form : Type 0 where
   single : ℕ → Form
-  choice : ℕ → ChildList → Form
+  choice : ℕ → ChildList → Weights → Form
 
 -- the names of lists
 abbrev pub list_name_of : List ℕ → Option ListName
@@ -69,28 +73,78 @@ found_or_malformed (Some d) = Ok d
 abbrev pub at_key : List ℕ → Data → Result Data Fault
 at_key key d = found_or_malformed (get key d)
 
--- a threshold at the key k, and its children at the key of
-unfoldable pub choice_of : Data → Result Form Fault
-choice_of d = do
-  k ← at_key (codes "k") d
-  n ← whole_of k
-  of ← at_key (codes "of") d
-  list ← child_list_of of
-  Ok (choice n list)
-
--- a whole number, or an object of two keys, which are k and of
-unfoldable pub form_of : Data → Result Form Fault
-form_of (number n) = whole_of (number n) >>= λ m. Ok (single m)
-form_of (object ms) = if members_len ms == 2 then choice_of (object ms) else Err Malformed
-form_of null = Err Malformed
-form_of (boolean b) = Err Malformed
-form_of (string s) = Err Malformed
-form_of (array ds) = Err Malformed
-
 -- how many children there are
 abbrev pub child_count : Lists → ChildList → ℕ
 child_count lists (each ds) = items_len ds
 child_count lists (named name) = length (listed (set_of lists name))
+
+-- whole numbers from 0
+abbrev pub wholes_of : Items → Result (List ℕ) Fault
+wholes_of no_items = Ok []
+wholes_of (item d ds) = whole_of d >>= λ n. wholes_of ds >>= λ ns. Ok (n ∷ ns)
+
+-- an array of them
+abbrev pub whole_list_of : Data → Result (List ℕ) Fault
+whole_list_of (array ds) = wholes_of ds
+whole_list_of null = Err Malformed
+whole_list_of (boolean b) = Err Malformed
+whole_list_of (number n) = Err Malformed
+whole_list_of (string s) = Err Malformed
+whole_list_of (object ms) = Err Malformed
+
+-- one for each of so many children
+abbrev pub one_each : ℕ → List ℕ → Result Weights Fault
+one_each n ws = if length ws == n then Ok (Some ws) else Err Malformed
+
+-- the weights of so many children, at the key weights where there are more keys than k and of
+unfoldable pub weights_of : ℕ → ℕ → Data → Result Weights Fault
+weights_of keys n d = if keys == 2 then Ok None else (at_key (codes "weights") d >>= λ ws. whole_list_of ws >>= one_each n)
+
+-- a threshold at the key k, its children at the key of, and their weights
+unfoldable pub choice_of : Lists → ℕ → Data → Result Form Fault
+choice_of lists keys d = do
+  k ← at_key (codes "k") d
+  n ← whole_of k
+  of ← at_key (codes "of") d
+  list ← child_list_of of
+  ws ← weights_of keys (child_count lists list) d
+  Ok (choice n list ws)
+
+-- two keys, or three where weights may be given
+abbrev pub good_keys : Bool → ℕ → Bool
+good_keys is_weighed n = n == 2 || (is_weighed && n == 3)
+
+-- a whole number, or an object of the keys k and of, and of the key weights where weights may be given
+unfoldable pub form_of : Lists → Data → Result Form Fault
+form_of lists (number n) = whole_of (number n) >>= λ m. Ok (single m)
+form_of lists (object ms) = if good_keys lists.is_weighed (members_len ms) then choice_of lists (members_len ms) (object ms) else Err Malformed
+form_of lists null = Err Malformed
+form_of lists (boolean b) = Err Malformed
+form_of lists (string s) = Err Malformed
+form_of lists (array ds) = Err Malformed
+
+-- a weight up to 255, and 0 for any other, which no threshold admits
+abbrev pub small : ℕ → ℕ
+small w = if nat_le w 255 then w else 0
+
+-- what the child with a number weighs
+abbrev pub weight_of : Weights → ℕ → ℕ
+weight_of None i = 1
+weight_of (Some ws) i = small (get_or ws i 0)
+
+-- children with their weights, which are counted from a number on
+abbrev pub weighing : Weights → ℕ → List Formula → Children
+weighing ws i [] = no_child
+weighing ws i (f ∷ fs) = child (weight_of ws i) f (weighing ws (i + 1) fs)
+
+-- so many children of which nothing is known
+abbrev pub unread : ℕ → List Formula
+unread zero = []
+unread (suc n) = member 0 ∷ unread n
+
+-- a good threshold of so many children with these weights, whatever they are
+abbrev pub good_row : ℕ → ℕ → Weights → Bool
+good_row k n ws = good_choice k (weighing ws 0 (unread n))
 
 -- what read gives for each item, up to the first fault
 abbrev pub each_of : (Data → Result Formula Fault) → Items → Result (List Formula) Fault
@@ -107,16 +161,16 @@ abbrev pub children_at : Lists → ℕ → (Data → Result Formula Fault) → C
 children_at lists left read (each ds) = each_of read ds
 children_at lists left read (named name) = members_at left (listed (set_of lists name))
 
--- A number has to be a member, and a threshold a good count of its children, which have so many levels.
+-- A number has to be a member, and a threshold a good one of its children's weights; the children have so many levels.
 abbrev pub formula_from : Lists → ℕ → (Data → Result Formula Fault) → Form → Result Formula Fault
 formula_from lists left read (single n) = if nat_lt n 64 && contains lists.members n then Ok (member n) else Err NotAMember
-formula_from lists left read (choice k list) =
-    if good_count k (child_count lists list) then (children_at lists left read list >>= λ fs. Ok (at_least k (each_once fs))) else Err BadCount
+formula_from lists left read (choice k list ws) =
+    if good_row k (child_count lists list) ws then (children_at lists left read list >>= λ fs. Ok (at_least k (weighing ws 0 fs))) else Err BadCount
 
--- the formula that a value spells where so many levels are allowed: its own shape first, then its level, its count or number, and its children in order
+-- the formula that a value spells where so many levels are allowed: its own shape first, then its level, its threshold or number, and its children in order
 unfoldable pub formula_at : Lists → ℕ → Data → Result Formula Fault
-formula_at lists zero d = form_of d >>= λ form. Err TooDeep
-formula_at lists (suc left) d = form_of d >>= formula_from lists left (formula_at lists left)
+formula_at lists zero d = form_of lists d >>= λ form. Err TooDeep
+formula_at lists (suc left) d = form_of lists d >>= formula_from lists left (formula_at lists left)
 
 -- at most 4,096 nodes, which are counted when the whole has been read
 unfoldable pub expression_in : Lists → Data → Result Formula Fault

@@ -1,5 +1,5 @@
 -- Which expressions are valid, and the first fault of one that isn't.
-use Rattle.std.specs.Prelude.{ℕ, ◌+◌, ◌-◌, Bool, ◌&&◌, ◌==◌, nat_lt, nat_le, if◌then◌else◌, Option, Some, None, length}
+use Rattle.std.specs.Prelude.{ℕ, ◌+◌, ◌-◌, Bool, true, ◌&&◌, ◌==◌, nat_lt, nat_le, if◌then◌else◌, Option, Some, None, length}
 use Rattle.volume_model.specs.declared.fault.Fault.{Fault}
 use Rattle.volume_model.specs.declared.fault.Fault.TheVariants.{BadCount, TooDeep, NotAMember, OverLimit}
 use Rattle.volume_model.specs.Formula.{Formula, Children, member, at_least, no_child, child, formulas, total_weight}
@@ -9,9 +9,18 @@ abbrev pub or_then : Option Fault → Option Fault → Option Fault
 or_then None next = next
 or_then (Some fault) next = Some fault
 
+-- each child weighs 1 to 255
+abbrev pub each_fits : Children → Bool
+each_fits no_child = true
+each_fits (child w f fs) = nat_le 1 w && (nat_le w 255 && each_fits fs)
+
 -- a threshold from 1 to the weight of all children, which are at most 64
 abbrev pub good_threshold : ℕ → ℕ → ℕ → Bool
 good_threshold k weight children = nat_le 1 k && (nat_le k weight && nat_le children 64)
+
+-- a threshold of children that weigh 1 to 255 each
+abbrev pub good_choice : ℕ → Children → Bool
+good_choice k of = each_fits of && good_threshold k (total_weight of) (length (formulas of))
 
 -- the same where each child counts as one
 abbrev pub good_count : ℕ → ℕ → Bool
@@ -22,7 +31,7 @@ abbrev mutual
   pub shape_fault : Formula → ℕ → Option Fault
   shape_fault (member x) levels = (if levels == 0 then Some TooDeep else (if nat_lt x 64 then None else Some NotAMember))
   shape_fault (at_least k of) levels =
-      (if levels == 0 then Some TooDeep else (if good_threshold k (total_weight of) (length (formulas of)) then row_fault of (levels - 1) else Some BadCount))
+      (if levels == 0 then Some TooDeep else (if good_choice k of then row_fault of (levels - 1) else Some BadCount))
 
   -- the first fault of children, in order
   pub row_fault : Children → ℕ → Option Fault
@@ -40,7 +49,7 @@ abbrev mutual
   row_nodes no_child = 0
   row_nodes (child w f fs) = nodes f + row_nodes fs
 
--- The first fault of a formula, if any: six levels, good thresholds and members below 64 at each node, and when the
+-- The first fault of a formula, if any: six levels, good thresholds over weights of 1 to 255 and members below 64 at each node, and when the
 -- whole has been walked at most 4,096 nodes.
 abbrev pub expression_fault : Formula → Option Fault
 expression_fault f = or_then (shape_fault f 6) (if nat_le (nodes f) 4096 then None else Some OverLimit)

@@ -1,6 +1,6 @@
 //! Quorum expressions and their meaning.
 
-ghost use Rattle.std.specs.Prelude.{◌≡◌};
+ghost use Rattle.std.specs.Prelude.{◌≡◌, ◌≤◌};
 ghost use Rattle.std.specs.FinSet as set;
 ghost use Rattle.volume_model.specs.Formula.{sat, dual_of};
 ghost use Rattle.quorum_expr.specs.Expr.{formula_of};
@@ -8,18 +8,26 @@ ghost use Rattle.quorum_expr.specs.Expr.{formula_of};
 use crate::MemberSet;
 use std::alloc::Allocator;
 
-/// A member of a group, or at least `k` of several expressions.
+/// A member of a group, or a threshold over weighted expressions.
 #[derive(Drop)]
 pub enum Expr<A: Allocator> {
     /// The member with this number.
     Member(u8),
-    /// At least so many of these expressions hold.
+    /// The weights of the expressions that hold add up to the threshold.
     KOf {
-        /// How many at least.
-        k: u8,
-        /// The expressions.
-        of: Vec<Expr<A>, A>,
+        /// The threshold.
+        k: u16,
+        /// The expressions, each with its weight.
+        of: Vec<(u8, Expr<A>), A>,
     },
+}
+
+/// A weight as a number that many of them can be added to.
+pub fn wide(weight: u8) -> u128
+    ensures same { result ≡ weight }
+    ensures small { result ≤ 255 }
+{
+    u128::from(weight)
 }
 
 /// Whether an expression holds in a set of members.
@@ -29,13 +37,17 @@ pub fn holds<A: Allocator>(expr: &Expr<A>, members: MemberSet) -> bool
     match expr {
         Expr::Member(member) => members.contains(*member),
         Expr::KOf { k, of } => {
-            let mut held = 0usize;
-            for child in of {
-                if holds(child, members) {
-                    held += 1;
+            let mut held = 0u128;
+            for (weight, child) in of {
+                let is_held = match child {
+                    Expr::Member(member) => members.contains(*member),
+                    Expr::KOf { .. } => holds(child, members),
+                };
+                if is_held {
+                    held += wide(*weight);
                 }
             }
-            held >= usize::from(*k)
+            held >= u128::from(*k)
         }
     }
 }
@@ -47,13 +59,14 @@ pub fn holds_dual<A: Allocator>(expr: &Expr<A>, members: MemberSet) -> bool
     match expr {
         Expr::Member(member) => members.contains(*member),
         Expr::KOf { k, of } => {
-            let mut held = 0usize;
-            for child in of {
+            let (mut held, mut all) = (0u128, 0u128);
+            for (weight, child) in of {
+                all += wide(*weight);
                 if holds_dual(child, members) {
-                    held += 1;
+                    held += wide(*weight);
                 }
             }
-            (of.len() as u128) < held as u128 + u128::from(*k)
+            all < held + u128::from(*k)
         }
     }
 }

@@ -8,7 +8,7 @@ mod reading;
 mod rebuilding;
 mod validity;
 
-pub use expression::{Expr, holds, holds_dual};
+pub use expression::{Expr, holds, holds_dual, wide};
 pub use form::Lists;
 pub use member_set::{MEMBERS, MemberSet};
 pub use reading::read_expr;

@@ -1,18 +1,18 @@
 //! From JSON to expressions.
 
-ghost use Rattle.std.specs.Prelude.{◌≡◌, ◌+◌, ◌-◌, ◌&&◌, Ok, None, IfOk, map, nat_lt};
+ghost use Rattle.std.specs.Prelude.{◌≡◌, ◌≤◌, ◌+◌, ◌-◌, ◌&&◌, Ok, None, IfOk, map, nat_lt, true};
 ghost use Rattle.std.specs.FinSet as set;
 ghost use Rattle.serde_json.specs.View.{view};
 ghost use Rattle.volume_model.specs.Answer.{Gives};
 ghost use Rattle.volume_model.specs.Formula.{member, each_once};
 ghost use Rattle.volume_model.specs.Sets.{listed};
 ghost use Rattle.quorum_expr.specs.Expr.{formula_of};
-ghost use Rattle.quorum_expr.specs.Valid.{good_count, nodes, row_nodes, expression_fault};
-ghost use Rattle.quorum_expr.specs.Forms.{child_list, form_data, formulas_of};
-ghost use Rattle.quorum_expr.specs.Reading.{at_key, whole_of, child_list_of, choice_of, form_of, children_at, formula_from, formula_at, expression_in};
+ghost use Rattle.quorum_expr.specs.Valid.{nodes, row_nodes, expression_fault};
+ghost use Rattle.quorum_expr.specs.Forms.{child_list, form_data, formulas_of, weights_data, AreWhole, HaveWeights};
+ghost use Rattle.quorum_expr.specs.Reading.{at_key, whole_of, child_list_of, weights_of, good_keys, good_row, choice_of, form_of, children_at, formula_from, formula_at, expression_in};
 
-use crate::expression::Expr;
-use crate::form::{Children, Form, ListName, Lists};
+use crate::expression::{Expr, wide};
+use crate::form::{Children, Form, ListName, Lists, Weights};
 use crate::member_set::{MEMBERS, MemberSet};
 use crate::validity::{LEVELS, NODES};
 use serde_json::Value;
@@ -46,27 +46,66 @@ fn children(value: &Value) -> Result<Children<'_>, Fault>
     }
 }
 
+/// Whether each value is a whole number from 0.
+fn are_whole(values: &[Value]) -> bool
+    ensures { AreWhole result values.now }
+{
+    for value in values {
+        match value.as_u64() {
+            Some(_) => {}
+            None => return false,
+        }
+    }
+    true
+}
+
+/// The weights of so many children, of which an object with so many keys speaks.
+#[tactic(auto, unfolding(crate::specs::Reading::weights_of))]
+fn weights(value: &Value, keys: usize, count: usize) -> Result<Weights<'_>, Fault>
+    ensures { Gives weights_data result (weights_of keys count (view value.now)) }
+{
+    if keys == 2 {
+        return Ok(Weights::Once);
+    }
+    let Value::Array(list) = value_at(value, "weights")? else {
+        return Err(Fault::Malformed);
+    };
+    if !are_whole(list.as_slice()) || list.len() != count {
+        return Err(Fault::Malformed);
+    }
+    Ok(Weights::Each(list))
+}
+
 #[tactic(auto, unfolding(crate::specs::Reading::choice_of))]
-fn choice(value: &Value) -> Result<Form<'_>, Fault>
-    ensures { Gives form_data result (choice_of (view value.now)) }
+fn choice<'v>(lists: &Lists, keys: usize, value: &'v Value) -> Result<Form<'v>, Fault>
+    ensures { Gives form_data result (choice_of lists.now keys (view value.now)) }
 {
     let k = whole(value_at(value, "k")?)?;
     let of = children(value_at(value, "of")?)?;
-    Ok(Form::Choice(k, of))
+    let weights = weights(value, keys, of.len(lists))?;
+    Ok(Form::Choice(k, of, weights))
+}
+
+/// Whether an object of so many keys may be a threshold.
+fn is_good_keys(is_weighed: bool, keys: usize) -> bool
+    ensures { result ≡ good_keys is_weighed keys }
+{
+    keys == 2 || (is_weighed && keys == 3)
 }
 
 /// What a value spells at its own level.
 #[tactic(auto, unfolding(crate::specs::Reading::form_of))]
-fn form_at(value: &Value) -> Result<Form<'_>, Fault>
-    ensures { Gives form_data result (form_of (view value.now)) }
+fn form_at<'v>(lists: &Lists, value: &'v Value) -> Result<Form<'v>, Fault>
+    ensures { Gives form_data result (form_of lists.now (view value.now)) }
 {
     match value {
         Value::Number(_) => Ok(Form::Single(whole(value)?)),
         Value::Object(map) => {
-            if map.len() != 2 {
+            let keys = map.len();
+            if !is_good_keys(lists.is_weighed, keys) {
                 return Err(Fault::Malformed);
             }
-            choice(value)
+            choice(lists, keys, value)
         }
         _ => Err(Fault::Malformed),
     }
@@ -78,25 +117,40 @@ fn is_member(members: MemberSet, n: u64) -> bool
     n < u64::from(MEMBERS) && members.contains(n as u8)
 }
 
-fn is_good_count(k: u64, n: usize) -> bool
-    ensures { result ≡ good_count k n }
+/// Whether a threshold is from 1 to what all of its children weigh, of which there are so many.
+fn is_good_row(k: u64, count: usize, weights: &Weights<'_>) -> bool
+    ensures good { result ≡ good_row k count (weights_data weights.now) }
+    ensures small { result ≡ true → k ≤ 16320 }
 {
-    1 <= k && k <= n as u64 && n <= 64
+    if count > 64 {
+        return false;
+    }
+    let mut all = 0u128;
+    for number in 0..count {
+        let weight = weights.at(number);
+        if weight == 0 {
+            return false;
+        }
+        all += wide(weight);
+    }
+    1 <= k && u128::from(k) <= all
 }
 
 /// An expression for each member of a set, in growing order.
 fn each_member(
     alloc: Global,
     members: MemberSet,
+    weights: &Weights<'_>,
     room: &mut u32,
-) -> Result<Vec<Expr<Global>>, Fault>
+) -> Result<Vec<(u8, Expr<Global>)>, Fault>
     ensures read { Gives (λ v. formulas_of v.items) result (Ok (map member (listed members))) }
+    ensures weights { IfOk result (λ v. HaveWeights (weights_data weights.now) 0 v.items) }
     ensures counted { IfOk result (λ v. room.new ≡ room.old - row_nodes (each_once (formulas_of v.items))) }
 {
     let mut of = Vec::new(alloc);
     for m in 0..MEMBERS {
         if members.contains(m) {
-            of.push(Expr::Member(m))?;
+            of.push((weights.at(of.len()), Expr::Member(m)))?;
             *room = room.saturating_sub(1);
         }
     }
@@ -115,7 +169,7 @@ fn tree(
     ensures read { Gives formula_of result (formula_at lists.now left (view value.now)) }
     ensures counted { IfOk result (λ e. room.new ≡ room.old - nodes (formula_of e)) }
 {
-    let form = form_at(value)?;
+    let form = form_at(lists, value)?;
     if left == 0 {
         return Err(Fault::TooDeep);
     }
@@ -141,13 +195,13 @@ fn tree_of_form(
             *room = room.saturating_sub(1);
             Ok(Expr::Member(*n as u8))
         }
-        Form::Choice(k, list) => {
-            if !is_good_count(*k, list.len(lists)) {
+        Form::Choice(k, list, weights) => {
+            if !is_good_row(*k, list.len(lists), weights) {
                 return Err(Fault::BadCount);
             }
             *room = room.saturating_sub(1);
-            let of = child_trees(alloc, lists, left, list, room)?;
-            Ok(Expr::KOf { k: *k as u8, of })
+            let of = child_trees(alloc, lists, left, list, weights, room)?;
+            Ok(Expr::KOf { k: *k as u16, of })
         }
     }
 }
@@ -158,9 +212,11 @@ fn child_trees(
     lists: &Lists,
     left: u8,
     list: &Children<'_>,
+    weights: &Weights<'_>,
     room: &mut u32,
-) -> Result<Vec<Expr<Global>>, Fault>
+) -> Result<Vec<(u8, Expr<Global>)>, Fault>
     ensures read { Gives (λ v. formulas_of v.items) result (children_at lists.now left (formula_at lists.now left) (child_list list.now)) }
+    ensures weights { IfOk result (λ v. HaveWeights (weights_data weights.now) 0 v.items) }
     ensures counted { IfOk result (λ v. room.new ≡ room.old - row_nodes (each_once (formulas_of v.items))) }
 {
     match list {
@@ -168,12 +224,13 @@ fn child_trees(
             if left == 0 {
                 return Err(Fault::TooDeep);
             }
-            each_member(alloc, lists.named(*name), room)
+            each_member(alloc, lists.named(*name), weights, room)
         }
         Children::Each(values) => {
             let mut of = Vec::new(alloc);
             'children: for value in *values {
-                of.push(tree(alloc, lists, left, value, room)?)?;
+                let weight = weights.at(of.len());
+                of.push((weight, tree(alloc, lists, left, value, room)?))?;
             }
             Ok(of)
         }
@@ -184,8 +241,8 @@ fn child_trees(
 ///
 /// # Errors
 /// The first fault, outer ones before inner ones and children in order: at each node [`Fault::Malformed`] for another
-/// shape, [`Fault::TooDeep`] below six levels, [`Fault::BadCount`] for a threshold that isn't from 1 to its at most 64
-/// children, [`Fault::NotAMember`] for a number that isn't a member; and [`Fault::OverLimit`] for more than 4,096 nodes
+/// shape, or another number of weights than of children, [`Fault::TooDeep`] below six levels, [`Fault::BadCount`] for a threshold
+/// that isn't from 1 to what its at most 64 children weigh, from 1 to 255 each, [`Fault::NotAMember`] for a number that isn't a member; and [`Fault::OverLimit`] for more than 4,096 nodes
 /// when the whole has been read. A named list counts as the list that it stands for.
 #[tactic(auto, unfolding(crate::specs::Reading::expression_in))]
 pub fn read_expr(alloc: Global, value: &Value, lists: &Lists) -> Result<Expr<Global>, Fault>

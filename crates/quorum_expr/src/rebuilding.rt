@@ -6,7 +6,7 @@ ghost use Rattle.volume_model.specs.Formula.{Members, sat, dual_of, HasCounts};
 ghost use Rattle.quorum_expr.specs.Expr.{formula_of};
 ghost use Rattle.quorum_expr.specs.Valid.{expression_fault};
 
-use crate::expression::Expr;
+use crate::expression::{Expr, wide};
 use std::alloc::Allocator;
 use volume_model::Fault;
 
@@ -21,8 +21,8 @@ pub fn copy_in<A: Allocator, B: Allocator + Clone>(
         Expr::Member(member) => Ok(Expr::Member(*member)),
         Expr::KOf { k, of } => {
             let mut copies = Vec::new(alloc.clone()?);
-            for child in of {
-                copies.push(copy_in(child, alloc.clone()?)?)?;
+            for (weight, child) in of {
+                copies.push((*weight, copy_in(child, alloc.clone()?)?))?;
             }
             Ok(Expr::KOf { k: *k, of: copies })
         }
@@ -41,12 +41,13 @@ fn dual_formula<A: Allocator, B: Allocator + Clone>(
         Expr::Member(member) => Ok(Expr::Member(*member)),
         Expr::KOf { k, of } => {
             let mut duals = Vec::new(alloc.clone()?);
-            for child in of {
-                duals.push(dual_formula(child, alloc.clone()?)?)?;
+            let mut all = 0u128;
+            for (weight, child) in of {
+                all += wide(*weight);
+                duals.push((*weight, dual_formula(child, alloc.clone()?)?))?;
             }
-            let all = of.len();
             Ok(Expr::KOf {
-                k: (all + 1 - usize::from(*k)) as u8,
+                k: (all + 1 - u128::from(*k)) as u16,
                 of: duals,
             })
         }

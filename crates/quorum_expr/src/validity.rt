@@ -1,10 +1,10 @@
 //! The test of an expression.
 
 ghost use Rattle.std.specs.Prelude.{◌≡◌, ◌-◌, None, Some, OnOk, IfErr, IfNone};
-ghost use Rattle.quorum_expr.specs.Expr.{formula_of};
-ghost use Rattle.quorum_expr.specs.Valid.{shape_fault, expression_fault, nodes};
+ghost use Rattle.quorum_expr.specs.Expr.{formula_of, weighed};
+ghost use Rattle.quorum_expr.specs.Valid.{good_choice, shape_fault, expression_fault, nodes};
 
-use crate::expression::Expr;
+use crate::expression::{Expr, wide};
 use std::alloc::Allocator;
 use volume_model::Fault;
 
@@ -13,6 +13,23 @@ pub const LEVELS: u8 = 6;
 
 /// How many nodes an expression may have.
 pub const NODES: u32 = 4_096;
+
+/// Whether a threshold is from 1 to the weights of all its children, which are at most 64 and weigh at least 1 each.
+fn is_good_choice<A: Allocator>(k: u16, of: &[(u8, Expr<A>)]) -> bool
+    ensures { result ≡ good_choice k (weighed formula_of of.now) }
+{
+    if of.len() > 64 {
+        return false;
+    }
+    let mut all = 0u128;
+    for (weight, _) in of {
+        if *weight == 0 {
+            return false;
+        }
+        all += wide(*weight);
+    }
+    1 <= k && u128::from(k) <= all
+}
 
 /// The first fault of an expression that may have so many levels. The room falls by one a node, to 0 at least.
 fn fault_within<A: Allocator>(expr: &Expr<A>, levels: u8, room: &mut u32) -> Option<Fault>
@@ -32,10 +49,10 @@ fn fault_within<A: Allocator>(expr: &Expr<A>, levels: u8, room: &mut u32) -> Opt
             }
         }
         Expr::KOf { k, of } => {
-            if *k < 1 || usize::from(*k) > of.len() || of.len() > 64 {
+            if !is_good_choice(*k, of.as_slice()) {
                 return Some(Fault::BadCount);
             }
-            for child in of {
+            for (_, child) in of {
                 if let Some(fault) = fault_within(child, levels - 1, room) {
                     return Some(fault);
                 }
@@ -45,8 +62,8 @@ fn fault_within<A: Allocator>(expr: &Expr<A>, levels: u8, room: &mut u32) -> Opt
     }
 }
 
-/// Whether an expression has at most six levels, each threshold from 1 to its at most 64 children, members of 0 to
-/// 63 alone and at most 4,096 nodes. Of several faults it is the first, outer ones before inner ones and children in
+/// Whether an expression has at most six levels, each threshold from 1 to the weights of its at most 64 children, which
+/// weigh 1 to 255 each, members of 0 to 63 alone and at most 4,096 nodes. Of several faults it is the first, outer ones before inner ones and children in
 /// order; the nodes are counted when the whole has been walked.
 pub fn valid<A: Allocator>(expr: &Expr<A>) -> Result<(), Fault>
     ensures ok { OnOk result (expression_fault (formula_of expr.now) ≡ None) }

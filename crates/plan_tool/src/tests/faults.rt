@@ -188,7 +188,7 @@ const UNREADABLE: [(&str, u8, &str); 15] = [
     ),
     // another format
     (
-        "{\"format\":2,\"lal\":10,\"groups\":[{\"configurations\":[{\"parent\":null,\"members\":[0,1,2,3,4,5],\"full\":[0,1,2,3,4,5],\"read\":{\"k\":3,\"of\":\"all\"},\"write\":{\"k\":4,\"of\":\"all\"},\"meets\":null,\"step\":null}]}]}",
+        "{\"format\":3,\"lal\":10,\"groups\":[{\"configurations\":[{\"parent\":null,\"members\":[0,1,2,3,4,5],\"full\":[0,1,2,3,4,5],\"read\":{\"k\":3,\"of\":\"all\"},\"write\":{\"k\":4,\"of\":\"all\"},\"meets\":null,\"step\":null}]}]}",
         2,
         "input: 13 Malformed\n",
     ),

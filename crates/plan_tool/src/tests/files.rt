@@ -57,32 +57,46 @@ impl Write for Room {
     }
 }
 
+/// Every kind of job.
+const ACTIONS: [Action; 4] = [Action::Check, Action::Search, Action::Run, Action::Fleet];
+
+#[test]
+fn files_that_fail_behind_each_byte(rt: HostRuntime) {
+    let alloc = rt.alloc();
+    let plan = SIX_COPIES.as_bytes();
+    let script = b"issue 1 0:0:0:61\ndeliver 0 0 1.1\n".as_slice();
+    for action in ACTIONS {
+        for k in 0..plan.len() {
+            let end = said(&rt, alloc, action, Breaks(&plan[..k]), script);
+            assert!(rt; end.is(2, "input: cannot read p.json\n"), "{k}");
+        }
+    }
+    for action in [Action::Run, Action::Fleet] {
+        for k in 0..script.len() {
+            let end = said(&rt, alloc, action, plan, Breaks(&script[..k]));
+            assert!(rt; end.is(2, "input: cannot read s.txt\n"), "{k}");
+        }
+    }
+}
+
 #[test]
 fn files_that_fail(rt: HostRuntime) -> Result<(), AllocError> {
     let alloc = rt.alloc();
     let plan = SIX_COPIES.as_bytes();
     let script = b"issue 1 0:0:0:61".as_slice();
-    let no_plan = "input: cannot read p.json\n";
-    let no_script = "input: cannot read s.txt\n";
     for k in 0..plan.len() {
         let end = said(&rt, alloc, Action::Check, &plan[..k], script);
         assert!(rt; end.is(2, "input: 13 Malformed\n"), "{k}");
-        let end = said(&rt, alloc, Action::Run, Breaks(&plan[..k]), script);
-        assert!(rt; end.is(2, no_plan), "{k}");
     }
-    for k in 0..script.len() {
-        let end = said(&rt, alloc, Action::Run, plan, Breaks(&script[..k]));
-        assert!(rt; end.is(2, no_script), "{k}");
-    }
-    for action in [Action::Check, Action::Run, Action::Fleet, Action::Search] {
+    for action in ACTIONS {
         let end = done(&rt, alloc, &job(action), missing(), opened(script));
-        assert!(rt; end.is(2, no_plan));
+        assert!(rt; end.is(2, "input: cannot read p.json\n"));
         let end = done(&rt, alloc, &job(action), without_memory(), opened(script));
         assert!(rt; end.is(2, "input: 9 NoMemory\n"));
     }
     for action in [Action::Run, Action::Fleet] {
         let end = done(&rt, alloc, &job(action), opened(plan), missing());
-        assert!(rt; end.is(2, no_script));
+        assert!(rt; end.is(2, "input: cannot read s.txt\n"));
         let end = done(&rt, alloc, &job(action), opened(plan), without_memory());
         assert!(rt; end.is(2, "input: 9 NoMemory\n"));
     }
@@ -93,15 +107,21 @@ fn files_that_fail(rt: HostRuntime) -> Result<(), AllocError> {
     Ok(())
 }
 
-/// The status of a check of a plan, and what standard error got, where standard output takes so many bytes.
-fn checked_in_room<H: Threads + Wait + Sync>(rt: &H, alloc: Global, room: usize) -> (u8, Vec<u8>) {
+/// The status of a job over these files, and what standard error got, where standard output takes so many bytes.
+fn in_room<H: Threads + Wait + Sync>(
+    rt: &H,
+    alloc: Global,
+    action: Action,
+    script: &str,
+    room: usize,
+) -> (u8, Vec<u8>) {
     let mut err = Output::new(Vec::new(alloc));
     let status = perform(
         rt,
         alloc,
-        &job(Action::Check),
+        &job(action),
         &mut opened(SIX_COPIES.as_bytes()),
-        &mut missing(),
+        &mut opened(script.as_bytes()),
         &mut Output::new(Room(room)),
         &mut err,
     );
@@ -109,15 +129,20 @@ fn checked_in_room<H: Threads + Wait + Sync>(rt: &H, alloc: Global, room: usize)
 }
 
 #[test]
-fn outputs_that_fail(rt: HostRuntime) {
+fn outputs_that_fail_behind_each_byte(rt: HostRuntime) {
     let alloc = rt.alloc();
-    let line = "yes: 1 groups, 1 configurations, 1 certificates\n";
-    for room in 0..line.len() + 2 {
-        let (status, told) = checked_in_room(&rt, alloc, room);
-        if room < line.len() {
+    let script = "issue 1 0:0:0:61\ndeliver 0 0 1.1\n";
+    for action in ACTIONS {
+        let plan = SIX_COPIES.as_bytes();
+        let whole = said(&rt, alloc, action, plan, script.as_bytes()).out;
+        assert!(rt; !whole.is_empty());
+        for room in 0..whole.len() {
+            let (status, told) = in_room(&rt, alloc, action, script, room);
             assert_eq!(rt; status, 2);
             assert_eq!(rt; told.as_slice(), b"output: cannot write\n".as_slice());
-        } else {
+        }
+        for room in [whole.len(), whole.len().saturating_add(1)] {
+            let (status, told) = in_room(&rt, alloc, action, script, room);
             assert_eq!(rt; status, 0);
             assert!(rt; told.is_empty());
         }

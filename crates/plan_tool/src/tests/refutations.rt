@@ -6,16 +6,16 @@ use std::test::*;
 use volume_model::Fault;
 
 /// At least `k` of the members 0 to 5.
-fn of_six(alloc: Global, k: u8) -> Result<Expr<Global>, Fault> {
+fn of_six(alloc: Global, k: u16) -> Result<Expr<Global>, Fault> {
     let mut of = Vec::new(alloc);
     for member in 0..6 {
-        of.push(Expr::Member(member))?;
+        of.push((1, Expr::Member(member)))?;
     }
     Ok(Expr::KOf { k, of })
 }
 
 /// That each three of the members 0 to 5 meet each `write` of them.
-fn three_meet(alloc: Global, write: u8) -> Result<Claim<Global>, Fault> {
+fn three_meet(alloc: Global, write: u16) -> Result<Claim<Global>, Fault> {
     let left = of_six(alloc, 3)?;
     let right = of_six(alloc, write)?;
     valid(&left)?;
@@ -102,7 +102,7 @@ fn tree(alloc: Global, sample: Sample) -> Result<Refutation<Global>, Fault> {
 }
 
 /// What the check says of a refutation.
-fn verdict(alloc: Global, write: u8, tree: Refutation<Global>) -> Result<String, Fail> {
+fn verdict(alloc: Global, write: u16, tree: Refutation<Global>) -> Result<String, Fail> {
     let claim = three_meet(alloc, write)?;
     let certificate = Certificate::new(tree).map_err(|e| e.0)?;
     match check(alloc, &claim, &certificate) {

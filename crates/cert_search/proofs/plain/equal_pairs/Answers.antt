@@ -1,6 +1,7 @@
-use Rattle.std.proofs.Common.{◌+◌, ◌∷◌, [], ◌++◌, length, map, drop, ap, ◌∙◌, sym, arith}
+use Rattle.std.proofs.Common.{◌+◌, ◌∷◌, [], ◌++◌, length, drop, ap, ◌∙◌, sym, arith}
 use Rattle.std.proofs.lemmas.List.{length-append}
 use Rattle.quorum_expr.specs.Expr.{formula_of}
+use Rattle.quorum_expr.specs.Forms.{formulas_of}
 use Rattle.cert_search.specs.Plain.{equal_pairs}
 use Rattle.refutation.proofs.Loop.{next}
 use Rattle.cert_search.proofs.Pairs.{kept, paired}
@@ -9,8 +10,8 @@ use Rattle.cert_search.proofs.plain.equal_pairs.Goals as goal
 
 pub loop-i-preserved : goal.loop-i-preserved
 loop-i-preserved g c =
-    let others = map formula_of c.args.others.now in
-    let here = ap (λ fs. equal_pairs c.loop-i.i fs others) (next formula_of c.args.of.now c.loop-i.i c.index-of-i.result c.loop-i-test.true c.index-of-i.is) in
+    let others = formulas_of c.args.others.now in
+    let here = ap (λ fs. equal_pairs c.loop-i.i fs others) (next (λ x. formula_of x.1) c.args.of.now c.loop-i.i c.index-of-i.result c.loop-i-test.true c.index-of-i.is) in
     elim c.match-pair_at.branch [
       | in-Some+in_ok-push w ↦
           let more = ap (λ v. v.items) w.pairs-is ∙ w.in_ok-push.ensures.items in
@@ -21,7 +22,7 @@ loop-i-preserved g c =
       | in_default w ↦
           let same = ap (λ v. v.items) w.pairs-is in
           record {
-            pairs = kept _ _ _ _ _ c.loop-i.invariant.pairs here (sym c.pair_at.ensures ∙ w.in_default.is) ∙ ap (λ xs. xs ++ equal_pairs (c.loop-i.i + 1) (map formula_of (drop (c.loop-i.i + 1) c.args.of.now)) others) (sym same);
+            pairs = kept _ _ _ _ _ c.loop-i.invariant.pairs here (sym c.pair_at.ensures ∙ w.in_default.is) ∙ ap (λ xs. xs ++ equal_pairs (c.loop-i.i + 1) (formulas_of (drop (c.loop-i.i + 1) c.args.of.now)) others) (sym same);
             few = omega (arith, ap length same, c.loop-i.invariant.few);
           }
     ]

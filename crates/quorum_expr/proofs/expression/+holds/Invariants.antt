@@ -1,7 +1,7 @@
-use Rattle.std.proofs.Common.{◌≡◌, ◌+◌, ◌≤◌, drop, map}
+use Rattle.std.proofs.Common.{◌≡◌, ◌+◌, ◌≤◌, drop, ◌*◌}
 use Rattle.std.specs.FinSet as set
-use Rattle.volume_model.specs.Formula.{weight_held, each_once}
-use Rattle.quorum_expr.specs.Expr.{formula_of}
+use Rattle.volume_model.specs.Formula.{weight_held}
+use Rattle.quorum_expr.specs.Expr.{formula_of, weighed}
 use Rattle.quorum_expr.specs.Valid.{nodes}
 use Rattle.quorum_expr.proofs.expression.+holds.Given as goal
 
@@ -10,9 +10,9 @@ abbrev pub decreases-holds : goal.decreases-holds
 decreases-holds g l = nodes (formula_of l.expr.now)
 
 -- what held so far, and what holds of the children that are left
-abbrev pub invariant-loop-child : goal.invariant-loop-child
-invariant-loop-child g l =
+abbrev pub invariant-loop-weight : goal.invariant-loop-weight
+invariant-loop-weight g l =
     record {
-      so_far : l.held + weight_held (each_once (map formula_of (drop l.child-index l.child-items))) (set.contains l.members) ≡ weight_held (each_once (map formula_of l.child-items)) (set.contains l.members);
-      few : l.held ≤ l.child-index;
+      so_far : l.held + weight_held (weighed formula_of (drop l.weight-index l.weight-items)) (set.contains l.members) ≡ weight_held (weighed formula_of l.weight-items) (set.contains l.members);
+      few : l.held ≤ 255 * l.weight-index;
     }

@@ -1,7 +1,7 @@
-use Rattle.std.proofs.Common.{◌≡◌, ◌+◌, ◌≤◌, drop, map}
+use Rattle.std.proofs.Common.{◌≡◌, ◌+◌, ◌≤◌, drop, ◌*◌}
 use Rattle.std.specs.FinSet as set
-use Rattle.volume_model.specs.Formula.{weight_held, each_once, dual_of}
-use Rattle.quorum_expr.specs.Expr.{formula_of}
+use Rattle.volume_model.specs.Formula.{weight_held, total_weight, dual_of}
+use Rattle.quorum_expr.specs.Expr.{formula_of, weighed}
 use Rattle.quorum_expr.specs.Valid.{nodes}
 use Rattle.quorum_expr.proofs.expression.+holds_dual.Given as goal
 
@@ -10,9 +10,11 @@ abbrev pub decreases-holds_dual : goal.decreases-holds_dual
 decreases-holds_dual g l = nodes (formula_of l.expr.now)
 
 -- what held so far, and what holds_dual of the children that are left
-abbrev pub invariant-loop-child : goal.invariant-loop-child
-invariant-loop-child g l =
+abbrev pub invariant-loop-weight : goal.invariant-loop-weight
+invariant-loop-weight g l =
     record {
-      so_far : l.held + weight_held (each_once (map (λ e. dual_of (formula_of e)) (drop l.child-index l.child-items))) (set.contains l.members) ≡ weight_held (each_once (map (λ e. dual_of (formula_of e)) l.child-items)) (set.contains l.members);
-      few : l.held ≤ l.child-index;
+      so_far : l.held + weight_held (weighed (λ e. dual_of (formula_of e)) (drop l.weight-index l.weight-items)) (set.contains l.members) ≡ weight_held (weighed (λ e. dual_of (formula_of e)) l.weight-items) (set.contains l.members);
+      few : l.held ≤ 255 * l.weight-index;
+      total : l.all + total_weight (weighed formula_of (drop l.weight-index l.weight-items)) ≡ total_weight (weighed formula_of l.weight-items);
+      low : l.all ≤ 255 * l.weight-index;
     }

@@ -1,13 +1,14 @@
-use Rattle.std.proofs.Common.{◌-◌, ◌∙◌, ap, sym, subst, map, Ok, arith}
+use Rattle.std.proofs.Common.{◌-◌, ◌∙◌, ap, refl, sym, subst, map, Ok, arith, rules}
 use Rattle.std.proofs.lemmas.Grind.{common_steps}
 use Rattle.std.proofs.lemmas.Result.{err_from_is_err_and}
 use Rattle.serde_json.specs.View.{view}
 use Rattle.volume_model.specs.Answer.{Gives}
 use Rattle.volume_model.specs.Formula.{member}
 use Rattle.volume_model.specs.Sets.{listed}
-use Rattle.quorum_expr.specs.Forms.{form_data, formulas_of, child_list}
+use Rattle.quorum_expr.specs.Forms.{form_data, formulas_of, child_list, weights_data}
 use Rattle.quorum_expr.specs.Reading.{children_at, formula_at}
 use Rattle.quorum_expr.proofs.MemberLists.{pushed_nodes}
+use Rattle.quorum_expr.proofs.Rows.{weights_pushed, choice_read, nodes-weighing}
 use Rattle.quorum_expr.proofs.Levels.{too_deep, one_level, no_form, some_level}
 use Rattle.quorum_expr.proofs.reading.+tree.Goals as goal
 
@@ -25,6 +26,7 @@ tree-returns-clause-read t c = rw (one_level _ c.args.left (c.args.left - 1) _ (
 pub child_trees-children-preserved : goal.child_trees-children-preserved
 child_trees-children-preserved t c = record {
   read = grind (arith, common_steps);
+  weights = weights_pushed (weights_data c.args.weights.now) _ _ _ c.len.result c.in_ok-push-in-Each.ensures.items (search rules) c.at-weight.ensures c.children.invariant.weights;
   counted = rw (c.in_ok-push-in-Each.ensures.items, pushed_nodes) (omega (arith, c.children.invariant.counted, c.in_ok-tree-in-Each.ensures.counted));
 }
 
@@ -34,3 +36,11 @@ child_trees-returns-else-left-eq0-clause-read t c =
     (ap (λ s. Ok (map member (listed s))) c.named.ensures ∙ sym (some_level c.args.left _ (omega arith))
     ∙ ap (λ l. children_at c.args.lists.now c.args.left (formula_at c.args.lists.now c.args.left) (child_list l)) (sym c.in-Named.is))
     c.each_member.ensures.read
+
+pub tree_of_form-returns-in_ok-of-in-Choice-clause-read : goal.tree_of_form-returns-in_ok-of-in-Choice-clause-read
+tree_of_form-returns-in_ok-of-in-Choice-clause-read t c =
+    rw (choice_read c.in-Choice.k c.in-Choice.k (weights_data c.in-Choice.weights) c.in_ok-of-in-Choice.of refl c.in_ok-of-in-Choice.ensures.weights) (search rules)
+
+pub tree_of_form-returns-in_ok-of-in-Choice-clause-counted : goal.tree_of_form-returns-in_ok-of-in-Choice-clause-counted
+tree_of_form-returns-in_ok-of-in-Choice-clause-counted t c =
+    rw (choice_read c.in-Choice.k c.in-Choice.k (weights_data c.in-Choice.weights) c.in_ok-of-in-Choice.of refl c.in_ok-of-in-Choice.ensures.weights, nodes-weighing) (grind (arith, common_steps))

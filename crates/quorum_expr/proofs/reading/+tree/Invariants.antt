@@ -2,7 +2,7 @@ use Rattle.std.proofs.Common.{◌≡◌, ◌+◌, ◌-◌, ◌*◌, drop}
 use Rattle.serde_json.specs.View.{items_view}
 use Rattle.volume_model.specs.Formula.{each_once}
 use Rattle.quorum_expr.specs.Valid.{row_nodes}
-use Rattle.quorum_expr.specs.Forms.{formulas_of}
+use Rattle.quorum_expr.specs.Forms.{formulas_of, weights_data, HaveWeights}
 use Rattle.quorum_expr.specs.Reading.{each_of, formula_at}
 use Rattle.quorum_expr.proofs.Loop.{with_front}
 use Rattle.quorum_expr.proofs.reading.+tree.Given as goal
@@ -21,5 +21,6 @@ invariant-child_trees-children l =
     let read = formula_at l.lists l.left in
     record {
       read : with_front (formulas_of l.of.items) (each_of read (items_view (drop l.value-index l.value-items))) ≡ each_of read (items_view l.value-items);
+      weights : HaveWeights (weights_data l.weights) 0 l.of.items;
       counted : l.room ≡ l.initial.room - row_nodes (each_once (formulas_of l.of.items));
     }

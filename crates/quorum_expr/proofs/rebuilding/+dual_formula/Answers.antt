@@ -1,11 +1,13 @@
-use Rattle.std.proofs.Common.{◌+◌, ◌-◌, ◌≤◌, ◌++◌, ap, ◌∙◌, sym, subst, map, arith}
-use Rattle.std.proofs.Math.Nat.{le_of_lt}
+use Rattle.std.proofs.Common.{◌+◌, ◌-◌, ◌++◌, refl, ap, ◌∙◌, sym, map}
+use Rattle.std.proofs.Math.Nat.{le_of_lt, le_refl}
 use borrow.Author.Count.{falls}
-use Rattle.volume_model.specs.Formula.{at_least, each_once, dual_of, HasCounts}
-use Rattle.quorum_expr.specs.Expr.{formula_of}
+use Rattle.volume_model.specs.Formula.{at_least, total_weight, dual_of}
+use Rattle.quorum_expr.specs.Expr.{formula_of, weighed}
 use Rattle.quorum_expr.proofs.ExprLaws.{formula_of-KOf}
 use Rattle.quorum_expr.proofs.Handed.{wants, handed}
-use Rattle.quorum_expr.proofs.Rebuilt.{pushed, finish, counts_step, counts-KOf, counts-children, dual_of-Member, dual_of-KOf, few_fit, given, Ok-same}
+use Rattle.quorum_expr.proofs.Rebuilt.{pushed, finish, counts_step, counts-KOf, counts-children, small_total, one_more_fits, within_all, rest_fits, dual_of-Member, dual_of-KOf, given, Ok-same}
+use Rattle.quorum_expr.proofs.Weighed.{seen, weighed-same, total-step, total-done}
+use Rattle.quorum_expr.proofs.Held.{none_yet, few_more}
 use Rattle.quorum_expr.proofs.Smaller.{smaller}
 use Rattle.quorum_expr.proofs.rebuilding.+dual_formula.Goals as goal
 
@@ -24,51 +26,63 @@ returns-in_err-push-in-KOf g t c = wants formula_of c.from_residual-in_err-push-
 pub returns-in_err-dual_formula-in-KOf : goal.returns-in_err-dual_formula-in-KOf
 returns-in_err-dual_formula-in-KOf g t c = handed formula_of c.from_residual-in_err-dual_formula-in-KOf.result _ _ _ c.in_err-dual_formula-in-KOf.ensures c.from_residual-in_err-dual_formula-in-KOf.ensures.1
 
-pub loop-child-init : goal.loop-child-init
-loop-child-init g t c = record {
-  so_far = ap (λ xs. map formula_of xs ++ map (λ e. dual_of (formula_of e)) c.deref-child-items.result.now) c.new-duals.ensures.items;
-  counts = counts-children c.args.expr.now c.in-KOf.k c.in-KOf.of c.deref-child-items.result.now c.in-KOf.is c.deref-child-items.ensures.value c.requires;
+pub loop-weight-init : goal.loop-weight-init
+loop-weight-init g t c = record {
+  so_far = ap (λ xs. map (seen formula_of) xs ++ map (seen (λ e. dual_of (formula_of e))) c.deref-weight-items.result.now) c.new-duals.ensures.items;
+  counts = counts-children c.args.expr.now c.in-KOf.k c.in-KOf.of c.deref-weight-items.result.now c.in-KOf.is c.deref-weight-items.ensures.value c.requires;
+  total = none_yet _;
+  low = le_refl 0;
 }
 
-pub bounds-child-items-child-index : goal.bounds-child-items-child-index
-bounds-child-items-child-index g t c = c.loop-child-test.true
+pub bounds-weight-items-weight-index : goal.bounds-weight-items-weight-index
+bounds-weight-items-weight-index g t c = c.loop-weight-test.true
 
-pub offset_bounds-child-items-child-index : goal.offset_bounds-child-items-child-index
-offset_bounds-child-items-child-index g t c = le_of_lt c.loop-child-test.true
+pub offset_bounds-weight-items-weight-index : goal.offset_bounds-weight-items-weight-index
+offset_bounds-weight-items-weight-index g t c = le_of_lt c.loop-weight-test.true
 
-pub loop-child-smaller : goal.loop-child-smaller
-loop-child-smaller g t c = falls _ _ c.loop-child-test.true
+pub loop-weight-smaller : goal.loop-weight-smaller
+loop-weight-smaller g t c = falls _ _ c.loop-weight-test.true
 
 pub dual_formula-requires : goal.dual_formula-requires
 dual_formula-requires g t c κs within = (
-  smaller c.args.expr.now c.in-KOf.k c.in-KOf.of c.deref-child-items.result.now c.loop-child.child-index c.child-item.result t c.in-KOf.is c.deref-child-items.ensures.value c.loop-child-test.true c.child-item.is c.decreases,
-  (within.0, (within.1, (counts_step _ _ c.child-item.result c.loop-child-test.true c.child-item.is c.loop-child.invariant.counts).0)),
+  smaller c.args.expr.now c.in-KOf.k c.in-KOf.of c.deref-weight-items.result.now c.loop-weight.weight-index c.loop-weight-item.result t c.in-KOf.is c.deref-weight-items.ensures.value c.loop-weight-test.true c.loop-weight-item.is c.decreases,
+  (within.0, (within.1, (counts_step _ _ c.loop-weight-item.result c.loop-weight-test.true c.loop-weight-item.is c.loop-weight.invariant.counts).0)),
 )
 
-pub loop-child-preserved : goal.loop-child-preserved
-loop-child-preserved g t c = record {
-  so_far = pushed formula_of (λ e. dual_of (formula_of e)) _ _ c.child-item.result _ _ _ _ c.in_ok-push-in-KOf.ensures.items (given _ _ c.in_ok-dual_formula-in-KOf.ensures) c.loop-child-test.true c.child-item.is c.loop-child.invariant.so_far;
-  counts = (counts_step _ _ c.child-item.result c.loop-child-test.true c.child-item.is c.loop-child.invariant.counts).1;
+pub loop-weight-preserved : goal.loop-weight-preserved
+loop-weight-preserved g t c = record {
+  so_far = pushed (seen formula_of) (seen (λ e. dual_of (formula_of e))) _ _ c.loop-weight-item.result _ _ _ _ c.in_ok-push-in-KOf.ensures.items (ap (λ f. (c.loop-weight-item.result.0, f)) (given _ _ c.in_ok-dual_formula-in-KOf.ensures)) c.loop-weight-test.true c.loop-weight-item.is c.loop-weight.invariant.so_far;
+  counts = (counts_step _ _ c.loop-weight-item.result c.loop-weight-test.true c.loop-weight-item.is c.loop-weight.invariant.counts).1;
+  total = total-step formula_of c.deref-weight-items.result.now c.loop-weight.weight-index c.loop-weight-item.result _ _ _ c.loop-weight-test.true c.loop-weight-item.is (ap (λ n. c.loop-weight.all + n) c.wide.ensures.same) c.loop-weight.invariant.total;
+  low = few_more _ _ c.wide.result c.loop-weight.weight-index c.wide.ensures.small refl c.loop-weight.invariant.low;
 }
 
 pub overflow_add-result : goal.overflow_add-result
 overflow_add-result g t c =
-    let counts = counts-KOf c.in-KOf.k c.in-KOf.of (subst (λ e. HasCounts (formula_of e)) c.in-KOf.is c.requires) in
-    few_fit c.len-all.result (subst (λ n. n ≤ 64) (sym c.len-all.ensures) counts.2)
+    let counts = counts-KOf c.args.expr.now c.in-KOf.k c.in-KOf.of c.deref-weight-items.result.now c.in-KOf.is c.deref-weight-items.ensures.value c.requires in
+    let whole = total-done formula_of c.deref-weight-items.result.now c.loop-weight.weight-index c.loop-weight.all _ c.loop-weight-test.false c.loop-weight.invariant.total in
+    let low = small_total c.loop-weight.all c.loop-weight.weight-index _ c.loop-weight.invariant.low c.loop-weight.auto.weight-index-end counts.2 in
+    one_more_fits c.loop-weight.all low
 
 pub overflow_sub-result : goal.overflow_sub-result
 overflow_sub-result g t c =
-    let counts = counts-KOf c.in-KOf.k c.in-KOf.of (subst (λ e. HasCounts (formula_of e)) c.in-KOf.is c.requires) in
-    omega (arith, counts, c.from.ensures, c.len-all.ensures)
+    let counts = counts-KOf c.args.expr.now c.in-KOf.k c.in-KOf.of c.deref-weight-items.result.now c.in-KOf.is c.deref-weight-items.ensures.value c.requires in
+    let whole = total-done formula_of c.deref-weight-items.result.now c.loop-weight.weight-index c.loop-weight.all _ c.loop-weight-test.false c.loop-weight.invariant.total in
+    let low = small_total c.loop-weight.all c.loop-weight.weight-index _ c.loop-weight.invariant.low c.loop-weight.auto.weight-index-end counts.2 in
+    within_all _ _ _ _ c.from.ensures counts.1 whole
 
 pub overflow_cast-result : goal.overflow_cast-result
 overflow_cast-result g t c =
-    let counts = counts-KOf c.in-KOf.k c.in-KOf.of (subst (λ e. HasCounts (formula_of e)) c.in-KOf.is c.requires) in
-    omega (arith, counts, c.from.ensures, c.len-all.ensures)
+    let counts = counts-KOf c.args.expr.now c.in-KOf.k c.in-KOf.of c.deref-weight-items.result.now c.in-KOf.is c.deref-weight-items.ensures.value c.requires in
+    let whole = total-done formula_of c.deref-weight-items.result.now c.loop-weight.weight-index c.loop-weight.all _ c.loop-weight-test.false c.loop-weight.invariant.total in
+    let low = small_total c.loop-weight.all c.loop-weight.weight-index _ c.loop-weight.invariant.low c.loop-weight.auto.weight-index-end counts.2 in
+    rest_fits _ _ _ c.from.ensures counts.0 low
 
 pub returns : goal.returns
-returns g t c = Ok-same (
+returns g t c =
+    let whole = total-done formula_of c.deref-weight-items.result.now c.loop-weight.weight-index c.loop-weight.all _ c.loop-weight-test.false c.loop-weight.invariant.total ∙ ap (λ xs. total_weight (weighed formula_of xs)) c.deref-weight-items.ensures.value in
+    Ok-same (
     ap (λ e. dual_of (formula_of e)) c.in-KOf.is ∙ dual_of-KOf c.in-KOf.k c.in-KOf.of
-    ∙ sym (formula_of-KOf _ c.loop-child.duals
-    ∙ (λ i. at_least (c.len-all.ensures i + 1 - c.from.ensures i)
-    (each_once ((finish (λ e. dual_of (formula_of e)) _ _ _ _ c.loop-child-test.false c.loop-child.invariant.so_far ∙ ap (map (λ e. dual_of (formula_of e))) c.deref-child-items.ensures.value) i)))))
+    ∙ sym (formula_of-KOf _ c.loop-weight.duals
+    ∙ (λ i. at_least (whole i + 1 - c.from.ensures i)
+    (weighed-same formula_of (λ e. dual_of (formula_of e)) _ _ (finish (seen (λ e. dual_of (formula_of e))) _ _ _ _ c.loop-weight-test.false c.loop-weight.invariant.so_far ∙ ap (map (seen (λ e. dual_of (formula_of e)))) c.deref-weight-items.ensures.value) i))))

@@ -1,15 +1,13 @@
-use Rattle.std.proofs.Common.{◌+◌, ◌-◌, vec_len, ap, ◌∙◌, sym}
+use Rattle.std.proofs.Common.{◌+◌, ◌-◌, ap, ◌∙◌, sym}
 use Rattle.quorum_checker.proofs.Shown.{asked, threshold-is}
 use Rattle.quorum_checker.proofs.item.Item.threshold.Goals as goal
 
 pub returns-then-self-clause-meaning : goal.returns-then-self-clause-meaning
 returns-then-self-clause-meaning g c =
-    threshold-is c.args.self.is_dual c.args.self.expr.now c.in-KOf.k _ _ c.in-KOf.of c.in-KOf.is
-    (c.saturating_sub.ensures ∙ (λ i. c.len-all.ensures i + 1 - c.from-k.ensures i) ∙ ap (λ b. asked b c.in-KOf.k (vec_len c.in-KOf.of)) (sym c.if-self.true))
-    c.len-all.ensures
+    threshold-is c.args.self.is_dual c.args.self.expr.now c.in-KOf.k _ c.total-total.result c.in-KOf.of _ c.in-KOf.is c.as_slice-of.ensures.value c.total-total.ensures.sum
+    (c.saturating_sub-asked.ensures ∙ (λ i. c.total-total.result + 1 - c.from-k.ensures i) ∙ ap (λ b. asked b c.in-KOf.k c.total-total.result) (sym c.if-self.true))
 
 pub returns-else-self-clause-meaning : goal.returns-else-self-clause-meaning
 returns-else-self-clause-meaning g c =
-    threshold-is c.args.self.is_dual c.args.self.expr.now c.in-KOf.k _ _ c.in-KOf.of c.in-KOf.is
-    (c.from-k.ensures ∙ ap (λ b. asked b c.in-KOf.k (vec_len c.in-KOf.of)) (sym c.if-self.false))
-    c.len-all.ensures
+    threshold-is c.args.self.is_dual c.args.self.expr.now c.in-KOf.k _ c.total-total.result c.in-KOf.of _ c.in-KOf.is c.as_slice-of.ensures.value c.total-total.ensures.sum
+    (c.from-k.ensures ∙ ap (λ b. asked b c.in-KOf.k c.total-total.result) (sym c.if-self.false))
