@@ -22,7 +22,7 @@ const STARVED: u64 = 3;
 const MADE: u64 = 4;
 
 /// How often a thread looks before it sleeps: for about as long as another one takes to wake and to make a step.
-const LOOKS: u32 = 600;
+const LOOKS: u32 = 1000;
 
 /// What an order came to.
 #[derive(Clone, Copy)]
