@@ -20,6 +20,23 @@ pub const FULL_AND_TAIL: &str = "\
 \"left\":1,\"right\":0,\"pairs\":[[0,0],[1,1],[2,2]],\"then\":[{\"rule\":\"clash\",\"left\":1,\"right\":0},\
 {\"rule\":\"clash\",\"left\":1,\"right\":0},{\"rule\":\"clash\",\"left\":1,\"right\":0}]}]}},\"step\":null}]}";
 
+/// Two large members and three small ones, of which what weighs 4 of 7 reads and writes; then member 2 is large too.
+pub const LARGE_AND_SMALL: &str = "\
+{\"configurations\":[{\"parent\":null,\"members\":[0,1,2,3,4],\"full\":[0,1,2,3,4],\"read\":{\"k\":4,\
+\"of\":\"all\",\"weights\":[2,2,1,1,1]},\"write\":{\"k\":4,\"of\":\"all\",\"weights\":[2,2,1,1,1]},\
+\"meets\":{\"rule\":\"match\",\"left\":0,\"right\":0,\"pairs\":[[0,0],[1,1],[2,2],[3,3],[4,4]],\
+\"then\":[{\"rule\":\"clash\",\"left\":0,\"right\":0},{\"rule\":\"clash\",\"left\":0,\"right\":0},\
+{\"rule\":\"clash\",\"left\":0,\"right\":0},{\"rule\":\"clash\",\"left\":0,\"right\":0},{\"rule\":\"clash\",\
+\"left\":0,\"right\":0}]},\"step\":null},{\"parent\":0,\"members\":[0,1,2,3,4],\"full\":[0,1,2,3,4],\
+\"read\":{\"k\":5,\"of\":\"all\",\"weights\":[2,2,2,1,1]},\"write\":{\"k\":4,\"of\":\"all\",\"weights\":[2,2,2,\
+1,1]},\"meets\":{\"rule\":\"match\",\"left\":0,\"right\":0,\"pairs\":[[0,0],[1,1],[2,2],[3,3],[4,4]],\
+\"then\":[{\"rule\":\"clash\",\"left\":0,\"right\":0},{\"rule\":\"clash\",\"left\":0,\"right\":0},\
+{\"rule\":\"clash\",\"left\":0,\"right\":0},{\"rule\":\"clash\",\"left\":0,\"right\":0},{\"rule\":\"clash\",\
+\"left\":0,\"right\":0}]},\"step\":{\"rule\":\"match\",\"left\":0,\"right\":0,\"pairs\":[[0,0],[1,1],[2,2],[3,\
+3],[4,4]],\"then\":[{\"rule\":\"clash\",\"left\":0,\"right\":0},{\"rule\":\"clash\",\"left\":0,\"right\":0},\
+{\"rule\":\"clash\",\"left\":0,\"right\":0},{\"rule\":\"clash\",\"left\":0,\"right\":0},{\"rule\":\"clash\",\
+\"left\":0,\"right\":0}]}}]}";
+
 /// Member 5 is replaced by member 6, or the step is taken back.
 pub const MEMBER_REPLACED: &str = "\
 {\"configurations\":[{\"parent\":null,\"members\":[0,1,2,3,4,5],\"full\":[0,1,2,3,4,5],\"read\":{\"k\":3,\

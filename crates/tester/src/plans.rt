@@ -1,7 +1,7 @@
 //! Certified plans, and which sets of members read and write in them.
 
 use crate::dice::Dice;
-use crate::groups::{FULL_AND_TAIL, MEMBER_REPLACED, SIX_COPIES, TWO_REPLACED};
+use crate::groups::{FULL_AND_TAIL, LARGE_AND_SMALL, MEMBER_REPLACED, SIX_COPIES, TWO_REPLACED};
 use std::alloc::{AllocError, Global};
 
 /// The groups of a plan by what they are about.
@@ -9,6 +9,7 @@ use std::alloc::{AllocError, Global};
 pub enum Family {
     SixCopies,
     FullAndTail,
+    LargeAndSmall,
     MemberReplaced,
     TwoReplaced,
 }
@@ -19,6 +20,8 @@ pub struct Side {
     pub members: &'static [u8],
     pub least: usize,
 }
+
+const FIVE: &[u8] = &[0, 1, 2, 3, 4];
 
 const OLD: &[u8] = &[0, 1, 2, 3, 4, 5];
 
@@ -34,14 +37,27 @@ impl Family {
         match self {
             Family::SixCopies => SIX_COPIES,
             Family::FullAndTail => FULL_AND_TAIL,
+            Family::LargeAndSmall => LARGE_AND_SMALL,
             Family::MemberReplaced => MEMBER_REPLACED,
             Family::TwoReplaced => TWO_REPLACED,
+        }
+    }
+
+    /// The format of a plan of such groups: that of large and small members has weights.
+    fn format(self) -> u8 {
+        match self {
+            Family::LargeAndSmall => 2,
+            Family::SixCopies
+            | Family::FullAndTail
+            | Family::MemberReplaced
+            | Family::TwoReplaced => 1,
         }
     }
 
     /// The members of a configuration.
     pub fn members(self, configuration: u8) -> &'static [u8] {
         match (self, configuration) {
+            (Family::LargeAndSmall, _) => FIVE,
             (Family::MemberReplaced | Family::TwoReplaced, 1) => SEVEN,
             (Family::MemberReplaced, 2) => NEW,
             (Family::TwoReplaced, 2) => EIGHT,
@@ -52,7 +68,7 @@ impl Family {
     /// The configurations to which a group may step from this one.
     pub fn children(self, configuration: u8) -> &'static [u8] {
         match (self, configuration) {
-            (Family::MemberReplaced | Family::TwoReplaced, 0) => &[1],
+            (Family::LargeAndSmall | Family::MemberReplaced | Family::TwoReplaced, 0) => &[1],
             (Family::MemberReplaced, 1) => &[2, 3],
             (Family::TwoReplaced, 1) => &[2],
             _ => &[],
@@ -68,9 +84,39 @@ impl Family {
         }
     }
 
-    /// Members of which any three read.
+    /// Large and small members that read: they weigh 4 of 7 together, or 5 of 8 once member 2 is large.
+    fn weighed_readers(configuration: u8, choice: usize) -> Side {
+        let (members, least): (&'static [u8], usize) = match (configuration, choice) {
+            (0, 0) => (&[0, 1], 2),
+            (0, 1) => (&[0, 2, 3], 3),
+            (0, 2) => (&[1, 3, 4], 3),
+            (1, 0) => (&[0, 1, 2], 3),
+            (1, 1) => (&[0, 2, 4], 3),
+            (1, 2) => (&[1, 2, 3], 3),
+            _ => (FIVE, 4),
+        };
+        Side { members, least }
+    }
+
+    /// Large and small members that write: they weigh 4 together.
+    fn weighed_writers(configuration: u8, choice: usize) -> Side {
+        let (members, least): (&'static [u8], usize) = match (configuration, choice) {
+            (_, 0) => (&[0, 1], 2),
+            (0, 1) => (&[0, 2, 3], 3),
+            (0, 2) => (&[1, 3, 4], 3),
+            (1, 1) => (&[0, 2], 2),
+            (1, 2) => (&[2, 3, 4], 3),
+            _ => (FIVE, 4),
+        };
+        Side { members, least }
+    }
+
+    /// Members of which so many read.
     pub fn read_side(self, configuration: u8, dice: &mut Dice) -> Side {
         let choice = dice.below(4);
+        if self == Family::LargeAndSmall {
+            return Family::weighed_readers(configuration, choice);
+        }
         let members: &'static [u8] = match (self, configuration, choice) {
             (Family::MemberReplaced | Family::TwoReplaced, 1, 0 | 1) => NEW,
             (Family::MemberReplaced, 2, _) => NEW,
@@ -84,6 +130,9 @@ impl Family {
 
     /// Members of which so many write.
     pub fn write_side(self, configuration: u8, dice: &mut Dice) -> Side {
+        if self == Family::LargeAndSmall {
+            return Family::weighed_writers(configuration, dice.below(4));
+        }
         let is_small = dice.chance(40);
         let (members, least): (&'static [u8], usize) = match (self, configuration) {
             (Family::FullAndTail, _) if is_small => (&[0, 1, 2], 3),
@@ -109,10 +158,11 @@ pub struct Plan {
 impl Plan {
     /// A plan by chance.
     pub fn draw(dice: &mut Dice) -> Plan {
-        let family = match dice.below(6) {
+        let family = match dice.below(7) {
             0 | 1 => Family::MemberReplaced,
             2 => Family::TwoReplaced,
             3 => Family::FullAndTail,
+            4 => Family::LargeAndSmall,
             _ => Family::SixCopies,
         };
         Plan {
@@ -125,12 +175,13 @@ impl Plan {
     /// Its text, on one line.
     pub fn text(&self, alloc: Global) -> Result<String, AllocError> {
         let allowance = self.allowance;
+        let format = self.family.format();
         let group = self.family.text();
         if self.groups == 2 {
             return format!(in alloc;
-                "{{\"format\":1,\"lal\":{allowance},\"groups\":[{group},{group}]}}"
+                "{{\"format\":{format},\"lal\":{allowance},\"groups\":[{group},{group}]}}"
             );
         }
-        format!(in alloc; "{{\"format\":1,\"lal\":{allowance},\"groups\":[{group}]}}")
+        format!(in alloc; "{{\"format\":{format},\"lal\":{allowance},\"groups\":[{group}]}}")
     }
 }
