@@ -1,1 +1,5 @@
 pub mod CopiesMore
+pub mod Gathering
+pub mod Marks
+pub mod Bringing
+pub mod Fair
