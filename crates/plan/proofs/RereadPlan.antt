@@ -268,7 +268,7 @@ group_list-ok d ds h =
     (subst (λ es. is_from_1 16 (items_len es) ≡ true) few.1 few.0, subst (λ es. items_depth es < depth d) few.1 (array-nests d listed.0 listed.1))
 
 abbrev from_values : Data → Data → Data → Result Header Fault
-from_values f l g = format_of f >>= λ w. lal_of l >>= λ lal. group_list g >>= λ groups. Ok (record { is_weighed = w; lal = lal; groups = groups })
+from_values f l g = format_of f >>= λ w. lal_of l >>= λ lal. group_list g >>= λ groups. Ok (record { is_weighted = w; lal = lal; groups = groups })
 
 header_of-ok : (d : Data) (h : Header) → header_of d ≡ Ok h → Headed d h
 unfolding header_of
@@ -277,10 +277,10 @@ header_of-ok d h is =
     let f = bind_ok (at_key (codes "format") d) (λ f. at_key (codes "lal") d >>= λ l. at_key (codes "groups") d >>= λ g. from_values f l g) h keys.2 in
     let l = bind_ok (at_key (codes "lal") d) (λ l. at_key (codes "groups") d >>= λ g. from_values f.0 l g) h f.2 in
     let g = bind_ok (at_key (codes "groups") d) (λ g. from_values f.0 l.0 g) h l.2 in
-    let one = bind_ok (format_of f.0) (λ w. lal_of l.0 >>= λ lal. group_list g.0 >>= λ groups. Ok (record { is_weighed = w; lal = lal; groups = groups })) h g.2 in
-    let lal = bind_ok (lal_of l.0) (λ lal. group_list g.0 >>= λ groups. Ok (record { is_weighed = one.0; lal = lal; groups = groups })) h one.2 in
-    let list = bind_ok (group_list g.0) (λ groups. Ok (record { is_weighed = one.0; lal = lal.0; groups = groups })) h lal.2 in
-    let made : Header = record { is_weighed = one.0; lal = lal.0; groups = list.0 } in
+    let one = bind_ok (format_of f.0) (λ w. lal_of l.0 >>= λ lal. group_list g.0 >>= λ groups. Ok (record { is_weighted = w; lal = lal; groups = groups })) h g.2 in
+    let lal = bind_ok (lal_of l.0) (λ lal. group_list g.0 >>= λ groups. Ok (record { is_weighted = one.0; lal = lal; groups = groups })) h one.2 in
+    let list = bind_ok (group_list g.0) (λ groups. Ok (record { is_weighted = one.0; lal = lal.0; groups = groups })) h lal.2 in
+    let made : Header = record { is_weighted = one.0; lal = lal.0; groups = list.0 } in
     let few = group_list-ok g.0 list.0 list.1 in
     subst (Headed d) (ok_is made h list.2) (record {
       lal = lal_of-ok l.0 lal.0 lal.1;
@@ -288,7 +288,7 @@ header_of-ok d h is =
       nests = omega (arith, few.1, key-nests (codes "groups") d g.0 g.1);
     })
 
-header_of-object : (w : Bool) (lal : ℕ) (ys : List Data) → is_from_1 10000000 lal ≡ true → is_from_1 16 (items_len (items_of ys)) ≡ true → header_of (plan_object w lal ys) ≡ Ok (record { is_weighed = w; lal = lal; groups = items_of ys })
+header_of-object : (w : Bool) (lal : ℕ) (ys : List Data) → is_from_1 10000000 lal ≡ true → is_from_1 16 (items_len (items_of ys)) ≡ true → header_of (plan_object w lal ys) ≡ Ok (record { is_weighted = w; lal = lal; groups = items_of ys })
 unfolding header_of format_of lal_of group_list
 header_of-object true lal ys h k = rw (h, k) refl
 header_of-object false lal ys h k = rw (h, k) refl
@@ -298,18 +298,18 @@ pub plan-reread : (d : Data) (plan : PlanData) (vs : List Data) (rs : List (Opti
     → Rewritten d (λ y. plan_written d vs ≡ Ok y) (λ y. plan_in y ≡ Ok (with_certificates plan rs)) 86
 unfolding plan_in plan_written
 plan-reread d plan vs rs h good is =
-    let header = then_ok (in_text (header_of d)) (λ header. groups_in header.is_weighed 0 header.groups >=> λ groups. Ok (record { lal = header.lal; groups = groups })) plan is in
+    let header = then_ok (in_text (header_of d)) (λ header. groups_in header.is_weighted 0 header.groups >=> λ groups. Ok (record { lal = header.lal; groups = groups })) plan is in
     let found : header_of d ≡ Ok header.0 = text_ok (header_of d) header.0 header.1 in
-    let groups = then_ok (groups_in header.0.is_weighed 0 header.0.groups) (λ groups. Ok (record { lal = header.0.lal; groups = groups })) plan header.2 in
+    let groups = then_ok (groups_in header.0.is_weighted 0 header.0.groups) (λ groups. Ok (record { lal = header.0.lal; groups = groups })) plan header.2 in
     let made : PlanData = record { lal = header.0.lal; groups = groups.0 } in
     let same : made ≡ plan = ok_is made plan groups.2 in
     let headed = header_of-ok d header.0 found in
-    let all = groups-reread header.0.is_weighed 0 header.0.groups groups.0 vs rs h (subst (λ (p : PlanData). AllGood p.groups) (sym same) good) groups.1 in
+    let all = groups-reread header.0.is_weighted 0 header.0.groups groups.0 vs rs h (subst (λ (p : PlanData). AllGood p.groups) (sym same) good) groups.1 in
     let few : is_from_1 16 (items_len (items_of all.values)) ≡ true = ap (is_from_1 16) all.counted ∙ headed.few in
     record {
-      value = plan_object header.0.is_weighed header.0.lal all.values;
-      is = ap (λ (r : Result Header Fault). r >>= λ h. groups_written h.groups vs >>= λ xs. Ok (plan_object h.is_weighed h.lal xs)) found ∙ (λ i. all.is i >>= λ xs. Ok (plan_object header.0.is_weighed header.0.lal xs));
-      read = (λ i. in_text (header_of-object header.0.is_weighed header.0.lal all.values headed.lal few i) >=> λ header. groups_in header.is_weighed 0 header.groups >=> λ groups. Ok (record { lal = header.lal; groups = groups }))
+      value = plan_object header.0.is_weighted header.0.lal all.values;
+      is = ap (λ (r : Result Header Fault). r >>= λ h. groups_written h.groups vs >>= λ xs. Ok (plan_object h.is_weighted h.lal xs)) found ∙ (λ i. all.is i >>= λ xs. Ok (plan_object header.0.is_weighted header.0.lal xs));
+      read = (λ i. in_text (header_of-object header.0.is_weighted header.0.lal all.values headed.lal few i) >=> λ header. groups_in header.is_weighted 0 header.groups >=> λ groups. Ok (record { lal = header.lal; groups = groups }))
           ∙ (λ i. all.read i >=> λ groups. Ok (record { lal = header.0.lal; groups = groups })) ∙ ap (λ (p : PlanData). Ok (with_certificates p rs)) same;
       nests = λ n k l. omega (arith, headed.nests, all.nests (n - 2) (omega (arith, headed.nests)) (omega arith));
     }

@@ -80,7 +80,7 @@ some_members_of d = array_of d >>= λ ds. if nat_le 1 (items_len ds) then member
 
 -- the members and those that are full, which are members, and whether expressions may have weights
 unfoldable pub lists_of : Bool → Fields → Result Lists Fault
-lists_of w f = some_members_of f.members >>= λ members. members_of f.full >>= λ full. if is_subset full members then Ok (record { members = members; full = full; is_weighed = w }) else Err Malformed
+lists_of w f = some_members_of f.members >>= λ members. members_of f.full >>= λ full. if is_subset full members then Ok (record { members = members; full = full; is_weighted = w }) else Err Malformed
 
 -- a fault of an expression stands at its place, where it isn't one of the text
 abbrev pub expression_error : ℕ → ℕ → Quorum → Fault → PlanFault
@@ -149,7 +149,7 @@ groups_in w g (item d ds) = group_in w g d >=> λ x. groups_in w (g + 1) ds >=> 
 
 -- whether expressions may have weights, how far numbers may run ahead, and the values of the groups
 pub record Header : Type 0 where
-  pub is_weighed : Bool
+  pub is_weighted : Bool
   pub lal : ℕ
   pub groups : Items
 
@@ -169,11 +169,11 @@ format_of d = whole_of d >>= λ n. if n == 1 then Ok false else (if n == 2 then 
 unfoldable pub header_of : Data → Result Header Fault
 header_of d =
     has_keys 3 d >>= λ u. at_key (codes "format") d >>= λ f. at_key (codes "lal") d >>= λ l. at_key (codes "groups") d >>= λ g.
-    format_of f >>= λ w. lal_of l >>= λ lal. group_list g >>= λ groups. Ok (record { is_weighed = w; lal = lal; groups = groups })
+    format_of f >>= λ w. lal_of l >>= λ lal. group_list g >>= λ groups. Ok (record { is_weighted = w; lal = lal; groups = groups })
 
 -- the plan that a value spells
 unfoldable pub plan_in : Data → Result PlanData PlanFault
-plan_in d = in_text (header_of d) >=> λ header. groups_in header.is_weighed 0 header.groups >=> λ groups. Ok (record { lal = header.lal; groups = groups })
+plan_in d = in_text (header_of d) >=> λ header. groups_in header.is_weighted 0 header.groups >=> λ groups. Ok (record { lal = header.lal; groups = groups })
 
 -- what a text spells as JSON
 unfoldable pub json_of : List ℕ → Result Data Fault

@@ -56,4 +56,4 @@ plan_object w lal xs =
 
 -- the whole
 unfoldable pub plan_written : Data → List Data → Result Data Fault
-plan_written d certificates = header_of d >>= λ h. groups_written h.groups certificates >>= λ xs. Ok (plan_object h.is_weighed h.lal xs)
+plan_written d certificates = header_of d >>= λ h. groups_written h.groups certificates >>= λ xs. Ok (plan_object h.is_weighted h.lal xs)

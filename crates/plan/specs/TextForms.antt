@@ -16,4 +16,4 @@ fields_data f = record {
 }
 
 abbrev pub header_data : headers.Header → Header
-header_data h = record { is_weighed = h.is_weighed; lal = h.lal; groups = items_view h.groups.now.items }
+header_data h = record { is_weighted = h.is_weighted; lal = h.lal; groups = items_view h.groups.now.items }

@@ -18,7 +18,7 @@ pub struct Fields<'v> {
 #[derive(Drop)]
 pub struct Header<'v> {
     /// Whether expressions may have weights.
-    pub is_weighed: bool,
+    pub is_weighted: bool,
     /// How far numbers may run ahead.
     pub lal: u64,
     pub groups: &'v Vec<Value>,

@@ -86,8 +86,8 @@ fn members(values: &[Value]) -> Result<MemberSet, Fault>
 
 /// The members, and those of them that are full.
 #[tactic(auto, unfolding(crate::specs::PlanText::lists_of, crate::specs::PlanText::members_of, crate::specs::PlanText::some_members_of))]
-fn lists(is_weighed: bool, fields: &Fields<'_>) -> Result<Lists, Fault>
-    ensures read { Gives (λ l. l) result (lists_of is_weighed (fields_data fields.now)) }
+fn lists(is_weighted: bool, fields: &Fields<'_>) -> Result<Lists, Fault>
+    ensures read { Gives (λ l. l) result (lists_of is_weighted (fields_data fields.now)) }
     ensures within { IfOk result (λ l. is_subset l.full l.members ≡ true) }
 {
     let values = array(fields.members)?;
@@ -102,7 +102,7 @@ fn lists(is_weighed: bool, fields: &Fields<'_>) -> Result<Lists, Fault>
     Ok(Lists {
         members: all,
         full,
-        is_weighed,
+        is_weighted,
     })
 }
 
@@ -173,16 +173,16 @@ fn step(
 #[tactic(auto, unfolding(crate::specs::PlanText::configuration_in))]
 fn configuration(
     alloc: Global,
-    is_weighed: bool,
+    is_weighted: bool,
     group: u8,
     number: u8,
     value: &Value,
 ) -> Result<Configuration, PlanFault>
-    ensures { Reads configuration_data result (configuration_in is_weighed group number (view value.now)) }
+    ensures { Reads configuration_data result (configuration_in is_weighted group number (view value.now)) }
 {
     let fields = fields(value)?;
     let parent = parent(fields.parent)?;
-    let lists = lists(is_weighed, &fields)?;
+    let lists = lists(is_weighted, &fields)?;
     let read = expression(alloc, group, number, Quorum::Read, fields.read, &lists)?;
     let write = expression(alloc, group, number, Quorum::Write, fields.write, &lists)?;
     let meets = certificate(alloc, fields.meets)?;
@@ -201,17 +201,17 @@ fn configuration(
 /// The configurations that values spell, in order.
 fn configurations(
     alloc: Global,
-    is_weighed: bool,
+    is_weighted: bool,
     group: u8,
     values: &[Value],
 ) -> Result<Vec<Configuration>, PlanFault>
     requires { length values.now ≤ 64 }
-    ensures read { Reads (λ v. map configuration_data v.items) result (configurations_in is_weighed group 0 (items_view values.now)) }
+    ensures read { Reads (λ v. map configuration_data v.items) result (configurations_in is_weighted group 0 (items_view values.now)) }
     ensures counted { IfOk result (λ v. length v.items ≡ length values.now) }
 {
     let mut list = Vec::new(alloc);
     for (number, value) in values.iter().enumerate() {
-        list.push(configuration(alloc, is_weighed, group, number as u8, value)?)?;
+        list.push(configuration(alloc, is_weighted, group, number as u8, value)?)?;
     }
     Ok(list)
 }
@@ -233,23 +233,23 @@ pub(crate) fn group_values(value: &Value) -> Result<&Vec<Value>, Fault>
 
 /// The group that a value spells.
 #[tactic(auto, unfolding(crate::specs::PlanText::group_in))]
-fn group(alloc: Global, is_weighed: bool, number: u8, value: &Value) -> Result<Group, PlanFault>
-    ensures { Reads group_data result (group_in is_weighed number (view value.now)) }
+fn group(alloc: Global, is_weighted: bool, number: u8, value: &Value) -> Result<Group, PlanFault>
+    ensures { Reads group_data result (group_in is_weighted number (view value.now)) }
 {
     let values = group_values(value)?;
-    let configurations = configurations(alloc, is_weighed, number, values)?;
+    let configurations = configurations(alloc, is_weighted, number, values)?;
     Ok(Group { configurations })
 }
 
 /// The groups that values spell, in order.
-fn groups(alloc: Global, is_weighed: bool, values: &[Value]) -> Result<Vec<Group>, PlanFault>
+fn groups(alloc: Global, is_weighted: bool, values: &[Value]) -> Result<Vec<Group>, PlanFault>
     requires { length values.now ≤ 16 }
-    ensures read { Reads (λ v. map group_data v.items) result (groups_in is_weighed 0 (items_view values.now)) }
+    ensures read { Reads (λ v. map group_data v.items) result (groups_in is_weighted 0 (items_view values.now)) }
     ensures counted { IfOk result (λ v. length v.items ≡ length values.now) }
 {
     let mut list = Vec::new(alloc);
     for (number, value) in values.iter().enumerate() {
-        list.push(group(alloc, is_weighed, number as u8, value)?)?;
+        list.push(group(alloc, is_weighted, number as u8, value)?)?;
     }
     Ok(list)
 }
@@ -310,11 +310,11 @@ pub(crate) fn header(value: &Value) -> Result<Header<'_>, Fault>
     let first = value_at(value, "format")?;
     let second = value_at(value, "lal")?;
     let third = value_at(value, "groups")?;
-    let is_weighed = format(first)?;
+    let is_weighted = format(first)?;
     let lal = lal(second)?;
     let groups = group_list(third)?;
     Ok(Header {
-        is_weighed,
+        is_weighted,
         lal,
         groups,
     })
@@ -326,7 +326,7 @@ pub(crate) fn plan(alloc: Global, value: &Value) -> Result<Plan, PlanFault>
     ensures { Reads plan_data result (plan_in (view value.now)) }
 {
     let header = header(value)?;
-    let groups = groups(alloc, header.is_weighed, header.groups)?;
+    let groups = groups(alloc, header.is_weighted, header.groups)?;
     Ok(Plan {
         lal: header.lal,
         groups,

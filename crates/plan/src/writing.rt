@@ -170,21 +170,21 @@ fn groups_json(alloc: Global, values: &[Value], certificates: &[Value]) -> Resul
 }
 
 /// The number of the format, by which expressions may have weights or not.
-fn format_number(is_weighed: bool) -> u64
-    ensures { result ≡ format_number is_weighed }
+fn format_number(is_weighted: bool) -> u64
+    ensures { result ≡ format_number is_weighted }
 {
-    if is_weighed { 2 } else { 1 }
+    if is_weighted { 2 } else { 1 }
 }
 
 fn plan_object(
     alloc: Global,
-    is_weighed: bool,
+    is_weighted: bool,
     lal: u64,
     groups: Vec<Value>,
 ) -> Result<Value, AllocError>
-    ensures { IfOk result (λ v. view v ≡ plan_object is_weighed lal (map view groups.items)) }
+    ensures { IfOk result (λ v. view v ≡ plan_object is_weighted lal (map view groups.items)) }
 {
-    let format = format_number(is_weighed);
+    let format = format_number(is_weighted);
     let groups = Value::Array(groups);
     json!(in alloc; {"format": format, "groups": groups, "lal": lal})
 }
@@ -196,7 +196,7 @@ fn plan_json(alloc: Global, value: &Value, certificates: &[Value]) -> Result<Val
 {
     let header = header(value)?;
     let groups = groups_json(alloc, header.groups, certificates)?;
-    Ok(plan_object(alloc, header.is_weighed, header.lal, groups)?)
+    Ok(plan_object(alloc, header.is_weighted, header.lal, groups)?)
 }
 
 /// The text of a plan, as compact JSON, with these certificates for its claims in their order, and null for a claim

@@ -5,7 +5,7 @@ use Rattle.serde_json.specs.View.{view}
 use Rattle.serde_json.specs.declared.value.Value.{Value, Object}
 use Rattle.serde_json.proofs.Views.{members_len-members_view, view-Object}
 use Rattle.volume_model.specs.declared.fault.Fault.{Fault}
-use Rattle.volume_model.specs.declared.fault.Fault.TheVariants.{Short, BadField, Trailing, NoMemory, BadCount, TooDeep, NotAMember, Malformed, NoSuchItem, NotDead, NoClash, NotAll, TooFewPicked, BadPair, CountTooSmall, BranchCount, BadParent, MemberReused, NoCertificate, Certificate, OverLimit, Superseded, NotInPlan, NoGroup, EpochsSpent, StaleVolume, StaleMember, AheadMember, NotInstalled, NotWhole, Full, AlreadyWhole, NotEnough, NoRecord, TailSegment, PointAhead, NotOpen, LimitReached, BadTransaction, LsnSpent, NotReady, AlreadyDone, NoLogRecord, NoMessage, NotAddressed, NoActor, NoSlot, JournalFull}
+use Rattle.volume_model.specs.declared.fault.Fault.TheVariants.{Short, BadField, Trailing, NoMemory, BadCount, TooDeep, NotAMember, Malformed, NoSuchItem, NotDead, NoClash, NotAll, TooFewPicked, BadPair, CountTooSmall, BranchCount, BadParent, MemberReused, NoCertificate, Certificate, OverLimit, Superseded, NotInPlan, NoGroup, EpochsSpent, StaleVolume, StaleMember, AheadMember, NotInstalled, NotWhole, Full, AlreadyWhole, NotEnough, NoRecord, BadPiece, TailSegment, PointAhead, SeriesSpent, NotOpen, LimitReached, BadTransaction, LsnSpent, NotReady, AlreadyDone, NoLogRecord, NoMessage, NotAddressed, NoActor, NoSlot, JournalFull}
 use Rattle.volume_model.specs.Answer.{Fails}
 use Rattle.volume_model.specs.Formula.{member}
 use Rattle.quorum_expr.specs.declared.form.Lists.{Lists}
@@ -47,8 +47,10 @@ Fails-at Full r s k h = k h
 Fails-at AlreadyWhole r s k h = k h
 Fails-at NotEnough r s k h = k h
 Fails-at NoRecord r s k h = k h
+Fails-at BadPiece r s k h = k h
 Fails-at TailSegment r s k h = k h
 Fails-at PointAhead r s k h = k h
+Fails-at SeriesSpent r s k h = k h
 Fails-at NotOpen r s k h = k h
 Fails-at LimitReached r s k h = k h
 Fails-at BadTransaction r s k h = k h
@@ -62,11 +64,11 @@ Fails-at NoActor r s k h = k h
 Fails-at NoSlot r s k h = k h
 Fails-at JournalFull r s k h = k h
 
-pub enough_keys : (lists : Lists) (m : BTreeMap (String Global) Value) (keys : ℕ) → keys ≡ length m.entries → good_keys lists.is_weighed keys ≡ true → form_of lists (view (Object m)) ≡ choice_of lists keys (view (Object m))
+pub enough_keys : (lists : Lists) (m : BTreeMap (String Global) Value) (keys : ℕ) → keys ≡ length m.entries → good_keys lists.is_weighted keys ≡ true → form_of lists (view (Object m)) ≡ choice_of lists keys (view (Object m))
 unfolding form_of
 enough_keys lists m keys same h = rw (view-Object m, members_len-members_view m.entries, ← same, h) refl
 
-pub other_keys : (lists : Lists) (m : BTreeMap (String Global) Value) (keys : ℕ) → keys ≡ length m.entries → good_keys lists.is_weighed keys ≡ false → form_of lists (view (Object m)) ≡ Err Malformed
+pub other_keys : (lists : Lists) (m : BTreeMap (String Global) Value) (keys : ℕ) → keys ≡ length m.entries → good_keys lists.is_weighted keys ≡ false → form_of lists (view (Object m)) ≡ Err Malformed
 unfolding form_of
 other_keys lists m keys same h = rw (view-Object m, members_len-members_view m.entries, ← same, h) refl
 

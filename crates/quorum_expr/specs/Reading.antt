@@ -112,12 +112,12 @@ choice_of lists keys d = do
 
 -- two keys, or three where weights may be given
 abbrev pub good_keys : Bool → ℕ → Bool
-good_keys is_weighed n = n == 2 || (is_weighed && n == 3)
+good_keys is_weighted n = n == 2 || (is_weighted && n == 3)
 
 -- a whole number, or an object of the keys k and of, and of the key weights where weights may be given
 unfoldable pub form_of : Lists → Data → Result Form Fault
 form_of lists (number n) = whole_of (number n) >>= λ m. Ok (single m)
-form_of lists (object ms) = if good_keys lists.is_weighed (members_len ms) then choice_of lists (members_len ms) (object ms) else Err Malformed
+form_of lists (object ms) = if good_keys lists.is_weighted (members_len ms) then choice_of lists (members_len ms) (object ms) else Err Malformed
 form_of lists null = Err Malformed
 form_of lists (boolean b) = Err Malformed
 form_of lists (string s) = Err Malformed

@@ -22,10 +22,6 @@ good_threshold k weight children = nat_le 1 k && (nat_le k weight && nat_le chil
 abbrev pub good_choice : ℕ → Children → Bool
 good_choice k of = each_fits of && good_threshold k (total_weight of) (length (formulas of))
 
--- the same where each child counts as one
-abbrev pub good_count : ℕ → ℕ → Bool
-good_count k n = good_threshold k n n
-
 -- the first fault of a formula that may have so many levels, outer ones before inner ones
 abbrev mutual
   pub shape_fault : Formula → ℕ → Option Fault

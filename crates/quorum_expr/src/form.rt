@@ -18,7 +18,7 @@ pub struct Lists {
     /// The full ones, which a text calls `full`.
     pub full: MemberSet,
     /// Whether a threshold may say what each of its children weighs.
-    pub is_weighed: bool,
+    pub is_weighted: bool,
 }
 
 /// The name of a list: all members, the full ones, or those that aren't full.

@@ -87,10 +87,10 @@ fn choice<'v>(lists: &Lists, keys: usize, value: &'v Value) -> Result<Form<'v>, 
 }
 
 /// Whether an object of so many keys may be a threshold.
-fn is_good_keys(is_weighed: bool, keys: usize) -> bool
-    ensures { result ≡ good_keys is_weighed keys }
+fn is_good_keys(is_weighted: bool, keys: usize) -> bool
+    ensures { result ≡ good_keys is_weighted keys }
 {
-    keys == 2 || (is_weighed && keys == 3)
+    keys == 2 || (is_weighted && keys == 3)
 }
 
 /// What a value spells at its own level.
@@ -102,7 +102,7 @@ fn form_at<'v>(lists: &Lists, value: &'v Value) -> Result<Form<'v>, Fault>
         Value::Number(_) => Ok(Form::Single(whole(value)?)),
         Value::Object(map) => {
             let keys = map.len();
-            if !is_good_keys(lists.is_weighed, keys) {
+            if !is_good_keys(lists.is_weighted, keys) {
                 return Err(Fault::Malformed);
             }
             choice(lists, keys, value)

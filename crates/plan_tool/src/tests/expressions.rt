@@ -10,7 +10,7 @@ fn six() -> Lists {
     Lists {
         members: full.with(1).with(3).with(5),
         full,
-        is_weighed: false,
+        is_weighted: false,
     }
 }
 
@@ -67,7 +67,7 @@ fn counts_the_nodes_at_the_end(rt: HostRuntime) -> Result<(), Fail> {
     let all = Lists {
         members: MemberSet::empty().complement(),
         full: MemberSet::empty(),
-        is_weighed: false,
+        is_weighted: false,
     };
     // 1 + 63 * 65 nodes are 4,096, and 64 choices have 65 more.
     for (choices, want) in [(63, None), (64, Some(Fault::OverLimit))] {

@@ -16,7 +16,7 @@ fn three() -> Lists {
     Lists {
         members,
         full: members,
-        is_weighed: true,
+        is_weighted: true,
     }
 }
 
@@ -96,7 +96,7 @@ fn weights_are_read(rt: HostRuntime) -> Result<(), Fail> {
     }
     let value = Value::from_str(rt.alloc(), TWO)?;
     let mut plain = three();
-    plain.is_weighed = false;
+    plain.is_weighted = false;
     assert_eq!(rt;
         read_expr(rt.alloc(), &value, &plain).err(),
         Some(Fault::Malformed)

@@ -7,6 +7,6 @@ use Rattle.plan.proofs.reading.configurations.Given as goal
 
 abbrev pub invariant-loop-number : goal.invariant-loop-number
 invariant-loop-number l = record {
-  read : with_front (map configuration_data l.list.items) (configurations_in l.is_weighed l.group l.number (items_view (drop l.number l.values))) ≡ configurations_in l.is_weighed l.group 0 (items_view l.values);
+  read : with_front (map configuration_data l.list.items) (configurations_in l.is_weighted l.group l.number (items_view (drop l.number l.values))) ≡ configurations_in l.is_weighted l.group 0 (items_view l.values);
   counted : length l.list.items ≡ l.number;
 }

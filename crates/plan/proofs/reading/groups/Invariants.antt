@@ -7,6 +7,6 @@ use Rattle.plan.proofs.reading.groups.Given as goal
 
 abbrev pub invariant-loop-number : goal.invariant-loop-number
 invariant-loop-number l = record {
-  read : with_front (map group_data l.list.items) (groups_in l.is_weighed l.number (items_view (drop l.number l.values))) ≡ groups_in l.is_weighed 0 (items_view l.values);
+  read : with_front (map group_data l.list.items) (groups_in l.is_weighted l.number (items_view (drop l.number l.values))) ≡ groups_in l.is_weighted 0 (items_view l.values);
   counted : length l.list.items ≡ l.number;
 }
