@@ -16,8 +16,9 @@ use Rattle.volume_model.proofs.Basics.{any_from, IsIn-added}
 use Rattle.volume_model.proofs.Logs.{IsChain, at_most_last}
 use Rattle.volume_model.proofs.Greatest.{greatest_where-above}
 use Rattle.volume_model.proofs.Grounded.{greatest_grounded-is}
-use Rattle.volume_model.proofs.Invariant.{found_of, HasCut, IsMade, IsCopy}
+use Rattle.volume_model.proofs.Invariant.{Held, found_of, HasCut, IsMade, IsCopy}
 use Rattle.volume_model.proofs.Kept.{IsCutClient, IsAck, IsKept}
+use Rattle.volume_model.proofs.Renewed.{IsReady, IsKeptWorld, renewed_kept, renewed_ready}
 use Rattle.volume_model.proofs.NodeSteps.{refuse_if-ok, put_at-same, NodeSays, IsGoodStep, delivered_good, hydrated_good, restarted_good, offered_good}
 use Rattle.volume_model.proofs.ClientSteps.{ClientSays, IsGoodMove, issued_good, take_good, cut_good, opened_good, resent_good, asked_good}
 use Rattle.volume_model.proofs.Run.{event_kept, opening_kept}
@@ -87,7 +88,7 @@ record IsSaid (plan : Plan) (world : World) (group : ℕ) (l : Label) (x s : ℕ
   epoch : last_epoch (world.nodes group x).contents.lineage ≡ l.volume
   complete : s ≡ scl (world.nodes group x).contents.records
 
-module _ (plan : Plan) (certified : IsCertified plan) (world : World) (kept : IsKept plan world) where
+module _ (plan : Plan) (certified : IsCertified plan) {held : Held} (world : World) (kept : IsKept plan held world) (ready : IsReady held world) where
   -- each acknowledgement was made before, or is said now
   abbrev AcksAreSaid : World → Type 0
   AcksAreSaid later = (group : ℕ) (l : Label) (x s : ℕ) → IsMade later (Ack group l x s) → IsMade world (Ack group l x s) ⊎ IsSaid plan later group l x s
@@ -100,12 +101,12 @@ module _ (plan : Plan) (certified : IsCertified plan) (world : World) (kept : Is
         | inr j ↦ inl j
       ]
 
-  said_by_node : (to y : ℕ) → to < plan.groups → (answer : NodeAnswer) → ((step : NodeStep) → answer ≡ Ok step → IsGoodStep plan world to y step) → AcksAreSaid (after_step world (of_node world to y answer))
+  said_by_node : (to y : ℕ) → to < plan.groups → (answer : NodeAnswer) → ((step : NodeStep) → answer ≡ Ok step → IsGoodStep plan held world to y step) → AcksAreSaid (after_step world (of_node world to y answer))
   said_by_node to y there (Err number) good group l x s i = inl i
   said_by_node to y there (Ok step) good group l x s i =
       elim (IsIn-added step.made world.messages (Ack group l x s) i) [
         | inl j ↦ inr (
-            let says : NodeSays world to y step.node (Ack group l x s) = (good step refl).says (Ack group l x s) j in
+            let says : NodeSays held world to y step.node (Ack group l x s) = (good step refl).says (Ack group l x s) j in
             let same : put_at world.nodes to y step.node group x ≡ step.node = ap (λ g. put_at world.nodes to y step.node g x) says.0 ∙ ap (λ z. put_at world.nodes to y step.node to z) says.1 ∙ put_at-same world.nodes to y step.node in
             record {
               there = subst (λ g. g < plan.groups) (sym says.0) there;
@@ -116,7 +117,7 @@ module _ (plan : Plan) (certified : IsCertified plan) (world : World) (kept : Is
         | inr j ↦ inl j
       ]
 
-  said_by_named : (to y : ℕ) (answer : NodeAnswer) → (to < plan.groups → (step : NodeStep) → answer ≡ Ok step → IsGoodStep plan world to y step) → AcksAreSaid (after_step world (of_node world to y (if_named plan to y answer)))
+  said_by_named : (to y : ℕ) (answer : NodeAnswer) → (to < plan.groups → (step : NodeStep) → answer ≡ Ok step → IsGoodStep plan held world to y step) → AcksAreSaid (after_step world (of_node world to y (if_named plan to y answer)))
   said_by_named to y answer good = go (is_named plan to y) refl
     where
       go : (named : Bool) → is_named plan to y ≡ named → AcksAreSaid (after_step world (of_node world to y (refuse_if (not named) NoActor answer)))
@@ -161,26 +162,26 @@ module _ (plan : Plan) (certified : IsCertified plan) (world : World) (kept : Is
   said (Open v) = said_by_client v _ (opened_good plan certified world kept v)
   said (Resend v lsn) = said_by_client v _ (resent_good plan certified world kept v lsn)
   said (Read v group block) = said_by_client v _ (asked_good plan certified world kept v group block)
-  said (Deliver to y number) = said_by_named to y _ (λ there step h. delivered_good plan certified world kept to y there number step h)
-  said (Hydrate to y) = said_by_named to y _ (λ there step h. hydrated_good plan certified world kept to y there step h)
-  said (Restart to y) = said_by_named to y _ (λ there step h. subst (λ z. IsGoodStep plan world to y z) (restart_is (world.nodes to y) step h) (restarted_good plan certified world kept to y there))
+  said (Deliver to y number) = said_by_named to y _ (λ there step h. delivered_good plan certified world kept ready to y there number step h)
+  said (Hydrate to y) = said_by_named to y _ (λ there step h. hydrated_good plan certified world kept ready to y there step h)
+  said (Restart to y) = said_by_named to y _ (λ there step h. subst (λ z. IsGoodStep plan held world to y z) (restart_is (world.nodes to y) step h) (restarted_good plan certified world kept ready to y there))
     where
       restart_is : (node : Node) (step : NodeStep) → ◌≡◌ {A = NodeAnswer} (Ok (record { made = []; node = restarted node })) (Ok step) → record { made = []; node = restarted node } ≡ step
       restart_is node step h = cc
-  said (Offer to y lsn) = said_by_named to y _ (λ there step h. offered_good plan certified world kept to y there lsn step h)
+  said (Offer to y lsn) = said_by_named to y _ (λ there step h. offered_good plan certified world kept ready to y there lsn step h)
 
 -- each acknowledgement under a client's volume epoch reaches all of its group that the client found
 pub record AcksReach (world : World) : Type 0 where
   pub reach : (group : ℕ) (l : Label) (x s : ℕ) → IsMade world (Ack group l x s) → (r : Redo) → IsIn r (found_of world l.volume) → r.group ≡ group → r.lsn ≤ s
 
 -- what a client found is a chain
-pub found_chain : (plan : Plan) → IsCertified plan → (world : World) → IsKept plan world → (v : ℕ) → HasCut world v → IsChain (found_of world v)
+pub found_chain : (plan : Plan) → IsCertified plan → {held : Held} (world : World) → IsKept plan held world → (v : ℕ) → HasCut world v → IsChain (found_of world v)
 found_chain plan certified world kept v cut =
     let k : IsCutClient plan world v (world.clients v) = cut_client plan certified world kept v cut in
     IsChain-rest k.own (found_of world v) (subst IsChain (sym k.log) (facts plan certified world kept v cut).chain)
 
 module _ (plan : Plan) (certified : IsCertified plan) where
-  said_reaches : (world : World) → IsKept plan world → (group : ℕ) (l : Label) (x s : ℕ) → IsSaid plan world group l x s → (r : Redo) → IsIn r (found_of world l.volume) → r.group ≡ group → r.lsn ≤ s
+  said_reaches : {held : Held} (world : World) → IsKept plan held world → (group : ℕ) (l : Label) (x s : ℕ) → IsSaid plan world group l x s → (r : Redo) → IsIn r (found_of world l.volume) → r.group ≡ group → r.lsn ≤ s
   said_reaches world kept group l x s said r i g =
       let copy : IsCopy world group (world.nodes group x).contents = ((kept.nodes group x said.there).whole said.whole).copy in
       let cut : HasCut world l.volume = subst (HasCut world) said.epoch copy.cut in
@@ -189,20 +190,20 @@ module _ (plan : Plan) (certified : IsCertified plan) where
       let e : s ≡ scl (world.nodes group x).contents.records = said.complete in
       omega arith
 
-  event_reaches : (world : World) → IsKept plan world → AcksReach world → (event : Event) → AcksReach (after plan world event)
-  event_reaches world kept reaches event = record {
-    reach = λ group l x s i r j g. elim (said plan certified world kept event group l x s i) [
+  event_reaches : (world : World) → IsKeptWorld plan world → AcksReach world → (event : Event) → AcksReach (after plan world event)
+  event_reaches world known reaches event = record {
+    reach = λ group l x s i r j g. elim (said plan certified world (renewed_kept plan world known.kept) (renewed_ready known.held world) event group l x s i) [
       | inl old ↦ (
-          let ack : IsAck world group l x s = kept.messages _ old in
+          let ack : IsAck world group l x s = known.kept.messages _ old in
           let stays : StaysFound (world.clients l.volume) ((after plan world event).clients l.volume) = (event_keeps plan world event l.volume).stays ack.retains.cut in
           reaches.reach group l x s old r (subst (λ z. IsIn r z) stays.found_on j) g)
-      | inr new ↦ said_reaches (after plan world event) (event_kept plan certified world kept event) group l x s new r j g
+      | inr new ↦ said_reaches (after plan world event) (event_kept plan certified world known.kept event).kept group l x s new r j g
     ];
   }
 
-  run_reaches : (events : List Event) (world : World) → IsKept plan world → AcksReach world → AcksReach (run plan world events)
-  run_reaches [] world kept reaches = reaches
-  run_reaches (event ∷ events) world kept reaches = run_reaches events (after plan world event) (event_kept plan certified world kept event) (event_reaches world kept reaches event)
+  run_reaches : (events : List Event) (world : World) → IsKeptWorld plan world → AcksReach world → AcksReach (run plan world events)
+  run_reaches [] world known reaches = reaches
+  run_reaches (event ∷ events) world known reaches = run_reaches events (after plan world event) (event_kept plan certified world known.kept event) (event_reaches world known reaches event)
 
   pub acks_reach : (events : List Event) → AcksReach (run plan (opening plan) events)
   acks_reach events = run_reaches events (opening plan) (opening_kept plan certified) (record { reach = λ group l x s i. absurd i })

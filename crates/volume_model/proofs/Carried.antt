@@ -4,11 +4,12 @@ use Rattle.std.proofs.lemmas.Bool.{cases_Bool, cases_lt, and_parts, both_ways, t
 use Rattle.volume_model.specs.Lists.{numbered}
 use Rattle.volume_model.specs.Redo.{Redo, holds_record, record_at}
 use Rattle.volume_model.specs.Lineage.{Lineage, birth, last_epoch, Contents}
+use Rattle.volume_model.specs.Pieces.{Piece, most_pieces, is_bad_piece, is_complete, with_install, pieces_from}
 use Rattle.volume_model.specs.Plan.{Plan, has_member, is_configuration, is_named, IsCertified}
 use Rattle.volume_model.specs.Message.{Label, Message}
 use Rattle.volume_model.specs.Message.Message.{View, StepTo, Fence, Report, Install, Write, Gossip, Ack, CopyAsk, CopyReport, PageAsk, Page}
 use Rattle.volume_model.specs.Refusal.{refuse_if}
-use Rattle.volume_model.specs.Node.{Node, NodeStep, NodeAnswer, born_node, lineage_epoch, label_checks, most_records, take_record, in_group, reaction, hydrated, restarted, gossip_of, offered}
+use Rattle.volume_model.specs.Node.{Node, NodeStep, NodeAnswer, born_node, lineage_epoch, label_checks, most_records, most_copies, take_record, installed, in_group, reaction, hydrated, restarted, gossip_of, offered}
 use Rattle.volume_model.specs.Client.{has_cut}
 use Rattle.volume_model.specs.World.{World, Event, AuthorityStep, of_authority, of_client, of_node, after_step, after, run, opening, assigned, advanced, refreshed, deliver, if_named}
 use Rattle.volume_model.specs.Client.{ClientAnswer}
@@ -16,14 +17,15 @@ use Rattle.volume_model.specs.World.Event.{Assign, Advance, Refresh, Issue, Take
 use Rattle.volume_model.specs.Finds.{Carries, HasOneLineageAnEpoch, OneLineageAnEpoch}
 use Rattle.volume_model.specs.Finds.Carries.{by_node, by_client, by_report, by_install, by_copy}
 use Rattle.volume_model.proofs.Basics.{put_at-all}
-use Rattle.volume_model.proofs.Invariant.{lineage_of, HasCut, IsCopy}
-use Rattle.volume_model.proofs.Kept.{MessageKept, IsKept}
+use Rattle.volume_model.proofs.Invariant.{Held, lineage_of, HasCut, IsCopy}
+use Rattle.volume_model.proofs.Renewed.{IsKeptWorld}
+use Rattle.volume_model.proofs.Kept.{install_of, IsInstall, IsCopied, MessageKept, IsKept}
 use Rattle.volume_model.proofs.NodeSteps.{refuse_if-ok, page_answer-ok, hydrated-ok}
 use Rattle.volume_model.proofs.Run.{run_kept, opening_kept}
 use Rattle.volume_model.proofs.Sound.{facts, positive_of}
 use Rattle.volume_model.proofs.Finds.{run_keeps, run_tidy}
 use Rattle.volume_model.specs.declared.fault.Fault.{Fault}
-use Rattle.volume_model.specs.declared.fault.Fault.TheVariants.{NoActor, AheadMember, AlreadyWhole, Full, NotAddressed, NotInPlan, NotInstalled, NotWhole, StaleMember, StaleVolume}
+use Rattle.volume_model.specs.declared.fault.Fault.TheVariants.{NoActor, AheadMember, AlreadyWhole, BadPiece, Full, NotAddressed, NotInPlan, NotInstalled, NotWhole, SeriesSpent, StaleMember, StaleVolume}
 
 -- neither lineage nor records
 abbrev pub nothing : Contents
@@ -73,16 +75,29 @@ module _ (plan : Plan) (group x : ℕ) (node : Node) where
       let (b, h3) = refuse_if-ok (not (holds_record r node.contents.records) && nat_le most_records (length node.contents.records)) Full _ step h2 in
       subst IsBareStep (Ok-is _ step h3) (was_whole _ w)
 
+  -- an install leaves a node as whole as it was
+  installed_whole : (l : Label) (piece : Piece) (c : Contents) → (installed group x node l piece c).node.whole ≡ node.whole
+  unfolding installed
+  installed_whole l piece c =
+      elim (cases_Bool (lineage_epoch node == l.volume)) [
+        | inl e ↦ rw e refl
+        | inr e ↦ elim (cases_Bool (is_complete (with_install node.install l.volume piece c))) [
+          | inl f ↦ rw (e, f) refl
+          | inr f ↦ rw (e, f) refl
+        ]
+      ]
+
   reaction_bare : (m : Message) (step : NodeStep) → reaction plan group x node m ≡ Ok step → IsBareStep step
   reaction_bare (Fence to l) step h =
       let (a, h1) = refuse_if-ok (not (to == group)) NotAddressed _ step h in
       let (w, h2) = passed l _ step h1 in
       subst IsBareStep (Ok-is _ step h2) (was_whole _ w)
-  reaction_bare (Install to l c) step h =
+  reaction_bare (Install to l piece c) step h =
       let (a, h1) = refuse_if-ok (not (to == group && in_group group c)) NotAddressed _ step h in
       let (w, h2) = passed l _ step h1 in
-      let (b, h3) = refuse_if-ok (nat_lt most_records (length c.records)) Full _ step h2 in
-      subst IsBareStep (Ok-is _ step h3) (was_whole _ w)
+      let (b, h3) = refuse_if-ok (nat_lt most_pieces piece.of) Full _ step h2 in
+      let (d, h4) = refuse_if-ok (is_bad_piece node.install l.volume piece c) BadPiece _ step h3 in
+      subst IsBareStep (Ok-is _ step h4) (was_whole _ (installed_whole l piece c ∙ w))
   reaction_bare (Write to l r) step h = record_bare l r step (refuse_if-ok (not (to == group && r.group == group)) NotAddressed _ step h).1
   reaction_bare (Gossip to l r) step h = record_bare l r step (refuse_if-ok (not (to == group && r.group == group)) NotAddressed _ step h).1
   reaction_bare (StepTo to place) step h =
@@ -95,13 +110,15 @@ module _ (plan : Plan) (group x : ℕ) (node : Node) where
       let (b, h2) = refuse_if-ok (nat_lt epoch node.place.epoch) StaleMember _ step h1 in
       let (c, h3) = refuse_if-ok (nat_lt node.place.epoch epoch) AheadMember _ step h2 in
       let (d, h4) = refuse_if-ok (not node.whole) NotWhole _ step h3 in
-      subst IsBareStep (Ok-is _ step h4) (same_bare node)
-  reaction_bare (CopyReport to epoch sender c) step h =
+      let (f, h5) = refuse_if-ok (nat_le most_copies node.copied) SeriesSpent _ step h4 in
+      subst IsBareStep (Ok-is _ step h5) (record { whole = λ k. k; contents = λ k. refl })
+  reaction_bare (CopyReport to epoch sender s piece c) step h =
       let (a, h1) = refuse_if-ok (not (to == group && in_group group c && nat_lt sender 64)) NotAddressed _ step h in
       let (w, h2) = refuse_if-ok node.whole AlreadyWhole _ step h1 in
       let (b, h3) = refuse_if-ok (nat_lt epoch node.place.epoch) StaleMember _ step h2 in
       let (d, h4) = refuse_if-ok (nat_lt node.place.epoch epoch) AheadMember _ step h3 in
-      subst IsBareStep (Ok-is _ step h4) (record { whole = λ k. k; contents = λ k. refl })
+      let (f, h5) = refuse_if-ok (is_bad_piece (pieces_from node.copies sender) s piece c) BadPiece _ step h4 in
+      subst IsBareStep (Ok-is _ step h5) (record { whole = λ k. k; contents = λ k. refl })
   reaction_bare (PageAsk to l block point) step h =
       let (a, h1) = refuse_if-ok (not (to == group)) NotAddressed _ step h in
       let (w, h2) = passed l _ step h1 in
@@ -199,8 +216,15 @@ module _ (plan : Plan) (certified : IsCertified plan) (events : List Event) wher
   abbrev pub end : World
   end = run plan (opening plan) events
 
-  pub kept : IsKept plan end
-  kept = run_kept plan certified events (opening plan) (opening_kept plan certified)
+  pub known : IsKeptWorld plan end
+  known = run_kept plan certified events (opening plan) (opening_kept plan certified)
+
+  -- what its members held when they told their copies
+  abbrev pub held : Held
+  held = known.held
+
+  pub kept : IsKept plan held end
+  kept = known.kept
 
   -- no lineage, or that of a client that has cut, which is known by its last volume epoch
   abbrev pub IsKnown : Lineage → Type 0
@@ -238,9 +262,15 @@ module _ (plan : Plan) (certified : IsCertified plan) (events : List Event) wher
   pub carried_known : (lineage : Lineage) → Carries end lineage → IsKnown lineage
   carried_known lineage (by_node group x e) = subst IsKnown e (node_known group x)
   carried_known lineage (by_client v e) = subst IsKnown e (client_known v)
-  carried_known lineage (by_report group l x q i e) = subst IsKnown e (let k : MessageKept plan end (Report group l x q) = kept.messages _ i in copy_known group q k.0)
-  carried_known lineage (by_install group l q i e) = subst IsKnown e (let k : MessageKept plan end (Install group l q) = kept.messages _ i in copy_known group q k.0)
-  carried_known lineage (by_copy group f x q i e) = subst IsKnown e (let k : MessageKept plan end (CopyReport group f x q) = kept.messages _ i in copy_known group q k.0)
+  carried_known lineage (by_report group l x q i e) = subst IsKnown e (let k : MessageKept plan held end (Report group l x q) = kept.messages _ i in copy_known group q k.0)
+  carried_known lineage (by_install group l p q i e) =
+      let k : IsInstall end group l p q = kept.messages _ i in
+      let same : (install_of end group l.volume).lineage ≡ q.lineage = ap (λ z. z.lineage) (sym k.is.is) in
+      subst IsKnown (same ∙ e) (copy_known group (install_of end group l.volume) k.copy)
+  carried_known lineage (by_copy group f x s p q i e) =
+      let k : IsCopied held end group f x s p q = kept.messages _ i in
+      let same : (held group x s).lineage ≡ q.lineage = ap (λ z. z.lineage) (sym k.is.is) in
+      subst IsKnown (same ∙ e) (copy_known group (held group x s) k.copy)
 
   one_known : (lineage other : Lineage) → IsKnown lineage → IsKnown other → last_epoch lineage ≡ last_epoch other → lineage ≡ other
   one_known lineage other (inl a) (inl b) e = a ∙ sym b

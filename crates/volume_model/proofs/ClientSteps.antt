@@ -1,11 +1,12 @@
 -- Each step of a client keeps the invariant
-use Rattle.std.proofs.Common.{◌≡◌, ℕ, zero, suc, ◌+◌, ◌^◌, ◌<◌, ◌≤◌, max, Bool, true, false, not, ◌&&◌, ◌==◌, nat_lt, nat_le, eqb, ◌⊎◌, List, [], ◌∷◌, ◌++◌, Option, Some, None, Ok, Err, length, if◌then◌else◌, refl, sym, ap, ◌∙◌, subst, inl, inr, arith}
+use Rattle.std.proofs.Common.{◌≡◌, ℕ, ◌+◌, ◌^◌, ◌<◌, ◌≤◌, max, Bool, true, false, not, ◌&&◌, ◌==◌, nat_lt, nat_le, eqb, ◌⊎◌, List, [], ◌∷◌, ◌++◌, Option, Some, None, Ok, Err, length, refl, sym, ap, ◌∙◌, subst, inl, inr, arith}
 use Rattle.std.proofs.lemmas.Bool.{cases_Bool, cases_lt, and_parts, true≢false, both_ways, eqb-true, eq-eqb, ltb-true, leb-true, not-true, not-false}
-use Rattle.volume_model.specs.Lists.{IsIn, every, every_below, each_below, numbered, put}
+use Rattle.volume_model.specs.Lists.{IsIn, every, each_below, numbered, put}
 use Rattle.volume_model.specs.Formula.{Formula, sat}
 use Rattle.volume_model.proofs.FormulaLaws.{sat-some}
-use Rattle.volume_model.specs.Redo.{Redo, record_at, last_lsn, of_group, cut_of, log_found}
+use Rattle.volume_model.specs.Redo.{Redo, record_at, last_lsn, cut_of, log_found}
 use Rattle.volume_model.specs.Lineage.{Lineage, last_epoch, last_start, extended, Contents, newest, found_in}
+use Rattle.volume_model.specs.Pieces.{in_pieces}
 use Rattle.volume_model.specs.Plan.{Plan, IsCertified}
 use Rattle.volume_model.specs.Message.{Label, Place, Message, place_in}
 use Rattle.volume_model.specs.Message.Message.{View, StepTo, Fence, Report, Install, Write, Gossip, Ack, CopyAsk, CopyReport, PageAsk, Page}
@@ -13,16 +14,17 @@ use Rattle.volume_model.specs.Node.{From, senders, with_first, in_group}
 use Rattle.volume_model.specs.Client.{Client, Stage, Count, ClientStep, ClientAnswer, is_born, has_cut, is_open, unborn, place_configuration, ClientGroup, newly_at, group_of, place_of, reports_of, counts_of, label_of, stays, place_of, reports_of, counts_of, no_group}
 use Rattle.volume_model.specs.ClientPoints.{reaching, best, with_count, raised_group, raised, groups_now, durable_point}
 use Rattle.volume_model.specs.ClientWriter.{Change, record_of, is_last, issued_log, issued_writes, is_change, is_transaction, issued, write_of, resent, last_of_group_below, page_asked}
-use Rattle.volume_model.specs.ClientRecovery.{fences, installs, report_taken, all_reports, has_read, has_installed, cut_client, opened}
+use Rattle.volume_model.specs.ClientRecovery.{fences, to_install, installs, report_taken, all_reports, has_read, has_installed, cut_client, opened}
 use Rattle.volume_model.specs.ClientMessages.{is_later, later_in, later_group, reread_group, with_places, viewed, ack_taken, are_places, taken}
 use Rattle.volume_model.specs.Client.Stage.{Unborn, Reading, Installing, Writing}
 use Rattle.volume_model.specs.World.{World, of_client, after_step, take}
-use Rattle.volume_model.proofs.Basics.{any_passes, numbered-in, IsIn-append, IsIn-append_right}
+use Rattle.volume_model.proofs.Basics.{any_passes, numbered-in, IsIn-append_right, every-all, every_below-all, each_below-from, IsIn-joined}
 use Rattle.volume_model.proofs.Logs.{IsLink}
 use Rattle.volume_model.proofs.Chains.{record_at-some}
-use Rattle.volume_model.proofs.Invariant.{log_of, found_of, lineage_of, HasCut, IsMade, label, WasAt, IsCopy, config}
-use Rattle.volume_model.proofs.Kept.{IsPlace, IsGrown, HasRead, IsHeir, IsOwned, IsCutClient, IsReached, IsBorn, ClientKept, IsView, MessageKept, IsKept}
-use Rattle.volume_model.proofs.Ordered.{IsOrdered, of_group-ordered}
+use Rattle.volume_model.proofs.Invariant.{Held, log_of, found_of, lineage_of, HasCut, IsMade, label, WasAt, IsCopy, config}
+use Rattle.volume_model.specs.PieceLaws.{IsPieceOf}
+use Rattle.volume_model.proofs.Pieces.{in_pieces-from}
+use Rattle.volume_model.proofs.Kept.{install_of, IsPlace, IsGrown, HasRead, IsHeir, IsOwned, IsCutClient, IsReached, IsBorn, ClientKept, IsView, MessageKept, IsKept}
 use Rattle.volume_model.proofs.Added.{MessageNew, messages_added}
 use Rattle.volume_model.proofs.Changed.{ClientGrows, client_changed}
 use Rattle.volume_model.proofs.Records.{of_group-from, of_group-has, newest-most, newest-of, all_reports-from, all_reports-has, with_first-from}
@@ -31,33 +33,6 @@ use Rattle.volume_model.proofs.NodeSteps.{refuse_if-ok, extension-ok}
 use Rattle.volume_model.proofs.Groups.{set-all, group_of-with_places, later_group-none, reread_group-none, group_of-new, group_of-raised}
 use Rattle.std.specs.Prelude.{map, slice_set}
 use Rattle.volume_model.specs.declared.fault.Fault.TheVariants.{AlreadyDone, BadTransaction, LimitReached, LsnSpent, NoActor, NoGroup, NotAddressed, NotInPlan, NotOpen, NotReady}
-
-pub every-all : {A : Type 0} (test : A → Bool) (xs : List A) → every test xs ≡ true → (x : A) → IsIn x xs → test x ≡ true
-every-all test [] h x i = absurd i
-every-all test (y ∷ ys) h x (inl e) = subst (λ z. test z ≡ true) (sym e) (and_parts (test y) (every test ys) h).0
-every-all test (y ∷ ys) h x (inr i) = every-all test ys (and_parts (test y) (every test ys) h).1 x i
-
-pub every_below-all : (n : ℕ) (test : ℕ → Bool) → every_below n test ≡ true → (k : ℕ) → k < n → test k ≡ true
-every_below-all zero test h k l = absurd (omega arith)
-every_below-all (suc n) test h k l =
-    let parts : (test n ≡ true) × (every_below n test ≡ true) = and_parts (test n) (every_below n test) h in
-    elim (cases_lt k n) [
-      | inl b ↦ every_below-all n test parts.1 k b
-      | inr b ↦ (let e : n ≡ k = omega arith in subst (λ z. test z ≡ true) e parts.0)
-    ]
-
-pub each_below-from : {A : Type 0} (n : ℕ) (test : ℕ → Bool) (f : ℕ → A) (x : A) → IsIn x (each_below n test f) → (k : ℕ) × (k < n) × (x ≡ f k)
-each_below-from zero test f x i = absurd i
-each_below-from {A} (suc n) test f x i =
-    elim (IsIn-append (each_below n test f) (if test n then f n ∷ [] else []) x i) [
-      | inl j ↦ (let (k, l, e) = each_below-from n test f x j in (k, omega arith, e))
-      | inr j ↦ last (test n) j
-    ]
-  where
-    last : (b : Bool) → IsIn x (if b then f n ∷ [] else []) → (k : ℕ) × (k < suc n) × (x ≡ f k)
-    last false j = absurd j
-    last true (inl e) = (n, omega arith, e)
-    last true (inr z) = absurd z
 
 cut_from_open : (stage : Stage) → is_open stage ≡ true → has_cut stage ≡ true
 cut_from_open Unborn h = h
@@ -68,7 +43,7 @@ cut_from_open Writing h = refl
 -- what a client says, of itself as the step leaves it
 abbrev pub ClientSays : ℕ → Client → Message → Type 0
 ClientSays v client (Fence to l) = Unit {0}
-ClientSays v client (Install to l q) = (has_cut client.stage ≡ true) × (l.volume ≡ v) × (q.lineage ≡ client.lineage) × (q.records ≡ of_group to client.found)
+ClientSays v client (Install to l p c) = (has_cut client.stage ≡ true) × (l.volume ≡ v) × IsPieceOf (to_install client.lineage client.found to) p c
 ClientSays v client (Write to l r) = (has_cut client.stage ≡ true) × (l.volume ≡ v) × IsIn r client.log × (r.group ≡ to)
 ClientSays v client (PageAsk to l block point) = Unit {0}
 ClientSays v client (View u places) = ⊥
@@ -77,7 +52,7 @@ ClientSays v client (Report to l from q) = ⊥
 ClientSays v client (Gossip to l r) = ⊥
 ClientSays v client (Ack to l from s) = ⊥
 ClientSays v client (CopyAsk to f) = ⊥
-ClientSays v client (CopyReport to f from q) = ⊥
+ClientSays v client (CopyReport to f from s p c) = ⊥
 ClientSays v client (Page to l from block point bytes) = ⊥
 
 -- a step of a client that keeps the invariant
@@ -141,28 +116,30 @@ best-is write all (c ∷ rest) =
       ]
     ]
 
-module _ (plan : Plan) (certified : IsCertified plan) (world : World) (kept : IsKept plan world) (v : ℕ) where
-  says_new : (client : Client) → ClientKept plan world v client → (m : Message) → ClientSays v client m → MessageNew plan (record world { clients = put world.clients v client }) m
+module _ (plan : Plan) (certified : IsCertified plan) {held : Held} (world : World) (kept : IsKept plan held world) (v : ℕ) where
+  says_new : (client : Client) → ClientKept plan world v client → (m : Message) → ClientSays v client m → MessageNew plan held (record world { clients = put world.clients v client }) m
   says_new client good (Fence to l) h = tt
-  says_new client good (Install to l q) h =
+  says_new client good (Install to l p c) h =
       let later : World = record world { clients = put world.clients v client } in
       let same : client ≡ put world.clients v client v = sym (put-same world.clients v client) in
       let k : IsCutClient plan world v client = good.cut h.0 in
-      let e : last_epoch q.lineage ≡ v = ap last_epoch h.2 ∙ head_of plan world v client k in
-      let in_log : (r : Redo) → IsIn r client.found → IsIn r client.log = λ r i. subst (λ z. IsIn r z) k.log (IsIn-append_right k.own client.found r i) in (
-        record {
-          cut = subst (λ u. HasCut later u) (sym e) (ap (λ c. has_cut c.stage) (sym same) ∙ h.0);
-          lineage = h.2 ∙ ap (λ c. c.lineage) same ∙ ap (λ u. lineage_of later u) (sym e);
-          records = λ r i. (
-              let f : IsIn r client.found × (r.group ≡ to) = of_group-from to client.found r (subst (λ z. IsIn r z) h.3 i) in
-              (subst (λ u. IsIn r (log_of later u)) (sym e) (subst (λ c. IsIn r c.log) same (in_log r f.0)), f.1));
-          found = λ r i g. (
-              let i' : IsIn r client.found = subst (λ c. IsIn r c.found) (sym same) (subst (λ u. IsIn r (found_of later u)) e i) in
-              subst (λ z. IsIn r z) (sym h.3) (of_group-has to client.found r i' g));
-        },
-        e ∙ sym h.1,
-        subst IsOrdered (sym h.3) (of_group-ordered to client.found),
-      )
+      let e : last_epoch client.lineage ≡ v = head_of plan world v client k in
+      let in_log : (r : Redo) → IsIn r client.found → IsIn r client.log = λ r i. subst (λ z. IsIn r z) k.log (IsIn-append_right k.own client.found r i) in
+      let is : to_install client.lineage client.found to ≡ install_of later to l.volume = ap (λ c. to_install c.lineage c.found to) same ∙ ap (λ u. install_of later to u) (sym h.1) in
+      let copy : IsCopy later to (to_install client.lineage client.found to) = record {
+        cut = subst (λ u. HasCut later u) (sym e) (ap (λ c. has_cut c.stage) (sym same) ∙ h.0);
+        lineage = ap (λ c. c.lineage) same ∙ ap (λ u. lineage_of later u) (sym e);
+        records = λ r i. (
+            let f : IsIn r client.found × (r.group ≡ to) = of_group-from to client.found r i in
+            (subst (λ u. IsIn r (log_of later u)) (sym e) (subst (λ c. IsIn r c.log) same (in_log r f.0)), f.1));
+        found = λ r i g. of_group-has to client.found r (subst (λ c. IsIn r c.found) (sym same) (subst (λ u. IsIn r (found_of later u)) e i)) g;
+      } in
+      record {
+        cut = subst (λ u. HasCut later u) (sym h.1) (ap (λ c. has_cut c.stage) (sym same) ∙ h.0);
+        copy = subst (λ z. IsCopy later to z) is copy;
+        head = ap (λ z. last_epoch z.lineage) (sym is) ∙ e ∙ sym h.1;
+        is = subst (λ z. IsPieceOf z p c) is h.2;
+      }
   says_new client good (Write to l r) h =
       let later : World = record world { clients = put world.clients v client } in
       let same : client ≡ put world.clients v client v = sym (put-same world.clients v client) in
@@ -178,14 +155,14 @@ module _ (plan : Plan) (certified : IsCertified plan) (world : World) (kept : Is
   says_new client good (Gossip to l r) h = absurd h
   says_new client good (Ack to l from s) h = absurd h
   says_new client good (CopyAsk to f) h = absurd h
-  says_new client good (CopyReport to f from q) h = absurd h
+  says_new client good (CopyReport to f from s p c) h = absurd h
   says_new client good (Page to l from block point bytes) h = absurd h
 
-  pub client_step : (answer : ClientAnswer) → ((step : ClientStep) → answer ≡ Ok step → IsGoodMove plan world v step) → IsKept plan (after_step world (of_client world v answer))
+  pub client_step : (answer : ClientAnswer) → ((step : ClientStep) → answer ≡ Ok step → IsGoodMove plan world v step) → IsKept plan held (after_step world (of_client world v answer))
   client_step (Err number) good = kept
   client_step (Ok step) good =
       let g : IsGoodMove plan world v step = good step refl in
-      messages_added plan certified step.made (record world { clients = put world.clients v step.client })
+      messages_added plan certified held step.made (record world { clients = put world.clients v step.client })
       (client_changed plan world kept v step.client g.grows g.client)
       (λ m i. says_new step.client g.client m (g.says m i))
 
@@ -440,8 +417,11 @@ module _ (plan : Plan) (certified : IsCertified plan) (world : World) (kept : Is
   -- the Installs of a client that has cut
   installs_says : (after : Client) → has_cut after.stage ≡ true → (places : ℕ → Place) (test : ℕ → Bool) → (m : Message) → IsIn m (installs plan v places after.lineage after.found test) → ClientSays v after m
   installs_says after cut places test m i =
-      let (group, l, e) = each_below-from plan.groups test (λ group. Install group (label_of v places group) (record { lineage = after.lineage; records = of_group group after.found })) m i in
-      subst (λ z. ClientSays v after z) (sym e) (cut, refl, refl, refl)
+      let of_group : ℕ → List Message = λ group. in_pieces (to_install after.lineage after.found group) (Install group (label_of v places group)) in
+      let (ms, j, k) = IsIn-joined (each_below plan.groups test of_group) m i in
+      let (group, l, same) = each_below-from plan.groups test of_group ms j in
+      let (p, c, is, e) = in_pieces-from (to_install after.lineage after.found group) (Install group (label_of v places group)) m (subst (λ z. IsIn m z) same k) in
+      subst (λ z. ClientSays v after z) (sym e) (cut, refl, is)
 
   fences_says : (after : Client) (places : ℕ → Place) (test : ℕ → Bool) → (m : Message) → IsIn m (fences plan v places test) → ClientSays v after m
   fences_says after places test m i =
@@ -472,7 +452,7 @@ module _ (plan : Plan) (certified : IsCertified plan) (world : World) (kept : Is
       let d : Contents = one.0 in
       let came : (group : ℕ) × (group < plan.groups) × (from : From) × IsIn from (reports_of client.groups group) × (from.contents ≡ d) = all_reports-from (reports_of client.groups) plan.groups d one.1 in
       let told : IsMade world (Report came.0 (label v (place_of client.groups came.0).epoch) came.2.sender came.2.contents) × (last_epoch came.2.contents.lineage < v) = now.reading a came.0 came.1 came.2 came.3 in
-      let report : MessageKept plan world (Report came.0 (label v (place_of client.groups came.0).epoch) came.2.sender came.2.contents) = kept.messages _ told.0 in
+      let report : MessageKept plan held world (Report came.0 (label v (place_of client.groups came.0).epoch) came.2.sender came.2.contents) = kept.messages _ told.0 in
       let copy : IsCopy world came.0 d = subst (λ z. IsCopy world came.0 z) came.4 report.0 in
       let p : ℕ = last_epoch parent in
       let same_last : last_epoch d.lineage ≡ p = ap last_epoch (sym one.2) in
@@ -726,11 +706,11 @@ module _ (plan : Plan) (certified : IsCertified plan) (world : World) (kept : Is
       subst (λ s. IsGoodMove plan world v s) (Ok-is _ step h2) (stays_good [] (λ m i. absurd i))
   taken_good (StepTo group place) made step h = cc
   taken_good (Fence group l) made step h = cc
-  taken_good (Install group l c) made step h = cc
+  taken_good (Install group l p c) made step h = cc
   taken_good (Write group l r) made step h = cc
   taken_good (Gossip group l r) made step h = cc
   taken_good (CopyAsk group epoch) made step h = cc
-  taken_good (CopyReport group epoch sender c) made step h = cc
+  taken_good (CopyReport group epoch sender s p c) made step h = cc
   taken_good (PageAsk group l block point) made step h = cc
 
   pub take_good : (number : ℕ) (step : ClientStep) → take plan v client (numbered world.messages number) ≡ Ok step → IsGoodMove plan world v step
@@ -740,20 +720,20 @@ module _ (plan : Plan) (certified : IsCertified plan) (world : World) (kept : Is
       go None e h = cc
       go (Some m) e h = taken_good m (numbered-in world.messages number m e) step h
 
-  pub issue_kept : (changes : List Change) → IsKept plan (after_step world (of_client world v (issued plan v (world.clients v) changes)))
+  pub issue_kept : (changes : List Change) → IsKept plan held (after_step world (of_client world v (issued plan v (world.clients v) changes)))
   issue_kept changes = client_step _ (issued_good changes)
 
-  pub take_kept : (number : ℕ) → IsKept plan (after_step world (of_client world v (take plan v (world.clients v) (numbered world.messages number))))
+  pub take_kept : (number : ℕ) → IsKept plan held (after_step world (of_client world v (take plan v (world.clients v) (numbered world.messages number))))
   take_kept number = client_step _ (take_good number)
 
-  pub cut_kept : IsKept plan (after_step world (of_client world v (cut_client plan v (world.clients v))))
+  pub cut_kept : IsKept plan held (after_step world (of_client world v (cut_client plan v (world.clients v))))
   cut_kept = client_step _ cut_good
 
-  pub open_kept : IsKept plan (after_step world (of_client world v (opened plan (world.clients v))))
+  pub open_kept : IsKept plan held (after_step world (of_client world v (opened plan (world.clients v))))
   open_kept = client_step _ opened_good
 
-  pub resend_kept : (lsn : ℕ) → IsKept plan (after_step world (of_client world v (resent v (world.clients v) lsn)))
+  pub resend_kept : (lsn : ℕ) → IsKept plan held (after_step world (of_client world v (resent v (world.clients v) lsn)))
   resend_kept lsn = client_step _ (resent_good lsn)
 
-  pub read_kept : (group block : ℕ) → IsKept plan (after_step world (of_client world v (page_asked plan v (world.clients v) group block)))
+  pub read_kept : (group block : ℕ) → IsKept plan held (after_step world (of_client world v (page_asked plan v (world.clients v) group block)))
   read_kept group block = client_step _ (asked_good group block)

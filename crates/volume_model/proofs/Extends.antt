@@ -9,9 +9,12 @@ use Rattle.volume_model.specs.Message.{Label, Place, Message, place_in}
 use Rattle.volume_model.specs.Message.Message.{View, StepTo, Fence, Report, Install, Write, Gossip, Ack, CopyAsk, CopyReport, PageAsk, Page}
 use Rattle.volume_model.specs.Node.{Node, senders}
 use Rattle.volume_model.specs.Client.{Client, place_of, reports_of, group_point_of}
+use Rattle.volume_model.specs.ClientRecovery.{to_install}
 use Rattle.volume_model.specs.World.{World}
-use Rattle.volume_model.proofs.Invariant.{epoch_now, path, config, log_of, found_of, lineage_of, HasCut, IsMade, WasAt, IsCopy, IsSource, IsSourced, MessageSourced, IsHistory}
-use Rattle.volume_model.proofs.Kept.{IsPlace, Retains, NodeGrows, NodeKept, HasRead, reported_to, IsHeir, IsReached, ClientKept, IsWrite, MessageKept}
+use Rattle.volume_model.specs.PieceLaws.{IsPieceOf}
+use Rattle.volume_model.proofs.Pieces.{ArePieces-more}
+use Rattle.volume_model.proofs.Invariant.{Held, epoch_now, path, config, log_of, found_of, lineage_of, HasCut, IsMade, WasAt, IsCopy, IsSource, IsSourced, MessageSourced, IsHistory}
+use Rattle.volume_model.proofs.Kept.{IsPlace, Retains, NodeGrows, IsToldCopy, IsToldInstall, install_of, NodeKept, HasRead, reported_to, IsHeir, IsReached, ClientKept, IsWrite, MessageKept}
 
 -- what was so in the one world is so in the other
 pub record Extends (plan : Plan) (world later : World) : Type 0 where
@@ -26,7 +29,7 @@ pub record Extends (plan : Plan) (world later : World) : Type 0 where
   pub nodes : (group x : ℕ) → NodeGrows (world.nodes group x) (later.nodes group x)
 
 pub NodeGrows-same : (node : Node) → NodeGrows node node
-NodeGrows-same node = record { volume = omega arith; epoch = omega arith; whole = λ h. h; contents = λ h. record { epoch = omega arith; records = λ e r i. i } }
+NodeGrows-same node = record { volume = omega arith; epoch = omega arith; whole = λ h. h; contents = λ h. record { epoch = omega arith; records = λ e r i. i }; copied = omega arith }
 
 pub Retains-source : (world : World) (group v s : ℕ) (q q' : Contents) → IsSource q q' → Retains world group v s q → Retains world group v s q'
 Retains-source world group v s q q' source retains =
@@ -70,36 +73,6 @@ module _ (plan : Plan) (world later : World) (extends : Extends plan world later
   epoch-later : (group e : ℕ) → e ≤ epoch_now plan world group → e ≤ epoch_now plan later group
   epoch-later group e h = let b : epoch_now plan world group ≤ epoch_now plan later group = extends.epoch group in omega arith
 
-  pub IsSourced-later : (older older' : List Message) → ((m : Message) → IsIn m older → IsIn m older') → (group x : ℕ) (q : Contents) → IsSourced plan world older group x q → IsSourced plan later older' group x q
-  IsSourced-later older older' more group x q (inl h) = inl h
-  IsSourced-later older older' more group x q (inr h) = inr (record {
-    at = h.at;
-    positive = h.positive;
-    there = epoch-later group h.at h.there;
-    member = subst (λ c. has_member (plan.configuration group c) x ≡ true) (sym (extends.path_same group h.at h.positive h.there)) h.member;
-    readers = h.readers;
-    reads = sat_read-later group h.at h.readers h.positive h.there h.reads;
-    source = λ y r. ((h.source y r).0, more _ (h.source y r).1, (h.source y r).2);
-  })
-
-  pub MessageSourced-later : (older : List Message) (m : Message) → MessageSourced plan world older m → MessageSourced plan later older m
-  MessageSourced-later older (Report group l x q) h = IsSourced-later older older (λ k i. i) group x q h
-  MessageSourced-later older (CopyReport group f x q) h = IsSourced-later older older (λ k i. i) group x q h
-  MessageSourced-later older (View v places) h = tt
-  MessageSourced-later older (StepTo group place) h = tt
-  MessageSourced-later older (Fence group l) h = tt
-  MessageSourced-later older (Install group l q) h = tt
-  MessageSourced-later older (Write group l r) h = tt
-  MessageSourced-later older (Gossip group l r) h = tt
-  MessageSourced-later older (Ack group l x s) h = tt
-  MessageSourced-later older (CopyAsk group f) h = tt
-  MessageSourced-later older (PageAsk group l block point) h = tt
-  MessageSourced-later older (Page group l x block point bytes) h = tt
-
-  pub IsHistory-later : (messages : List Message) → IsHistory plan world messages → IsHistory plan later messages
-  IsHistory-later [] h = tt
-  IsHistory-later (m ∷ older) h = (MessageSourced-later older m h.0, IsHistory-later older h.1)
-
   pub Retains-later : (group v s : ℕ) (q : Contents) → Retains world group v s q → Retains later group v s q
   Retains-later group v s q h = record {
     kept = h.kept;
@@ -108,18 +81,6 @@ module _ (plan : Plan) (world later : World) (extends : Extends plan world later
     stands = λ r i. (extends.logs v h.cut r (h.stands r i).0, (h.stands r i).1);
     epoch = h.epoch;
     records = h.records;
-  }
-
-  pub NodeKept-later : (group x : ℕ) (node : Node) → NodeKept plan world group x node → NodeKept plan later group x node
-  NodeKept-later group x node h = record {
-    place = elim h.place [ inl z ↦ inl z | inr p ↦ inr (IsPlace-later group node.place p) ];
-    copies = λ from i. extends.messages _ (h.copies from i);
-    whole = λ w. record {
-      copy = IsCopy-later group node.contents (h.whole w).copy;
-      below = (h.whole w).below;
-      sourced = IsSourced-later world.messages later.messages extends.messages group x node.contents (h.whole w).sourced;
-      ordered = (h.whole w).ordered;
-    };
   }
 
   HasRead-later : (v : ℕ) (client : Client) (parent group : ℕ) → HasRead plan world v client parent group → HasRead plan later v client parent group
@@ -177,28 +138,86 @@ module _ (plan : Plan) (world later : World) (extends : Extends plan world later
   IsWrite-later : (group : ℕ) (l : Label) (r : Redo) → IsWrite world group l r → IsWrite later group l r
   IsWrite-later group l r h = record { cut = extends.cut _ h.cut; stands = extends.logs _ h.cut r h.stands; group_is = h.group_is }
 
-  pub MessageKept-later : (m : Message) → MessageKept plan world m → MessageKept plan later m
+module _ (plan : Plan) (held : Held) (world later : World) (extends : Extends plan world later) where
+  pub IsSourced-later : (older older' : List Message) → ((m : Message) → IsIn m older → IsIn m older') → (group x : ℕ) (q : Contents) → IsSourced plan held world older group x q → IsSourced plan held later older' group x q
+  IsSourced-later older older' more group x q (inl h) = inl h
+  IsSourced-later older older' more group x q (inr h) = inr (record {
+    at = h.at;
+    positive = h.positive;
+    there = epoch-later plan world later extends group h.at h.there;
+    member = subst (λ c. has_member (plan.configuration group c) x ≡ true) (sym (extends.path_same group h.at h.positive h.there)) h.member;
+    readers = h.readers;
+    reads = sat_read-later plan world later extends group h.at h.readers h.positive h.there h.reads;
+    source = λ y r. (let (s, p, c, i, k) = h.source y r in (s, p, c, more _ i, k));
+  })
+
+  pub MessageSourced-later : (older : List Message) (m : Message) → MessageSourced plan held world older m → MessageSourced plan held later older m
+  MessageSourced-later older (Report group l x q) h = IsSourced-later older older (λ k i. i) group x q h
+  MessageSourced-later older (CopyReport group f x s p c) h = IsSourced-later older older (λ k i. i) group x (held group x s) h
+  MessageSourced-later older (View v places) h = tt
+  MessageSourced-later older (StepTo group place) h = tt
+  MessageSourced-later older (Fence group l) h = tt
+  MessageSourced-later older (Install group l p c) h = tt
+  MessageSourced-later older (Write group l r) h = tt
+  MessageSourced-later older (Gossip group l r) h = tt
+  MessageSourced-later older (Ack group l x s) h = tt
+  MessageSourced-later older (CopyAsk group f) h = tt
+  MessageSourced-later older (PageAsk group l block point) h = tt
+  MessageSourced-later older (Page group l x block point bytes) h = tt
+
+  pub IsHistory-later : (messages : List Message) → IsHistory plan held world messages → IsHistory plan held later messages
+  IsHistory-later [] h = tt
+  IsHistory-later (m ∷ older) h = (MessageSourced-later older m h.0, IsHistory-later older h.1)
+
+  pub NodeKept-later : (group x : ℕ) (node : Node) → NodeKept plan held world group x node → NodeKept plan held later group x node
+  NodeKept-later group x node h = record {
+    place = elim h.place [ inl z ↦ inl z | inr p ↦ inr (IsPlace-later plan world later extends group node.place p) ];
+    copies = λ copy i. ArePieces-more (IsToldCopy world group node.place.epoch copy.sender) (IsToldCopy later group node.place.epoch copy.sender) (λ s p c m. extends.messages _ m) copy.pieces (h.copies copy i);
+    install = λ pieces e. ArePieces-more (IsToldInstall world group) (IsToldInstall later group) (λ s p c m. (m.0, extends.messages _ m.1)) pieces (h.install pieces e);
+    whole = λ w. record {
+      copy = IsCopy-later plan world later extends group node.contents (h.whole w).copy;
+      below = (h.whole w).below;
+      sourced = IsSourced-later world.messages later.messages extends.messages group x node.contents (h.whole w).sourced;
+      ordered = (h.whole w).ordered;
+    };
+  }
+
+  pub MessageKept-later : (m : Message) → MessageKept plan held world m → MessageKept plan held later m
   MessageKept-later (View v places) h = record {
     known = (let k : v ≤ world.authority.last_volume = h.known in let l : world.authority.last_volume ≤ later.authority.last_volume = extends.last in omega arith);
     positive = h.positive;
-    standing = λ group there. IsPlace-later group (place_in places group) (h.standing group there);
+    standing = λ group there. IsPlace-later plan world later extends group (place_in places group) (h.standing group there);
   }
-  MessageKept-later (StepTo group place) h = IsPlace-later group place h
+  MessageKept-later (StepTo group place) h = IsPlace-later plan world later extends group place h
   MessageKept-later (Fence group l) h = tt
-  MessageKept-later (Report group l x q) h = (IsCopy-later group q h.0, (let a : l.volume ≤ (world.nodes group x).volume = h.1 in let b : (world.nodes group x).volume ≤ (later.nodes group x).volume = (extends.nodes group x).volume in omega arith))
-  MessageKept-later (Install group l q) h = (IsCopy-later group q h.0, h.1, h.2)
-  MessageKept-later (Write group l r) h = IsWrite-later group l r h
-  MessageKept-later (Gossip group l r) h = IsWrite-later group l r h
+  MessageKept-later (Report group l x q) h = (IsCopy-later plan world later extends group q h.0, (let a : l.volume ≤ (world.nodes group x).volume = h.1 in let b : (world.nodes group x).volume ≤ (later.nodes group x).volume = (extends.nodes group x).volume in omega arith))
+  MessageKept-later (Install group l p c) h =
+      let of_lineage : lineage_of world l.volume ≡ lineage_of later l.volume = sym (extends.lineage l.volume h.cut) in
+      let of_found : found_of world l.volume ≡ found_of later l.volume = sym (extends.found l.volume h.cut) in
+      let same : install_of world group l.volume ≡ install_of later group l.volume = λ i. to_install (of_lineage i) (of_found i) group in
+      record {
+        cut = extends.cut l.volume h.cut;
+        copy = subst (λ z. IsCopy later group z) same (IsCopy-later plan world later extends group (install_of world group l.volume) h.copy);
+        head = ap last_epoch (extends.lineage l.volume h.cut) ∙ h.head;
+        is = subst (λ z. IsPieceOf z p c) same h.is;
+      }
+  MessageKept-later (Write group l r) h = IsWrite-later plan world later extends group l r h
+  MessageKept-later (Gossip group l r) h = IsWrite-later plan world later extends group l r h
   MessageKept-later (Ack group l x s) h =
       let grows : NodeGrows (world.nodes group x) (later.nodes group x) = extends.nodes group x in
       record {
         whole = grows.whole h.whole;
         volume = (let a : l.volume ≤ (world.nodes group x).volume = h.volume in let b : (world.nodes group x).volume ≤ (later.nodes group x).volume = grows.volume in omega arith);
         member = (let a : l.member ≤ (world.nodes group x).place.epoch = h.member in let b : (world.nodes group x).place.epoch ≤ (later.nodes group x).place.epoch = grows.epoch in omega arith);
-        retains = Retains-source later group l.volume s (world.nodes group x).contents (later.nodes group x).contents (grows.contents h.whole) (Retains-later group l.volume s (world.nodes group x).contents h.retains);
+        retains = Retains-source later group l.volume s (world.nodes group x).contents (later.nodes group x).contents (grows.contents h.whole) (Retains-later plan world later extends group l.volume s (world.nodes group x).contents h.retains);
       }
   MessageKept-later (CopyAsk group f) h = tt
-  MessageKept-later (CopyReport group f x q) h = (IsCopy-later group q h.0, (let a : f ≤ (world.nodes group x).place.epoch = h.1 in let b : (world.nodes group x).place.epoch ≤ (later.nodes group x).place.epoch = (extends.nodes group x).epoch in omega arith))
+  MessageKept-later (CopyReport group f x s p c) h = record {
+    copy = IsCopy-later plan world later extends group (held group x s) h.copy;
+    is = h.is;
+    epoch = (let a : f ≤ (world.nodes group x).place.epoch = h.epoch in let b : (world.nodes group x).place.epoch ≤ (later.nodes group x).place.epoch = (extends.nodes group x).epoch in omega arith);
+    number = (let a : s ≤ (world.nodes group x).copied = h.number in let b : (world.nodes group x).copied ≤ (later.nodes group x).copied = (extends.nodes group x).copied in omega arith);
+  }
   MessageKept-later (PageAsk group l block point) h = tt
   MessageKept-later (Page group l x block point bytes) h = record {
     cut = extends.cut _ h.cut;

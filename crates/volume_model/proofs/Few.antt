@@ -1,20 +1,25 @@
 -- How many messages the step of a client makes at most.
-use Rattle.std.proofs.Common.{◌≡◌, ℕ, zero, suc, ◌≤◌, Bool, true, false, List, [], ◌∷◌, Option, Some, None, Result, Ok, Err, length, if◌then◌else◌, length-append, ap, refl, arith}
+use Rattle.std.proofs.Common.{◌≡◌, ℕ, zero, suc, ◌+◌, ◌/◌, ◌<◌, ◌≤◌, ◌==◌, nat_le, eqb, Bool, true, false, List, [], ◌∷◌, ◌++◌, Option, Some, None, Result, Ok, Err, length, if◌then◌else◌, option_map, length-append, ap, sym, subst, refl, inl, inr, arith, le_trans}
+use Rattle.std.proofs.lemmas.Bool.{cases_Bool, cases_eq, ne_eqb, leb-true, le-leb, lt-leb}
+use Rattle.volume_model.proofs.Basics.{joined-append}
 use Rattle.volume_model.specs.declared.fault.Fault.{Fault}
-use Rattle.volume_model.specs.Lists.{each_below}
+use Rattle.volume_model.specs.Lists.{IsIn, each_below, joined}
 use Rattle.volume_model.specs.Refusal.{refuse_if}
-use Rattle.volume_model.specs.Redo.{Redo, cut_of, log_found, of_group, record_at}
-use Rattle.volume_model.specs.Lineage.{Lineage, extension, found_in, last_start, newest}
+use Rattle.volume_model.specs.Redo.{Redo, spelling, is_same, numbers_before, with_record, cut_of, log_found, of_group, record_at, follow, chain_from, chain_or_none}
+use Rattle.volume_model.specs.Lineage.{Lineage, Contents, extension, is_live, with_live, found_in, last_start, newest}
+use Rattle.volume_model.specs.Pieces.{Piece, most_in_piece, pieces_of, piece_of, in_pieces}
 use Rattle.volume_model.specs.Answer.{◌>>=◌}
 use Rattle.volume_model.specs.Plan.{Plan}
-use Rattle.volume_model.specs.Message.{Place, Message}
+use Rattle.volume_model.specs.Message.{Place, Message, place_in}
 use Rattle.volume_model.specs.Message.Message.{View, StepTo, Fence, Report, Install, Write, Gossip, Ack, CopyAsk, CopyReport, PageAsk, Page}
 use Rattle.volume_model.specs.Client.{Client, ClientAnswer, Stage, label_of, place_of, reports_of}
 use Rattle.volume_model.specs.ClientWriter.{Change, issued, issued_writes, page_asked, record_of, resent, write_of, is_last}
-use Rattle.volume_model.specs.ClientRecovery.{all_reports, cut_step, cut_client}
-use Rattle.volume_model.specs.ClientMessages.{taken, viewed}
+use Rattle.volume_model.specs.ClientRecovery.{to_install, installs, all_reports, cut_step, live_reported, log_reported, cut_client}
+use Rattle.volume_model.specs.ClientMessages.{later_group, later_in, taken, viewed, with_places}
 use Rattle.volume_model.specs.Client.Stage.{Unborn, Reading, Installing, Writing}
-use Rattle.volume_model.specs.Few.{Few}
+use Rattle.volume_model.specs.Leading.{VolumeLinksFall}
+use Rattle.volume_model.specs.Few.{Few, most_installs, records_in, records_said}
+use Rattle.volume_model.proofs.Chains.{record_at-some}
 
 -- what follows an answer
 few_then : {A : Type 0} (most : ℕ) (first : Result A Fault) (rest : A → ClientAnswer) → ((x : A) → Few most (rest x)) → Few most (first >>= rest)
@@ -42,24 +47,124 @@ written_many : (volume : ℕ) (places : ℕ → Place) (start : ℕ) (changes : 
 written_many volume places start [] log = refl
 written_many volume places start (change ∷ more) log = ap suc (written_many volume places start more (record_of volume start log change (is_last more) ∷ log))
 
-few_viewed : (plan : Plan) (volume : ℕ) (client : Client) (places : List Place) (stage : Stage) → length (viewed plan volume client places stage).made ≤ plan.groups
-few_viewed plan volume client places Unborn = few_below plan.groups _ _
-few_viewed plan volume client places Reading = few_below plan.groups _ _
-few_viewed plan volume client places Installing = few_below plan.groups _ _
+-- ---- how many pieces a log makes
+
+-- the records of all groups below a number, group by group
+abbrev all_groups : ℕ → List Redo → ℕ
+all_groups zero found = 0
+all_groups (suc n) found = all_groups n found + length (of_group n found)
+
+with_record-length : (r : Redo) (records : List Redo) → length (with_record r records) ≤ suc (length records)
+with_record-length r [] = omega arith
+with_record-length r (s ∷ rest) =
+    elim (cases_Bool (is_same r s)) [
+      | inl e ↦ rw e (omega arith)
+      | inr e ↦ elim (cases_Bool (numbers_before (spelling r) (spelling s))) [
+        | inl f ↦ rw (e, f) (omega arith)
+        | inr f ↦ rw (e, f) (let h : length (with_record r rest) ≤ suc (length rest) = with_record-length r rest in omega arith)
+      ]
+    ]
+
+-- a record of another group isn't among those of this one
+of_group-other : (group : ℕ) (r : Redo) (older : List Redo) → (r.group ≡ group → ⊥) → length (of_group group (r ∷ older)) ≡ length (of_group group older)
+of_group-other group r older other = rw (ne_eqb r.group group other) refl
+
+of_group-own : (group : ℕ) (r : Redo) (older : List Redo) → length (of_group group (r ∷ older)) ≤ suc (length (of_group group older))
+of_group-own group r older =
+    elim (cases_Bool (eqb r.group group)) [
+      | inl e ↦ rw e (with_record-length r (of_group group older))
+      | inr e ↦ rw e (omega arith)
+    ]
+
+all_groups-other : (n : ℕ) (r : Redo) (older : List Redo) → n ≤ r.group → all_groups n (r ∷ older) ≡ all_groups n older
+all_groups-other zero r older h = refl
+all_groups-other (suc n) r older h =
+    let before : all_groups n (r ∷ older) ≡ all_groups n older = all_groups-other n r older (omega arith) in
+    let same : length (of_group n (r ∷ older)) ≡ length (of_group n older) = of_group-other n r older (λ e. omega (arith, e)) in
+    omega arith
+
+all_groups-more : (n : ℕ) (r : Redo) (older : List Redo) → all_groups n (r ∷ older) ≤ suc (all_groups n older)
+all_groups-more zero r older = omega arith
+all_groups-more (suc n) r older =
+    elim (cases_eq r.group n) [
+      | inl e ↦ (
+          let before : all_groups n (r ∷ older) ≡ all_groups n older = all_groups-other n r older (omega (arith, e)) in
+          let one : length (of_group n (r ∷ older)) ≤ suc (length (of_group n older)) = of_group-own n r older in
+          omega arith)
+      | inr other ↦ (
+          let before : all_groups n (r ∷ older) ≤ suc (all_groups n older) = all_groups-more n r older in
+          let same : length (of_group n (r ∷ older)) ≡ length (of_group n older) = of_group-other n r older other in
+          omega arith)
+    ]
+
+all_groups-none : (n : ℕ) → all_groups n [] ≡ 0
+all_groups-none zero = refl
+all_groups-none (suc n) = let none : all_groups n [] ≡ 0 = all_groups-none n in omega arith
+
+-- each record is one of one group
+all_groups-within : (n : ℕ) (found : List Redo) → all_groups n found ≤ length found
+all_groups-within n [] = let none : all_groups n [] ≡ 0 = all_groups-none n in omega arith
+all_groups-within n (r ∷ older) =
+    let more : all_groups n (r ∷ older) ≤ suc (all_groups n older) = all_groups-more n r older in
+    let within : all_groups n older ≤ length older = all_groups-within n older in
+    omega arith
+
+few_pieces : {A : Type 0} (q : Contents) (say : Piece → Contents → A) → length (in_pieces q say) ≤ 1 + length q.records / most_in_piece
+few_pieces q say =
+    let of : ℕ = pieces_of (length q.records) in
+    let most : length (in_pieces q say) ≤ of = few_below of (λ number. true) (λ number. say (record { number = number; of = of }) (piece_of q number)) in
+    omega arith
+
+module _ (lineage : Lineage) (found : List Redo) (chosen : ℕ → Bool) (say : ℕ → Piece → Contents → Message) where
+  -- the pieces of a group
+  abbrev of_one : ℕ → List Message
+  of_one group = in_pieces (to_install lineage found group) (say group)
+
+  one_if : (b : Bool) (group : ℕ) → length (joined (if b then of_one group ∷ [] else [])) ≤ 1 + length (of_group group found) / most_in_piece
+  one_if true group =
+      let few : length (of_one group) ≤ 1 + length (of_group group found) / most_in_piece = few_pieces (to_install lineage found group) (say group) in
+      let whole : length (of_one group ++ []) ≡ length (of_one group) + length {A = Message} [] = length-append (of_one group) [] in
+      omega arith
+  one_if false group = omega arith
+
+  pieces_below : (n : ℕ) → length (joined (each_below n chosen of_one)) ≤ n + all_groups n found / most_in_piece
+  pieces_below zero = omega arith
+  pieces_below (suc n) =
+      let before : List (List Message) = each_below n chosen of_one in
+      let last : List (List Message) = if chosen n then of_one n ∷ [] else [] in
+      let rest : length (joined before) ≤ n + all_groups n found / most_in_piece = pieces_below n in
+      let one : length (joined last) ≤ 1 + length (of_group n found) / most_in_piece = one_if (chosen n) n in
+      let whole : length (joined (each_below (suc n) chosen of_one)) ≡ length (joined before ++ joined last) = ap length (joined-append before last) in
+      let sum : length (joined before ++ joined last) ≡ length (joined before) + length (joined last) = length-append (joined before) (joined last) in
+      omega arith
+
+few_installs : (plan : Plan) (volume : ℕ) (places : ℕ → Place) (lineage : Lineage) (found : List Redo) (chosen : ℕ → Bool) → length (installs plan volume places lineage found chosen) ≤ most_installs plan found
+few_installs plan volume places lineage found chosen =
+    let few : length (installs plan volume places lineage found chosen) ≤ plan.groups + all_groups plan.groups found / most_in_piece = pieces_below lineage found chosen (λ group. Install group (label_of volume places group)) plan.groups in
+    let within : all_groups plan.groups found ≤ length found = all_groups-within plan.groups found in
+    omega arith
+
+few_fences : {A : Type 0} (plan : Plan) (found : List Redo) (test : ℕ → Bool) (f : ℕ → A) → length (each_below plan.groups test f) ≤ most_installs plan found
+few_fences plan found test f = let few : length (each_below plan.groups test f) ≤ plan.groups = few_below plan.groups test f in omega arith
+
+few_viewed : (plan : Plan) (volume : ℕ) (client : Client) (places : List Place) (stage : Stage) → length (viewed plan volume client places stage).made ≤ most_installs plan client.found
+few_viewed plan volume client places Unborn = few_fences plan client.found _ _
+few_viewed plan volume client places Reading = few_fences plan client.found _ _
+few_viewed plan volume client places Installing = few_installs plan volume (place_of (with_places later_group client.groups places)) client.lineage client.found (later_in (place_of client.groups) (place_in places))
 few_viewed plan volume client places Writing = omega arith
 
-pub few_taken : (plan : Plan) (volume : ℕ) (client : Client) (m : Message) → Few plan.groups (taken plan volume client m)
-few_taken plan volume client (View of places) = let few = few_viewed plan volume client places client.stage in search (few_if plan.groups, few) depth 8
-few_taken plan volume client (Report group label sender contents) = let few : 0 ≤ plan.groups = omega arith in search (few_if plan.groups, few) depth 8
-few_taken plan volume client (Ack group label sender reached) = let few : 0 ≤ plan.groups = omega arith in search (few_if plan.groups, few) depth 8
-few_taken plan volume client (Page group label sender block point bytes) = let few : 0 ≤ plan.groups = omega arith in search (few_if plan.groups, few) depth 8
+pub few_taken : (plan : Plan) (volume : ℕ) (client : Client) (m : Message) → Few (most_installs plan client.found) (taken plan volume client m)
+few_taken plan volume client (View of places) = let few = few_viewed plan volume client places client.stage in search (few_if (most_installs plan client.found), few) depth 8
+few_taken plan volume client (Report group label sender contents) = let few : 0 ≤ most_installs plan client.found = omega arith in search (few_if (most_installs plan client.found), few) depth 8
+few_taken plan volume client (Ack group label sender reached) = let few : 0 ≤ most_installs plan client.found = omega arith in search (few_if (most_installs plan client.found), few) depth 8
+few_taken plan volume client (Page group label sender block point bytes) = let few : 0 ≤ most_installs plan client.found = omega arith in search (few_if (most_installs plan client.found), few) depth 8
 few_taken plan volume client (StepTo group place) = tt
 few_taken plan volume client (Fence group label) = tt
-few_taken plan volume client (Install group label contents) = tt
+few_taken plan volume client (Install group label piece contents) = tt
 few_taken plan volume client (Write group label r) = tt
 few_taken plan volume client (Gossip group label r) = tt
 few_taken plan volume client (CopyAsk group epoch) = tt
-few_taken plan volume client (CopyReport group epoch sender contents) = tt
+few_taken plan volume client (CopyReport group epoch sender series piece contents) = tt
 few_taken plan volume client (PageAsk group label block point) = tt
 
 pub few_issued : (plan : Plan) (volume : ℕ) (client : Client) (changes : List Change) → Few (length changes) (issued plan volume client changes)
@@ -68,15 +173,16 @@ few_issued plan volume client changes =
     let most = few (place_of client.groups) (last_start client.lineage) in
     search (few_if (length changes), most) depth 12
 
-pub few_cut : (plan : Plan) (volume : ℕ) (client : Client) → Few plan.groups (cut_client plan volume client)
+pub few_cut : (plan : Plan) (volume : ℕ) (client : Client) → Few (most_installs plan (log_reported plan client)) (cut_client plan volume client)
 few_cut plan volume client =
     let reported = all_reports (reports_of client.groups) plan.groups in
     let parent = newest reported in
     let records = found_in parent reported in
-    let few : (lineage : Lineage) → Few plan.groups (Ok (cut_step plan volume client (log_found records) lineage)) =
-    λ lineage. few_below plan.groups (λ group. true) (λ group. Install group (label_of volume (place_of client.groups) group) (record { lineage = lineage; records = of_group group (log_found records) })) in
-    let rest = few_then plan.groups (extension parent volume (cut_of records) plan.lal) (λ lineage. Ok (cut_step plan volume client (log_found records) lineage)) few in
-    search (few_if plan.groups, rest) depth 12
+    let most = most_installs plan (log_found records) in
+    let few : (lineage : Lineage) → Few most (Ok (cut_step plan volume client (log_found records) lineage)) =
+    λ lineage. few_installs plan volume (place_of client.groups) lineage (log_found records) (λ group. true) in
+    let rest = few_then most (extension parent volume (cut_of records) plan.lal) (λ lineage. Ok (cut_step plan volume client (log_found records) lineage)) few in
+    search (few_if most, rest) depth 12
 
 few_write : (volume : ℕ) (client : Client) (found : Option Redo) → Few 1 (write_of volume client found)
 few_write volume client None = tt
@@ -89,3 +195,94 @@ pub few_asked : (plan : Plan) (volume : ℕ) (client : Client) (group block : �
 few_asked plan volume client group block =
     let few : (m : Message) → length (m ∷ []) ≤ 1 = λ m. omega arith in
     search (few_if 1, few) depth 12
+
+-- ---- how many records are found
+
+with_live-length : (lineage : Lineage) (records kept : List Redo) → length (with_live lineage records kept) ≤ length records + length kept
+with_live-length lineage [] kept = omega arith
+with_live-length lineage (r ∷ rest) kept =
+    let before : length (with_live lineage rest kept) ≤ length rest + length kept = with_live-length lineage rest kept in
+    let one : length (with_record r (with_live lineage rest kept)) ≤ suc (length (with_live lineage rest kept)) = with_record-length r (with_live lineage rest kept) in
+    elim (cases_Bool (is_live lineage r.volume r.lsn)) [ inl e ↦ rw e (omega arith) | inr e ↦ rw e (omega arith) ]
+
+found-length : (lineage : Lineage) (reports : List Contents) → length (found_in lineage reports) ≤ records_in reports
+found-length lineage [] = omega arith
+found-length lineage (c ∷ rest) = le_trans (with_live-length lineage c.records (found_in lineage rest)) (add_le (length c.records) (found-length lineage rest))
+  where
+    add_le : (n : ℕ) {a b : ℕ} → a ≤ b → n + a ≤ n + b
+    add_le n h = omega arith
+
+-- how many records have a number of at most n
+abbrev at_most : ℕ → List Redo → ℕ
+at_most n [] = 0
+at_most n (r ∷ rest) = (if nat_le r.lsn n then 1 else 0) + at_most n rest
+
+one_or_none : (b : Bool) → (if b then 1 else 0) ≤ 1
+one_or_none true = omega arith
+one_or_none false = omega arith
+
+at_most-length : (n : ℕ) (records : List Redo) → at_most n records ≤ length records
+at_most-length n [] = omega arith
+at_most-length n (r ∷ rest) =
+    let before : at_most n rest ≤ length rest = at_most-length n rest in
+    let one : (if nat_le r.lsn n then 1 else 0) ≤ 1 = one_or_none (nat_le r.lsn n) in
+    omega arith
+
+at_most-rises : (m n : ℕ) (records : List Redo) → m ≤ n → at_most m records ≤ at_most n records
+at_most-rises m n [] h = omega arith
+at_most-rises m n (r ∷ rest) h =
+    let before : at_most m rest ≤ at_most n rest = at_most-rises m n rest h in
+    elim (cases_Bool (nat_le r.lsn m)) [
+      | inl e ↦ (let l : r.lsn ≤ m = leb-true r.lsn m e in rw (e, le-leb r.lsn n (omega arith)) (omega arith))
+      | inr e ↦ rw e (omega arith)
+    ]
+
+-- a record that is above the one bound and within the other
+at_most-more : (m : ℕ) (records : List Redo) (r : Redo) → IsIn r records → m < r.lsn → suc (at_most m records) ≤ at_most r.lsn records
+at_most-more m [] r i h = absurd i
+at_most-more m (s ∷ rest) r (inl e) h =
+    let same : s.lsn ≡ r.lsn = ap (λ z. z.lsn) (sym e) in
+    let rises : at_most m rest ≤ at_most r.lsn rest = at_most-rises m r.lsn rest (omega arith) in
+    rw (lt-leb s.lsn m (omega arith), le-leb s.lsn r.lsn (omega arith)) (omega arith)
+at_most-more m (s ∷ rest) r (inr i) h =
+    let before : suc (at_most m rest) ≤ at_most r.lsn rest = at_most-more m rest r i h in
+    elim (cases_Bool (nat_le s.lsn m)) [
+      | inl e ↦ (let l : s.lsn ≤ m = leb-true s.lsn m e in rw (e, le-leb s.lsn r.lsn (omega arith)) (omega arith))
+      | inr e ↦ rw e (omega arith)
+    ]
+
+module _ (records : List Redo) (fall : VolumeLinksFall records) where
+  -- a chain of so many steps has no more records than have at most the number that it begins with
+  abbrev IsShort : ℕ → Type 0
+  IsShort steps = (n : ℕ) → length (chain_or_none (chain_from steps records n)) ≤ at_most n records
+
+  led : (steps : ℕ) → IsShort steps → (r : Redo) → IsIn r records → (older : Option (List Redo)) → chain_from steps records r.prev_volume ≡ older → length (chain_or_none (option_map (λ log. r ∷ log) older)) ≤ at_most r.lsn records
+  led steps short r i None is = omega arith
+  led steps short r i (Some older) is =
+      let before : length older ≤ at_most r.prev_volume records = subst (λ z. length (chain_or_none z) ≤ at_most r.prev_volume records) is (short r.prev_volume) in
+      let more : suc (at_most r.prev_volume records) ≤ at_most r.lsn records = at_most-more r.prev_volume records r i (fall r i) in
+      omega arith
+
+  by_record : (steps : ℕ) → IsShort steps → (n : ℕ) (found : Option Redo) → record_at records n ≡ found → length (chain_or_none (follow found (λ r. chain_from steps records r.prev_volume))) ≤ at_most n records
+  by_record steps short n None is = omega arith
+  by_record steps short n (Some r) is =
+      let (i, number) = record_at-some records n r is in
+      subst (λ z. length (chain_or_none (option_map (λ log. r ∷ log) (chain_from steps records r.prev_volume))) ≤ at_most z records) number (led steps short r i (chain_from steps records r.prev_volume) refl)
+
+  chain_short : (steps : ℕ) → IsShort steps
+  chain_short zero n = elim (cases_Bool (n == 0)) [ inl e ↦ rw e (omega arith) | inr e ↦ rw e (omega arith) ]
+  chain_short (suc steps) n =
+      let short : IsShort steps = chain_short steps in
+      elim (cases_Bool (n == 0)) [
+        | inl e ↦ rw e (omega arith)
+        | inr e ↦ rw e (by_record steps short n (record_at records n) refl)
+      ]
+
+pub few_found : (plan : Plan) (client : Client) → VolumeLinksFall (live_reported plan client) → length (log_reported plan client) ≤ records_said plan client
+few_found plan client fall =
+    let reported = all_reports (reports_of client.groups) plan.groups in
+    let records = live_reported plan client in
+    let short : length (log_found records) ≤ at_most (cut_of records) records = chain_short records fall (cut_of records) (cut_of records) in
+    let within : at_most (cut_of records) records ≤ length records = at_most-length (cut_of records) records in
+    let said : length records ≤ records_in reported = found-length (newest reported) reported in
+    omega arith

@@ -154,11 +154,11 @@ module _ (plan : Plan) (v : ℕ) (client : Client) where
       subst IsKeeping (Ok-is _ step h2) (same_keeps client)
   taken_keeps (StepTo group place) step h = cc
   taken_keeps (Fence group l) step h = cc
-  taken_keeps (Install group l c) step h = cc
+  taken_keeps (Install group l p c) step h = cc
   taken_keeps (Write group l r) step h = cc
   taken_keeps (Gossip group l r) step h = cc
   taken_keeps (CopyAsk group epoch) step h = cc
-  taken_keeps (CopyReport group epoch sender c) step h = cc
+  taken_keeps (CopyReport group epoch sender s p c) step h = cc
   taken_keeps (PageAsk group l block point) step h = cc
 
   take_keeps : (found : Option Message) (step : ClientStep) → take plan v client found ≡ Ok step → IsKeeping step

@@ -6,6 +6,7 @@ use Rattle.volume_model.specs.Formula.{Members, sat}
 use Rattle.volume_model.specs.Redo.{Redo, up_to}
 use Rattle.volume_model.specs.Lineage.{last_epoch, last_start, Contents}
 use Rattle.volume_model.specs.Plan.{Plan, has_member, IsCertified}
+use Rattle.volume_model.specs.Pieces.{Piece}
 use Rattle.volume_model.specs.Message.{Label, Message, place_in}
 use Rattle.volume_model.specs.Message.Message.{Report, Ack, CopyReport}
 use Rattle.volume_model.specs.Node.{From, senders}
@@ -18,7 +19,7 @@ use Rattle.volume_model.proofs.Basics.{any_passes, IsIn-append}
 use Rattle.volume_model.proofs.Line.{IsLate, descent}
 use Rattle.volume_model.proofs.Logs.{IsChain, same_record, IsIn-up_to, from_up_to, at_most_of_up_to, up_to-up_to, up_to-newer, IsBeginningOf-up_to}
 use Rattle.volume_model.proofs.Chains.{complete_of-covers, consistency_point_below-at_most}
-use Rattle.volume_model.proofs.Invariant.{epoch_now, path, config, log_of, found_of, lineage_of, HasCut, IsMade, label, WasAt, IsCopy, Covers, IsSource, IsSourced, MessageSourced, IsHistory, IsReported, HasReadGroup, HasParent, IsLogged, IsSound}
+use Rattle.volume_model.proofs.Invariant.{Held, epoch_now, path, config, log_of, found_of, lineage_of, HasCut, IsMade, label, WasAt, IsCopy, Covers, IsSource, IsSourced, MessageSourced, IsHistory, IsReported, HasReadGroup, HasParent, IsLogged, IsSound}
 
 pub Covers-weaker : (world : World) (group v m n : ℕ) (q : Contents) → n ≤ m → Covers world group v m q → Covers world group v n q
 Covers-weaker world group v m n q h c = record { epoch = c.epoch; records = λ e r i g l. c.records e r i g (omega arith) }
@@ -34,14 +35,14 @@ Covers-source world group v m source q s c = record {
 }
 
 -- where a message stands, with what was made before it
-pub at_message : (plan : Plan) (world : World) (messages : List Message) → IsHistory plan world messages → (m : Message) → IsIn m messages → (older : List Message) × IsHistory plan world older × ((k : Message) → IsIn k older → IsIn k messages) × MessageSourced plan world older m
-at_message plan world [] h m i = absurd i
-at_message plan world (k ∷ older) h m (inl e) = (older, h.1, (λ k' i. inr i), subst (λ z. MessageSourced plan world older z) (sym e) h.0)
-at_message plan world (k ∷ older) h m (inr i) =
-    let (o, p, q, r) = at_message plan world older h.1 m i in
+pub at_message : (plan : Plan) (held : Held) (world : World) (messages : List Message) → IsHistory plan held world messages → (m : Message) → IsIn m messages → (older : List Message) × IsHistory plan held world older × ((k : Message) → IsIn k older → IsIn k messages) × MessageSourced plan held world older m
+at_message plan held world [] h m i = absurd i
+at_message plan held world (k ∷ older) h m (inl e) = (older, h.1, (λ k' i. inr i), subst (λ z. MessageSourced plan held world older z) (sym e) h.0)
+at_message plan held world (k ∷ older) h m (inr i) =
+    let (o, p, q, r) = at_message plan held world older h.1 m i in
     (o, p, (λ k' j. inr (q k' j)), r)
 
-module _ (plan : Plan) (certified : IsCertified plan) (world : World) (sound : IsSound plan world) where
+module _ (plan : Plan) (certified : IsCertified plan) {held : Held} (world : World) (sound : IsSound plan held world) where
   pub volume_positive : (v : ℕ) → HasCut world v → 1 ≤ v
   volume_positive v h = elim (sound.logged v h).origin [ inl f ↦ (let o : v ≡ 1 = f.one in omega arith) | inr p ↦ (let b : p.parent < v = p.below in omega arith) ]
 
@@ -68,7 +69,7 @@ module _ (plan : Plan) (certified : IsCertified plan) (world : World) (sound : I
     line = path plan world group
 
     -- a late node's contents come from copies of which the same is true
-    from_sources : (older : List Message) → ((f x : ℕ) (q : Contents) → IsIn (CopyReport group f x q) older → e < f → (writers x ≡ true) ⊎ IsLate plan group line e x → Covers world group v m q) → (x : ℕ) (q : Contents) → IsSourced plan world older group x q → IsLate plan group line e x → Covers world group v m q
+    from_sources : (older : List Message) → ((f x s : ℕ) (p : Piece) (c : Contents) → IsIn (CopyReport group f x s p c) older → e < f → (writers x ≡ true) ⊎ IsLate plan group line e x → Covers world group v m (held group x s)) → (x : ℕ) (q : Contents) → IsSourced plan held world older group x q → IsLate plan group line e x → Covers world group v m q
     from_sources older before x q (inl root) late =
         let r : line 1 ≡ 0 = (sound.line group there).root in
         let n : has_member (plan.configuration group (line 1)) x ≡ false = late 1 (omega arith) positive in
@@ -81,19 +82,19 @@ module _ (plan : Plan) (certified : IsCertified plan) (world : World) (sound : I
               let reads : sat (plan.configuration group (line (h.at - e + e))).read h.readers ≡ true = subst (λ n. sat (plan.configuration group (line n)).read h.readers ≡ true) (sym s) h.reads in
               let there' : h.at ≤ epoch_now plan world group = h.there in
               let (y, a, b) = descent plan certified group there line (epoch_now plan world group) (sound.line group there) (h.at - e) e h.readers writers positive (omega arith) reads writes in
-              let (c, i, source) = h.source y a in
-              Covers-source world group v m c q source (before h.at y c i high b))
+              let (s', p, c, i, source) = h.source y a in
+              Covers-source world group v m (held group y s') q source (before h.at y s' p c i high b))
         ]
 
-    copy_covers : (older : List Message) → IsHistory plan world older → ((k : Message) → IsIn k older → IsMade world k) → (f x : ℕ) (q : Contents) → IsIn (CopyReport group f x q) older → e < f → (writers x ≡ true) ⊎ IsLate plan group line e x → Covers world group v m q
-    copy_covers older history within f x q i h (inl w) =
-        let (a, s, l, k, made) = acked x w in
-        Covers-weaker world group v s m q k (sound.acks_copies group v a x s f q made (within _ i) (omega arith))
-    copy_covers [] history within f x q i h (inr late) = absurd i
-    copy_covers (k ∷ older) history within f x q (inl p) h (inr late) =
-        from_sources older (λ f' x' q' i' h' b. copy_covers older history.1 (λ k' j. within k' (inr j)) f' x' q' i' h' b) x q (subst (λ z. MessageSourced plan world older z) (sym p) history.0) late
-    copy_covers (k ∷ older) history within f x q (inr i) h (inr late) =
-        copy_covers older history.1 (λ k' j. within k' (inr j)) f x q i h (inr late)
+    copy_covers : (older : List Message) → IsHistory plan held world older → ((k : Message) → IsIn k older → IsMade world k) → (f x s : ℕ) (p : Piece) (c : Contents) → IsIn (CopyReport group f x s p c) older → e < f → (writers x ≡ true) ⊎ IsLate plan group line e x → Covers world group v m (held group x s)
+    copy_covers older history within f x s p c i h (inl w) =
+        let (a, n, l, k, made) = acked x w in
+        Covers-weaker world group v n m (held group x s) k (sound.acks_copies group v a x n f s p c made (within _ i) (omega arith))
+    copy_covers [] history within f x s p c i h (inr late) = absurd i
+    copy_covers (k ∷ older) history within f x s p c (inl e') h (inr late) =
+        from_sources older (λ f' x' s' p' c' i' h' b. copy_covers older history.1 (λ k' j. within k' (inr j)) f' x' s' p' c' i' h' b) x (held group x s) (subst (λ z. MessageSourced plan held world older z) (sym e') history.0) late
+    copy_covers (k ∷ older) history within f x s p c (inr i) h (inr late) =
+        copy_covers older history.1 (λ k' j. within k' (inr j)) f x s p c i h (inr late)
 
     -- what a later client is told by a node that wrote, or that is late
     report_covers : (l : Label) (x : ℕ) (q : Contents) → IsMade world (Report group l x q) → v < l.volume → (writers x ≡ true) ⊎ IsLate plan group line e x → Covers world group v m q
@@ -101,7 +102,7 @@ module _ (plan : Plan) (certified : IsCertified plan) (world : World) (sound : I
         let (a, s, p, k, made) = acked x w in
         Covers-weaker world group v s m q k (sound.acks_reports group v a x s l q made i h)
     report_covers l x q i h (inr late) =
-        let (older, history, within, sourced) = at_message plan world world.messages sound.history (Report group l x q) i in
+        let (older, history, within, sourced) = at_message plan held world world.messages sound.history (Report group l x q) i in
         from_sources older (copy_covers older history within) x q sourced late
 
   -- of a client that has cut: what is not above its cut was found

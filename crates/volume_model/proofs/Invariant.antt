@@ -6,6 +6,7 @@ use Rattle.volume_model.specs.Redo.{Redo, last_lsn, up_to}
 use Rattle.volume_model.specs.Lineage.{Lineage, birth, last_epoch, last_start, Contents}
 use Rattle.volume_model.specs.Plan.{Configuration, Plan, has_member, epoch_of}
 use Rattle.volume_model.proofs.Above.{ancestor}
+use Rattle.volume_model.specs.Pieces.{Piece}
 use Rattle.volume_model.specs.Message.{Label, Place, Message, place_in}
 use Rattle.volume_model.specs.Message.Message.{View, StepTo, Fence, Report, Install, Write, Gossip, Ack, CopyAsk, CopyReport, PageAsk, Page}
 use Rattle.volume_model.specs.Node.{From, senders}
@@ -71,39 +72,43 @@ pub record IsSource (source q : Contents) : Type 0 where
   pub epoch : last_epoch source.lineage ≤ last_epoch q.lineage
   pub records : last_epoch source.lineage ≡ last_epoch q.lineage → (r : Redo) → IsIn r source.records → IsIn r q.records
 
+-- what a member of a group held when it told its copy of a number
+abbrev pub Held : Type 0
+Held = ℕ → ℕ → ℕ → Contents
+
 -- the node became whole as a member, from copies of a read set that were made before
-pub record IsHydrated (plan : Plan) (world : World) (older : List Message) (group x : ℕ) (q : Contents) : Type 0 where
+pub record IsHydrated (plan : Plan) (held : Held) (world : World) (older : List Message) (group x : ℕ) (q : Contents) : Type 0 where
   pub at : ℕ
   pub positive : 1 ≤ at
   pub there : at ≤ epoch_now plan world group
   pub member : has_member (config plan world group at) x ≡ true
   pub readers : Members
   pub reads : sat (config plan world group at).read readers ≡ true
-  pub source : (y : ℕ) → readers y ≡ true → (c : Contents) × IsIn (CopyReport group at y c) older × IsSource c q
+  pub source : (y : ℕ) → readers y ≡ true → (s : ℕ) × (p : Piece) × (c : Contents) × IsIn (CopyReport group at y s p c) older × IsSource (held group y s) q
 
 -- the contents came from birth or from a hydration
-abbrev pub IsSourced : Plan → World → List Message → ℕ → ℕ → Contents → Type 0
-IsSourced plan world older group x q = (has_member (plan.configuration group 0) x ≡ true) ⊎ IsHydrated plan world older group x q
+abbrev pub IsSourced : Plan → Held → World → List Message → ℕ → ℕ → Contents → Type 0
+IsSourced plan held world older group x q = (has_member (plan.configuration group 0) x ≡ true) ⊎ IsHydrated plan held world older group x q
 
 -- what a message says that a node holds came from birth or from a hydration
-abbrev pub MessageSourced : Plan → World → List Message → Message → Type 0
-MessageSourced plan world older (Report group l x q) = IsSourced plan world older group x q
-MessageSourced plan world older (CopyReport group f x q) = IsSourced plan world older group x q
-MessageSourced plan world older (View v places) = Unit {0}
-MessageSourced plan world older (StepTo group place) = Unit {0}
-MessageSourced plan world older (Fence group l) = Unit {0}
-MessageSourced plan world older (Install group l q) = Unit {0}
-MessageSourced plan world older (Write group l r) = Unit {0}
-MessageSourced plan world older (Gossip group l r) = Unit {0}
-MessageSourced plan world older (Ack group l x s) = Unit {0}
-MessageSourced plan world older (CopyAsk group f) = Unit {0}
-MessageSourced plan world older (PageAsk group l block point) = Unit {0}
-MessageSourced plan world older (Page group l x block point bytes) = Unit {0}
+abbrev pub MessageSourced : Plan → Held → World → List Message → Message → Type 0
+MessageSourced plan held world older (Report group l x q) = IsSourced plan held world older group x q
+MessageSourced plan held world older (CopyReport group f x s p c) = IsSourced plan held world older group x (held group x s)
+MessageSourced plan held world older (View v places) = Unit {0}
+MessageSourced plan held world older (StepTo group place) = Unit {0}
+MessageSourced plan held world older (Fence group l) = Unit {0}
+MessageSourced plan held world older (Install group l p c) = Unit {0}
+MessageSourced plan held world older (Write group l r) = Unit {0}
+MessageSourced plan held world older (Gossip group l r) = Unit {0}
+MessageSourced plan held world older (Ack group l x s) = Unit {0}
+MessageSourced plan held world older (CopyAsk group f) = Unit {0}
+MessageSourced plan held world older (PageAsk group l block point) = Unit {0}
+MessageSourced plan held world older (Page group l x block point bytes) = Unit {0}
 
 -- each message was made from earlier ones
-abbrev pub IsHistory : Plan → World → List Message → Type 0
-IsHistory plan world [] = Unit {0}
-IsHistory plan world (m ∷ older) = MessageSourced plan world older m × IsHistory plan world older
+abbrev pub IsHistory : Plan → Held → World → List Message → Type 0
+IsHistory plan held world [] = Unit {0}
+IsHistory plan held world (m ∷ older) = MessageSourced plan held world older m × IsHistory plan held world older
 
 -- a record that some kept report of the client has
 abbrev pub IsReported : World → ℕ → Redo → Type 0
@@ -154,14 +159,14 @@ pub record IsWritten (plan : Plan) (world : World) (v group n : ℕ) : Type 0 wh
   pub acked : (x : ℕ) → writers x ≡ true → (a : ℕ) × (s : ℕ) × (a ≤ at) × (n ≤ s) × IsMade world (Ack group (label v a) x s)
 
 -- what the headline rests on
-pub record IsSound (plan : Plan) (world : World) : Type 0 where
+pub record IsSound (plan : Plan) (held : Held) (world : World) : Type 0 where
   pub line : (group : ℕ) → group < plan.groups → IsLine plan group (path plan world group) (epoch_now plan world group)
   pub logged : (v : ℕ) → HasCut world v → IsLogged plan world v
   pub written : (v group : ℕ) → group < plan.groups → HasCut world v → (group_point_of (world.clients v).groups group ≡ 0) ⊎ IsWritten plan world v group (group_point_of (world.clients v).groups group)
   pub view_epoch : (v : ℕ) (places : List Place) → IsMade world (View v places) → (group : ℕ) → group < plan.groups → (1 ≤ (place_in places group).epoch) × ((place_in places group).epoch ≤ epoch_now plan world group)
   pub views_ordered : (u v : ℕ) (p q : List Place) → u < v → IsMade world (View u p) → IsMade world (View v q) → (group : ℕ) → group < plan.groups → (place_in p group).epoch ≤ (place_in q group).epoch
-  pub copies : (group f x : ℕ) (q : Contents) → IsMade world (CopyReport group f x q) → IsCopy world group q
+  pub copies : (group f x s : ℕ) (p : Piece) (c : Contents) → IsMade world (CopyReport group f x s p c) → IsCopy world group (held group x s)
   pub reports : (group : ℕ) (l : Label) (x : ℕ) (q : Contents) → IsMade world (Report group l x q) → IsCopy world group q
-  pub acks_copies : (group v a x s f : ℕ) (q : Contents) → IsMade world (Ack group (label v a) x s) → IsMade world (CopyReport group f x q) → a < f → Covers world group v s q
+  pub acks_copies : (group v a x m f s : ℕ) (p : Piece) (c : Contents) → IsMade world (Ack group (label v a) x m) → IsMade world (CopyReport group f x s p c) → a < f → Covers world group v m (held group x s)
   pub acks_reports : (group v a x s : ℕ) (l : Label) (q : Contents) → IsMade world (Ack group (label v a) x s) → IsMade world (Report group l x q) → v < l.volume → Covers world group v s q
-  pub history : IsHistory plan world world.messages
+  pub history : IsHistory plan held world world.messages

@@ -2,7 +2,7 @@
 use Rattle.std.proofs.Common.{◌≡◌, ◌≢◌, ℕ, ◌≤◌, List, ◌++◌, length, take, refl, sym, ap, ◌∙◌, subst, arith}
 use mathlib.Core.List.{IsPrefix}
 use Rattle.volume_model.specs.declared.fault.Fault.{Fault}
-use Rattle.volume_model.specs.declared.fault.Fault.TheVariants.{Short, BadField, Trailing, NoMemory, BadCount, TooDeep, NotAMember, Malformed, NoSuchItem, NotDead, NoClash, NotAll, TooFewPicked, BadPair, CountTooSmall, BranchCount, BadParent, MemberReused, NoCertificate, Certificate, OverLimit, Superseded, NotInPlan, NoGroup, EpochsSpent, StaleVolume, StaleMember, AheadMember, NotInstalled, NotWhole, Full, AlreadyWhole, NotEnough, NoRecord, TailSegment, PointAhead, NotOpen, LimitReached, BadTransaction, LsnSpent, NotReady, AlreadyDone, NoLogRecord, NoMessage, NotAddressed, NoActor, NoSlot, JournalFull}
+use Rattle.volume_model.specs.declared.fault.Fault.TheVariants.{Short, BadField, Trailing, NoMemory, BadCount, TooDeep, NotAMember, Malformed, NoSuchItem, NotDead, NoClash, NotAll, TooFewPicked, BadPair, CountTooSmall, BranchCount, BadParent, MemberReused, NoCertificate, Certificate, OverLimit, Superseded, NotInPlan, NoGroup, EpochsSpent, StaleVolume, StaleMember, AheadMember, NotInstalled, NotWhole, Full, AlreadyWhole, NotEnough, NoRecord, BadPiece, TailSegment, PointAhead, SeriesSpent, NotOpen, LimitReached, BadTransaction, LsnSpent, NotReady, AlreadyDone, NoLogRecord, NoMessage, NotAddressed, NoActor, NoSlot, JournalFull}
 use Rattle.volume_model.specs.Plan.{Plan}
 use Rattle.volume_model.specs.World.{World, Event, step}
 use Rattle.volume_model.specs.Actor.{Actor, actor_of, Agree, Keeps}
@@ -97,8 +97,10 @@ module _ (plan : Plan) where
   told_longer slots cells number es fs event AlreadyWhole p room le h = own_longer number es fs event 56 (λ (e : 56 ≡ 80). omega (arith, e)) p le h
   told_longer slots cells number es fs event NotEnough p room le h = own_longer number es fs event 57 (λ (e : 57 ≡ 80). omega (arith, e)) p le h
   told_longer slots cells number es fs event NoRecord p room le h = own_longer number es fs event 58 (λ (e : 58 ≡ 80). omega (arith, e)) p le h
+  told_longer slots cells number es fs event BadPiece p room le h = own_longer number es fs event 59 (λ (e : 59 ≡ 80). omega (arith, e)) p le h
   told_longer slots cells number es fs event TailSegment p room le h = own_longer number es fs event 60 (λ (e : 60 ≡ 80). omega (arith, e)) p le h
   told_longer slots cells number es fs event PointAhead p room le h = own_longer number es fs event 61 (λ (e : 61 ≡ 80). omega (arith, e)) p le h
+  told_longer slots cells number es fs event SeriesSpent p room le h = own_longer number es fs event 62 (λ (e : 62 ≡ 80). omega (arith, e)) p le h
   told_longer slots cells number es fs event NotOpen p room le h = own_longer number es fs event 70 (λ (e : 70 ≡ 80). omega (arith, e)) p le h
   told_longer slots cells number es fs event LimitReached p room le h = own_longer number es fs event 71 (λ (e : 71 ≡ 80). omega (arith, e)) p le h
   told_longer slots cells number es fs event BadTransaction p room le h = own_longer number es fs event 72 (λ (e : 72 ≡ 80). omega (arith, e)) p le h
@@ -154,8 +156,10 @@ module _ (plan : Plan) where
   told_now slots cells number es event AlreadyWhole is agree h = own_noted number es event 56 (λ (e : 56 ≡ 80). omega (arith, e)) agree h
   told_now slots cells number es event NotEnough is agree h = own_noted number es event 57 (λ (e : 57 ≡ 80). omega (arith, e)) agree h
   told_now slots cells number es event NoRecord is agree h = own_noted number es event 58 (λ (e : 58 ≡ 80). omega (arith, e)) agree h
+  told_now slots cells number es event BadPiece is agree h = own_noted number es event 59 (λ (e : 59 ≡ 80). omega (arith, e)) agree h
   told_now slots cells number es event TailSegment is agree h = own_noted number es event 60 (λ (e : 60 ≡ 80). omega (arith, e)) agree h
   told_now slots cells number es event PointAhead is agree h = own_noted number es event 61 (λ (e : 61 ≡ 80). omega (arith, e)) agree h
+  told_now slots cells number es event SeriesSpent is agree h = own_noted number es event 62 (λ (e : 62 ≡ 80). omega (arith, e)) agree h
   told_now slots cells number es event NotOpen is agree h = own_noted number es event 70 (λ (e : 70 ≡ 80). omega (arith, e)) agree h
   told_now slots cells number es event LimitReached is agree h = own_noted number es event 71 (λ (e : 71 ≡ 80). omega (arith, e)) agree h
   told_now slots cells number es event BadTransaction is agree h = own_noted number es event 72 (λ (e : 72 ≡ 80). omega (arith, e)) agree h

@@ -1,19 +1,22 @@
 -- The invariant: facts of each actor and each message that, once true, stay true
-use Rattle.std.proofs.Common.{◌≡◌, ℕ, ◌<◌, ◌≤◌, true, false, ◌⊎◌, List, [], ◌∷◌, ◌++◌}
+use Rattle.std.proofs.Common.{◌≡◌, ℕ, ◌<◌, ◌≤◌, true, false, ◌⊎◌, Some, List, [], ◌∷◌, ◌++◌}
 use Rattle.volume_model.specs.Lists.{IsIn}
 use Rattle.volume_model.specs.Formula.{Members, sat}
 use Rattle.volume_model.specs.Redo.{Redo, scl, cut_of, log_found}
 use Rattle.volume_model.specs.Lineage.{birth, last_epoch, last_start, extended, Contents, found_in}
+use Rattle.volume_model.specs.Pieces.{Piece, Pieces, Copy}
 use Rattle.volume_model.specs.Plan.{Plan}
 use Rattle.volume_model.specs.Message.{Label, Place, Message, place_in}
 use Rattle.volume_model.specs.Message.Message.{View, StepTo, Fence, Report, Install, Write, Gossip, Ack, CopyAsk, CopyReport, PageAsk, Page}
 use Rattle.volume_model.specs.Node.{From, Node, senders, page_of}
 use Rattle.volume_model.specs.Client.{Client, Count, is_born, has_cut, place_of, reports_of, counts_of, group_point_of}
-use Rattle.volume_model.specs.ClientRecovery.{all_reports}
+use Rattle.volume_model.specs.ClientRecovery.{to_install, all_reports}
 use Rattle.volume_model.specs.World.{Authority, World, configuration_of}
 use Rattle.volume_model.proofs.Logs.{IsLink}
 use Rattle.volume_model.proofs.Ordered.{IsOrdered}
-use Rattle.volume_model.proofs.Invariant.{epoch_now, path, config, log_of, lineage_of, HasCut, IsMade, label, WasAt, IsCopy, IsSource, IsSourced, IsHistory}
+use Rattle.volume_model.specs.PieceLaws.{IsPieceOf}
+use Rattle.volume_model.proofs.Pieces.{ArePieces}
+use Rattle.volume_model.proofs.Invariant.{Held, epoch_now, path, config, log_of, found_of, lineage_of, HasCut, IsMade, label, WasAt, IsCopy, IsSource, IsSourced, IsHistory}
 
 -- an epoch of the group that has been, with its configuration
 pub record IsPlace (plan : Plan) (world : World) (group : ℕ) (place : Place) : Type 0 where
@@ -41,19 +44,29 @@ pub record NodeGrows (old new : Node) : Type 0 where
   pub epoch : old.place.epoch ≤ new.place.epoch
   pub whole : old.whole ≡ true → new.whole ≡ true
   pub contents : old.whole ≡ true → IsSource old.contents new.contents
+  pub copied : old.copied ≤ new.copied
 
 -- what is known of a whole node
-pub record IsWhole (plan : Plan) (world : World) (group x : ℕ) (node : Node) : Type 0 where
+pub record IsWhole (plan : Plan) (held : Held) (world : World) (group x : ℕ) (node : Node) : Type 0 where
   pub copy : IsCopy world group node.contents
   pub below : last_epoch node.contents.lineage ≤ node.volume
-  pub sourced : IsSourced plan world world.messages group x node.contents
+  pub sourced : IsSourced plan held world world.messages group x node.contents
   pub ordered : IsOrdered node.contents.records
 
+-- a member told this piece of its copy at an epoch
+abbrev pub IsToldCopy : World → ℕ → ℕ → ℕ → ℕ → Piece → Contents → Type 0
+IsToldCopy world group epoch sender series piece c = IsMade world (CopyReport group epoch sender series piece c)
+
+-- a client of this volume epoch told this piece of its install
+abbrev pub IsToldInstall : World → ℕ → ℕ → Piece → Contents → Type 0
+IsToldInstall world group volume piece c = (e : ℕ) × IsMade world (Install group (label volume e) piece c)
+
 -- what is known of a node
-pub record NodeKept (plan : Plan) (world : World) (group x : ℕ) (node : Node) : Type 0 where
+pub record NodeKept (plan : Plan) (held : Held) (world : World) (group x : ℕ) (node : Node) : Type 0 where
   pub place : (node.place.epoch ≡ 0) ⊎ IsPlace plan world group node.place
-  pub copies : (from : From) → IsIn from node.copies → IsMade world (CopyReport group node.place.epoch from.sender from.contents)
-  pub whole : node.whole ≡ true → IsWhole plan world group x node
+  pub copies : (copy : Copy) → IsIn copy node.copies → ArePieces (IsToldCopy world group node.place.epoch copy.sender) copy.pieces
+  pub install : (pieces : Pieces) → node.install ≡ Some pieces → ArePieces (IsToldInstall world group) pieces
+  pub whole : node.whole ≡ true → IsWhole plan held world group x node
 
 -- of a group, a client has read a read set of an epoch at which it was
 pub record HasRead (plan : Plan) (world : World) (v : ℕ) (client : Client) (parent group : ℕ) : Type 0 where
@@ -153,20 +166,38 @@ pub record IsView (plan : Plan) (world : World) (v : ℕ) (places : ℕ → Plac
   pub positive : 1 ≤ v
   pub standing : (group : ℕ) → group < plan.groups → IsPlace plan world group (places group)
 
+-- what a client that has cut installs in a group
+abbrev pub install_of : World → ℕ → ℕ → Contents
+install_of world group v = to_install (lineage_of world v) (found_of world v) group
+
+-- a piece of what a client that has cut installs
+pub record IsInstall (world : World) (group : ℕ) (l : Label) (piece : Piece) (c : Contents) : Type 0 where
+  pub cut : HasCut world l.volume
+  pub copy : IsCopy world group (install_of world group l.volume)
+  pub head : last_epoch (lineage_of world l.volume) ≡ l.volume
+  pub is : IsPieceOf (install_of world group l.volume) piece c
+
+-- a piece of what a member held when it told its copy of a number
+pub record IsCopied (held : Held) (world : World) (group f x s : ℕ) (piece : Piece) (c : Contents) : Type 0 where
+  pub copy : IsCopy world group (held group x s)
+  pub is : IsPieceOf (held group x s) piece c
+  pub epoch : f ≤ (world.nodes group x).place.epoch
+  pub number : s ≤ (world.nodes group x).copied
+
 -- what is known of a message
-abbrev pub MessageKept : Plan → World → Message → Type 0
-MessageKept plan world (View v places) = IsView plan world v (place_in places)
-MessageKept plan world (StepTo group place) = IsPlace plan world group place
-MessageKept plan world (Fence group l) = Unit {0}
-MessageKept plan world (Report group l x q) = IsCopy world group q × (l.volume ≤ (world.nodes group x).volume)
-MessageKept plan world (Install group l q) = IsCopy world group q × (last_epoch q.lineage ≡ l.volume) × IsOrdered q.records
-MessageKept plan world (Write group l r) = IsWrite world group l r
-MessageKept plan world (Gossip group l r) = IsWrite world group l r
-MessageKept plan world (Ack group l x s) = IsAck world group l x s
-MessageKept plan world (CopyAsk group f) = Unit {0}
-MessageKept plan world (CopyReport group f x q) = IsCopy world group q × (f ≤ (world.nodes group x).place.epoch)
-MessageKept plan world (PageAsk group l block point) = Unit {0}
-MessageKept plan world (Page group l x block point bytes) = IsPage world group l block point bytes
+abbrev pub MessageKept : Plan → Held → World → Message → Type 0
+MessageKept plan held world (View v places) = IsView plan world v (place_in places)
+MessageKept plan held world (StepTo group place) = IsPlace plan world group place
+MessageKept plan held world (Fence group l) = Unit {0}
+MessageKept plan held world (Report group l x q) = IsCopy world group q × (l.volume ≤ (world.nodes group x).volume)
+MessageKept plan held world (Install group l p c) = IsInstall world group l p c
+MessageKept plan held world (Write group l r) = IsWrite world group l r
+MessageKept plan held world (Gossip group l r) = IsWrite world group l r
+MessageKept plan held world (Ack group l x s) = IsAck world group l x s
+MessageKept plan held world (CopyAsk group f) = Unit {0}
+MessageKept plan held world (CopyReport group f x s p c) = IsCopied held world group f x s p c
+MessageKept plan held world (PageAsk group l block point) = Unit {0}
+MessageKept plan held world (Page group l x block point bytes) = IsPage world group l block point bytes
 
 -- what is known of the authority
 pub record AuthorityKept (plan : Plan) (authority : Authority) : Type 0 where
@@ -174,12 +205,12 @@ pub record AuthorityKept (plan : Plan) (authority : Authority) : Type 0 where
   pub there : (group : ℕ) → group < plan.groups → configuration_of authority group < plan.configurations group
 
 -- the invariant
-pub record IsKept (plan : Plan) (world : World) : Type 0 where
+pub record IsKept (plan : Plan) (held : Held) (world : World) : Type 0 where
   pub authority : AuthorityKept plan world.authority
-  pub nodes : (group x : ℕ) → group < plan.groups → NodeKept plan world group x (world.nodes group x)
+  pub nodes : (group x : ℕ) → group < plan.groups → NodeKept plan held world group x (world.nodes group x)
   pub clients : (v : ℕ) → ClientKept plan world v (world.clients v)
-  pub messages : (m : Message) → IsMade world m → MessageKept plan world m
+  pub messages : (m : Message) → IsMade world m → MessageKept plan held world m
   pub views_ordered : (u v : ℕ) (p q : List Place) → u < v → IsMade world (View u p) → IsMade world (View v q) → (group : ℕ) → group < plan.groups → (place_in p group).epoch ≤ (place_in q group).epoch
-  pub acks_copies : (group v a x s f : ℕ) (q : Contents) → IsMade world (Ack group (label v a) x s) → IsMade world (CopyReport group f x q) → a < f → Retains world group v s q
+  pub acks_copies : (group v a x m f s : ℕ) (p : Piece) (c : Contents) → IsMade world (Ack group (label v a) x m) → IsMade world (CopyReport group f x s p c) → a < f → Retains world group v m (held group x s)
   pub acks_reports : (group v a x s : ℕ) (l : Label) (q : Contents) → IsMade world (Ack group (label v a) x s) → IsMade world (Report group l x q) → v < l.volume → Retains world group v s q
-  pub history : IsHistory plan world world.messages
+  pub history : IsHistory plan held world world.messages

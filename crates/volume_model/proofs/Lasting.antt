@@ -19,7 +19,7 @@ use Rattle.volume_model.specs.World.Event.{Assign, Advance, Refresh, Issue, Take
 use Rattle.volume_model.specs.Headline.{Acknowledges, part_of, AcknowledgementsLast}
 use Rattle.volume_model.proofs.Basics.{any_passes, any_from, put-all, IsIn-append_right}
 use Rattle.volume_model.proofs.Logs.{IsChain, up_to-newer}
-use Rattle.volume_model.proofs.Kept.{IsKept}
+use Rattle.volume_model.proofs.Renewed.{IsKeptWorld}
 use Rattle.volume_model.proofs.Sound.{facts}
 use Rattle.volume_model.proofs.NodeSteps.{refuse_if-ok}
 use Rattle.volume_model.proofs.Run.{opening_kept, run_kept}
@@ -181,11 +181,11 @@ module _ (plan : Plan) (v : ℕ) (client : Client) where
       subst IsLater (Ok-is _ step h2) (same_lasts client)
   taken_lasts (StepTo group place) step h = cc
   taken_lasts (Fence group l) step h = cc
-  taken_lasts (Install group l c) step h = cc
+  taken_lasts (Install group l p c) step h = cc
   taken_lasts (Write group l r) step h = cc
   taken_lasts (Gossip group l r) step h = cc
   taken_lasts (CopyAsk group epoch) step h = cc
-  taken_lasts (CopyReport group epoch sender c) step h = cc
+  taken_lasts (CopyReport group epoch sender s p c) step h = cc
   taken_lasts (PageAsk group l block point) step h = cc
 
   take_lasts : (found : Option Message) (step : ClientStep) → take plan v client found ≡ Ok step → IsLater step
@@ -337,7 +337,7 @@ module _ (plan : Plan) (certified : IsCertified plan) (events more : List Event)
   abbrev end : World
   end = run plan before more
 
-  end_kept : IsKept plan end
+  end_kept : IsKeptWorld plan end
   end_kept = run_kept plan certified more before (run_kept plan certified events (opening plan) (opening_kept plan certified))
 
   -- the records that a writer has issued since, and that its log is a chain
@@ -361,7 +361,7 @@ module _ (plan : Plan) (certified : IsCertified plan) (events more : List Event)
     same_log = (lasts.log opened).1
 
     chain : IsChain (later ++ old.log)
-    chain = subst IsChain (sym same_log) (facts plan certified end end_kept v (cut_from_open new.stage open_now)).chain
+    chain = subst IsChain (sym same_log) (facts plan certified end end_kept.kept v (cut_from_open new.stage open_now)).chain
 
     -- an opened writer's durable point never falls
     rises : durable_point old ≤ durable_point new

@@ -24,8 +24,10 @@ use Rattle.volume_model.proofs.Filled.{IsFilled, filled}
 use Rattle.volume_model.proofs.Points.{reaching-some, reaching-from, best-greatest, grow_chain, all_complete, complete_greatest}
 use Rattle.volume_model.proofs.Invariant.{epoch_now, path, log_of, HasCut, label}
 use Rattle.volume_model.proofs.Kept.{IsPlace, IsKept, records_of}
+use Rattle.volume_model.proofs.Renewed.{IsKeptWorld}
 use Rattle.volume_model.proofs.NodeSteps.{refuse_if-ok}
-use Rattle.volume_model.proofs.ClientSteps.{put-same, every_below-all}
+use Rattle.volume_model.proofs.Basics.{every_below-all}
+use Rattle.volume_model.proofs.ClientSteps.{put-same}
 use Rattle.volume_model.proofs.Run.{run_kept, opening_kept}
 use Rattle.volume_model.proofs.Sound.{Facts, facts, is_sound, cut_client, records_within}
 use Rattle.volume_model.proofs.Finds.{run_tidy}
@@ -69,8 +71,11 @@ module _ (plan : Plan) (certified : IsCertified plan) (events : List Event) (v :
   abbrev client : Client
   client = world.clients v
 
-  kept : IsKept plan world
-  kept = run_kept plan certified events (opening plan) (opening_kept plan certified)
+  known : IsKeptWorld plan world
+  known = run_kept plan certified events (opening plan) (opening_kept plan certified)
+
+  kept : IsKept plan known.held world
+  kept = known.kept
 
   -- what the log found ends with
   found_ends : HasCut world v → EndsAt (last_cut client.lineage) client.found

@@ -6,7 +6,7 @@ use Rattle.volume_model.specs.Redo.{Redo, last_lsn, last_of_group, cut_of}
 use Rattle.volume_model.specs.Lineage.{Entry, Lineage, birth, last_epoch, last_start, Contents}
 use Rattle.volume_model.specs.Plan.{Plan, IsCertified}
 use Rattle.volume_model.specs.Message.{Label}
-use Rattle.volume_model.specs.Message.Message.{Report, Install, Write, Gossip, CopyReport}
+use Rattle.volume_model.specs.Message.Message.{Report, Write, Gossip}
 use Rattle.volume_model.specs.Client.{has_cut, is_open}
 use Rattle.volume_model.specs.World.{World, Event}
 use Rattle.volume_model.specs.Live.{EpochsGrow}
@@ -14,11 +14,12 @@ use Rattle.volume_model.specs.Orderly.{LinksFall, Brings, IsOrderly, RunsAreOrde
 use Rattle.volume_model.specs.Orderly.Brings.{in_node, in_log, in_report, in_install, in_copy, in_write, in_gossip}
 use Rattle.volume_model.proofs.Logs.{IsChain, prev_below}
 use Rattle.volume_model.proofs.Invariant.{log_of, lineage_of, HasCut, IsCopy}
-use Rattle.volume_model.proofs.Kept.{IsWrite, MessageKept, IsKept, records_of}
+use Rattle.volume_model.proofs.Kept.{IsWrite, install_of, IsInstall, IsCopied, MessageKept, IsKept, records_of}
 use Rattle.volume_model.proofs.Sound.{facts, cut_client}
 use Rattle.volume_model.proofs.Finds.{run_tidy}
 use Rattle.volume_model.proofs.Lasting.{cut_from_open}
-use Rattle.volume_model.proofs.Carried.{IsBare, ends_bare, end, kept, IsKnown, carried_known}
+use Rattle.volume_model.proofs.Pieces.{part_of_piece}
+use Rattle.volume_model.proofs.Carried.{IsBare, ends_bare, end, held, kept, IsKnown, carried_known}
 
 -- ---- a chain's links fall
 
@@ -67,7 +68,7 @@ module _ (plan : Plan) (certified : IsCertified plan) (events : List Event) wher
   abbrev world : World
   world = end plan certified events
 
-  is_kept : IsKept plan world
+  is_kept : IsKept plan (held plan certified events) world
   is_kept = kept plan certified events
 
   client_grows : (bound v : ℕ) → v < bound → HasCut world v → GrowTo (lineage_of world v) v
@@ -128,11 +129,15 @@ module _ (plan : Plan) (certified : IsCertified plan) (events : List Event) wher
   brought_falls : (r : Redo) → Brings world r → LinksFall r
   brought_falls r (in_node group x i) = node_falls group x r i
   brought_falls r (in_log v i) = client_falls v r i
-  brought_falls r (in_report group l x q made i) = (let k : MessageKept plan world (Report group l x q) = is_kept.messages _ made in copy_falls group q k.0 r i)
-  brought_falls r (in_install group l q made i) = (let k : MessageKept plan world (Install group l q) = is_kept.messages _ made in copy_falls group q k.0 r i)
-  brought_falls r (in_copy group f x q made i) = (let k : MessageKept plan world (CopyReport group f x q) = is_kept.messages _ made in copy_falls group q k.0 r i)
-  brought_falls r (in_write group l made) = (let k : MessageKept plan world (Write group l r) = is_kept.messages _ made in write_falls group l r k)
-  brought_falls r (in_gossip group l made) = (let k : MessageKept plan world (Gossip group l r) = is_kept.messages _ made in write_falls group l r k)
+  brought_falls r (in_report group l x q made i) = (let k : MessageKept plan (held plan certified events) world (Report group l x q) = is_kept.messages _ made in copy_falls group q k.0 r i)
+  brought_falls r (in_install group l p q made i) =
+      let k : IsInstall world group l p q = is_kept.messages _ made in
+      copy_falls group (install_of world group l.volume) k.copy r (part_of_piece (install_of world group l.volume) p q k.is r i)
+  brought_falls r (in_copy group f x s p q made i) =
+      let k : IsCopied (held plan certified events) world group f x s p q = is_kept.messages _ made in
+      copy_falls group (held plan certified events group x s) k.copy r (part_of_piece (held plan certified events group x s) p q k.is r i)
+  brought_falls r (in_write group l made) = (let k : MessageKept plan (held plan certified events) world (Write group l r) = is_kept.messages _ made in write_falls group l r k)
+  brought_falls r (in_gossip group l made) = (let k : MessageKept plan (held plan certified events) world (Gossip group l r) = is_kept.messages _ made in write_falls group l r k)
 
   orderly : IsOrderly world
   orderly = record {

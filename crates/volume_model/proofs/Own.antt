@@ -55,12 +55,12 @@ page_own plan group member node label block point = search (refuses_if {A = Node
 
 pub reaction_own : (plan : Plan) (group member : ℕ) (node : Node) (m : Message) → Refuses IsOwn (reaction plan group member node m)
 reaction_own plan group member node (Fence to label) = search (refuses_if {A = NodeStep} IsOwn) depth 12
-reaction_own plan group member node (Install to label contents) = search (refuses_if {A = NodeStep} IsOwn) depth 12
+reaction_own plan group member node (Install to label piece contents) = search (refuses_if {A = NodeStep} IsOwn) depth 12
 reaction_own plan group member node (Write to label r) = search (refuses_if {A = NodeStep} IsOwn) depth 12
 reaction_own plan group member node (Gossip to label r) = search (refuses_if {A = NodeStep} IsOwn) depth 12
 reaction_own plan group member node (StepTo to place) = search (refuses_if {A = NodeStep} IsOwn) depth 12
 reaction_own plan group member node (CopyAsk to epoch) = search (refuses_if {A = NodeStep} IsOwn) depth 12
-reaction_own plan group member node (CopyReport to epoch sender contents) = search (refuses_if {A = NodeStep} IsOwn) depth 12
+reaction_own plan group member node (CopyReport to epoch sender series piece contents) = search (refuses_if {A = NodeStep} IsOwn) depth 12
 reaction_own plan group member node (PageAsk to label block point) = let page = page_own plan group member node label block point in search (refuses_if {A = NodeStep} IsOwn, page) depth 12
 reaction_own plan group member node (View volume places) = tt
 reaction_own plan group member node (Report to label sender contents) = tt
@@ -152,11 +152,11 @@ taken_own plan volume client (Ack group label sender reached) = search (refuses_
 taken_own plan volume client (Page group label sender block point bytes) = search (refuses_if {A = ClientStep} IsOwnOfClient) depth 12
 taken_own plan volume client (StepTo group place) = tt
 taken_own plan volume client (Fence group label) = tt
-taken_own plan volume client (Install group label contents) = tt
+taken_own plan volume client (Install group label piece contents) = tt
 taken_own plan volume client (Write group label r) = tt
 taken_own plan volume client (Gossip group label r) = tt
 taken_own plan volume client (CopyAsk group epoch) = tt
-taken_own plan volume client (CopyReport group epoch sender contents) = tt
+taken_own plan volume client (CopyReport group epoch sender series piece contents) = tt
 taken_own plan volume client (PageAsk group label block point) = tt
 
 -- of a client that is born
@@ -167,11 +167,11 @@ taken_own_born plan volume client (Ack group label sender reached) born = search
 taken_own_born plan volume client (Page group label sender block point bytes) born = search (refuses_if {A = ClientStep} IsOwn, refuses_not {A = ClientStep} IsOwn, born) depth 12
 taken_own_born plan volume client (StepTo group place) born = tt
 taken_own_born plan volume client (Fence group label) born = tt
-taken_own_born plan volume client (Install group label contents) born = tt
+taken_own_born plan volume client (Install group label piece contents) born = tt
 taken_own_born plan volume client (Write group label r) born = tt
 taken_own_born plan volume client (Gossip group label r) born = tt
 taken_own_born plan volume client (CopyAsk group epoch) born = tt
-taken_own_born plan volume client (CopyReport group epoch sender contents) born = tt
+taken_own_born plan volume client (CopyReport group epoch sender series piece contents) born = tt
 taken_own_born plan volume client (PageAsk group label block point) born = tt
 
 -- a View is never refused for want of a client

@@ -1,7 +1,7 @@
 -- The numbers of the faults that actors find by themselves.
 use Rattle.std.proofs.Common.{◌≡◌, ◌≢◌, ℕ, ◌==◌, ◌||◌, Bool, true, false, Result, Ok, Err, refl, sym, ap, ◌∙◌, subst, true≢false, arith}
 use Rattle.volume_model.specs.declared.fault.Fault.{Fault}
-use Rattle.volume_model.specs.declared.fault.Fault.TheVariants.{Short, BadField, Trailing, NoMemory, BadCount, TooDeep, NotAMember, Malformed, NoSuchItem, NotDead, NoClash, NotAll, TooFewPicked, BadPair, CountTooSmall, BranchCount, BadParent, MemberReused, NoCertificate, Certificate, OverLimit, Superseded, NotInPlan, NoGroup, EpochsSpent, StaleVolume, StaleMember, AheadMember, NotInstalled, NotWhole, Full, AlreadyWhole, NotEnough, NoRecord, TailSegment, PointAhead, NotOpen, LimitReached, BadTransaction, LsnSpent, NotReady, AlreadyDone, NoLogRecord, NoMessage, NotAddressed, NoActor, NoSlot, JournalFull}
+use Rattle.volume_model.specs.declared.fault.Fault.TheVariants.{Short, BadField, Trailing, NoMemory, BadCount, TooDeep, NotAMember, Malformed, NoSuchItem, NotDead, NoClash, NotAll, TooFewPicked, BadPair, CountTooSmall, BranchCount, BadParent, MemberReused, NoCertificate, Certificate, OverLimit, Superseded, NotInPlan, NoGroup, EpochsSpent, StaleVolume, StaleMember, AheadMember, NotInstalled, NotWhole, Full, AlreadyWhole, NotEnough, NoRecord, BadPiece, TailSegment, PointAhead, SeriesSpent, NotOpen, LimitReached, BadTransaction, LsnSpent, NotReady, AlreadyDone, NoLogRecord, NoMessage, NotAddressed, NoActor, NoSlot, JournalFull}
 use Rattle.volume_model.specs.Numbers.{number_of}
 use Rattle.volume_model.specs.Told.{Refuses, IsOwn, refusal}
 
@@ -44,8 +44,10 @@ own-number Full h = refl
 own-number AlreadyWhole h = refl
 own-number NotEnough h = refl
 own-number NoRecord h = refl
+own-number BadPiece h = refl
 own-number TailSegment h = refl
 own-number PointAhead h = refl
+own-number SeriesSpent h = refl
 own-number NotOpen h = refl
 own-number LimitReached h = refl
 own-number BadTransaction h = refl
@@ -103,8 +105,10 @@ number-80 Full h = absurd (omega (arith, h))
 number-80 AlreadyWhole h = absurd (omega (arith, h))
 number-80 NotEnough h = absurd (omega (arith, h))
 number-80 NoRecord h = absurd (omega (arith, h))
+number-80 BadPiece h = absurd (omega (arith, h))
 number-80 TailSegment h = absurd (omega (arith, h))
 number-80 PointAhead h = absurd (omega (arith, h))
+number-80 SeriesSpent h = absurd (omega (arith, h))
 number-80 NotOpen h = absurd (omega (arith, h))
 number-80 LimitReached h = absurd (omega (arith, h))
 number-80 BadTransaction h = absurd (omega (arith, h))

@@ -241,7 +241,7 @@ log_grows plan certified events volume =
     let world : World = run plan (opening plan) events in
     let tidy : IsTidy (world.clients volume) = run_tidy plan events volume in
     elim (cases_Bool (has_cut (world.clients volume).stage)) [
-      | inl cut ↦ grow_chain (world.clients volume).log (facts plan certified world (run_kept plan certified events (opening plan) (opening_kept plan certified)) volume cut).chain
+      | inl cut ↦ grow_chain (world.clients volume).log (facts plan certified world (run_kept plan certified events (opening plan) (opening_kept plan certified)).kept volume cut).chain
       | inr not_cut ↦ elim (cases_Bool (is_open (world.clients volume).stage)) [
         | inl opened ↦ absurd (both_ways _ not_cut (cut_from_open (world.clients volume).stage opened))
         | inr closed ↦ subst NumbersGrow (sym (tidy.log_found closed ∙ tidy.none_found not_cut)) tt

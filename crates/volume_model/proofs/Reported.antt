@@ -10,14 +10,14 @@ use Rattle.volume_model.specs.World.{World, Event}
 use Rattle.volume_model.specs.Reported.{KeepsMade, ReportsWereMade}
 use Rattle.volume_model.proofs.Invariant.{label}
 use Rattle.volume_model.proofs.Kept.{IsKept}
-use Rattle.volume_model.proofs.Carried.{end, kept}
+use Rattle.volume_model.proofs.Carried.{end, held, kept}
 
 module _ (plan : Plan) (certified : IsCertified plan) (events : List Event) where
   -- the world of the run
   abbrev world : World
   world = end plan certified events
 
-  is_kept : IsKept plan world
+  is_kept : IsKept plan (held plan certified events) world
   is_kept = kept plan certified events
 
   report_made : (v group : ℕ) → v ≢ 1 → group < plan.groups → (from : From) → IsIn from (reports_of (world.clients v).groups group) → (member : ℕ) × IsIn (Report group (label v member) from.sender from.contents) world.messages
@@ -31,7 +31,11 @@ module _ (plan : Plan) (certified : IsCertified plan) (events : List Event) wher
       ]
 
   keeps_made : KeepsMade plan world
-  keeps_made = record { reports = report_made; copies = λ group x there. (is_kept.nodes group x there).copies }
+  keeps_made = record {
+    reports = report_made;
+    copies = λ group x there copy i kept j. ((is_kept.nodes group x there).copies copy i).each kept j;
+    installs = λ group x there pieces is kept j. ((is_kept.nodes group x there).install pieces is).each kept j;
+  }
 
 pub reports_were_made : ReportsWereMade
 reports_were_made plan certified events = keeps_made plan certified events

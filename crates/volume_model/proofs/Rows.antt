@@ -12,7 +12,7 @@ use Rattle.volume_model.specs.Formula.{member}
 use Rattle.volume_model.specs.WorkedPlans.{six_root, six_copies, both_sixes}
 use Rattle.volume_model.specs.Redo.{Redo, cut_of}
 use Rattle.volume_model.specs.Plan.{Configuration, Plan, has_member, is_fresh}
-use Rattle.volume_model.specs.Node.{gathered}
+use Rattle.volume_model.specs.Node.{gathered, installed}
 use Rattle.volume_model.specs.ClientPoints.{durable_point}
 use Rattle.volume_model.specs.ClientWriter.{Change}
 use Rattle.volume_model.specs.World.{Event, opening, run, results}
@@ -68,9 +68,11 @@ abbrev reopened : List Event
 reopened = recovered ++ deliver_to (0 ∷ 1 ∷ 2 ∷ 3 ∷ []) 25 ++ take_all 2 (26 ∷ 27 ∷ 28 ∷ 29 ∷ []) ++ Open 2 ∷ Issue 2 (write_of 5 102 ∷ []) ∷ Resend 2 14 ∷ Resend 2 4 ∷ []
 
 reopened_log : map (λ r. r.lsn) ((run six_copies (opening six_copies) reopened).clients 2).log ≡ 14 ∷ 3 ∷ 2 ∷ 1 ∷ []
+unfolding installed
 reopened_log = refl
 
 reopened_durable : durable_point ((run six_copies (opening six_copies) reopened).clients 2) ≡ 3
+unfolding installed
 reopened_durable = refl
 
 -- an acknowledgement of a later membership epoch isn't counted

@@ -16,12 +16,13 @@ use Rattle.volume_model.proofs.Chains.{scl-all}
 use Rattle.volume_model.proofs.Records.{of_group-has, of_group-from}
 use Rattle.volume_model.proofs.Ordered.{page_of-same, of_group-ordered}
 use Rattle.volume_model.proofs.Basics.{put-all}
-use Rattle.volume_model.proofs.Invariant.{IsMade, label, WasAt}
+use Rattle.volume_model.proofs.Invariant.{Held, IsMade, label, WasAt}
 use Rattle.volume_model.proofs.Kept.{IsPage, IsPlace, IsReached, NodeKept, ClientKept, IsKept}
 use Rattle.volume_model.proofs.Added.{MessageNew, message_added}
 use Rattle.volume_model.proofs.Changed.{volume_assigned, step_taken}
 use Rattle.volume_model.proofs.Sound.{is_sound, facts}
 use Rattle.volume_model.proofs.FromInvariant.{keeps_commits}
+use Rattle.volume_model.proofs.Renewed.{IsKeptWorld, renewed, renewed_kept, renewed_ready}
 use Rattle.volume_model.proofs.NodeSteps.{refuse_if-ok, deliver_kept, hydrate_kept, restart_kept, offer_kept}
 use Rattle.volume_model.proofs.ClientSteps.{issue_kept, take_kept, cut_kept, open_kept, resend_kept, read_kept}
 use Rattle.std.specs.Prelude.{slice_set}
@@ -58,15 +59,15 @@ place_in-each (suc n) f k h =
           ap (place_in (each_below n (λ k. true) f ++ f n ∷ [])) e ∙ place_in-last (each_below n (λ k. true) f) (f n) ∙ ap f (sym e'))
     ]
 
-module _ (plan : Plan) (certified : IsCertified plan) (world : World) (kept : IsKept plan world) where
+module _ (plan : Plan) (certified : IsCertified plan) {held : Held} (world : World) (kept : IsKept plan held world) where
   -- a step of the authority: a change, and then the message that it makes
-  authority_step : (answer : Result AuthorityStep Fault) → ((s : AuthorityStep) → answer ≡ Ok s → IsKept plan (record world { authority = s.authority }) × MessageNew plan (record world { authority = s.authority }) s.made) → IsKept plan (after_step world (of_authority world answer))
+  authority_step : (answer : Result AuthorityStep Fault) → ((s : AuthorityStep) → answer ≡ Ok s → IsKept plan held (record world { authority = s.authority }) × MessageNew plan held (record world { authority = s.authority }) s.made) → IsKept plan held (after_step world (of_authority world answer))
   authority_step (Err number) good = kept
   authority_step (Ok s) good = message_added plan certified (record world { authority = s.authority }) (good s refl).0 s.made (good s refl).1
 
   -- a step of the authority that keeps the invariant
   abbrev IsGood : AuthorityStep → Type 0
-  IsGood s = IsKept plan (record world { authority = s.authority }) × MessageNew plan (record world { authority = s.authority }) s.made
+  IsGood s = IsKept plan held (record world { authority = s.authority }) × MessageNew plan held (record world { authority = s.authority }) s.made
 
   as_answered : (s t : AuthorityStep) → ◌≡◌ {A = Result AuthorityStep Fault} (Ok s) (Ok t) → IsGood s → IsGood t
   as_answered s t e g = subst IsGood (Ok-is s t e) g
@@ -94,29 +95,40 @@ module _ (plan : Plan) (certified : IsCertified plan) (world : World) (kept : Is
       as_answered (record { made = View volume (places_now plan world.authority); authority = world.authority }) s h1
       (kept, (eqb-true volume world.authority.last_volume (not-false _ a), λ group there. place_in-each plan.groups (place_now plan world.authority) group there))
 
-  assign_kept : IsKept plan (after_step world (of_authority world (assigned plan world.authority)))
+  assign_kept : IsKept plan held (after_step world (of_authority world (assigned plan world.authority)))
   assign_kept = authority_step (assigned plan world.authority) assigned_good
 
-  advance_kept : (group c : ℕ) → IsKept plan (after_step world (of_authority world (advanced plan world.authority group c)))
+  advance_kept : (group c : ℕ) → IsKept plan held (after_step world (of_authority world (advanced plan world.authority group c)))
   advance_kept group c = authority_step (advanced plan world.authority group c) (advanced_good group c)
 
-  refresh_kept : (volume : ℕ) → IsKept plan (after_step world (of_authority world (refreshed plan world.authority volume)))
+  refresh_kept : (volume : ℕ) → IsKept plan held (after_step world (of_authority world (refreshed plan world.authority volume)))
   refresh_kept volume = authority_step (refreshed plan world.authority volume) (refreshed_good volume)
 
-  pub event_kept : (event : Event) → IsKept plan (after plan world event)
-  event_kept Assign = assign_kept
-  event_kept (Advance group c) = advance_kept group c
-  event_kept (Refresh volume) = refresh_kept volume
-  event_kept (Issue volume changes) = issue_kept plan certified world kept volume changes
-  event_kept (Take volume number) = take_kept plan certified world kept volume number
-  event_kept (Cut volume) = cut_kept plan certified world kept volume
-  event_kept (Open volume) = open_kept plan certified world kept volume
-  event_kept (Resend volume lsn) = resend_kept plan certified world kept volume lsn
-  event_kept (Read volume group block) = read_kept plan certified world kept volume group block
-  event_kept (Deliver group member number) = deliver_kept plan certified world kept group member number
-  event_kept (Hydrate group member) = hydrate_kept plan certified world kept group member
-  event_kept (Restart group member) = restart_kept plan certified world kept group member
-  event_kept (Offer group member lsn) = offer_kept plan certified world kept group member lsn
+  -- an event that no node tells a copy at
+  by_event : (event : Event) → IsKept plan held (after plan world event) → IsKeptWorld plan (after plan world event)
+  by_event event kept' = record { held = held; kept = kept' }
+
+  -- the event of a node, by what each member holds now
+  by_node : (event : Event) → IsKept plan (renewed held world) (after plan world event) → IsKeptWorld plan (after plan world event)
+  by_node event kept' = record { held = renewed held world; kept = kept' }
+
+  ready : IsKept plan (renewed held world) world
+  ready = renewed_kept plan world kept
+
+  pub event_kept : (event : Event) → IsKeptWorld plan (after plan world event)
+  event_kept Assign = by_event Assign assign_kept
+  event_kept (Advance group c) = by_event (Advance group c) (advance_kept group c)
+  event_kept (Refresh volume) = by_event (Refresh volume) (refresh_kept volume)
+  event_kept (Issue volume changes) = by_event (Issue volume changes) (issue_kept plan certified world kept volume changes)
+  event_kept (Take volume number) = by_event (Take volume number) (take_kept plan certified world kept volume number)
+  event_kept (Cut volume) = by_event (Cut volume) (cut_kept plan certified world kept volume)
+  event_kept (Open volume) = by_event (Open volume) (open_kept plan certified world kept volume)
+  event_kept (Resend volume lsn) = by_event (Resend volume lsn) (resend_kept plan certified world kept volume lsn)
+  event_kept (Read volume group block) = by_event (Read volume group block) (read_kept plan certified world kept volume group block)
+  event_kept (Deliver group member number) = by_node (Deliver group member number) (deliver_kept plan certified world ready (renewed_ready held world) group member number)
+  event_kept (Hydrate group member) = by_node (Hydrate group member) (hydrate_kept plan certified world ready (renewed_ready held world) group member)
+  event_kept (Restart group member) = by_node (Restart group member) (restart_kept plan certified world ready (renewed_ready held world) group member)
+  event_kept (Offer group member lsn) = by_node (Offer group member lsn) (offer_kept plan certified world ready (renewed_ready held world) group member lsn)
 
 module _ (plan : Plan) (certified : IsCertified plan) where
   -- the opening world
@@ -137,12 +149,17 @@ module _ (plan : Plan) (certified : IsCertified plan) where
         configuration = subst (λ c. 0 ≡ ancestor plan group (epoch_of plan group c - 1) c) (sym (at_first group there)) (ap (λ n. ancestor plan group n 0) d);
       }
 
-  opening_node : (group x : ℕ) → group < plan.groups → NodeKept plan start group x (born_node plan group x)
+  -- nothing was told yet
+  abbrev none_held : Held
+  none_held group x s = record { lineage = []; records = [] }
+
+  opening_node : (group x : ℕ) → group < plan.groups → NodeKept plan none_held start group x (born_node plan group x)
   opening_node group x there =
       elim (cases_Bool (has_member (plan.configuration group 0) x)) [
         | inl e ↦ rw e (record {
           place = inr (root_place group there);
-          copies = λ from i. absurd i;
+          copies = λ copy i. absurd i;
+          install = λ pieces e. cc;
           whole = λ h. record {
             copy = record { cut = refl; lineage = refl; records = λ r i. absurd i; found = λ r i g. absurd i };
             below = omega arith;
@@ -150,7 +167,7 @@ module _ (plan : Plan) (certified : IsCertified plan) where
             ordered = tt;
           };
         })
-        | inr e ↦ rw e (record { place = inl refl; copies = λ from i. absurd i; whole = λ h. absurd (true≢false (sym h)) })
+        | inr e ↦ rw e (record { place = inl refl; copies = λ copy i. absurd i; install = λ pieces e. cc; whole = λ h. absurd (true≢false (sym h)) })
       ]
 
   opening_client : (v : ℕ) → ClientKept plan start v (put (λ volume. unborn) 1 (first_writer plan) v)
@@ -170,26 +187,30 @@ module _ (plan : Plan) (certified : IsCertified plan) where
         points = λ group there. inl refl;
       })
 
-  pub opening_kept : IsKept plan start
-  opening_kept = record {
+  first_kept : IsKept plan none_held start
+  first_kept = record {
     authority = record { positive = omega arith; there = λ group there. subst (λ c. c < plan.configurations group) (sym (at_first group there)) (certified.root_there group there) };
     nodes = opening_node;
     clients = opening_client;
     messages = λ m i. absurd i;
     views_ordered = λ u v p q h i. absurd i;
-    acks_copies = λ group v a x s f q i. absurd i;
+    acks_copies = λ group v a x m f s p c i. absurd i;
     acks_reports = λ group v a x s l q i. absurd i;
     history = tt;
   }
 
-  pub run_kept : (events : List Event) (world : World) → IsKept plan world → IsKept plan (run plan world events)
-  run_kept [] world kept = kept
-  run_kept (event ∷ events) world kept = run_kept events (after plan world event) (event_kept plan certified world kept event)
+  pub opening_kept : IsKeptWorld plan start
+  opening_kept = record { held = none_held; kept = first_kept }
+
+  pub run_kept : (events : List Event) (world : World) → IsKeptWorld plan world → IsKeptWorld plan (run plan world events)
+  run_kept [] world known = known
+  run_kept (event ∷ events) world known = run_kept events (after plan world event) (event_kept plan certified world known.kept event)
 
   pages_true : (events : List Event) → SaysTruePages (run plan start events)
   pages_true events group l x block point bytes i =
       let world : World = run plan start events in
-      let kept : IsKept plan world = run_kept events start opening_kept in
+      let known : IsKeptWorld plan world = run_kept events start opening_kept in
+      let kept : IsKept plan known.held world = known.kept in
       let page : IsPage world group l block point bytes = kept.messages _ i in
       let log : List Redo = (world.clients l.volume).log in
       sym page.page ∙ page_of-same page.kept (of_group group log) block point page.ordered (of_group-ordered group log)
@@ -201,8 +222,8 @@ module _ (plan : Plan) (certified : IsCertified plan) where
 
   commits_kept : (events : List Event) → KeepsCommits (run plan start events)
   commits_kept events =
-      let kept : IsKept plan (run plan start events) = run_kept events start opening_kept in
-      keeps_commits plan certified (run plan start events) (is_sound plan certified (run plan start events) kept)
+      let known : IsKeptWorld plan (run plan start events) = run_kept events start opening_kept in
+      keeps_commits plan certified (run plan start events) (is_sound plan certified (run plan start events) known.kept)
 
 pub pages_are_true : PagesAreTrue
 pages_are_true plan certified events = pages_true plan certified events

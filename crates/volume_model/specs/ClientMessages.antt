@@ -73,11 +73,11 @@ is_for volume groups (Ack group label sender reached) = label.volume == volume &
 is_for volume groups (Page group label sender block point bytes) = label.volume == volume && (nat_lt group groups && nat_lt sender 64)
 is_for volume groups (StepTo group place) = false
 is_for volume groups (Fence group label) = false
-is_for volume groups (Install group label contents) = false
+is_for volume groups (Install group label piece contents) = false
 is_for volume groups (Write group label r) = false
 is_for volume groups (Gossip group label r) = false
 is_for volume groups (CopyAsk group epoch) = false
-is_for volume groups (CopyReport group epoch sender contents) = false
+is_for volume groups (CopyReport group epoch sender series piece contents) = false
 is_for volume groups (PageAsk group label block point) = false
 
 -- what a client does with a message
@@ -99,9 +99,9 @@ taken plan volume client (Page group label sender block point bytes) =
     if_born client (Ok (stays client)))
 taken plan volume client (StepTo group place) = Err NotAddressed
 taken plan volume client (Fence group label) = Err NotAddressed
-taken plan volume client (Install group label contents) = Err NotAddressed
+taken plan volume client (Install group label piece contents) = Err NotAddressed
 taken plan volume client (Write group label r) = Err NotAddressed
 taken plan volume client (Gossip group label r) = Err NotAddressed
 taken plan volume client (CopyAsk group epoch) = Err NotAddressed
-taken plan volume client (CopyReport group epoch sender contents) = Err NotAddressed
+taken plan volume client (CopyReport group epoch sender series piece contents) = Err NotAddressed
 taken plan volume client (PageAsk group label block point) = Err NotAddressed

@@ -1,10 +1,11 @@
 -- What a client does before it is open: it fences, takes reports, cuts, installs and opens.
 use Rattle.std.specs.Prelude.{ℕ, zero, suc, Bool, true, not, ◌&&◌, ◌==◌, nat_lt, if◌then◌else◌, List, [], ◌++◌, Ok, map, slice_set}
 use Rattle.volume_model.specs.Answer.{◌>>=◌}
-use Rattle.volume_model.specs.Lists.{every_below, each_below}
+use Rattle.volume_model.specs.Lists.{every_below, each_below, joined}
 use Rattle.volume_model.specs.Formula.{sat}
 use Rattle.volume_model.specs.Redo.{Redo, of_group, cut_of, log_found}
 use Rattle.volume_model.specs.Lineage.{Lineage, last_epoch, extension, Contents, newest, found_in}
+use Rattle.volume_model.specs.Pieces.{in_pieces}
 use Rattle.volume_model.specs.Plan.{Plan}
 use Rattle.volume_model.specs.Message.{Label, Place, Message, place_in}
 use Rattle.volume_model.specs.Message.Message.{Fence, Install}
@@ -19,10 +20,14 @@ use Rattle.volume_model.specs.ClientPoints.{counted_by, raised}
 abbrev pub fences : Plan → ℕ → (ℕ → Place) → (ℕ → Bool) → List Message
 fences plan volume places chosen = each_below plan.groups chosen (λ group. Fence group (label_of volume places group))
 
--- one Install for each chosen group
+-- what a client installs in a group
+abbrev pub to_install : Lineage → List Redo → ℕ → Contents
+to_install lineage found group = record { lineage = lineage; records = of_group group found }
+
+-- the pieces of the Installs of each chosen group, in order of group, then piece
 abbrev pub installs : Plan → ℕ → (ℕ → Place) → Lineage → List Redo → (ℕ → Bool) → List Message
 installs plan volume places lineage found chosen =
-    each_below plan.groups chosen (λ group. Install group (label_of volume places group) (record { lineage = lineage; records = of_group group found }))
+    joined (each_below plan.groups chosen (λ group. in_pieces (to_install lineage found group) (Install group (label_of volume places group))))
 
 -- birth, by the first View of its epoch that it takes
 abbrev pub born_client : Plan → ℕ → List Place → ClientStep
@@ -59,6 +64,16 @@ cut_step plan volume client found lineage = record {
   made = installs plan volume (place_of client.groups) lineage found (λ group. true);
   client = record client { stage = Installing; lineage = lineage; found = found; log = found };
 }
+
+-- the records that the reports hold, as far as they are live in the newest lineage
+abbrev pub live_reported : Plan → Client → List Redo
+live_reported plan client =
+    let reported = all_reports (reports_of client.groups) plan.groups in
+    found_in (newest reported) reported
+
+-- the log that a client finds by its reports
+abbrev pub log_reported : Plan → Client → List Redo
+log_reported plan client = log_found (live_reported plan client)
 
 -- what a cut leaves
 abbrev pub cut_client : Plan → ℕ → Client → ClientAnswer

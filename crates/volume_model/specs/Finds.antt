@@ -2,6 +2,7 @@
 use Rattle.std.specs.Prelude.{◌≡◌, ℕ, true, List}
 use Rattle.volume_model.specs.Lists.{IsIn}
 use Rattle.volume_model.specs.Lineage.{Lineage, Contents, last_epoch}
+use Rattle.volume_model.specs.Pieces.{Piece}
 use Rattle.volume_model.specs.Message.{Label}
 use Rattle.volume_model.specs.Message.Message.{Report, Install, CopyReport}
 use Rattle.volume_model.specs.Plan.{Plan, IsCertified}
@@ -23,8 +24,8 @@ pub data Carries (world : World) (lineage : Lineage) : Type 0 where
   by_node : (group member : ℕ) → (world.nodes group member).contents.lineage ≡ lineage → Carries world lineage
   by_client : (volume : ℕ) → (world.clients volume).lineage ≡ lineage → Carries world lineage
   by_report : (group : ℕ) (label : Label) (sender : ℕ) (contents : Contents) → IsIn (Report group label sender contents) world.messages → contents.lineage ≡ lineage → Carries world lineage
-  by_install : (group : ℕ) (label : Label) (contents : Contents) → IsIn (Install group label contents) world.messages → contents.lineage ≡ lineage → Carries world lineage
-  by_copy : (group epoch sender : ℕ) (contents : Contents) → IsIn (CopyReport group epoch sender contents) world.messages → contents.lineage ≡ lineage → Carries world lineage
+  by_install : (group : ℕ) (label : Label) (piece : Piece) (contents : Contents) → IsIn (Install group label piece contents) world.messages → contents.lineage ≡ lineage → Carries world lineage
+  by_copy : (group epoch sender series : ℕ) (piece : Piece) (contents : Contents) → IsIn (CopyReport group epoch sender series piece contents) world.messages → contents.lineage ≡ lineage → Carries world lineage
 
 -- two lineages of one world with the same last volume epoch are the same lineage
 abbrev pub HasOneLineageAnEpoch : World → Type 0

@@ -7,6 +7,7 @@ pub mod Lists
 pub mod Sets
 pub mod Redo
 pub mod Lineage
+pub mod Pieces
 pub mod Plan
 pub mod Claims
 pub mod Message
@@ -37,4 +38,5 @@ pub mod WorkedPlans
 pub mod Opens
 pub mod Orderly
 pub mod Reported
+pub mod PieceLaws
 pub mod Few

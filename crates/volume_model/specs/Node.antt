@@ -1,15 +1,16 @@
-use Rattle.std.specs.Prelude.{ℕ, ◌+◌, Bool, true, false, not, ◌&&◌, ◌==◌, nat_lt, nat_le, if◌then◌else◌, List, [], ◌∷◌, ◌++◌, Option, Some, None, Result, Ok, Err, length, map, max, take, drop, replicate}
+use Rattle.std.specs.Prelude.{ℕ, suc, ◌+◌, ◌^◌, Bool, true, false, not, ◌&&◌, ◌==◌, nat_lt, nat_le, if◌then◌else◌, List, [], ◌∷◌, ◌++◌, Option, Some, None, Result, Ok, Err, length, map, max, take, drop, replicate}
 use Rattle.volume_model.specs.Lists.{any, every}
 use Rattle.volume_model.specs.Answer.{◌>>=◌}
 use Rattle.volume_model.specs.Formula.{Formula, Members, sat}
 use Rattle.volume_model.specs.Redo.{Redo, with_record, holds_record, record_at, scl}
-use Rattle.volume_model.specs.Lineage.{birth, last_epoch, Contents, newest, found_in}
+use Rattle.volume_model.specs.Lineage.{Lineage, birth, last_epoch, Contents, newest, found_in}
+use Rattle.volume_model.specs.Pieces.{Piece, Pieces, Copy, most_pieces, in_pieces, is_bad_piece, is_complete, contents_in, united, with_install, pieces_from, with_copy, copied_by, brought}
 use Rattle.volume_model.specs.Plan.{Plan, has_member, is_full, is_configuration}
 use Rattle.volume_model.specs.Message.{Label, Place, Message}
 use Rattle.volume_model.specs.Message.Message.{View, StepTo, Fence, Report, Install, Write, Gossip, Ack, CopyAsk, CopyReport, PageAsk, Page}
 use Rattle.volume_model.specs.Refusal.{refuse_if}
 use Rattle.volume_model.specs.declared.fault.Fault.{Fault}
-use Rattle.volume_model.specs.declared.fault.Fault.TheVariants.{AheadMember, AlreadyWhole, Full, NoRecord, NotAddressed, NotEnough, NotInPlan, NotInstalled, NotWhole, PointAhead, StaleMember, StaleVolume, TailSegment}
+use Rattle.volume_model.specs.declared.fault.Fault.TheVariants.{AheadMember, AlreadyWhole, BadPiece, Full, NoRecord, NotAddressed, NotEnough, NotInPlan, NotInstalled, NotWhole, PointAhead, SeriesSpent, StaleMember, StaleVolume, TailSegment}
 
 -- what came from a sender
 pub record From : Type 0 where
@@ -17,13 +18,15 @@ pub record From : Type 0 where
   pub contents : Contents
 
 -- a segment of a group: its volume epoch, where its group stands as far as it was told, whether it is whole,
--- what it holds, and the copies that it has been sent
+-- what it holds, the pieces kept of the copies that it has been sent and of an install, and how often it has told a copy
 pub record Node : Type 0 where
   pub volume : ℕ
   pub place : Place
   pub whole : Bool
   pub contents : Contents
-  pub copies : List From
+  pub copies : List Copy
+  pub install : Option Pieces
+  pub copied : ℕ
 
 -- the last volume epoch of the lineage that it holds
 abbrev pub lineage_epoch : Node → ℕ
@@ -33,8 +36,8 @@ lineage_epoch node = last_epoch node.contents.lineage
 abbrev pub born_node : Plan → ℕ → ℕ → Node
 born_node plan group member =
     if has_member (plan.configuration group 0) member
-    then record { volume = 1; place = record { configuration = 0; epoch = 1 }; whole = true; contents = record { lineage = birth; records = [] }; copies = [] }
-    else record { volume = 0; place = record { configuration = 0; epoch = 0 }; whole = false; contents = record { lineage = []; records = [] }; copies = [] }
+    then record { volume = 1; place = record { configuration = 0; epoch = 1 }; whole = true; contents = record { lineage = birth; records = [] }; copies = []; install = None; copied = 0 }
+    else record { volume = 0; place = record { configuration = 0; epoch = 0 }; whole = false; contents = record { lineage = []; records = [] }; copies = []; install = None; copied = 0 }
 
 -- the member is one of the configuration that the node took last
 abbrev pub has_configuration : Plan → ℕ → ℕ → Node → Bool
@@ -89,9 +92,27 @@ take_record group member node label r =
       node = record node { contents = record { lineage = node.contents.lineage; records = records } };
     }))))
 
--- where the lineage is installed already nothing is replaced
-abbrev pub installed : Node → Label → Contents → Contents
-installed node label contents = if lineage_epoch node == label.volume then node.contents else contents
+-- what an install of these pieces comes to: nothing is answered until all are kept; then lineage and records are replaced, and the
+-- pieces dropped
+abbrev pub install_step : ℕ → ℕ → Node → Label → Lineage → Pieces → NodeStep
+install_step group member node label lineage pieces =
+    if is_complete pieces
+    then record {
+      made = ack_of group member label (united (contents_in pieces)) ∷ [];
+      node = record node { volume = label.volume; contents = record { lineage = lineage; records = united (contents_in pieces) }; install = None };
+    }
+    else record { made = []; node = record node { volume = label.volume; install = Some pieces } }
+
+-- a piece of an install; where the lineage is that of its volume epoch already, what is held is acknowledged, and nothing kept
+unfoldable pub installed : ℕ → ℕ → Node → Label → Piece → Contents → NodeStep
+installed group member node label piece contents =
+    if lineage_epoch node == label.volume
+    then record { made = ack_of group member label node.contents.records ∷ []; node = record node { volume = label.volume } }
+    else install_step group member node label contents.lineage (with_install node.install label.volume piece contents)
+
+-- how many copies a node may tell
+abbrev pub most_copies : ℕ
+most_copies = 2 ^ 62
 
 -- the bytes of a block's page with one record's write
 abbrev pub written : Redo → List ℕ → List ℕ
@@ -136,15 +157,12 @@ reaction plan group member node (Fence to label) =
       made = Report group label member node.contents ∷ [];
       node = record node { volume = label.volume };
     })))
-reaction plan group member node (Install to label contents) =
+reaction plan group member node (Install to label piece contents) =
     refuse_if (not (to == group && in_group group contents)) NotAddressed (
     label_checks node label (
-    refuse_if (nat_lt most_records (length contents.records)) Full (
-    let now = installed node label contents in
-    Ok (record {
-      made = ack_of group member label now.records ∷ [];
-      node = record node { volume = label.volume; contents = now };
-    }))))
+    refuse_if (nat_lt most_pieces piece.of) Full (
+    refuse_if (is_bad_piece node.install label.volume piece contents) BadPiece (
+    Ok (installed group member node label piece contents)))))
 reaction plan group member node (Write to label r) =
     refuse_if (not (to == group && r.group == group)) NotAddressed (take_record group member node label r)
 reaction plan group member node (Gossip to label r) =
@@ -155,20 +173,25 @@ reaction plan group member node (StepTo to place) =
     refuse_if (not (is_configuration plan group place.configuration place.epoch)) NotInPlan (
     Ok (record {
       made = if node.whole then [] else CopyAsk group place.epoch ∷ [];
-      node = record node { place = place; copies = [] };
+      node = record node { place = place; copies = []; install = None };
     }))))
 reaction plan group member node (CopyAsk to epoch) =
     refuse_if (not (to == group)) NotAddressed (
     refuse_if (nat_lt epoch node.place.epoch) StaleMember (
     refuse_if (nat_lt node.place.epoch epoch) AheadMember (
     refuse_if (not node.whole) NotWhole (
-    Ok (record { made = CopyReport group epoch member node.contents ∷ []; node = node })))))
-reaction plan group member node (CopyReport to epoch sender contents) =
+    refuse_if (nat_le most_copies node.copied) SeriesSpent (
+    Ok (record {
+      made = in_pieces node.contents (CopyReport group epoch member (suc node.copied));
+      node = record node { copied = suc node.copied };
+    }))))))
+reaction plan group member node (CopyReport to epoch sender series piece contents) =
     refuse_if (not (to == group && in_group group contents && nat_lt sender 64)) NotAddressed (
     refuse_if node.whole AlreadyWhole (
     refuse_if (nat_lt epoch node.place.epoch) StaleMember (
     refuse_if (nat_lt node.place.epoch epoch) AheadMember (
-    Ok (record { made = []; node = record node { copies = with_first (record { sender = sender; contents = contents }) node.copies } })))))
+    refuse_if (is_bad_piece (pieces_from node.copies sender) series piece contents) BadPiece (
+    Ok (record { made = []; node = record node { copies = with_copy sender series piece contents node.copies } }))))))
 reaction plan group member node (PageAsk to label block point) =
     refuse_if (not (to == group)) NotAddressed (
     label_checks node label (
@@ -183,12 +206,12 @@ pub record Hydrated : Type 0 where
   pub volume : ℕ
   pub contents : Contents
 
--- From the copies of a read set a node gets the newest lineage, and all records that are live in it.
-abbrev pub finished : Formula → List From → Option Hydrated
+-- From the complete copies of a read set a node gets the newest lineage, and all records that are live in it.
+abbrev pub finished : Formula → List Copy → Option Hydrated
 finished read copies =
-    let lineage = newest (contents_of copies) in
-    if sat read (senders copies)
-    then Some (record { volume = last_epoch lineage; contents = record { lineage = lineage; records = found_in lineage (contents_of copies) } })
+    let lineage = newest (brought copies) in
+    if sat read (copied_by copies)
+    then Some (record { volume = last_epoch lineage; contents = record { lineage = lineage; records = found_in lineage (brought copies) } })
     else None
 
 -- what copies come to, refused where they are not enough
@@ -204,7 +227,7 @@ gathered plan group member node =
 
 -- the node that has become whole
 abbrev pub whole_node : Node → Hydrated → Node
-whole_node node h = record { volume = max node.volume h.volume; place = node.place; whole = true; contents = h.contents; copies = node.copies }
+whole_node node h = record node { volume = max node.volume h.volume; whole = true; contents = h.contents }
 
 -- a node becomes what its copies make of it, unless these are more records than it may hold
 abbrev pub whole_from : Node → Hydrated → NodeAnswer
@@ -214,9 +237,9 @@ whole_from node h = refuse_if (nat_lt most_records (length h.contents.records)) 
 abbrev pub hydrated : Plan → ℕ → ℕ → Node → NodeAnswer
 hydrated plan group member node = refuse_if node.whole AlreadyWhole (gathered plan group member node >>= whole_from node)
 
--- what a restart leaves
+-- what a restart leaves: all but the pieces
 abbrev pub restarted : Node → Node
-restarted node = record node { copies = [] }
+restarted node = record node { copies = []; install = None }
 
 -- the Gossip of a record that was found
 abbrev pub gossip_of : ℕ → Node → Option Redo → NodeAnswer

@@ -3,6 +3,7 @@ use Rattle.std.specs.Prelude.{ℕ, ◌<◌, List}
 use Rattle.volume_model.specs.Lists.{IsIn}
 use Rattle.volume_model.specs.Redo.{Redo}
 use Rattle.volume_model.specs.Lineage.{Lineage, Contents}
+use Rattle.volume_model.specs.Pieces.{Piece}
 use Rattle.volume_model.specs.Message.{Label}
 use Rattle.volume_model.specs.Message.Message.{Report, Install, Write, Gossip, CopyReport}
 use Rattle.volume_model.specs.Plan.{Plan, IsCertified}
@@ -20,8 +21,8 @@ pub data Brings (world : World) (r : Redo) : Type 0 where
   in_node : (group member : ℕ) → IsIn r (world.nodes group member).contents.records → Brings world r
   in_log : (volume : ℕ) → IsIn r (world.clients volume).log → Brings world r
   in_report : (group : ℕ) (label : Label) (sender : ℕ) (contents : Contents) → IsIn (Report group label sender contents) world.messages → IsIn r contents.records → Brings world r
-  in_install : (group : ℕ) (label : Label) (contents : Contents) → IsIn (Install group label contents) world.messages → IsIn r contents.records → Brings world r
-  in_copy : (group epoch sender : ℕ) (contents : Contents) → IsIn (CopyReport group epoch sender contents) world.messages → IsIn r contents.records → Brings world r
+  in_install : (group : ℕ) (label : Label) (piece : Piece) (contents : Contents) → IsIn (Install group label piece contents) world.messages → IsIn r contents.records → Brings world r
+  in_copy : (group epoch sender series : ℕ) (piece : Piece) (contents : Contents) → IsIn (CopyReport group epoch sender series piece contents) world.messages → IsIn r contents.records → Brings world r
   in_write : (group : ℕ) (label : Label) → IsIn (Write group label r) world.messages → Brings world r
   in_gossip : (group : ℕ) (label : Label) → IsIn (Gossip group label r) world.messages → Brings world r
 

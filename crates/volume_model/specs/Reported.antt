@@ -1,17 +1,19 @@
 -- What clients and nodes keep of what they were told is in messages that were made.
-use Rattle.std.specs.Prelude.{◌≢◌, ℕ, ◌<◌, List}
+use Rattle.std.specs.Prelude.{◌≡◌, ◌≢◌, ℕ, ◌<◌, List, Some}
 use Rattle.volume_model.specs.Lists.{IsIn}
-use Rattle.volume_model.specs.Message.Message.{Report, CopyReport}
+use Rattle.volume_model.specs.Pieces.{KeptPiece, Pieces, Copy, piece_in}
+use Rattle.volume_model.specs.Message.Message.{Report, Install, CopyReport}
 use Rattle.volume_model.specs.Node.{From}
 use Rattle.volume_model.specs.Plan.{Plan, IsCertified}
 use Rattle.volume_model.specs.Client.{reports_of}
 use Rattle.volume_model.specs.World.{World, Event, opening, run}
 
--- Each report that a client keeps of a group of the plan was made under its volume epoch, and each copy that a node keeps at
--- the membership epoch where it is. The first writer reads nothing.
+-- Each report that a client keeps of a group of the plan was made under its volume epoch, each piece that a node keeps of a copy at
+-- the membership epoch where it is, and each that it keeps of an install under the install's volume epoch. The first writer reads nothing.
 pub record KeepsMade (plan : Plan) (world : World) : Type 0 where
   pub reports : (volume group : ℕ) → volume ≢ 1 → group < plan.groups → (from : From) → IsIn from (reports_of (world.clients volume).groups group) → (member : ℕ) × IsIn (Report group (record { volume = volume; member = member }) from.sender from.contents) world.messages
-  pub copies : (group member : ℕ) → group < plan.groups → (from : From) → IsIn from (world.nodes group member).copies → IsIn (CopyReport group (world.nodes group member).place.epoch from.sender from.contents) world.messages
+  pub copies : (group member : ℕ) → group < plan.groups → (copy : Copy) → IsIn copy (world.nodes group member).copies → (kept : KeptPiece) → IsIn kept copy.pieces.kept → IsIn (CopyReport group (world.nodes group member).place.epoch copy.sender copy.pieces.series (piece_in copy.pieces kept) kept.contents) world.messages
+  pub installs : (group member : ℕ) → group < plan.groups → (pieces : Pieces) → (world.nodes group member).install ≡ Some pieces → (kept : KeptPiece) → IsIn kept pieces.kept → (epoch : ℕ) × IsIn (Install group (record { volume = pieces.series; member = epoch }) (piece_in pieces kept) kept.contents) world.messages
 
 -- over every list of events, from the opening world of a certified plan
 abbrev pub ReportsWereMade : Type 0

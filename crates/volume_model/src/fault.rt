@@ -80,10 +80,14 @@ pub enum Fault {
     NotEnough = 57,
     /// The segment holds no such record.
     NoRecord = 58,
+    /// No piece that can be one, or one of another number of pieces than those that are kept.
+    BadPiece = 59,
     /// The member keeps no whole pages.
     TailSegment = 60,
     /// The segment isn't complete up to the point.
     PointAhead = 61,
+    /// The node has told as many copies as it may.
+    SeriesSpent = 62,
     /// The client isn't an open writer.
     NotOpen = 70,
     /// The log would run too far ahead of the durable point.
@@ -157,8 +161,10 @@ impl Fault {
             Fault::AlreadyWhole => "AlreadyWhole",
             Fault::NotEnough => "NotEnough",
             Fault::NoRecord => "NoRecord",
+            Fault::BadPiece => "BadPiece",
             Fault::TailSegment => "TailSegment",
             Fault::PointAhead => "PointAhead",
+            Fault::SeriesSpent => "SeriesSpent",
             Fault::NotOpen => "NotOpen",
             Fault::LimitReached => "LimitReached",
             Fault::BadTransaction => "BadTransaction",

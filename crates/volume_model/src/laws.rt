@@ -11,6 +11,7 @@ ghost use Rattle.volume_model.specs.Opens.{OpensAtItsCut};
 ghost use Rattle.volume_model.specs.Few.{StepsAreFew};
 ghost use Rattle.volume_model.specs.Orderly.{RunsAreOrderly};
 ghost use Rattle.volume_model.specs.Reported.{ReportsWereMade};
+ghost use Rattle.volume_model.specs.PieceLaws.{PiecesMakeUp, PiecesUnite, PiecesAreOfOne};
 ghost use Rattle.volume_model.specs.WorkedPlans.{SixCopiesCertified, FullAndTailCertified, MemberReplacedCertified};
 
 /// A record is live in a lineage whose epochs grow exactly where its volume epoch has an entry, its number is above that
@@ -91,10 +92,27 @@ pub fn runs_are_orderly()
     ensures { RunsAreOrderly }
 {}
 
-/// In every run each report that a client keeps, and each copy that a node keeps, is in a message that was made: so what the law
-/// on orderly runs says of messages is so of them too.
+/// In every run each report that a client keeps, and each piece that a node keeps of a copy or of an install, is in a message that
+/// was made: so what the law on orderly runs says of messages is so of them too.
 pub fn reports_were_made()
     ensures { ReportsWereMade }
+{}
+
+/// No piece has more records than it may, all pieces together have the records that were cut, and so have all that are kept,
+/// in whatever order they came. Whether all are kept is told by their number.
+pub fn pieces_make_up()
+    ensures { PiecesMakeUp }
+{}
+
+/// What pieces hold together rests on which they are alone, and what complete copies bring may be united copy by copy.
+pub fn pieces_unite()
+    ensures { PiecesUnite }
+{}
+
+/// In every run the pieces that a node keeps of a sender's copy are of one whole, and those of an install are of what the client
+/// of that volume epoch installs.
+pub fn pieces_are_of_one()
+    ensures { PiecesAreOfOne }
 {}
 
 /// The plan of six copies is certified: one group whose members are 0 to 5, of which three read and four write.
@@ -112,8 +130,8 @@ pub fn member_replaced_certified()
     ensures { MemberReplacedCertified }
 {}
 
-/// A transaction makes at most one message a change, a message that a client takes or a cut at most one a group, a record sent again or a
-/// question for a page one.
+/// A transaction makes at most one message a change, a message that a client takes or a cut at most one a group and one for each 256
+/// records of the log found, a record sent again or a question for a page one. The log found has no more records than the reports hold.
 pub fn steps_are_few()
     ensures { StepsAreFew }
 {}

@@ -1,0 +1,110 @@
+-- What a member held when it told its copies: of those that it has not told yet, what it holds now
+use Rattle.std.proofs.Common.{◌≡◌, ℕ, suc, ◌≤◌, nat_le, List, [], ◌∷◌, if◌then◌else◌, refl, subst, inl, inr, arith}
+use Rattle.std.proofs.lemmas.Bool.{lt-leb, le-leb}
+use Rattle.volume_model.specs.Lists.{IsIn}
+use Rattle.volume_model.specs.Lineage.{Contents}
+use Rattle.volume_model.specs.Pieces.{Piece}
+use Rattle.volume_model.specs.Plan.{Plan}
+use Rattle.volume_model.specs.Message.{Message}
+use Rattle.volume_model.specs.Message.Message.{View, StepTo, Fence, Report, Install, Write, Gossip, Ack, CopyAsk, CopyReport, PageAsk, Page}
+use Rattle.volume_model.specs.Node.{Node}
+use Rattle.volume_model.specs.World.{World}
+use Rattle.volume_model.specs.PieceLaws.{IsPieceOf}
+use Rattle.volume_model.proofs.Invariant.{Held, IsMade, IsCopy, IsSource, IsSourced, MessageSourced, IsHistory}
+use Rattle.volume_model.proofs.Kept.{Retains, NodeKept, IsCopied, MessageKept, IsKept}
+
+-- the copies that were told, and what each member holds now as its next ones
+abbrev pub renewed : Held → World → Held
+renewed held world group x s = if nat_le s (world.nodes group x).copied then held group x s else (world.nodes group x).contents
+
+-- what each member holds now is what it will have held when it tells its next copy
+abbrev pub IsReady : Held → World → Type 0
+IsReady held world = (group x : ℕ) → held group x (suc (world.nodes group x).copied) ≡ (world.nodes group x).contents
+
+-- a world that is kept
+pub record IsKeptWorld (plan : Plan) (world : World) : Type 0 where
+  pub held : Held
+  pub kept : IsKept plan held world
+
+pub renewed_ready : (held : Held) (world : World) → IsReady (renewed held world) world
+renewed_ready held world group x = rw (lt-leb (suc (world.nodes group x).copied) (world.nodes group x).copied (omega arith)) refl
+
+module _ (plan : Plan) {held : Held} (world : World) (kept : IsKept plan held world) where
+  told_same : (group x s : ℕ) → s ≤ (world.nodes group x).copied → held group x s ≡ renewed held world group x s
+  told_same group x s l = rw (le-leb s (world.nodes group x).copied l) refl
+
+  made_same : (group f x s : ℕ) (p : Piece) (c : Contents) → IsMade world (CopyReport group f x s p c) → held group x s ≡ renewed held world group x s
+  made_same group f x s p c i = let k : IsCopied held world group f x s p c = kept.messages _ i in told_same group x s k.number
+
+  sourced_again : (older : List Message) → ((m : Message) → IsIn m older → IsMade world m) → (group x : ℕ) (q : Contents) → IsSourced plan held world older group x q → IsSourced plan (renewed held world) world older group x q
+  sourced_again older within group x q (inl h) = inl h
+  sourced_again older within group x q (inr h) = inr (record {
+    at = h.at;
+    positive = h.positive;
+    there = h.there;
+    member = h.member;
+    readers = h.readers;
+    reads = h.reads;
+    source = λ y r. (let (s, p, c, i, k) = h.source y r in (s, p, c, i, subst (λ z. IsSource z q) (made_same group h.at y s p c (within _ i)) k));
+  })
+
+  message_again : (older : List Message) → ((m : Message) → IsIn m older → IsMade world m) → (m : Message) → IsMade world m → MessageSourced plan held world older m → MessageSourced plan (renewed held world) world older m
+  message_again older within (Report group l x q) i h = sourced_again older within group x q h
+  message_again older within (CopyReport group f x s p c) i h =
+      subst (λ z. IsSourced plan (renewed held world) world older group x z) (made_same group f x s p c i) (sourced_again older within group x (held group x s) h)
+  message_again older within (View v places) i h = tt
+  message_again older within (StepTo group place) i h = tt
+  message_again older within (Fence group l) i h = tt
+  message_again older within (Install group l p c) i h = tt
+  message_again older within (Write group l r) i h = tt
+  message_again older within (Gossip group l r) i h = tt
+  message_again older within (Ack group l x s) i h = tt
+  message_again older within (CopyAsk group f) i h = tt
+  message_again older within (PageAsk group l block point) i h = tt
+  message_again older within (Page group l x block point bytes) i h = tt
+
+  history_again : (messages : List Message) → ((m : Message) → IsIn m messages → IsMade world m) → IsHistory plan held world messages → IsHistory plan (renewed held world) world messages
+  history_again [] within h = tt
+  history_again (m ∷ older) within h = (message_again older (λ k i. within k (inr i)) m (within m (inl refl)) h.0, history_again older (λ k i. within k (inr i)) h.1)
+
+  node_again : (group x : ℕ) (node : Node) → NodeKept plan held world group x node → NodeKept plan (renewed held world) world group x node
+  node_again group x node h = record {
+    place = h.place;
+    copies = h.copies;
+    install = h.install;
+    whole = λ w. record {
+      copy = (h.whole w).copy;
+      below = (h.whole w).below;
+      sourced = sourced_again world.messages (λ m i. i) group x node.contents (h.whole w).sourced;
+      ordered = (h.whole w).ordered;
+    };
+  }
+
+  kept_again : (m : Message) → IsMade world m → MessageKept plan held world m → MessageKept plan (renewed held world) world m
+  kept_again (View v places) i h = h
+  kept_again (StepTo group place) i h = h
+  kept_again (Fence group l) i h = tt
+  kept_again (Report group l x q) i h = h
+  kept_again (Install group l p c) i h = h
+  kept_again (Write group l r) i h = h
+  kept_again (Gossip group l r) i h = h
+  kept_again (Ack group l x s) i h = h
+  kept_again (CopyAsk group f) i h = tt
+  kept_again (CopyReport group f x s p c) i h =
+      let same : held group x s ≡ renewed held world group x s = made_same group f x s p c i in
+      record { copy = subst (λ z. IsCopy world group z) same h.copy; is = subst (λ z. IsPieceOf z p c) same h.is; epoch = h.epoch; number = h.number }
+  kept_again (PageAsk group l block point) i h = tt
+  kept_again (Page group l x block point bytes) i h = h
+
+  -- so a kept world stays so with what its members hold now as their next copies
+  pub renewed_kept : IsKept plan (renewed held world) world
+  renewed_kept = record {
+    authority = kept.authority;
+    nodes = λ group x there. node_again group x (world.nodes group x) (kept.nodes group x there);
+    clients = kept.clients;
+    messages = λ m i. kept_again m i (kept.messages m i);
+    views_ordered = kept.views_ordered;
+    acks_copies = λ group v a x m f s p c i j h. subst (λ z. Retains world group v m z) (made_same group f x s p c j) (kept.acks_copies group v a x m f s p c i j h);
+    acks_reports = kept.acks_reports;
+    history = history_again world.messages (λ m i. i) kept.history;
+  }
