@@ -2,10 +2,9 @@
 use Rattle.std.proofs.Common.{◌≡◌, ◌==◌, ℕ, true, List, [], ◌∷◌, ◌++◌, Option, Some, None, refl, sym, ap, subst, inl, inr, eq-eqb, eqb-true}
 use Rattle.std.proofs.lemmas.Bool.{and_parts}
 use Rattle.volume_model.specs.Lists.{every}
-use Rattle.volume_model.specs.Redo.{Redo, with_record}
+use Rattle.volume_model.specs.Redo.{Redo, with_record, with_records}
 use Rattle.volume_model.proofs.Basics.{IsIn-append}
 use Rattle.redo_record.specs.Groups.{AreOf, IsHome}
-use Rattle.redo_record.specs.Union.{with_records}
 use Rattle.redo_record.proofs.Places.{with_record-from}
 use Rattle.redo_record.proofs.Merging.{with_records-from}
 

@@ -2,6 +2,7 @@ pub mod Payload
 pub mod Record
 pub mod Packet
 pub mod Shared
+pub mod Window
 pub mod Ranges
 pub mod Head
 pub mod Spelling

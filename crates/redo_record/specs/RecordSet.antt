@@ -2,8 +2,8 @@
 use Rattle.std.specs.Prelude.{List}
 use Rattle.volume_model.specs.Redo.{Redo}
 use Rattle.redo_record.specs.declared.record_set.RecordSet.{RecordSet}
-use Rattle.redo_record.specs.Shared.{redos_in}
+use Rattle.redo_record.specs.Window.{redos_seen}
 
 -- the records of a set, in their order
 abbrev pub records_of : RecordSet → List Redo
-records_of set = redos_in set.packets
+records_of set = redos_seen set.packets

@@ -5,12 +5,14 @@ mod decoding;
 mod encoding;
 mod group;
 mod head;
+mod joining;
 mod packet;
 mod payload;
 mod record;
 mod record_set;
 mod shared;
 mod text;
+mod window;
 
 pub use decoding::decode;
 pub use encoding::encode;

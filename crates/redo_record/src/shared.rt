@@ -12,7 +12,7 @@ pub struct Shared {
 }
 
 impl Shared {
-    ghost use Rattle.std.specs.Prelude.{◌≡◌, ◌≤◌, [], ◌∷◌, ◌++◌, length, map, IfOk, OnOk, OnErr};
+    ghost use Rattle.std.specs.Prelude.{◌≡◌, ◌+◌, ◌≤◌, [], ◌∷◌, ◌++◌, length, map, take, drop, IfOk, OnOk, OnErr};
     ghost use Rattle.std.specs.List.{insert};
     ghost use Rattle.redo_record.specs.Packet.{packet_redo};
     ghost use Rattle.redo_record.specs.Shared.{redos_in};
@@ -45,6 +45,23 @@ impl Shared {
             Some(packets) => packets.as_slice(),
             None => &[],
         }
+    }
+
+    /// How many packets there are.
+    pub fn len(&self) -> usize
+        ensures { result ≡ length (redos_in self.now) }
+    {
+        self.as_slice().len()
+    }
+
+    /// Copies of so many packets, from one of them on, which are shared with nobody. Fails for want of memory alone.
+    pub fn part(&self, from: usize, len: usize) -> Result<Shared, AllocError>
+        requires { from + len ≤ length (redos_in self.now) }
+        ensures { IfOk result (λ part. redos_in part ≡ take len (drop from (redos_in self.now))) }
+    {
+        let mut packets: Vec<Packet> = Vec::new(self.alloc);
+        packets.extend_from_slice(&self.as_slice()[from..from + len])?;
+        Shared::from_vec(self.alloc, packets)
     }
 
     /// Adds a packet at the end. Where memory runs out the packets are what they were.

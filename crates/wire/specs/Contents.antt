@@ -1,4 +1,6 @@
+use Rattle.std.specs.Prelude.{ℕ}
 use Rattle.volume_model.specs.Lineage as model
+use Rattle.volume_model.specs.Pieces.{Piece}
 use Rattle.lineage.specs.Lineage.{lineage_of}
 use Rattle.redo_record.specs.RecordSet.{records_of}
 use Rattle.wire.specs.declared.contents.Contents.{Contents}
@@ -6,3 +8,7 @@ use Rattle.wire.specs.declared.contents.Contents.{Contents}
 -- the contents of the model that contents are
 abbrev pub contents_of : Contents → model.Contents
 contents_of contents = record { lineage = lineage_of contents.lineage; records = records_of contents.records }
+
+-- the piece of a number, of so many
+abbrev pub piece_in : ℕ → ℕ → Piece
+piece_in piece of = record { number = piece; of = of }

@@ -5,7 +5,7 @@ use Rattle.wire.specs.declared.label.Label.{Label}
 use Rattle.wire.specs.declared.label.Place.{Place}
 use Rattle.wire.specs.declared.message.Message.{Message}
 use Rattle.wire.specs.declared.message.Message.TheVariants.{View, StepTo, Fence, Report, Install, Write, Gossip, Ack, CopyAsk, CopyReport, PageAsk, Page}
-use Rattle.wire.specs.Contents.{contents_of}
+use Rattle.wire.specs.Contents.{contents_of, piece_in}
 
 -- the label of the model that a label is
 abbrev pub label_of : Label → model.Label
@@ -21,12 +21,12 @@ message_of (View m) = model.Message.View m.volume (map place_of m.places.items)
 message_of (StepTo m) = model.Message.StepTo m.group (place_of m.place)
 message_of (Fence m) = model.Message.Fence m.group (label_of m.label)
 message_of (Report m) = model.Message.Report m.group (label_of m.label) m.from (contents_of m.contents)
-message_of (Install m) = model.Message.Install m.group (label_of m.label) (contents_of m.contents)
+message_of (Install m) = model.Message.Install m.group (label_of m.label) (piece_in m.piece m.of) (contents_of m.contents)
 message_of (Write m) = model.Message.Write m.group (label_of m.label) (packet_redo m.packet)
 message_of (Gossip m) = model.Message.Gossip m.group (label_of m.label) (packet_redo m.packet)
 message_of (Ack m) = model.Message.Ack m.group (label_of m.label) m.from m.scl
 message_of (CopyAsk m) = model.Message.CopyAsk m.group m.epoch
-message_of (CopyReport m) = model.Message.CopyReport m.group m.epoch m.from (contents_of m.contents)
+message_of (CopyReport m) = model.Message.CopyReport m.group m.epoch m.from m.series (piece_in m.piece m.of) (contents_of m.contents)
 message_of (PageAsk m) = model.Message.PageAsk m.group (label_of m.label) m.block m.point
 message_of (Page m) = model.Message.Page m.group (label_of m.label) m.from m.block m.point m.bytes.value
 

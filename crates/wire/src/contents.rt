@@ -1,12 +1,19 @@
 //! What a segment holds.
 
-ghost use Rattle.std.specs.Prelude.{◌≡◌, IfOk};
+ghost use Rattle.std.specs.Prelude.{◌≡◌, length, IfOk};
 ghost use Rattle.volume_model.specs.Node.{in_group};
-ghost use Rattle.wire.specs.Contents.{contents_of};
+ghost use Rattle.volume_model.specs.Pieces.{is_piece, piece_of, pieces_of};
+ghost use Rattle.wire.specs.Contents.{contents_of, piece_in};
 
 use lineage::Lineage;
 use redo_record::RecordSet;
 use std::alloc::AllocError;
+
+/// Of how many pieces contents may be.
+pub const MOST_PIECES: u16 = 4096;
+
+/// How many records a piece may have.
+const MOST_IN_PIECE: usize = 256;
 
 /// What a segment holds, says that it holds, or is to hold.
 #[derive(Drop)]
@@ -23,6 +30,32 @@ impl Contents {
         ensures { result ≡ in_group group (contents_of self.now) }
     {
         self.records.is_of(group)
+    }
+
+    /// How many pieces it is cut into: one at least, none of them of more than 256 records.
+    pub fn pieces(&self) -> usize
+        ensures { result ≡ pieces_of (length (contents_of self.now).records) }
+    {
+        self.records.pieces()
+    }
+
+    /// The piece of this number, counted from 0. Fails for want of memory alone.
+    pub fn piece(&self, number: usize) -> Result<Contents, AllocError>
+        ensures { IfOk result (λ piece. contents_of piece ≡ piece_of (contents_of self.now) number) }
+    {
+        let lineage = self.lineage.clone()?;
+        Ok(Contents {
+            lineage,
+            records: self.records.piece(number)?,
+        })
+    }
+
+    /// Whether it can be the piece of this number of so many: there are 1 to 4,096, the number is below that, and it has no more than
+    /// 256 records.
+    pub fn is_piece(&self, piece: u16, of: u16) -> bool
+        ensures { result ≡ is_piece (piece_in piece of) (contents_of self.now) }
+    {
+        piece < of && of <= MOST_PIECES && self.records.len() <= MOST_IN_PIECE
     }
 }
 

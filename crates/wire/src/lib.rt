@@ -9,7 +9,7 @@ mod message;
 mod view;
 
 pub use carried::Carried;
-pub use contents::Contents;
+pub use contents::{Contents, MOST_PIECES};
 pub use label::{Label, Place};
 pub use list::only;
 pub use message::{

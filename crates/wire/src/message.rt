@@ -39,14 +39,18 @@ pub struct Report {
     pub contents: Contents,
 }
 
-/// What the nodes of a group are to hold.
+/// A piece of what the nodes of a group are to hold.
 #[derive(Drop)]
 pub struct Install {
     /// The group.
     pub group: u8,
     /// The epochs under which the recovery speaks.
     pub label: Label,
-    /// What they are to hold.
+    /// The number of the piece, from 0.
+    pub piece: u16,
+    /// How many pieces there are.
+    pub of: u16,
+    /// What the piece has of what they are to hold.
     pub contents: Contents,
 }
 
@@ -94,7 +98,7 @@ pub struct CopyAsk {
     pub epoch: u32,
 }
 
-/// What a node holds, told to one that isn't whole.
+/// A piece of what a node holds, told to one that isn't whole.
 #[derive(Drop)]
 pub struct CopyReport {
     /// The group.
@@ -103,7 +107,13 @@ pub struct CopyReport {
     pub epoch: u32,
     /// The member that holds the segment.
     pub from: u8,
-    /// What it holds.
+    /// How many copies the member has told, with this one.
+    pub series: u64,
+    /// The number of the piece, from 0.
+    pub piece: u16,
+    /// How many pieces there are.
+    pub of: u16,
+    /// What the piece has of what it holds.
     pub contents: Contents,
 }
 
@@ -148,7 +158,7 @@ pub enum Message {
     Fence(Fence),
     /// What a node holds, told to a recovery.
     Report(Report),
-    /// What nodes are to hold.
+    /// A piece of what nodes are to hold.
     Install(Install),
     /// A record of a writer's log.
     Write(Write),
@@ -158,7 +168,7 @@ pub enum Message {
     Ack(Ack),
     /// A question for copies.
     CopyAsk(CopyAsk),
-    /// What a node holds, told to one that isn't whole.
+    /// A piece of what a node holds, told to one that isn't whole.
     CopyReport(CopyReport),
     /// A question for a block's bytes.
     PageAsk(PageAsk),
@@ -188,7 +198,7 @@ impl Install {
     ghost use Rattle.volume_model.specs.Node.{in_group};
     ghost use Rattle.wire.specs.Contents.{contents_of};
 
-    /// Whether it is for the nodes of the group: it speaks of the group, and its records are those of the group.
+    /// Whether it is for the nodes of the group: it speaks of the group, and the records of the piece are those of the group.
     pub fn is_for(&self, group: u8) -> bool
         ensures { result ≡ (self.now.group == group && in_group group (contents_of self.now.contents)) }
     {
@@ -201,7 +211,8 @@ impl CopyReport {
     ghost use Rattle.volume_model.specs.Node.{in_group};
     ghost use Rattle.wire.specs.Contents.{contents_of};
 
-    /// Whether it is for the nodes of the group: it speaks of the group, its records are those of the group, and its sender is a member.
+    /// Whether it is for the nodes of the group: it speaks of the group, the records of the piece are those of the group, and its sender
+    /// is a member.
     pub fn is_for(&self, group: u8) -> bool
         ensures { result ≡ (self.now.group == group && in_group group (contents_of self.now.contents) && nat_lt self.now.from 64) }
     {

@@ -1,7 +1,7 @@
 use Rattle.std.proofs.Common.{ap, ◌∙◌}
 use Rattle.std.proofs.lemmas.Result.{IfOk-weaker}
 use Rattle.redo_record.specs.RecordSet.{records_of}
-use Rattle.redo_record.specs.Union.{with_records}
+use Rattle.volume_model.specs.Redo.{with_records}
 use Rattle.lineage.specs.Lineage.{lineage_of}
 use Rattle.lineage.proofs.LiveRecords.{with_live-is}
 use Rattle.lineage.proofs.lineage.Lineage.with_live.Goals as goal

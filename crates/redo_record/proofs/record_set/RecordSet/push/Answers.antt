@@ -4,7 +4,7 @@ use Rattle.redo_record.specs.Groups.{IsHome}
 use Rattle.redo_record.specs.Packet.{packet_redo}
 use Rattle.redo_record.specs.Order.{IsInOrder}
 use Rattle.redo_record.specs.RecordSet.{records_of}
-use Rattle.redo_record.specs.Shared.{redos_in}
+use Rattle.redo_record.specs.Window.{redos_seen}
 use Rattle.redo_record.proofs.Groups.{home-with_record}
 use Rattle.redo_record.proofs.Places.{with_record-after, in_order-with_record}
 use Rattle.redo_record.proofs.record_set.RecordSet.push.Goals as goal
@@ -19,7 +19,7 @@ pub invariant_of-self-2 : goal.invariant_of-self-2
 invariant_of-self-2 c =
     let ours : List Redo = records_of c.args.self.now in
     let r : Redo = packet_redo c.args.packet in
-    let all : with_record r ours ≡ redos_in c.push.new.self = with_record-after r ours c.requires ∙ sym c.in_ok-push.ensures.ok in
+    let all : with_record r ours ≡ redos_seen c.push.new.self = with_record-after r ours c.requires ∙ sym c.in_ok-push.ensures.ok in
     record {
       in_order = subst IsInOrder all (in_order-with_record r ours c.args.self.now.in_order);
       of_home = subst (IsHome c.home_with-home.result) all (home-with_record c.home_with-home.result r ours c.home_with-home.ensures);

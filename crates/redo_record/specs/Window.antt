@@ -1,0 +1,14 @@
+-- A part of packets that are shared.
+use Rattle.std.specs.Prelude.{◌≡◌, List, length, take, drop}
+use Rattle.volume_model.specs.Redo.{Redo}
+use Rattle.redo_record.specs.declared.window.Window.{Window}
+use Rattle.redo_record.specs.Shared.{redos_in}
+
+-- the records of the packets, in their order
+abbrev pub redos_seen : Window → List Redo
+redos_seen window = take window.len (drop window.from (redos_in window.shared))
+
+-- it is all of the list
+pub record IsWhole (window : Window) : Type 0 where
+  pub first : window.from ≡ 0
+  pub all : window.len ≡ length (redos_in window.shared)

@@ -1,0 +1,124 @@
+//! A part of packets that are shared.
+
+ghost use Rattle.std.specs.Prelude.{◌+◌, ◌≤◌, length};
+ghost use Rattle.redo_record.specs.Shared.{redos_in};
+
+use crate::packet::Packet;
+use crate::shared::Shared;
+use std::alloc::{AllocError, Global};
+
+/// Packets that are shared with their clones: all of a list, or some that stand one behind the other in it.
+#[derive(Drop)]
+pub struct Window {
+    shared: Shared,
+    from: usize,
+    len: usize,
+    ghost within: { from + len ≤ length (redos_in shared) },
+}
+
+impl Window {
+    ghost use Rattle.std.specs.Prelude.{◌≡◌, [], ◌∷◌, ◌++◌, map, take, drop, IfOk, OnOk, OnErr};
+    ghost use Rattle.std.specs.List.{insert};
+    ghost use Rattle.redo_record.specs.Packet.{packet_redo};
+    ghost use Rattle.redo_record.specs.Window.{redos_seen, IsWhole};
+
+    /// No packet.
+    pub fn new(alloc: Global) -> Window
+        ensures { redos_seen result ≡ [] }
+    {
+        Window {
+            shared: Shared::new(alloc),
+            from: 0,
+            len: 0,
+        }
+    }
+
+    /// These packets. Fails for want of memory alone.
+    pub fn from_vec(alloc: Global, packets: Vec<Packet>) -> Result<Window, AllocError>
+        ensures { IfOk result (λ window. redos_seen window ≡ map packet_redo packets.items) }
+    {
+        let shared = Shared::from_vec(alloc, packets)?;
+        let len = shared.len();
+        Ok(Window {
+            shared,
+            from: 0,
+            len,
+        })
+    }
+
+    /// The packets.
+    pub fn as_slice(&self) -> &[Packet]
+        ensures { map packet_redo result.now ≡ redos_seen self.now }
+    {
+        &self.shared.as_slice()[self.from..self.from + self.len]
+    }
+
+    /// So many of the packets, from one of them on, without a copy of them. Fails for want of memory alone.
+    pub fn part(&self, from: usize, len: usize) -> Result<Window, AllocError>
+        requires { from + len ≤ length (redos_seen self.now) }
+        ensures { IfOk result (λ part. redos_seen part ≡ take len (drop from (redos_seen self.now))) }
+    {
+        Ok(Window {
+            shared: self.shared.clone()?,
+            from: self.from + from,
+            len,
+        })
+    }
+
+    /// Leaves the list to its other owners where it has other packets too, and takes copies of its own.
+    fn make_whole(&mut self) -> Result<(), AllocError>
+        ensures ok { OnOk result (IsWhole self.new) }
+        ensures same { redos_seen self.new ≡ redos_seen self.old }
+    {
+        if self.len < self.shared.len() {
+            self.shared = self.shared.part(self.from, self.len)?;
+            self.from = 0;
+        }
+        Ok(())
+    }
+
+    /// Adds a packet at the end. Where memory runs out the packets are what they were.
+    pub fn push(&mut self, packet: Packet) -> Result<(), AllocError>
+        ensures ok { OnOk result (redos_seen self.new ≡ redos_seen self.old ++ packet_redo packet ∷ []) }
+        ensures err { OnErr result (redos_seen self.new ≡ redos_seen self.old) }
+    {
+        self.make_whole()?;
+        self.shared.push(packet)?;
+        self.len = self.shared.len();
+        Ok(())
+    }
+
+    /// Adds a packet at this place. Where memory runs out the packets are what they were.
+    pub fn insert(&mut self, place: usize, packet: Packet) -> Result<(), AllocError>
+        requires { place ≤ length (redos_seen self.old) }
+        ensures ok { OnOk result (redos_seen self.new ≡ insert (redos_seen self.old) place (packet_redo packet)) }
+        ensures err { OnErr result (redos_seen self.new ≡ redos_seen self.old) }
+    {
+        self.make_whole()?;
+        self.shared.insert(place, packet)?;
+        self.len = self.shared.len();
+        Ok(())
+    }
+
+    /// Adds packets at the end. Where memory runs out the packets are what they were.
+    pub fn extend_from_slice(&mut self, more: &[Packet]) -> Result<(), AllocError>
+        ensures ok { OnOk result (redos_seen self.new ≡ redos_seen self.old ++ map packet_redo more.now) }
+        ensures err { OnErr result (redos_seen self.new ≡ redos_seen self.old) }
+    {
+        self.make_whole()?;
+        self.shared.extend_from_slice(more)?;
+        self.len = self.shared.len();
+        Ok(())
+    }
+}
+
+impl Clone for Window {
+    ghost use Rattle.std.specs.Prelude.{◌≡◌};
+    ghost use Rattle.redo_record.specs.Window.{redos_seen};
+
+    ghost is_clone = { λ window copy. redos_seen copy ≡ redos_seen window };
+
+    fn clone(&self) -> Result<Window, AllocError> {
+        self.part(0, self.len)
+    }
+}
