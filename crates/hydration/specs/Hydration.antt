@@ -1,46 +1,78 @@
-use Rattle.std.specs.Prelude.{◌≡◌, ◌<◌, false, nat_le, List, [], ◌∷◌, ◌++◌, length, vec_capacity, Option, Some, None, Result, Ok}
+use Rattle.std.specs.Prelude.{◌≡◌, ℕ, zero, suc, ◌<◌, Bool, ◌==◌, nat_le, if◌then◌else◌, List, [], ◌∷◌, ◌++◌, length, vec_capacity, slice_index_or, Option, Some, None, option_map, Result, Ok}
 use Rattle.volume_model.specs.declared.fault.Fault.{Fault}
-use Rattle.volume_model.specs.declared.fault.Fault.TheVariants.{NotAddressed}
+use Rattle.volume_model.specs.declared.fault.Fault.TheVariants.{BadPiece, NotAddressed}
 use Rattle.volume_model.specs.Refusal.{refuse_if}
-use Rattle.volume_model.specs.Node.{From, Hydrated, senders, with_first}
+use Rattle.volume_model.specs.Node.{Hydrated}
+use Rattle.volume_model.specs.Pieces.{Copy, first_piece, is_bad_piece, pieces_from, with_copy}
 use Rattle.wire.specs.declared.message.CopyReport.{CopyReport}
-use Rattle.wire.specs.Contents.{contents_of}
-use Rattle.hydration.specs.declared.copied.Copied.{Copied}
+use Rattle.wire.specs.Contents.{contents_of, piece_in}
+use Rattle.hydration.specs.declared.change.Change.{Change}
+use Rattle.hydration.specs.declared.collected.Collected.{Collected}
+use Rattle.hydration.specs.declared.collected.Keeping.{Keeping}
+use Rattle.hydration.specs.declared.collected.Keeping.TheVariants.{New, At}
 use Rattle.hydration.specs.declared.copied.State.{State}
 use Rattle.hydration.specs.declared.hydration.Hydration.{Hydration}
-use Rattle.hydration.specs.Copies.{copy_of, copies_in}
+use Rattle.hydration.specs.Changes.{CanChange, changed}
+use Rattle.hydration.specs.Collected.{all_collected, collected_of}
 
--- the copies kept, in the order in which they came
-abbrev pub copies_of : Hydration → List From
-copies_of h = copies_in h.copies.items
+-- the copies kept, in the order in which their members' first pieces came
+abbrev pub copies_of : Hydration → List Copy
+copies_of h = all_collected h.copies.items
 
 -- what a node becomes, as the model says it
 abbrev pub state_of : State → Hydrated
 state_of s = record { volume = s.volume; contents = contents_of s.contents }
 
--- the copy of the model that a member's report is
-abbrev pub reported : CopyReport → From
-reported report = record { sender = report.from; contents = contents_of report.contents }
+-- it can't be a piece beside those that are kept of its sender
+abbrev pub is_bad : CopyReport → List Copy → Bool
+is_bad report copies = is_bad_piece (pieces_from copies report.from) report.series (piece_in report.piece report.of) (contents_of report.contents)
 
--- What is kept after a member's report: the first of each sender. A sender that is no member is refused.
-abbrev pub kept_after : CopyReport → List From → Result (List From) Fault
-kept_after report copies = refuse_if (nat_le 64 report.from) NotAddressed (Ok (with_first (reported report) copies))
+-- the copies with a member's piece more
+abbrev pub with_report : CopyReport → List Copy → List Copy
+with_report report copies = with_copy report.from report.series (piece_in report.piece report.of) (contents_of report.contents) copies
 
--- the copies, once one that was made ready is kept; none is made ready of a sender that has sent one before
-abbrev pub with_ready : Option Copied → List From → List From
-with_ready None copies = copies
-with_ready (Some copied) copies = copies ++ copy_of copied ∷ []
+-- What is kept after a piece that a member reports. A sender that is no member is refused, and then what can't be a piece.
+abbrev pub kept_after : CopyReport → List Copy → Result (List Copy) Fault
+kept_after report copies = refuse_if (nat_le 64 report.from) NotAddressed (refuse_if (is_bad report copies) BadPiece (Ok (with_report report copies)))
+
+-- the place of a sender's copy
+abbrev pub place_of : List Copy → ℕ → Option ℕ
+place_of [] sender = None
+place_of (copy ∷ rest) sender = if copy.sender == sender then Some 0 else option_map suc (place_of rest sender)
+
+-- the copies after a change of the one at a place
+abbrev pub changed_at : ℕ → Change → List Copy → List Copy
+changed_at place change [] = []
+changed_at zero change (copy ∷ rest) = record copy { pieces = changed change copy.pieces } ∷ rest
+changed_at (suc place) change (copy ∷ rest) = copy ∷ changed_at place change rest
+
+-- the copies, once a piece that was made ready is kept
+abbrev pub kept_by : Keeping → List Copy → List Copy
+kept_by (New collected) copies = copies ++ collected_of collected ∷ []
+kept_by (At place change) copies = changed_at place change copies
+
+-- it is the copy of a member of which no other piece is kept
+abbrev pub first_kept : CopyReport → Collected → Type 0
+first_kept report collected = collected_of collected ≡ record { sender = report.from; pieces = first_piece report.series (piece_in report.piece report.of) (contents_of report.contents) }
+
+-- by this change of the copy at a place the piece is kept
+abbrev pub kept_at : ℕ → CopyReport → List Copy → Change → Type 0
+kept_at place report copies change = changed_at place change copies ≡ with_report report copies
 
 -- the copies as they are
-abbrev pub just : Unit {0} → List From → List From
+abbrev pub just : Unit {0} → List Copy → List Copy
 just u copies = copies
 
--- there is room for the copy, and its sender has sent none before
-pub record CanKeep (h : Hydration) (copied : Copied) : Type 0 where
-  pub room : length h.copies.items < vec_capacity h.copies
-  pub new : senders (copies_of h) copied.from ≡ false
+-- there is room for a copy more
+abbrev pub HasRoom : Hydration → Type 0
+HasRoom h = length h.copies.items < vec_capacity h.copies
 
--- where there is a copy it can be kept
-abbrev pub CanKeepAny : Hydration → Option Copied → Type 0
-CanKeepAny h None = Unit {0}
-CanKeepAny h (Some copied) = CanKeep h copied
+-- the copy at this place can be changed so
+pub record CanChangeAt (h : Hydration) (place : ℕ) (change : Change) : Type 0 where
+  pub within : place < length h.copies.items
+  pub can : (d : Collected) → CanChange (slice_index_or h.copies.items place d).pieces change
+
+-- what was made ready can be kept
+abbrev pub CanKeep : Hydration → Keeping → Type 0
+CanKeep h (New collected) = HasRoom h
+CanKeep h (At place change) = CanChangeAt h place change

@@ -1,2 +1,6 @@
 pub mod Copies
+pub mod Kept
+pub mod Pieces
+pub mod Changes
+pub mod Collected
 pub mod Hydration

@@ -2,7 +2,7 @@
 
 ghost use Rattle.std.specs.Prelude.{◌≡◌, IfOk};
 ghost use Rattle.std.specs.FinSet as set;
-ghost use Rattle.volume_model.specs.Lineage.{found_in, newest, newest_with, with_found};
+ghost use Rattle.volume_model.specs.Lineage.{newest_with, with_found};
 ghost use Rattle.volume_model.specs.Node.{contents_of, senders};
 ghost use Rattle.lineage.specs.Lineage.{lineage_of};
 ghost use Rattle.redo_record.specs.RecordSet.{records_of};
@@ -35,14 +35,6 @@ pub fn newest_with<'a>(copies: &'a [Copied], last: &'a Lineage) -> &'a Lineage
     }
 }
 
-/// The newest of the copies' lineages, and none where there is no copy.
-pub(crate) fn newest_lineage(alloc: Global, copies: &[Copied]) -> Result<Lineage, AllocError>
-    ensures { IfOk result (λ lineage. lineage_of lineage ≡ newest (contents_of (copies_in copies.now))) }
-{
-    let none = Lineage::empty(alloc);
-    newest_with(copies, &none).clone()
-}
-
 /// A set of records with all those of the copies that are live in the lineage. Fails for want of memory alone.
 pub fn with_found(
     alloc: Global,
@@ -59,15 +51,4 @@ pub fn with_found(
             lineage.with_live(alloc, &first.contents.records, &found)
         }
     }
-}
-
-/// All records of the copies that are live in the lineage.
-pub(crate) fn found_in(
-    alloc: Global,
-    lineage: &Lineage,
-    copies: &[Copied],
-) -> Result<RecordSet, AllocError>
-    ensures { IfOk result (λ set. records_of set ≡ found_in (lineage_of lineage.now) (contents_of (copies_in copies.now))) }
-{
-    with_found(alloc, lineage, copies, RecordSet::new(alloc))
 }

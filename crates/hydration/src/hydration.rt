@@ -1,25 +1,30 @@
 //! Copies that are gathered until they are those of a read set.
 
-ghost use Rattle.std.specs.Prelude.{◌≡◌, [], ◌∷◌, ◌++◌, Err, Ok, IfOk, IsSome, OnErr, option_map};
+ghost use Rattle.std.specs.Prelude.{◌≡◌, ◌<◌, [], false, Err, Ok, Some, None, IfOk, IsSome, OnErr, option_map};
 ghost use Rattle.std.specs.FinSet as set;
 ghost use Rattle.volume_model.specs.Answer.{Answers, Gives};
+ghost use Rattle.volume_model.specs.Node.{finished};
+ghost use Rattle.volume_model.specs.Pieces.{copied_by, pieces_from};
 ghost use Rattle.volume_model.specs.declared.fault.Fault.TheVariants.{NoMemory};
 ghost use Rattle.quorum_expr.specs.Expr.{formula_of};
-ghost use Rattle.volume_model.specs.Node.{finished, senders};
-ghost use Rattle.hydration.specs.Copies.{copy_of};
-ghost use Rattle.hydration.specs.Hydration.{copies_of, just, kept_after, state_of, with_ready, CanKeep, CanKeepAny};
+ghost use Rattle.hydration.specs.Pieces.{seen_pieces};
+ghost use Rattle.hydration.specs.Hydration.{copies_of, first_kept, is_bad, just, kept_after, kept_at, kept_by, place_of, state_of, CanChangeAt, CanKeep, HasRoom};
 
-use crate::copied::{Copied, State};
-use crate::found::{found_in, newest_lineage, senders};
+use crate::brought::{copied_by, copied_in, newest_copied};
+use crate::change::Change;
+use crate::collected::{Collected, Keeping};
+use crate::copied::State;
+use crate::pieces::Pieces;
 use quorum_expr::{Expr, MEMBERS, MemberSet, holds};
-use std::alloc::Global;
+use std::alloc::{AllocError, Global};
 use volume_model::Fault;
 use wire::{Contents, CopyReport};
 
-/// Copies of what members hold, the first of each.
+/// Copies of what members hold, in pieces: of each member those of one series.
 #[derive(Drop)]
 pub struct Hydration {
-    copies: Vec<Copied>,
+    alloc: Global,
+    copies: Vec<Collected>,
 }
 
 impl Hydration {
@@ -28,52 +33,123 @@ impl Hydration {
         ensures { copies_of result ≡ [] }
     {
         Hydration {
+            alloc,
             copies: Vec::new(alloc),
         }
     }
 
-    /// The members from which there are copies.
+    /// The members whose copy is complete.
     pub fn senders(&self) -> MemberSet
-        ensures { set.contains result ≡ senders (copies_of self.now) }
+        ensures { set.contains result ≡ copied_by (copies_of self.now) }
     {
-        senders(&self.copies)
+        copied_by(&self.copies)
     }
 
-    /// Makes ready to keep what a member says that it holds: makes the room and the copy, and `None` where the member has sent one
-    /// before. `NotAddressed` where the sender is no member.
-    pub fn prepare(&mut self, report: &CopyReport) -> Result<Option<Copied>, Fault>
-        ensures copy { Answers with_ready (kept_after report.now (copies_of self.old)) (copies_of self.old) result (copies_of self.old) }
-        ensures ready { IfOk result (λ copied. CanKeepAny self.new copied) }
+    /// The place of a member's copy, `None` where no piece of it is kept.
+    fn place(&self, from: u8) -> Option<usize>
+        ensures { result ≡ place_of (copies_of self.now) from }
+    {
+        for (place, copy) in self.copies.iter().enumerate() {
+            if copy.from == from {
+                return Some(place);
+            }
+        }
+        None
+    }
+
+    /// The pieces that are kept of a member's copy, `None` where there is none.
+    fn pieces_from(&self, from: u8) -> Option<&Pieces>
+        ensures { option_map (λ pieces. seen_pieces pieces.now) result ≡ pieces_from (copies_of self.now) from }
+    {
+        let place = self.place(from)?;
+        Some(&self.copies[place].pieces)
+    }
+
+    /// Makes ready to keep a piece of a member of which none is kept: makes the room and the copy.
+    fn prepare_new(&mut self, report: &CopyReport) -> Result<Collected, AllocError>
+        requires member { report.now.from < 64 }
+        requires piece { report.now.piece < report.now.of }
+        ensures copy { IfOk result (first_kept report.now) }
+        ensures room { IfOk result (λ collected. HasRoom self.new) }
+        ensures same { copies_of self.new ≡ copies_of self.old }
+    {
+        self.copies.reserve(1)?;
+        let pieces = Pieces::first(
+            self.alloc,
+            report.series,
+            report.piece,
+            report.of,
+            &report.contents,
+        )?;
+        Ok(Collected {
+            from: report.from,
+            pieces,
+        })
+    }
+
+    /// Makes ready to keep a piece of the member whose copy stands in this place.
+    fn prepare_at(&mut self, place: usize, report: &CopyReport) -> Result<Change, AllocError>
+        requires place { place_of (copies_of self.old) report.now.from ≡ Some place }
+        requires piece { is_bad report.now (copies_of self.old) ≡ false }
+        ensures copy { IfOk result (kept_at place report.now (copies_of self.old)) }
+        ensures ready { IfOk result (CanChangeAt self.new place) }
+        ensures same { copies_of self.new ≡ copies_of self.old }
+    {
+        let alloc = self.alloc;
+        let pieces = &mut self.copies[place].pieces;
+        pieces.prepare_series(
+            alloc,
+            report.series,
+            report.piece,
+            report.of,
+            &report.contents,
+        )
+    }
+
+    /// Makes ready to keep a piece of what a member says that it holds: makes the room and the copy. `NotAddressed` where the sender is
+    /// no member, `BadPiece` where it can't be a piece beside those that are kept of the member.
+    pub fn prepare(&mut self, report: &CopyReport) -> Result<Keeping, Fault>
+        ensures copy { Answers kept_by (kept_after report.now (copies_of self.old)) (copies_of self.old) result (copies_of self.old) }
+        ensures ready { IfOk result (CanKeep self.new) }
         ensures same { copies_of self.new ≡ copies_of self.old }
     {
         if report.from >= MEMBERS {
             return Err(Fault::NotAddressed);
         }
-        if self.senders().contains(report.from) {
-            return Ok(None);
+        let kept = self.pieces_from(report.from);
+        if Pieces::is_bad(
+            kept,
+            report.series,
+            report.piece,
+            report.of,
+            &report.contents,
+        ) {
+            return Err(Fault::BadPiece);
         }
-        self.copies.reserve(1)?;
-        Ok(Some(Copied {
-            from: report.from,
-            contents: report.contents.clone()?,
-        }))
+        match self.place(report.from) {
+            Some(place) => Ok(Keeping::At(place, self.prepare_at(place, report)?)),
+            None => Ok(Keeping::New(self.prepare_new(report)?)),
+        }
     }
 
-    /// Keeps the copy that was made ready last.
-    pub fn keep(&mut self, copied: Copied)
-        requires { CanKeep self.old copied }
-        ensures { copies_of self.new ≡ copies_of self.old ++ copy_of copied ∷ [] }
+    /// Keeps the piece that was made ready last; takes no memory.
+    pub fn keep(&mut self, keeping: Keeping)
+        requires { CanKeep self.old keeping }
+        ensures { copies_of self.new ≡ kept_by keeping (copies_of self.old) }
     {
-        self.copies.push(copied).unwrap();
+        match keeping {
+            Keeping::New(collected) => self.copies.push(collected).unwrap(),
+            Keeping::At(place, change) => self.copies[place].pieces.apply(change),
+        }
     }
 
-    /// Keeps what a member says that it holds, where it is the member's first report. `NotAddressed` where the sender is no member.
+    /// Keeps a piece of what a member says that it holds: of each member one series is kept, and the first piece of each number.
+    /// `NotAddressed` where the sender is no member, `BadPiece` where it can't be a piece beside those that are kept of the member.
     pub fn take(&mut self, report: &CopyReport) -> Result<(), Fault>
         ensures { Answers just (kept_after report.now (copies_of self.old)) (copies_of self.old) result (copies_of self.new) }
     {
-        if let Some(copied) = self.prepare(report)? {
-            self.keep(copied);
-        }
+        let keeping = self.prepare(report)?;
+        self.keep(keeping);
         Ok(())
     }
 
@@ -84,7 +160,7 @@ impl Hydration {
         self.copies.clear();
     }
 
-    /// What a node becomes from these copies, where they are those of a read set; want of memory comes only where they are.
+    /// What a node becomes from the complete copies, where they are those of a read set; want of memory comes only where they are.
     pub fn finish(&self, alloc: Global, read: &Expr<Global>) -> Result<Option<State>, Fault>
         ensures state { Gives (option_map state_of) result (Ok (finished (formula_of read.now) (copies_of self.now))) }
         ensures memory { OnErr result (result ≡ Err NoMemory) }
@@ -94,8 +170,8 @@ impl Hydration {
             return Ok(None);
         }
         let copies = self.copies.as_slice();
-        let lineage = newest_lineage(alloc, copies)?;
-        let records = found_in(alloc, &lineage, copies)?;
+        let lineage = newest_copied(alloc, copies)?;
+        let records = copied_in(alloc, &lineage, copies)?;
         Ok(Some(State {
             volume: lineage.last_epoch(),
             contents: Contents { lineage, records },

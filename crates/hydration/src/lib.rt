@@ -1,10 +1,19 @@
-//! How a fresh member becomes whole: from copies of what the members of a read set hold.
+//! How a fresh member becomes whole: from copies of what the members of a read set hold, which come in pieces.
 #![tactic(auto)]
 
+mod brought;
+mod change;
+mod collected;
 mod copied;
 mod found;
 mod hydration;
+mod kept;
+mod pieces;
 
+pub use change::Change;
+pub use collected::{Collected, Keeping};
 pub use copied::{Copied, State};
 pub use found::{newest_with, senders, with_found};
 pub use hydration::Hydration;
+pub use kept::Kept;
+pub use pieces::Pieces;

@@ -1,0 +1,161 @@
+-- What complete copies bring.
+use Rattle.std.proofs.Common.{◌≡◌, ℕ, ◌+◌, ◌-◌, ◌<◌, Bool, true, false, ◌&&◌, ◌||◌, if◌then◌else◌, List, [], ◌∷◌, ◌++◌, length, get_or, take, drop, map, nat_eq, refl, sym, ap, ◌∙◌, arith}
+use Rattle.std.proofs.lemmas.Bool.Decides.{nat_tests}
+use Rattle.std.proofs.lemmas.List.{drop_more, take_more, take_all, map-append}
+use Rattle.std.specs.Prelude.{Option, Some, None, Result, Ok, Err, IfOk}
+use Rattle.std.proofs.lemmas.List.Sorted.{IsPermutation-map}
+use Rattle.std.specs.FinSet.{FinSet, contains, insert}
+use Rattle.std.specs.List.Sorted.{IsPermutation}
+use Rattle.std.specs.Ordering.{nat_cmp}
+use Rattle.volume_model.specs.Lineage as model
+use Rattle.volume_model.specs.Formula.{Formula, sat}
+use Rattle.volume_model.specs.Lineage.{found_in, last_epoch, newer, newest, newest_with}
+use Rattle.volume_model.specs.Node.{Hydrated, finished}
+use Rattle.volume_model.specs.PieceLaws.{united_copy}
+use Rattle.volume_model.proofs.PieceLaws.{pieces_unite}
+use Rattle.volume_model.specs.Pieces.{KeptPiece, Copy, is_complete, united, brought, brought_by, contents_in, copied_by}
+use Rattle.volume_model.specs.Redo.{Redo, with_records}
+use Rattle.volume_model.proofs.Sets.{contains-put}
+use Rattle.lineage.specs.Lineage.{lineage_of}
+use Rattle.redo_record.specs.declared.record_set.RecordSet.{RecordSet}
+use Rattle.redo_record.specs.RecordSet.{records_of}
+use Rattle.redo_record.specs.Union.{all_records}
+use Rattle.redo_record.proofs.Rows.{all_records-permuted}
+use Rattle.hydration.specs.declared.collected.Collected.{Collected}
+use Rattle.hydration.specs.declared.kept.Kept.{Kept}
+use Rattle.hydration.specs.Kept.{all_kept, kept_of, sets_kept}
+use Rattle.hydration.specs.Collected.{all_collected, collected_of, contents_kept}
+use Rattle.hydration.specs.Pieces.{seen_pieces}
+
+united-all : (kept : List KeptPiece) → all_records (map (λ (piece : KeptPiece). piece.contents.records) kept) ≡ united (map (λ (piece : KeptPiece). piece.contents) kept)
+united-all [] = refl
+united-all (piece ∷ rest) = ap (with_records piece.contents.records) (united-all rest)
+
+-- one set more
+pub sets-more : (kept : List Kept) (i : ℕ) (piece : Kept) (parts now : List RecordSet) (copy : RecordSet) → i < length kept → piece ≡ get_or kept i piece → now ≡ parts ++ copy ∷ [] → records_of copy ≡ records_of piece.contents.records
+    → map records_of parts ≡ sets_kept (take i kept) → map records_of now ≡ sets_kept (take (i + 1) kept)
+sets-more kept i piece parts now copy within is more same h =
+    ap (map records_of) more
+    ∙ map-append records_of parts (copy ∷ [])
+    ∙ ap (λ (rs : List (List Redo)). rs ++ records_of copy ∷ []) h
+    ∙ ap (λ (r : List Redo). sets_kept (take i kept) ++ r ∷ []) (same ∙ ap (λ (k : Kept). records_of k.contents.records) is)
+    ∙ sym (ap sets_kept (take_more kept i piece within) ∙ ap (map (λ (piece : KeptPiece). piece.contents.records)) (map-append kept_of (take i kept) (get_or kept i piece ∷ [])) ∙ map-append (λ (piece : KeptPiece). piece.contents.records) (all_kept (take i kept)) (kept_of (get_or kept i piece) ∷ []))
+
+-- the joined sets, where they could be joined, in whatever order
+pub in-any-order : {E : Type 0} (parts sorted : List RecordSet) (r : Result RecordSet E) → IsPermutation parts sorted → IfOk r (λ set. records_of set ≡ all_records (map records_of sorted)) → IfOk r (λ set. records_of set ≡ all_records (map records_of parts))
+in-any-order parts sorted (Ok set) same joined = joined ∙ all_records-permuted (map records_of parts) (map records_of sorted) (IsPermutation-map records_of parts sorted same)
+in-any-order parts sorted (Err e) same joined = tt
+
+-- the joined sets of kept pieces
+pub joined-kept : {E : Type 0} (kept : List Kept) (parts : List RecordSet) (r : Result RecordSet E) → map records_of parts ≡ sets_kept kept
+    → IfOk r (λ set. records_of set ≡ all_records (map records_of parts)) → IfOk r (λ set. records_of set ≡ united (contents_kept kept))
+joined-kept kept parts (Ok set) h joined = joined ∙ ap all_records h ∙ united-all (all_kept kept)
+joined-kept kept parts (Err e) h joined = tt
+
+-- the sets of kept pieces and of one behind them
+pub sets-behind : (kept : List Kept) (last : Kept) (parts now : List RecordSet) (copy : RecordSet) → now ≡ parts ++ copy ∷ [] → records_of copy ≡ records_of last.contents.records → map records_of parts ≡ sets_kept kept
+    → map records_of now ≡ sets_kept (kept ++ last ∷ [])
+sets-behind kept last parts now copy more same h =
+    ap (map records_of) more
+    ∙ map-append records_of parts (copy ∷ [])
+    ∙ ap (λ (rs : List (List Redo)). rs ++ records_of copy ∷ []) h
+    ∙ ap (λ (r : List Redo). sets_kept kept ++ r ∷ []) same
+    ∙ sym (ap (map (λ (piece : KeptPiece). piece.contents.records)) (map-append kept_of kept (last ∷ [])) ∙ map-append (λ (piece : KeptPiece). piece.contents.records) (all_kept kept) (kept_of last ∷ []))
+
+-- what is held once the last piece is kept too
+pub behind-kept : {E : Type 0} (kept : List Kept) (last : Kept) (r : Result RecordSet E) → IfOk r (λ set. records_of set ≡ united (contents_kept (kept ++ last ∷ [])))
+    → IfOk r (λ set. records_of set ≡ united (map (λ (piece : KeptPiece). piece.contents) (all_kept kept ++ kept_of last ∷ [])))
+behind-kept kept last (Ok set) h = h ∙ ap (λ (ps : List KeptPiece). united (map (λ (piece : KeptPiece). piece.contents) ps)) (map-append kept_of kept (last ∷ []))
+behind-kept kept last (Err e) h = tt
+
+-- the newest lineage, one piece further to the front
+pub newest-more : (kept : List Kept) (i : ℕ) (piece : Kept) (last behind now : model.Lineage) → i < length kept → piece ≡ get_or kept i piece → now ≡ newer (lineage_of piece.contents.lineage) behind
+    → behind ≡ newest_with last (contents_kept (drop (i + 1) kept)) → now ≡ newest_with last (contents_kept (drop i kept))
+newest-more kept i piece last behind now within is newer_is h =
+    newer_is
+    ∙ ap (newer (lineage_of piece.contents.lineage)) h
+    ∙ ap (λ (k : Kept). newer (lineage_of k.contents.lineage) (newest_with last (contents_kept (drop (i + 1) kept)))) is
+    ∙ sym (ap (λ (ks : List Kept). newest_with last (contents_kept ks)) (drop_more kept i piece within))
+
+newest_with-append : (last : model.Lineage) (xs ys : List model.Contents) → newest_with last (xs ++ ys) ≡ newest_with (newest_with last ys) xs
+newest_with-append last [] ys = refl
+newest_with-append last (x ∷ xs) ys = ap (newer x.lineage) (newest_with-append last xs ys)
+
+-- what a copy brings, by the test
+brought-by : (complete : Bool) (copy : Copy) → is_complete copy.pieces ≡ complete → brought_by copy ≡ (if complete then contents_in copy.pieces else [])
+brought-by complete copy e = ap (λ b. if b then contents_in copy.pieces else []) e
+
+-- one copy more in front
+pub newest-complete : (copy : Copy) (rest : List Copy) (last behind now : model.Lineage) → is_complete copy.pieces ≡ true → now ≡ newest_with behind (contents_in copy.pieces) → behind ≡ newest_with last (brought rest) → now ≡ newest_with last (brought (copy ∷ rest))
+newest-complete copy rest last behind now complete is h =
+    is
+    ∙ ap (λ l. newest_with l (contents_in copy.pieces)) h
+    ∙ sym (newest_with-append last (contents_in copy.pieces) (brought rest))
+    ∙ ap (λ (cs : List model.Contents). newest_with last (cs ++ brought rest)) (sym (brought-by true copy complete))
+
+pub newest-broken : (copy : Copy) (rest : List Copy) (last behind : model.Lineage) → is_complete copy.pieces ≡ false → behind ≡ newest_with last (brought rest) → behind ≡ newest_with last (brought (copy ∷ rest))
+newest-broken copy rest last behind broken h = h ∙ ap (λ (cs : List model.Contents). newest_with last (cs ++ brought rest)) (sym (brought-by false copy broken))
+
+-- the first copy, before the rest
+pub copies-first : (copies : List Collected) (c : Collected) → 0 < length copies → c ≡ get_or copies 0 c → all_collected copies ≡ collected_of c ∷ all_collected (take (length copies - 1) (drop 1 copies))
+copies-first [] c within is = absurd (omega arith)
+copies-first (x ∷ rest) c within is =
+    let many : length (x ∷ rest) - 1 ≡ length rest = omega arith in
+    ap (λ (y : Collected). collected_of y ∷ all_collected rest) (sym is)
+    ∙ ap (λ l. collected_of c ∷ all_collected l) (sym (ap (λ n. take n rest) many ∙ take_all (length rest) rest (omega arith)))
+
+-- the newest lineage, with a first copy that is complete
+pub newest-front : (copies : List Collected) (c : Collected) (last behind now : model.Lineage) → 0 < length copies → c ≡ get_or copies 0 c → is_complete (seen_pieces c.pieces) ≡ true
+    → now ≡ newest_with behind (contents_kept c.pieces.kept.items) → behind ≡ newest_with last (brought (all_collected (take (length copies - 1) (drop 1 copies)))) → now ≡ newest_with last (brought (all_collected copies))
+newest-front copies c last behind now within is complete newest h =
+    newest-complete (collected_of c) (all_collected (take (length copies - 1) (drop 1 copies))) last behind now complete newest h
+    ∙ sym (ap (λ l. newest_with last (brought l)) (copies-first copies c within is))
+
+-- the records of a copy, by the test
+pub united-complete : (copy : Copy) (records : List Redo) → is_complete copy.pieces ≡ true → records ≡ united (contents_in copy.pieces) → records ≡ united (brought_by copy)
+united-complete copy records complete h = h ∙ ap united (sym (brought-by true copy complete))
+
+pub united-broken : (copy : Copy) (records : List Redo) → is_complete copy.pieces ≡ false → records ≡ [] → records ≡ united (brought_by copy)
+united-broken copy records broken h = h ∙ ap united (sym (brought-by false copy broken))
+
+-- the copy at hand, before the rest
+opened : (copies : List Collected) (i : ℕ) (c : Collected) → i < length copies → c ≡ get_or copies i c → all_collected (drop i copies) ≡ collected_of c ∷ all_collected (drop (i + 1) copies)
+opened copies i c within is = ap all_collected (drop_more copies i c within) ∙ ap (λ (x : Collected). collected_of x ∷ all_collected (drop (i + 1) copies)) (sym is)
+
+joins : (x sender : ℕ) (a rest : Bool) → ((nat_eq x sender || a) || rest) ≡ (a || ((nat_eq sender x && true) || rest))
+joins x sender a rest = grind (arith, nat_tests)
+
+-- a sender more
+pub copied-more : (copies : List Collected) (i : ℕ) (c : Collected) (s : FinSet nat_cmp) (whole : ℕ → Bool) → i < length copies → c ≡ get_or copies i c → is_complete (collected_of c).pieces ≡ true
+    → ((x : ℕ) → (contains s x || copied_by (all_collected (drop i copies)) x) ≡ whole x)
+    → (x : ℕ) → (contains (insert s c.from) x || copied_by (all_collected (drop (i + 1) copies)) x) ≡ whole x
+copied-more copies i c s whole within is complete h x =
+    ap (λ b. b || copied_by (all_collected (drop (i + 1) copies)) x) (contains-put s c.from x)
+    ∙ joins x c.from (contains s x) (copied_by (all_collected (drop (i + 1) copies)) x)
+    ∙ ap (λ b. contains s x || ((nat_eq c.from x && b) || copied_by (all_collected (drop (i + 1) copies)) x)) (sym complete)
+    ∙ sym (ap (λ l. contains s x || copied_by l x) (opened copies i c within is)) ∙ h x
+
+-- a copy that isn't complete
+pub copied-same : (copies : List Collected) (i : ℕ) (c : Collected) (s : FinSet nat_cmp) (whole : ℕ → Bool) → i < length copies → c ≡ get_or copies i c → is_complete (collected_of c).pieces ≡ false
+    → ((x : ℕ) → (contains s x || copied_by (all_collected (drop i copies)) x) ≡ whole x)
+    → (x : ℕ) → (contains s x || copied_by (all_collected (drop (i + 1) copies)) x) ≡ whole x
+copied-same copies i c s whole within is broken h x =
+    ap (λ b. contains s x || (b || copied_by (all_collected (drop (i + 1) copies)) x)) (sym (and_false (nat_eq c.from x)))
+    ∙ ap (λ b. contains s x || ((nat_eq c.from x && b) || copied_by (all_collected (drop (i + 1) copies)) x)) (sym broken)
+    ∙ sym (ap (λ l. contains s x || copied_by l x) (opened copies i c within is)) ∙ h x
+  where
+    and_false : (b : Bool) → (b && false) ≡ false
+    and_false true = refl
+    and_false false = refl
+
+-- what a node becomes, where the copies of a read set are complete
+pub finished-complete : (read : Formula) (copies : List Copy) (lineage : model.Lineage) (records : List Redo) (volume : ℕ) → sat read (copied_by copies) ≡ true → lineage ≡ newest (brought copies)
+    → records ≡ found_in lineage (map (united_copy lineage) copies) → volume ≡ last_epoch lineage → finished read copies ≡ Some (record { volume = volume; contents = record { lineage = lineage; records = records } })
+finished-complete read copies lineage records volume enough newest_is found last =
+    let n = newest (brought copies) in
+    let make : model.Lineage → List Redo → ℕ → Option Hydrated = λ l rs v. Some (record { volume = v; contents = record { lineage = l; records = rs } }) in
+    let all : records ≡ found_in lineage (brought copies) = found ∙ sym (pieces_unite.copies lineage copies) in
+    ap (λ b. if b then make n (found_in n (brought copies)) (last_epoch n) else None) enough
+    ∙ ap (λ l. make l (found_in l (brought copies)) (last_epoch l)) (sym newest_is)
+    ∙ ap (λ rs. make lineage rs (last_epoch lineage)) (sym all)
+    ∙ ap (make lineage records) (sym last)

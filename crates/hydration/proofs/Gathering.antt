@@ -1,0 +1,191 @@
+-- The place of a copy, and copies with a piece more.
+use Rattle.std.proofs.Common.{◌≡◌, ℕ, zero, suc, ◌+◌, ◌<◌, ◌≤◌, ◌⊎◌, true, false, ◌==◌, List, [], ◌∷◌, ◌++◌, length, get_or, set, drop, Option, Some, None, refl, sym, ap, subst, ◌∙◌, inl, inr, arith}
+use Rattle.std.specs.Prelude.{option_map}
+use Rattle.std.proofs.lemmas.Bool.{cases_Bool, eqb-true}
+use Rattle.std.proofs.lemmas.List.{drop_more, drop_all, length-map}
+use Rattle.volume_model.specs.Lineage.{Contents}
+use Rattle.volume_model.specs.Pieces as model
+use Rattle.volume_model.specs.Pieces.{Piece, Copy, first_piece, pieces_from, with_series, with_copy}
+use Rattle.hydration.specs.declared.change.Change.{Change}
+use Rattle.hydration.specs.declared.collected.Collected.{Collected}
+use Rattle.hydration.specs.Pieces.{seen_pieces}
+use Rattle.hydration.specs.Changes.{changed}
+use Rattle.hydration.specs.Collected.{all_collected, collected_of}
+use Rattle.hydration.specs.Hydration.{changed_at, place_of}
+
+none_some : (n : ℕ) → None ≡ Some n → ⊥
+none_some n h = cc
+
+some_none : (n : ℕ) → Some n ≡ None → ⊥
+some_none n h = cc
+
+some_same : (n m : ℕ) → Some n ≡ Some m → m ≡ n
+some_same n m h = cc
+
+-- the place found in the rest
+rest_some : (o : Option ℕ) (p : ℕ) → option_map suc o ≡ Some p → (q : ℕ) × (o ≡ Some q) × (p ≡ suc q)
+rest_some None p h = absurd (none_some p h)
+rest_some (Some q) p h = (q, refl, some_same (suc q) p h)
+
+rest_none : (o : Option ℕ) → option_map suc o ≡ None → o ≡ None
+rest_none None h = refl
+rest_none (Some q) h = absurd (some_none (suc q) h)
+
+-- the first copy is the sender's, or it isn't
+here_first : (copy : Copy) (rest : List Copy) (sender : ℕ) → (copy.sender == sender) ≡ true → place_of (copy ∷ rest) sender ≡ Some zero
+here_first copy rest sender e = rw e refl
+
+past_first : (copy : Copy) (rest : List Copy) (sender : ℕ) → (copy.sender == sender) ≡ false → place_of (copy ∷ rest) sender ≡ option_map suc (place_of rest sender)
+past_first copy rest sender e = rw e refl
+
+first_or_rest : (copy : Copy) (rest : List Copy) (sender p : ℕ) → place_of (copy ∷ rest) sender ≡ Some p
+    → (((copy.sender == sender) ≡ true) × (p ≡ zero)) ⊎ (((copy.sender == sender) ≡ false) × ((q : ℕ) × (place_of rest sender ≡ Some q) × (p ≡ suc q)))
+first_or_rest copy rest sender p h =
+    elim (cases_Bool (copy.sender == sender)) [
+      | inl e ↦ inl (e, some_same zero p (sym (here_first copy rest sender e) ∙ h))
+      | inr e ↦ inr (e, rest_some (place_of rest sender) p (sym (past_first copy rest sender e) ∙ h))
+    ]
+
+-- the copy at the place of its sender
+pub place-within : (copies : List Copy) (sender p : ℕ) → place_of copies sender ≡ Some p → p < length copies
+place-within [] sender p h = absurd (none_some p h)
+place-within (copy ∷ rest) sender p h =
+    elim (first_or_rest copy rest sender p h) [
+      | inl f ↦ (let z : p ≡ zero = f.1 in omega arith)
+      | inr f ↦ (let (q, k, z) = f.1 in let l : q < length rest = place-within rest sender q k in omega arith)
+    ]
+
+pub place-pieces : (copies : List Copy) (sender p : ℕ) (d : Copy) → place_of copies sender ≡ Some p → pieces_from copies sender ≡ Some (get_or copies p d).pieces
+place-pieces [] sender p d h = absurd (none_some p h)
+place-pieces (copy ∷ rest) sender p d h =
+    elim (first_or_rest copy rest sender p h) [
+      | inl f ↦ first f.0 ∙ ap (λ n. Some (get_or (copy ∷ rest) n d).pieces) (sym f.1)
+      | inr f ↦ (let (q, k, z) = f.1 in further f.0 ∙ place-pieces rest sender q d k ∙ ap (λ n. Some (get_or (copy ∷ rest) n d).pieces) (sym z))
+    ]
+  where
+    first : (copy.sender == sender) ≡ true → pieces_from (copy ∷ rest) sender ≡ Some copy.pieces
+    first e = rw e refl
+
+    further : (copy.sender == sender) ≡ false → pieces_from (copy ∷ rest) sender ≡ pieces_from rest sender
+    further e = rw e refl
+
+-- the change of the first copy, and of one of the rest
+with-first : (copy : Copy) (rest : List Copy) (sender series : ℕ) (piece : Piece) (c : Contents) (change : Change) → (copy.sender == sender) ≡ true
+    → changed change copy.pieces ≡ with_series copy.pieces series piece c → changed_at zero change (copy ∷ rest) ≡ with_copy sender series piece c (copy ∷ rest)
+with-first copy rest sender series piece c change e made =
+    let front : ℕ → model.Pieces → List Copy = λ s ps. record { sender = s; pieces = ps } ∷ rest in
+    let same : copy.sender ≡ sender = eqb-true copy.sender sender e in
+    ap (front copy.sender) made ∙ ap (λ s. front s (with_series copy.pieces series piece c)) same ∙ rw e refl
+
+with-rest : (copy : Copy) (rest : List Copy) (sender series : ℕ) (piece : Piece) (c : Contents) → (copy.sender == sender) ≡ false → with_copy sender series piece c (copy ∷ rest) ≡ copy ∷ with_copy sender series piece c rest
+with-rest copy rest sender series piece c e = rw e refl
+
+pub place-with : (copies : List Copy) (sender p series : ℕ) (piece : Piece) (c : Contents) (change : Change) (d : Copy) → place_of copies sender ≡ Some p
+    → changed change (get_or copies p d).pieces ≡ with_series (get_or copies p d).pieces series piece c → changed_at p change copies ≡ with_copy sender series piece c copies
+place-with [] sender p series piece c change d h made = absurd (none_some p h)
+place-with (copy ∷ rest) sender p series piece c change d h made =
+    elim (first_or_rest copy rest sender p h) [
+      | inl f ↦ (
+          let made' : changed change copy.pieces ≡ with_series copy.pieces series piece c = subst (λ n. changed change (get_or (copy ∷ rest) n d).pieces ≡ with_series (get_or (copy ∷ rest) n d).pieces series piece c) f.1 made in
+          ap (λ n. changed_at n change (copy ∷ rest)) f.1 ∙ with-first copy rest sender series piece c change f.0 made')
+      | inr f ↦ (
+          let (q, k, z) = f.1 in
+          let made' : changed change (get_or rest q d).pieces ≡ with_series (get_or rest q d).pieces series piece c = subst (λ n. changed change (get_or (copy ∷ rest) n d).pieces ≡ with_series (get_or (copy ∷ rest) n d).pieces series piece c) z made in
+          ap (λ n. changed_at n change (copy ∷ rest)) z ∙ ap (λ cs. copy ∷ cs) (place-with rest sender q series piece c change d k made') ∙ sym (with-rest copy rest sender series piece c f.0))
+    ]
+
+-- where no piece is kept of the sender
+none_first : (copy : Copy) (rest : List Copy) (sender : ℕ) → place_of (copy ∷ rest) sender ≡ None → ((copy.sender == sender) ≡ false) × (place_of rest sender ≡ None)
+none_first copy rest sender h =
+    elim (cases_Bool (copy.sender == sender)) [
+      | inl e ↦ absurd (some_none zero (sym (here_first copy rest sender e) ∙ h))
+      | inr e ↦ (e, rest_none (place_of rest sender) (sym (past_first copy rest sender e) ∙ h))
+    ]
+
+pub none-pieces : (copies : List Copy) (sender : ℕ) → place_of copies sender ≡ None → pieces_from copies sender ≡ None
+none-pieces [] sender h = refl
+none-pieces (copy ∷ rest) sender h =
+    let f : ((copy.sender == sender) ≡ false) × (place_of rest sender ≡ None) = none_first copy rest sender h in
+    rw f.0 (none-pieces rest sender f.1)
+
+pub none-with : (copies : List Copy) (sender series : ℕ) (piece : Piece) (c : Contents) → place_of copies sender ≡ None → with_copy sender series piece c copies ≡ copies ++ record { sender = sender; pieces = first_piece series piece c } ∷ []
+none-with [] sender series piece c h = refl
+none-with (copy ∷ rest) sender series piece c h =
+    let f : ((copy.sender == sender) ≡ false) × (place_of rest sender ≡ None) = none_first copy rest sender h in
+    with-rest copy rest sender series piece c f.0 ∙ ap (λ cs. copy ∷ cs) (none-with rest sender series piece c f.1)
+
+-- a copy that is changed at its place
+pub changed-set : (copies : List Collected) (p : ℕ) (new : Collected) (change : Change) (d : Collected) → p < length copies
+    → collected_of new ≡ record { sender = (get_or copies p d).from; pieces = changed change (collected_of (get_or copies p d)).pieces } → all_collected (set copies p new) ≡ changed_at p change (all_collected copies)
+changed-set [] p new change d h is = absurd (omega arith)
+changed-set (copy ∷ rest) zero new change d h is = ap (λ c. c ∷ all_collected rest) is
+changed-set (copy ∷ rest) (suc p) new change d h is = ap (λ cs. collected_of copy ∷ cs) (changed-set rest p new change d (omega arith) is)
+
+pub same-set : (copies : List Collected) (p : ℕ) (new : Collected) (d : Collected) → p < length copies → collected_of new ≡ collected_of (get_or copies p d) → all_collected (set copies p new) ≡ all_collected copies
+same-set [] p new d h is = absurd (omega arith)
+same-set (copy ∷ rest) zero new d h is = ap (λ c. c ∷ all_collected rest) is
+same-set (copy ∷ rest) (suc p) new d h is = ap (λ cs. collected_of copy ∷ cs) (same-set rest p new d (omega arith) is)
+
+-- the element at a place, as a copy
+pub collected-at : (copies : List Collected) (p : ℕ) (d : Collected) → p < length copies → get_or (all_collected copies) p (collected_of d) ≡ collected_of (get_or copies p d)
+collected-at [] p d h = absurd (omega arith)
+collected-at (copy ∷ rest) zero d h = refl
+collected-at (copy ∷ rest) (suc p) d h = collected-at rest p d (omega arith)
+
+-- the copies from one of them on
+opened : (copies : List Collected) (i : ℕ) (copy : Collected) → i < length copies → copy ≡ get_or copies i copy → all_collected (drop i copies) ≡ collected_of copy ∷ all_collected (drop (i + 1) copies)
+opened copies i copy within is = ap all_collected (drop_more copies i copy within) ∙ ap (λ (x : Collected). collected_of x ∷ all_collected (drop (i + 1) copies)) (sym is)
+
+further : (i : ℕ) (o : Option ℕ) → option_map (λ k. i + k) (option_map suc o) ≡ option_map (λ k. (i + 1) + k) o
+further i None = refl
+further i (Some k) = (let e : i + suc k ≡ (i + 1) + k = omega arith in ap Some e)
+
+-- one copy more that is passed
+pub place-more : (copies : List Collected) (i : ℕ) (copy : Collected) (sender : ℕ) → i < length copies → copy ≡ get_or copies i copy → (copy.from == sender) ≡ false
+    → place_of (all_collected copies) sender ≡ option_map (λ k. i + k) (place_of (all_collected (drop i copies)) sender) → place_of (all_collected copies) sender ≡ option_map (λ k. (i + 1) + k) (place_of (all_collected (drop (i + 1) copies)) sender)
+place-more copies i copy sender within is other h =
+    let rest = all_collected (drop (i + 1) copies) in
+    let step : place_of (all_collected (drop i copies)) sender ≡ option_map suc (place_of rest sender) = ap (λ cs. place_of cs sender) (opened copies i copy within is) ∙ past_first (collected_of copy) rest sender other in
+    h ∙ ap (option_map (λ k. i + k)) step ∙ further i (place_of rest sender)
+
+pub place-here : (copies : List Collected) (i : ℕ) (copy : Collected) (sender : ℕ) → i < length copies → copy ≡ get_or copies i copy → (copy.from == sender) ≡ true
+    → place_of (all_collected copies) sender ≡ option_map (λ k. i + k) (place_of (all_collected (drop i copies)) sender) → place_of (all_collected copies) sender ≡ Some i
+place-here copies i copy sender within is same h =
+    let rest = all_collected (drop (i + 1) copies) in
+    let step : place_of (all_collected (drop i copies)) sender ≡ Some zero = ap (λ cs. place_of cs sender) (opened copies i copy within is) ∙ here_first (collected_of copy) rest sender same in
+    let e : i + zero ≡ i = omega arith in
+    h ∙ ap (option_map (λ k. i + k)) step ∙ ap Some e
+
+pub place-end : (copies : List Collected) (i sender : ℕ) → length copies ≤ i → place_of (all_collected copies) sender ≡ option_map (λ k. i + k) (place_of (all_collected (drop i copies)) sender) → place_of (all_collected copies) sender ≡ None
+place-end copies i sender ended h = h ∙ ap (λ cs. option_map (λ k. i + k) (place_of (all_collected cs) sender)) (drop_all i copies ended)
+
+pub place-start : (copies : List Collected) (sender : ℕ) → place_of (all_collected copies) sender ≡ option_map (λ k. 0 + k) (place_of (all_collected copies) sender)
+place-start copies sender = same (place_of (all_collected copies) sender)
+  where
+    same : (o : Option ℕ) → o ≡ option_map (λ k. 0 + k) o
+    same None = refl
+    same (Some k) = (let e : k ≡ 0 + k = omega arith in ap Some e)
+
+abbrev make : ℕ → model.Pieces → Copy
+make sender pieces = record { sender = sender; pieces = pieces }
+
+-- the copy at a place with other pieces
+module _ (copies : List Collected) (p : ℕ) (old new : Collected) (within : p < length copies) (is : old ≡ get_or copies p old) (from : new.from ≡ old.from) where
+  pub pieces-changed : (change : Change) → seen_pieces new.pieces ≡ changed change (seen_pieces old.pieces) → all_collected (set copies p new) ≡ changed_at p change (all_collected copies)
+  pieces-changed change made =
+      changed-set copies p new change old within
+      (ap (make new.from) made ∙ ap (λ n. make n (changed change (seen_pieces old.pieces))) from ∙ ap (λ (c : Collected). make c.from (changed change (seen_pieces c.pieces))) is)
+
+  pub pieces-same : seen_pieces new.pieces ≡ seen_pieces old.pieces → all_collected (set copies p new) ≡ all_collected copies
+  pieces-same same = same-set copies p new old within (ap (make new.from) same ∙ ap (λ n. make n (seen_pieces old.pieces)) from ∙ ap collected_of is)
+
+-- the place of a sender's copy, among those that are kept
+pub place-inside : (copies : List Collected) (sender p : ℕ) → place_of (all_collected copies) sender ≡ Some p → p < length copies
+place-inside copies sender p h = subst (λ n. p < n) (length-map copies collected_of) (place-within (all_collected copies) sender p h)
+
+-- what is kept of a sender whose copy stands at a place
+pub place-at : (copies : List Collected) (sender p : ℕ) (copy : Collected) → place_of (all_collected copies) sender ≡ Some p → copy ≡ get_or copies p copy → pieces_from (all_collected copies) sender ≡ Some (seen_pieces copy.pieces)
+place-at copies sender p copy h is =
+    place-pieces (all_collected copies) sender p (collected_of copy) h
+    ∙ ap (λ (c : Copy). Some c.pieces) (collected-at copies p copy (place-inside copies sender p h))
+    ∙ ap (λ (c : Collected). Some (seen_pieces c.pieces)) (sym is)

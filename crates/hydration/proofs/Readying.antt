@@ -1,0 +1,36 @@
+-- Changes that are made ready.
+use Rattle.std.proofs.Common.{◌≡◌, ℕ, ◌<◌, List, length, get_or, set, Some, Result, Ok, Err, sym, ap, subst, ◌∙◌}
+use Rattle.std.specs.Prelude.{IfOk}
+use Rattle.std.proofs.lemmas.List.{get_or-set_same, length-set}
+use Rattle.volume_model.specs.Pieces.{Copy, with_series}
+use Rattle.wire.specs.declared.message.CopyReport.{CopyReport}
+use Rattle.wire.specs.Contents.{contents_of, piece_in}
+use Rattle.hydration.specs.declared.change.Change.{Change}
+use Rattle.hydration.specs.declared.collected.Collected.{Collected}
+use Rattle.hydration.specs.declared.hydration.Hydration.{Hydration}
+use Rattle.hydration.specs.Changes.{CanChange, changed}
+use Rattle.hydration.specs.Collected.{all_collected, collected_of}
+use Rattle.hydration.specs.Hydration.{kept_at, place_of, CanChangeAt}
+use Rattle.hydration.specs.Pieces.{seen_pieces}
+use Rattle.hydration.proofs.Gathering.{collected-at, place-inside, place-with}
+
+-- by the change the piece is kept at the place of its sender
+pub changed-place : {E : Type 0} (copies : List Collected) (report : CopyReport) (p : ℕ) (copy : Collected) (r : Result Change E) → place_of (all_collected copies) report.from ≡ Some p → copy ≡ get_or copies p copy
+    → IfOk r (λ change. changed change (seen_pieces copy.pieces) ≡ with_series (seen_pieces copy.pieces) report.series (piece_in report.piece report.of) (contents_of report.contents))
+    → IfOk r (kept_at p report (all_collected copies))
+changed-place copies report p copy (Err e) h is made = tt
+changed-place copies report p copy (Ok change) h is made =
+    let piece = piece_in report.piece report.of in
+    let c = contents_of report.contents in
+    let there : get_or (all_collected copies) p (collected_of copy) ≡ collected_of copy = collected-at copies p copy (place-inside copies report.from p h) ∙ ap collected_of (sym is) in
+    place-with (all_collected copies) report.from p report.series piece c change (collected_of copy) h
+    (subst (λ (x : Copy). changed change x.pieces ≡ with_series x.pieces report.series piece c) (sym there) made)
+
+-- the copy at the place can be changed so
+pub ready-place : {E : Type 0} (h : Hydration) (copies : List Collected) (p : ℕ) (new : Collected) (r : Result Change E) → h.copies.items ≡ set copies p new → p < length copies → IfOk r (CanChange new.pieces) → IfOk r (CanChangeAt h p)
+ready-place h copies p new (Err e) made within ready = tt
+ready-place h copies p new (Ok change) made within ready =
+    record {
+      within = subst (λ n. p < n) (sym (ap (λ (cs : List Collected). length cs) made ∙ length-set copies p new)) within;
+      can = λ d. subst (λ (x : Collected). CanChange x.pieces change) (sym (ap (λ cs. get_or cs p d) made ∙ get_or-set_same copies p new d within)) ready;
+    }

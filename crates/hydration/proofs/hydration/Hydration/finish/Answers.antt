@@ -1,0 +1,25 @@
+use Rattle.std.proofs.Common.{◌≡◌, true, List, map, ap, sym, ◌∙◌}
+use Rattle.std.specs.Prelude.{Ok}
+use Rattle.volume_model.specs.Formula.{sat}
+use Rattle.volume_model.specs.Pieces.{brought, copied_by}
+use Rattle.volume_model.specs.Lineage.{found_in, newest}
+use Rattle.volume_model.specs.PieceLaws.{united_copy}
+use Rattle.hydration.specs.declared.collected.Collected.{Collected}
+use Rattle.hydration.specs.Collected.{all_collected}
+use Rattle.lineage.specs.Lineage.{lineage_of}
+use Rattle.redo_record.specs.RecordSet.{records_of}
+use Rattle.quorum_expr.specs.Expr.{formula_of}
+use Rattle.hydration.specs.Hydration.{copies_of}
+use Rattle.hydration.proofs.Bringing.{finished-complete}
+use Rattle.hydration.proofs.hydration.Hydration.finish.Goals as goal
+
+pub returns-clause-state : goal.returns-clause-state
+returns-clause-state c =
+    let copies = copies_of c.args.self.now in
+    let read = formula_of c.args.read.now in
+    let enough : sat read (copied_by copies) ≡ true = ap (sat read) (sym c.senders.ensures) ∙ sym c.holds.ensures ∙ c.if-not-holds.false in
+    let lineage = lineage_of c.in_ok-lineage.lineage in
+    ap Ok (finished-complete read copies lineage (records_of c.in_ok-records.records) c.last_epoch.result enough
+    (c.in_ok-lineage.ensures ∙ ap (λ (ks : List Collected). newest (brought (all_collected ks))) c.as_slice-copies.ensures.value)
+    (c.in_ok-records.ensures ∙ ap (λ (ks : List Collected). found_in lineage (map (united_copy lineage) (all_collected ks))) c.as_slice-copies.ensures.value)
+    c.last_epoch.ensures)

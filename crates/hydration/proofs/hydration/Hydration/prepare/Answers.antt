@@ -1,0 +1,17 @@
+use Rattle.std.proofs.Common.{◌≡◌, ◌++◌, ◌∷◌, [], false, Ok, ap, sym, ◌∙◌}
+use Rattle.volume_model.specs.Pieces.{Copy, is_bad_piece}
+use Rattle.wire.specs.Contents.{contents_of, piece_in}
+use Rattle.hydration.specs.Hydration.{copies_of, is_bad}
+use Rattle.hydration.proofs.Fair.{kept-good}
+use Rattle.hydration.proofs.Gathering.{none-with}
+use Rattle.hydration.proofs.hydration.Hydration.prepare.Goals as goal
+
+pub returns-in_ok-prepare_new-in-None-clause-copy : goal.returns-in_ok-prepare_new-in-None-clause-copy
+returns-in_ok-prepare_new-in-None-clause-copy c =
+    let report = c.args.report.now in
+    let copies = copies_of c.args.self.now in
+    let fair : is_bad report copies ≡ false =
+    ap (λ kept. is_bad_piece kept report.series (piece_in report.piece report.of) (contents_of report.contents)) (sym c.pieces_from-kept.ensures) ∙ sym c.is_bad.ensures ∙ c.if-is_bad.false in
+    kept-good report copies c.if-report-ge-MEMBERS.false fair
+    ∙ ap Ok (none-with copies report.from report.series (piece_in report.piece report.of) (contents_of report.contents) (sym c.place.ensures ∙ c.in-None.is)
+    ∙ ap (λ (copy : Copy). copies ++ copy ∷ []) (sym c.in_ok-prepare_new-in-None.ensures.copy))

@@ -1,0 +1,13 @@
+use Rattle.std.proofs.Common.{ap, subst, sym, ◌∙◌}
+use Rattle.volume_model.specs.Pieces.{is_complete}
+use Rattle.hydration.specs.Pieces.{seen_pieces}
+use Rattle.hydration.specs.Changes.{CanAdd, CanChange, changed}
+use Rattle.hydration.specs.declared.change.Change.{Change}
+use Rattle.hydration.proofs.Marks.{complete-more}
+use Rattle.hydration.proofs.pieces.Pieces.is_complete_with.Goals as goal
+
+pub returns-in-More : goal.returns-in-More
+returns-in-More c =
+    let s = c.args.self.now in
+    let can : CanAdd s c.in-More.field-0 = subst (CanChange s) c.in-More.is c.requires in
+    complete-more s c.in-More.field-0 can c.len.result c.from.result c.len.ensures c.from.ensures ∙ ap (λ (change : Change). is_complete (changed change (seen_pieces s))) (sym c.in-More.is)

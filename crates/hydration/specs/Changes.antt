@@ -1,0 +1,27 @@
+-- What becomes of kept pieces.
+use Rattle.std.specs.Prelude.{◌≡◌, ◌<◌, false, [], ◌∷◌, ◌++◌, length, vec_capacity}
+use Rattle.volume_model.specs.Pieces as model
+use Rattle.hydration.specs.declared.kept.Kept.{Kept}
+use Rattle.hydration.specs.declared.pieces.Pieces.{Pieces}
+use Rattle.hydration.specs.declared.change.Change.{Change}
+use Rattle.hydration.specs.declared.change.Change.TheVariants.{Nothing, More, Anew}
+use Rattle.hydration.specs.Kept.{kept_of}
+use Rattle.hydration.specs.Pieces.{seen_pieces}
+
+-- the pieces that a change leaves
+abbrev pub changed : Change → model.Pieces → model.Pieces
+changed Nothing pieces = pieces
+changed (More kept) pieces = record pieces { kept = pieces.kept ++ kept_of kept ∷ [] }
+changed (Anew others) pieces = seen_pieces others
+
+-- there is room for the piece, its number is one of the series, and none is kept of it
+pub record CanAdd (pieces : Pieces) (kept : Kept) : Type 0 where
+  pub room : length pieces.kept.items < vec_capacity pieces.kept
+  pub below : kept.number < pieces.of
+  pub new : model.has_piece (seen_pieces pieces) kept.number ≡ false
+
+-- a piece that is to be kept can be
+abbrev pub CanChange : Pieces → Change → Type 0
+CanChange pieces Nothing = Unit {0}
+CanChange pieces (More kept) = CanAdd pieces kept
+CanChange pieces (Anew others) = Unit {0}

@@ -1,0 +1,97 @@
+//! What complete copies bring.
+
+ghost use Rattle.std.specs.Prelude.{◌≡◌, map, IfOk};
+ghost use Rattle.std.specs.FinSet as set;
+ghost use Rattle.volume_model.specs.Lineage.{found_in, newest, newest_with};
+ghost use Rattle.volume_model.specs.Pieces.{brought, brought_by, copied_by, united};
+ghost use Rattle.volume_model.specs.PieceLaws.{united_copy};
+ghost use Rattle.lineage.specs.Lineage.{lineage_of};
+ghost use Rattle.redo_record.specs.RecordSet.{records_of};
+ghost use Rattle.hydration.specs.Collected.{all_collected, collected_of, contents_kept};
+
+use crate::collected::Collected;
+use crate::kept::Kept;
+use lineage::Lineage;
+use quorum_expr::MemberSet;
+use redo_record::RecordSet;
+use std::alloc::{AllocError, Global};
+
+/// The members whose copy is complete.
+pub(crate) fn copied_by(copies: &[Collected]) -> MemberSet
+    ensures { set.contains result ≡ copied_by (all_collected copies.now) }
+{
+    let mut members = MemberSet::empty();
+    for copy in copies {
+        if copy.pieces.is_complete() {
+            members = members.with(copy.from);
+        }
+    }
+    members
+}
+
+/// The newest of the pieces' lineages and of one that comes behind them.
+fn newest_of<'a>(kept: &'a [Kept], last: &'a Lineage) -> &'a Lineage
+    ensures { lineage_of result.now ≡ newest_with (lineage_of last.now) (contents_kept kept.now) }
+{
+    let mut newest = last;
+    let mut left = kept.len();
+    while left > 0 {
+        left -= 1;
+        newest = kept[left].contents.lineage.newer(newest);
+    }
+    newest
+}
+
+/// The newest lineage of the complete copies and of one that comes behind them.
+fn newest_brought<'a>(copies: &'a [Collected], last: &'a Lineage) -> &'a Lineage
+    ensures { lineage_of result.now ≡ newest_with (lineage_of last.now) (brought (all_collected copies.now)) }
+{
+    match copies {
+        [] => last,
+        [first, rest @ ..] => {
+            let behind = newest_brought(rest, last);
+            if first.pieces.is_complete() {
+                newest_of(first.pieces.as_slice(), behind)
+            } else {
+                behind
+            }
+        }
+    }
+}
+
+/// The newest lineage of the complete copies, and none where there is no such copy.
+pub(crate) fn newest_copied(alloc: Global, copies: &[Collected]) -> Result<Lineage, AllocError>
+    ensures { IfOk result (λ lineage. lineage_of lineage ≡ newest (brought (all_collected copies.now))) }
+{
+    let none = Lineage::empty(alloc);
+    newest_brought(copies, &none).clone()
+}
+
+/// The records of a copy where it is complete, and none where it isn't.
+fn united_records(alloc: Global, copy: &Collected) -> Result<RecordSet, AllocError>
+    ensures { IfOk result (λ set. records_of set ≡ united (brought_by (collected_of copy.now))) }
+{
+    if copy.pieces.is_complete() {
+        copy.pieces.join(alloc)
+    } else {
+        Ok(RecordSet::new(alloc))
+    }
+}
+
+/// All records of the complete copies that are live in the lineage, copy by copy.
+pub(crate) fn copied_in(
+    alloc: Global,
+    lineage: &Lineage,
+    copies: &[Collected],
+) -> Result<RecordSet, AllocError>
+    ensures { IfOk result (λ set. records_of set ≡ found_in (lineage_of lineage.now) (map (united_copy (lineage_of lineage.now)) (all_collected copies.now))) }
+{
+    match copies {
+        [] => Ok(RecordSet::new(alloc)),
+        [first, rest @ ..] => {
+            let found = copied_in(alloc, lineage, rest)?;
+            let records = united_records(alloc, first)?;
+            lineage.with_live(alloc, &records, &found)
+        }
+    }
+}

@@ -1,0 +1,239 @@
+//! Pieces of one series, which are kept until all are there.
+
+ghost use Rattle.std.specs.Prelude.{◌≡◌, true, map, IfOk};
+ghost use Rattle.redo_record.specs.RecordSet.{records_of};
+ghost use Rattle.redo_record.specs.Union.{all_records};
+ghost use Rattle.hydration.specs.Kept.{all_kept, are_once, marks_of, sets_kept};
+
+use crate::change::Change;
+use crate::kept::Kept;
+use redo_record::RecordSet;
+use std::alloc::{AllocError, Global};
+use wire::Contents;
+
+/// The pieces that are kept of one series: the volume epoch of an install, or the number of a copy.
+#[derive(Drop)]
+pub struct Pieces {
+    series: u64,
+    of: u16,
+    kept: Vec<Kept>,
+    /// For each number whether its piece is kept.
+    marks: Vec<bool>,
+    ghost once: { are_once of (all_kept kept.items) ≡ true },
+    ghost marked: { marks.items ≡ marks_of of (all_kept kept.items) },
+}
+
+impl Pieces {
+    ghost use Rattle.std.specs.Prelude.{◌<◌, Some, false, option_map};
+    ghost use Rattle.volume_model.specs.Pieces.{contents_in, first_piece, has_piece, is_bad_piece, is_complete, united, with_piece, with_series};
+    ghost use Rattle.wire.specs.Contents.{contents_of, piece_in};
+    ghost use Rattle.hydration.specs.Pieces.{seen_pieces};
+    ghost use Rattle.hydration.specs.Changes.{CanChange, changed};
+
+    /// The first piece of a series, of which no other is kept. Fails for want of memory alone.
+    pub fn first(
+        alloc: Global,
+        series: u64,
+        piece: u16,
+        of: u16,
+        contents: &Contents,
+    ) -> Result<Pieces, AllocError>
+        requires { piece < of }
+        ensures { IfOk result (λ pieces. seen_pieces pieces ≡ first_piece series (piece_in piece of) (contents_of contents.now)) }
+    {
+        let mut marks = vec![in alloc; false; usize::from(of)]?;
+        marks[usize::from(piece)] = true;
+        let contents = contents.clone()?;
+        let first = Kept {
+            number: piece,
+            contents,
+        };
+        Ok(Pieces {
+            series,
+            of,
+            kept: vec![in alloc; first]?,
+            marks,
+        })
+    }
+
+    /// The volume epoch of the install, or the number of the copy.
+    pub fn series(&self) -> u64
+        ensures { result ≡ (seen_pieces self.now).series }
+    {
+        self.series
+    }
+
+    /// How many pieces there are in all.
+    pub fn of(&self) -> u16
+        ensures { result ≡ (seen_pieces self.now).of }
+    {
+        self.of
+    }
+
+    /// The pieces that are kept, in the order in which they came.
+    pub fn as_slice(&self) -> &[Kept]
+        ensures { all_kept result.now ≡ (seen_pieces self.now).kept }
+    {
+        &self.kept
+    }
+
+    /// Whether the piece of this number is kept.
+    pub fn has(&self, number: u16) -> bool
+        ensures { result ≡ has_piece (seen_pieces self.now) number }
+    {
+        if number >= self.of {
+            return false;
+        }
+        self.marks[usize::from(number)]
+    }
+
+    /// Whether all pieces are kept.
+    pub fn is_complete(&self) -> bool
+        ensures { result ≡ is_complete (seen_pieces self.now) }
+    {
+        self.kept.len() == usize::from(self.of)
+    }
+
+    /// Whether the contents can't be the piece of this number beside those that are kept: they are no piece at all, or the kept ones
+    /// are of the same series and of another number of pieces.
+    pub fn is_bad(
+        kept: Option<&Pieces>,
+        series: u64,
+        piece: u16,
+        of: u16,
+        contents: &Contents,
+    ) -> bool
+        ensures { result ≡ is_bad_piece (option_map (λ pieces. seen_pieces pieces.now) kept.entry) series (piece_in piece of) (contents_of contents.now) }
+    {
+        if !contents.is_piece(piece, of) {
+            return true;
+        }
+        match kept {
+            Some(pieces) => pieces.series == series && pieces.of != of,
+            None => false,
+        }
+    }
+
+    /// Makes ready to keep a piece of this series: makes the room and the copy, and nothing where the piece of this number is kept
+    /// already. Fails for want of memory alone.
+    pub fn prepare(&mut self, piece: u16, contents: &Contents) -> Result<Change, AllocError>
+        requires { piece < (seen_pieces self.old).of }
+        ensures change { IfOk result (λ change. changed change (seen_pieces self.old) ≡ with_piece (seen_pieces self.old) (piece_in piece (seen_pieces self.old).of) (contents_of contents.now)) }
+        ensures ready { IfOk result (CanChange self.new) }
+        ensures same { seen_pieces self.new ≡ seen_pieces self.old }
+    {
+        if self.has(piece) {
+            return Ok(Change::Nothing);
+        }
+        self.kept.reserve(1)?;
+        Ok(Change::More(Kept {
+            number: piece,
+            contents: contents.clone()?,
+        }))
+    }
+
+    /// Makes ready to keep a piece of a copy: a complete copy is left as it is, a later one replaces the kept pieces, and an earlier one
+    /// changes nothing. Fails for want of memory alone.
+    pub fn prepare_series(
+        &mut self,
+        alloc: Global,
+        series: u64,
+        piece: u16,
+        of: u16,
+        contents: &Contents,
+    ) -> Result<Change, AllocError>
+        requires { is_bad_piece (Some (seen_pieces self.old)) series (piece_in piece of) (contents_of contents.now) ≡ false }
+        ensures change { IfOk result (λ change. changed change (seen_pieces self.old) ≡ with_series (seen_pieces self.old) series (piece_in piece of) (contents_of contents.now)) }
+        ensures ready { IfOk result (CanChange self.new) }
+        ensures same { seen_pieces self.new ≡ seen_pieces self.old }
+    {
+        if self.is_complete() {
+            return Ok(Change::Nothing);
+        }
+        if self.series == series {
+            return self.prepare(piece, contents);
+        }
+        if series < self.series {
+            return Ok(Change::Nothing);
+        }
+        let pieces = Pieces::first(alloc, series, piece, of, contents)?;
+        Ok(Change::Anew(pieces))
+    }
+
+    /// Makes the change that was made ready last; takes no memory.
+    pub fn apply(&mut self, change: Change)
+        requires { CanChange self.old change }
+        ensures { seen_pieces self.new ≡ changed change (seen_pieces self.old) }
+    {
+        match change {
+            Change::Nothing => {}
+            Change::More(kept) => {
+                self.marks[usize::from(kept.number)] = true;
+                self.kept.push(kept).unwrap();
+            }
+            Change::Anew(pieces) => *self = pieces,
+        }
+    }
+
+    /// Whether all pieces are kept once the change is made.
+    pub fn is_complete_with(&self, change: &Change) -> bool
+        requires { CanChange self.now change.now }
+        ensures { result ≡ is_complete (changed change.now (seen_pieces self.now)) }
+    {
+        match change {
+            Change::Nothing => self.is_complete(),
+            Change::More(_) => self.kept.len() + 1 == usize::from(self.of),
+            Change::Anew(pieces) => pieces.is_complete(),
+        }
+    }
+
+    /// The records of all kept pieces, as a set. Fails for want of memory alone.
+    pub fn join(&self, alloc: Global) -> Result<RecordSet, AllocError>
+        ensures { IfOk result (λ set. records_of set ≡ united (contents_in (seen_pieces self.now))) }
+    {
+        let parts = parts_of(alloc, &self.kept)?;
+        joined(alloc, parts)
+    }
+
+    /// The records of all pieces that are kept once the change is made, as a set. Fails for want of memory alone.
+    pub fn join_with(&self, alloc: Global, change: &Change) -> Result<RecordSet, AllocError>
+        ensures { IfOk result (λ set. records_of set ≡ united (contents_in (changed change.now (seen_pieces self.now)))) }
+    {
+        match change {
+            Change::Nothing => self.join(alloc),
+            Change::More(last) => {
+                let mut parts = parts_of(alloc, &self.kept)?;
+                parts.push(last.contents.records.clone()?)?;
+                joined(alloc, parts)
+            }
+            Change::Anew(pieces) => pieces.join(alloc),
+        }
+    }
+}
+
+/// The records of kept pieces, each a set of its own.
+fn parts_of(alloc: Global, all: &[Kept]) -> Result<Vec<RecordSet>, AllocError>
+    ensures { IfOk result (λ parts. map records_of parts.items ≡ sets_kept all.now) }
+{
+    let mut parts = Vec::with_capacity(alloc, all.len())?;
+    for kept in all {
+        parts.push(kept.contents.records.clone()?)?;
+    }
+    Ok(parts)
+}
+
+/// The records of sets in any order, as one set. Of sets that stand one behind the other none is gone through twice.
+fn joined(alloc: Global, mut parts: Vec<RecordSet>) -> Result<RecordSet, AllocError>
+    ensures { IfOk result (λ set. records_of set ≡ all_records (map records_of parts.items)) }
+{
+    parts.sort_unstable_by_key(|part| first_lsn(part));
+    RecordSet::join(alloc, &parts)
+}
+
+/// The least log sequence number of a set, 0 where it has no record.
+fn first_lsn(set: &RecordSet) -> u64 {
+    match set.as_slice().first() {
+        Some(packet) => packet.lsn(),
+        None => 0,
+    }
+}
