@@ -4,4 +4,6 @@ pub mod BlockLists
 pub mod Reaching
 pub mod Taking
 pub mod Hydrating
+pub mod Installing
+pub mod Copying
 pub mod Ready

@@ -1,5 +1,5 @@
 -- Records in order: how their numbers rise, and that the number before each is smaller
-use Rattle.std.proofs.Common.{◌≡◌, ℕ, ◌<◌, ◌≤◌, ◌-◌, true, false, List, [], ◌∷◌, ◌++◌, ◌⊎◌, length, get_or, map, sym, subst, inl, inr, arith}
+use Rattle.std.proofs.Common.{◌≡◌, ◌<◌, ◌≤◌, ◌-◌, true, false, List, [], ◌∷◌, ◌++◌, ◌⊎◌, length, get_or, map, sym, subst, inl, inr, arith}
 use Rattle.std.proofs.lemmas.Bool.{or_cases, and_parts, ltb-true, eqb-true}
 use Rattle.std.specs.List.Sorted.{IsPartitionPoint}
 use Rattle.volume_model.specs.Lists.{IsIn}

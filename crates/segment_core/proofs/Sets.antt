@@ -1,15 +1,12 @@
 -- Packets in order as a set, and a set as packets in order
 use Rattle.std.proofs.Common.{◌≡◌, ℕ, zero, suc, ◌<◌, ◌≤◌, ◌+◌, min, List, [], ◌∷◌, ◌++◌, length, get_or, map, take, true, add-one, refl, sym, ap, ◌∙◌, subst, arith}
-use Rattle.std.proofs.lemmas.List.{get_or-take, get_or-map, get_or_default, length-take, length-map, append-nil}
+use Rattle.std.proofs.lemmas.List.{get_or-take, get_or-map, get_or_default, length-take, length-map}
 use Rattle.std.proofs.Math.Seq.{take-suc}
-use Rattle.std.specs.List.{insert}
-use Rattle.volume_model.specs.Redo.{Redo, spelling, numbers_before, holds_record}
+use Rattle.volume_model.specs.Redo.{spelling, numbers_before}
 use Rattle.redo_record.specs.declared.packet.Packet.{Packet}
 use Rattle.redo_record.specs.Packet.{packet_redo}
 use Rattle.redo_record.specs.Order.{IsInOrder, ComesAfter}
-use Rattle.redo_record.specs.Places.{IsPlaceFor}
-use Rattle.redo_record.proofs.Before.{IsBefore, with_record-last}
-use Rattle.redo_record.proofs.Places.{list-all, with_record-after}
+use Rattle.redo_record.proofs.Places.{list-all}
 
 -- a record comes after those before it
 module _ (packets : List Packet) (k : ℕ) (x : Packet) (within : k < length packets) (is : x ≡ get_or packets k x) where

@@ -3,6 +3,7 @@ pub mod BlockList
 pub mod Blocks
 pub mod Link
 pub mod Records
+pub mod Assembly
 pub mod Prepared
 pub mod Segment
 pub mod Told

@@ -1,14 +1,15 @@
-use Rattle.std.specs.Prelude.{true, [], ◌∷◌, ◌++◌, List}
+use Rattle.std.specs.Prelude.{true, [], suc, List, None}
 use Rattle.volume_model.specs.Redo.{with_record}
 use Rattle.volume_model.specs.Node.{Node, NodeStep}
 use Rattle.redo_record.specs.Packet.{packet_redo}
 use Rattle.lineage.specs.Lineage.{lineage_of}
 use Rattle.wire.specs.declared.message.Message.{Message}
 use Rattle.wire.specs.Message.{messages_of, place_of}
-use Rattle.hydration.specs.Copies.{copy_of}
+use Rattle.hydration.specs.Hydration.{kept_by}
 use Rattle.segment_core.specs.declared.prepared.Effect.{Effect}
-use Rattle.segment_core.specs.declared.prepared.Effect.TheVariants.{Nothing, Enter, Promise, Move, Replace, Keep, Hydrate}
+use Rattle.segment_core.specs.declared.prepared.Effect.TheVariants.{Nothing, Enter, Promise, Count, Move, Gather, Replace, Keep, Hydrate}
 use Rattle.segment_core.specs.declared.prepared.Prepared.{Prepared}
+use Rattle.segment_core.specs.Assembly.{changed_by}
 use Rattle.segment_core.specs.Records.{records_of}
 
 -- the messages that the step makes
@@ -21,10 +22,12 @@ effected Nothing node = node
 effected (Enter entrant) node =
     record node { contents = record { lineage = node.contents.lineage; records = with_record (packet_redo entrant.packet) node.contents.records } }
 effected (Promise volume) node = record node { volume = volume }
-effected (Move place) node = record node { place = place_of place; copies = [] }
+effected Count node = record node { copied = suc node.copied }
+effected (Move place) node = record node { place = place_of place; copies = []; install = None }
+effected (Gather volume change) node = record node { volume = volume; install = changed_by change node.install }
 effected (Replace volume lineage records) node =
-    record node { volume = volume; contents = record { lineage = lineage_of lineage; records = records_of records } }
-effected (Keep copied) node = record node { copies = node.copies ++ copy_of copied ∷ [] }
+    record node { volume = volume; contents = record { lineage = lineage_of lineage; records = records_of records }; install = None }
+effected (Keep keeping) node = record node { copies = kept_by keeping node.copies }
 effected (Hydrate volume lineage records) node =
     record node { volume = volume; whole = true; contents = record { lineage = lineage_of lineage; records = records_of records } }
 

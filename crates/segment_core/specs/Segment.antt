@@ -1,9 +1,12 @@
-use Rattle.std.specs.Prelude.{◌≡◌, ◌⊎◌, ℕ, Bool, true, false, not, List, [], ◌∷◌, Option, Some, None, Result, Ok, Vec}
+use Rattle.std.specs.Prelude.{◌≡◌, ◌<◌, ◌⊎◌, ℕ, suc, Bool, true, false, not, List, [], ◌∷◌, Option, Some, None, Result, Ok, Vec}
 use Rattle.std.specs.Arc.{arc_value}
 use Rattle.std.specs.Borrow.{Bor}
 use Rattle.std.specs.Global.{Global}
 use Rattle.volume_model.specs.Plan as model
-use Rattle.volume_model.specs.Node.{Node, NodeAnswer, NodeStep, born_node, has_configuration, hydrated, page_checks, page_of, reaction}
+use Rattle.volume_model.specs.Lineage.{Lineage}
+use Rattle.volume_model.specs.Pieces.{in_pieces}
+use Rattle.volume_model.specs.Redo.{Redo}
+use Rattle.volume_model.specs.Node.{Node, NodeAnswer, NodeStep, ack_of, born_node, has_configuration, hydrated, most_copies, page_checks, page_of, reaction}
 use Rattle.volume_model.specs.Message as model_message
 use Rattle.volume_model.specs.Refusal.{refuse_if}
 use Rattle.volume_model.specs.declared.fault.Fault.{Fault}
@@ -18,9 +21,10 @@ use Rattle.wire.specs.declared.message.Message.{Message}
 use Rattle.wire.specs.Message.{label_of, messages_of}
 use Rattle.hydration.specs.Hydration.{copies_of, CanKeep}
 use Rattle.segment_core.specs.declared.prepared.Effect.{Effect}
-use Rattle.segment_core.specs.declared.prepared.Effect.TheVariants.{Enter, Keep}
+use Rattle.segment_core.specs.declared.prepared.Effect.TheVariants.{Enter, Count, Gather, Keep}
 use Rattle.segment_core.specs.declared.prepared.Prepared.{Prepared}
 use Rattle.segment_core.specs.declared.segment.Segment.{Segment}
+use Rattle.segment_core.specs.Assembly.{kept_in, CanGather}
 use Rattle.segment_core.specs.Prepared.{step_of}
 use Rattle.segment_core.specs.Records.{records_of, CanEnter}
 
@@ -32,6 +36,8 @@ node_of s = record {
   whole = s.whole;
   contents = record { lineage = lineage_of s.lineage; records = records_of s.records };
   copies = copies_of s.copies;
+  install = kept_in s.assembly;
+  copied = s.copied;
 }
 
 -- the plan over which it was made
@@ -85,10 +91,12 @@ reaction_of s message = reaction (segment_plan s) (segment_group s) (segment_mem
 abbrev pub hydration_of : Segment → NodeAnswer
 hydration_of s = hydrated (segment_plan s) (segment_group s) (segment_member s) (node_of s)
 
--- what is to enter can enter, and what is to be kept can be kept
+-- what is to enter can enter, what is to be kept can be kept, and what is to be counted can be
 abbrev pub CanTake : Segment → Effect → Type 0
 CanTake s (Enter entrant) = CanEnter s.records entrant
-CanTake s (Keep copied) = CanKeep s.copies copied
+CanTake s Count = s.copied < most_copies
+CanTake s (Gather volume change) = CanGather s.assembly change
+CanTake s (Keep keeping) = CanKeep s.copies keeping
 CanTake s effect = Unit {0}
 
 -- a step that the segment may take as it is: one by a message, or that by which it becomes whole
@@ -99,6 +107,20 @@ MayStep s step = ((message : model_message.Message) × (reaction_of s message �
 pub record IsReady (s : Segment) (prepared : Prepared) : Type 0 where
   pub may_step : MayStep s (step_of prepared (node_of s))
   pub can_take : CanTake s prepared.effect
+
+-- the step by which what a node holds is replaced
+abbrev pub replaced : ℕ → ℕ → Node → model_message.Label → Lineage → List Redo → NodeStep
+replaced group member node label lineage records = record {
+  made = ack_of group member label records ∷ [];
+  node = record node { volume = label.volume; contents = record { lineage = lineage; records = records }; install = None };
+}
+
+-- the step by which a node tells what it holds
+abbrev pub copied : ℕ → ℕ → Node → NodeStep
+copied group member node = record {
+  made = in_pieces node.contents (model_message.Message.CopyReport group node.place.epoch member (suc node.copied));
+  node = record node { copied = suc node.copied };
+}
 
 -- the step of a node that makes these messages and becomes this
 abbrev pub answered : Vec Message Global → Node → NodeStep

@@ -1,6 +1,7 @@
 //! A segment of a protection group: the records that it holds, and what it answers.
 #![tactic(auto)]
 
+mod assembly;
 mod block_list;
 mod blocks;
 mod entrant;

@@ -2,7 +2,7 @@
 
 use crate::entrant::Entrant;
 use crate::records::Records;
-use hydration::Copied;
+use hydration::{Change, Keeping};
 use lineage::Lineage;
 use wire::{Message, Place};
 
@@ -15,16 +15,23 @@ pub enum Effect {
     Enter(Entrant),
     /// A volume epoch is promised.
     Promise(u32),
-    /// The group stands elsewhere, and the copies are dropped.
+    /// One more copy was told.
+    Count,
+    /// The group stands elsewhere, and all pieces are dropped.
     Move(Place),
-    /// A volume epoch is promised, and the lineage and the records are replaced.
+    /// A volume epoch is promised, and the kept pieces of an install change.
+    Gather {
+        volume: u32,
+        change: Change,
+    },
+    /// A volume epoch is promised, the lineage and the records are replaced, and the kept pieces of an install are dropped.
     Replace {
         volume: u32,
         lineage: Lineage,
         records: Records,
     },
-    /// A copy is kept.
-    Keep(Copied),
+    /// A piece of a copy is kept.
+    Keep(Keeping),
     /// The segment becomes whole: a volume epoch is promised, and the lineage and the records are replaced.
     Hydrate {
         volume: u32,

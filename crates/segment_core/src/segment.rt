@@ -1,5 +1,10 @@
 //! A segment of a protection group, on one node.
 
+ghost use Rattle.std.specs.Prelude.{◌≡◌, length, IfOk};
+ghost use Rattle.volume_model.specs.Pieces.{pieces_of};
+ghost use Rattle.wire.specs.Contents.{contents_of};
+
+use crate::assembly::Assembly;
 use crate::prepared::{Effect, Prepared};
 use crate::records::Records;
 use hydration::{Hydration, State};
@@ -7,17 +12,30 @@ use lineage::Lineage;
 use pages::BLOCK;
 use plan::CheckedPlan;
 use quorum_expr::Expr;
-use redo_record::Packet;
+use redo_record::{Packet, RecordSet};
 use std::alloc::{AllocError, Global};
 use std::sync::Arc;
 use volume_model::Fault;
 use wire::{
-    Ack, Carried, Contents, CopyAsk, CopyReport, Fence, Install, Label, Message, Page, PageAsk,
-    Report, StepTo, only,
+    Ack, Carried, Contents, CopyAsk, CopyReport, Fence, Install, Label, MOST_PIECES, Message, Page,
+    PageAsk, Report, StepTo, only,
 };
 
 /// How many records a segment holds at most.
 const MOST_RECORDS: usize = 1_048_576;
+
+/// How many copies a segment tells at most.
+const MOST_COPIES: u64 = 1 << 62;
+
+/// How many pieces the contents make. More than a message can number are as if memory ran out.
+fn count_of(contents: &Contents) -> Result<u16, AllocError>
+    ensures { IfOk result (λ of. of ≡ pieces_of (length (contents_of contents.now).records)) }
+{
+    match u16::try_from(contents.pieces()) {
+        Ok(of) => Ok(of),
+        Err(_) => Err(AllocError),
+    }
+}
 
 /// A segment of a protection group, on one node.
 #[derive(Drop)]
@@ -34,27 +52,33 @@ pub struct Segment {
     whole: bool,
     lineage: Lineage,
     records: Records,
-    /// What it was sent while it wasn't whole, at most one a sender.
+    /// What it was sent while it wasn't whole, of each sender the pieces of one copy.
     copies: Hydration,
+    /// The pieces that it has of an install that isn't complete.
+    assembly: Assembly,
+    /// How many copies it has told.
+    copied: u64,
 }
 
 impl Segment {
-    ghost use Rattle.std.specs.Prelude.{◌≡◌, ◌==◌, ℕ, not, List, [], ◌∷◌, Result, Ok, Err, IfErr, IfOk, MatchResult, ◌≢◌};
+    ghost use Rattle.std.specs.Prelude.{◌<◌, ◌==◌, ℕ, false, not, List, [], ◌∷◌, Result, Ok, Err, IfErr, MatchResult, ◌≢◌};
     ghost use Rattle.std.specs.Arc.{arc_value};
     ghost use Rattle.volume_model.specs.Answer.{Answers, AnswersAlways, AnswersLate, AnswersNew};
     ghost use Rattle.volume_model.specs.Refusal.{refuse_if};
     ghost use Rattle.volume_model.specs.declared.fault.Fault.{Fault as FaultName};
     ghost use Rattle.volume_model.specs.declared.fault.Fault.TheVariants.{NoMemory, NotAddressed, NotInstalled};
     ghost use Rattle.volume_model.specs.Redo.{record_at, scl};
-    ghost use Rattle.volume_model.specs.Node.{NodeAnswer, gathered, gossip_of, has_configuration, label_checks, lineage_epoch, offered, page_answer, page_checks, restarted, take_record};
+    ghost use Rattle.volume_model.specs.Node.{NodeAnswer, gathered, gossip_of, has_configuration, installed, label_checks, lineage_epoch, most_copies, offered, page_answer, page_checks, restarted, take_record};
+    ghost use Rattle.volume_model.specs.Pieces.{in_pieces, is_bad_piece};
     ghost use Rattle.plan.specs.CheckedModel.{checked_model};
     ghost use Rattle.redo_record.specs.Packet.{packet_redo};
+    ghost use Rattle.redo_record.specs.RecordSet.{records_of as set_records};
     ghost use Rattle.volume_model.specs.Message as model;
-    ghost use Rattle.wire.specs.Contents.{contents_of};
+    ghost use Rattle.wire.specs.Contents.{piece_in};
     ghost use Rattle.wire.specs.Message.{label_of, message_of, messages_of};
     ghost use Rattle.hydration.specs.Hydration.{state_of};
     ghost use Rattle.segment_core.specs.Prepared.{answers_of, effected, step_of};
-    ghost use Rattle.segment_core.specs.Segment.{node_of, segment_plan, segment_group, segment_member, answered, became, born, hydration_of, is_full, offered_step, paged, reaction_of, CanTake, IsReadExpression, IsSegmentOf, IsSameActor, IsReady};
+    ghost use Rattle.segment_core.specs.Segment.{node_of, segment_plan, segment_group, segment_member, answered, became, born, copied, hydration_of, is_full, offered_step, paged, reaction_of, replaced, CanTake, IsReadExpression, IsSegmentOf, IsSameActor, IsReady};
 
     /// The segment of a member of a group, as it is born. Refused 82 where the plan names no such member.
     pub fn new(
@@ -82,6 +106,8 @@ impl Segment {
                 lineage,
                 records: Records::new(alloc),
                 copies: Hydration::new(alloc),
+                assembly: Assembly::new(),
+                copied: 0,
             })
         } else {
             Ok(Segment {
@@ -95,6 +121,8 @@ impl Segment {
                 lineage: Lineage::empty(alloc),
                 records: Records::new(alloc),
                 copies: Hydration::new(alloc),
+                assembly: Assembly::new(),
+                copied: 0,
             })
         }
     }
@@ -106,12 +134,13 @@ impl Segment {
         self.records.complete_point()
     }
 
-    /// Starts anew with what it keeps: all but the copies.
+    /// Starts anew with what it keeps: all but the pieces of copies and of an install.
     pub fn restart(&mut self)
         ensures node { node_of self.new ≡ restarted (node_of self.old) }
         ensures actor { IsSameActor self.old self.new }
     {
         self.copies.clear();
+        self.assembly = Assembly::new();
     }
 
     /// What it holds, for another.
@@ -193,32 +222,68 @@ impl Segment {
         })
     }
 
-    /// Makes ready to hold what a recovery found.
-    fn prepare_install(&self, alloc: Global, install: &Install) -> Result<Prepared, Fault>
-        ensures step { Answers step_of (reaction_of self.now (message_of (Message.Install install.now))) (node_of self.now) result (node_of self.now) }
+    /// The step that replaces what is held by what a recovery found.
+    fn replaced(
+        &self,
+        alloc: Global,
+        install: &Install,
+        found: &RecordSet,
+    ) -> Result<Prepared, AllocError>
+        ensures step { IfOk result (λ prepared. step_of prepared (node_of self.now) ≡ replaced (segment_group self.now) (segment_member self.now) (node_of self.now) (label_of install.now.label) (contents_of install.now.contents).lineage (set_records found.now)) }
         ensures ready { IfOk result (λ prepared. CanTake self.now prepared.effect) }
+    {
+        let lineage = install.contents.lineage.clone()?;
+        let records = Records::from_set(alloc, found)?;
+        let scl = records.complete_point();
+        let effect = Effect::Replace {
+            volume: install.label.volume,
+            lineage,
+            records,
+        };
+        self.acknowledged(alloc, install.label, scl, effect)
+    }
+
+    /// Makes ready for a piece of an install that isn't refused: keeps it, or holds what was found where it was the last that was missing.
+    fn prepare_piece(&mut self, alloc: Global, install: &Install) -> Result<Prepared, AllocError>
+        requires { is_bad_piece (node_of self.old).install install.now.label.volume (piece_in install.now.piece install.now.of) (contents_of install.now.contents) ≡ false }
+        ensures step { IfOk result (λ prepared. step_of prepared (node_of self.old) ≡ installed (segment_group self.old) (segment_member self.old) (node_of self.old) (label_of install.now.label) (piece_in install.now.piece install.now.of) (contents_of install.now.contents)) }
+        ensures ready { IfOk result (λ prepared. CanTake self.new prepared.effect) }
+        ensures node { node_of self.new ≡ node_of self.old }
+        ensures actor { IsSameActor self.old self.new }
+    {
+        let volume = install.label.volume;
+        if self.lineage.last_epoch() == volume {
+            let scl = self.records.complete_point();
+            return self.acknowledged(alloc, install.label, scl, Effect::Promise(volume));
+        }
+        let change = self.assembly.prepare(alloc, install)?;
+        match self.assembly.whole_with(alloc, &change)? {
+            Some(found) => self.replaced(alloc, install, &found),
+            None => Ok(Prepared {
+                answers: Vec::new(alloc),
+                effect: Effect::Gather { volume, change },
+            }),
+        }
+    }
+
+    /// Makes ready to hold what a recovery found, of which this is a piece.
+    fn prepare_install(&mut self, alloc: Global, install: &Install) -> Result<Prepared, Fault>
+        ensures step { Answers step_of (reaction_of self.old (message_of (Message.Install install.now))) (node_of self.old) result (node_of self.old) }
+        ensures ready { IfOk result (λ prepared. CanTake self.new prepared.effect) }
+        ensures node { node_of self.new ≡ node_of self.old }
+        ensures actor { IsSameActor self.old self.new }
     {
         if !install.is_for(self.group) {
             return Err(Fault::NotAddressed);
         }
         self.check_label(install.label)?;
-        if install.contents.records.len() > MOST_RECORDS {
+        if install.of > MOST_PIECES {
             return Err(Fault::Full);
         }
-        let volume = install.label.volume;
-        if self.lineage.last_epoch() == volume {
-            let scl = self.records.complete_point();
-            return Ok(self.acknowledged(alloc, install.label, scl, Effect::Promise(volume))?);
+        if self.assembly.is_bad(install) {
+            return Err(Fault::BadPiece);
         }
-        let lineage = install.contents.lineage.clone()?;
-        let records = Records::from_set(alloc, &install.contents.records)?;
-        let scl = records.complete_point();
-        let effect = Effect::Replace {
-            volume,
-            lineage,
-            records,
-        };
-        Ok(self.acknowledged(alloc, install.label, scl, effect)?)
+        Ok(self.prepare_piece(alloc, install)?)
     }
 
     /// Makes ready to take a record of its group.
@@ -281,6 +346,47 @@ impl Segment {
         })
     }
 
+    /// What is told of a copy: one message a piece, in growing order.
+    fn copy_reports(
+        &self,
+        alloc: Global,
+        series: u64,
+        contents: &Contents,
+    ) -> Result<Vec<Message>, AllocError>
+        ensures { IfOk result (λ messages. messages_of messages.items ≡ in_pieces (contents_of contents.now) (model.Message.CopyReport (segment_group self.now) (node_of self.now).place.epoch (segment_member self.now) series)) }
+    {
+        let of = count_of(contents)?;
+        let mut messages = Vec::new(alloc);
+        for piece in 0..of {
+            messages.push(Message::CopyReport(CopyReport {
+                group: self.group,
+                epoch: self.epoch,
+                from: self.member,
+                series,
+                piece,
+                of,
+                contents: contents.piece(usize::from(piece))?,
+            }))?;
+        }
+        Ok(messages)
+    }
+
+    /// The step that tells what is held.
+    fn copied(&mut self, alloc: Global) -> Result<Prepared, AllocError>
+        requires { (node_of self.old).copied < most_copies }
+        ensures step { IfOk result (λ prepared. step_of prepared (node_of self.old) ≡ copied (segment_group self.old) (segment_member self.old) (node_of self.old)) }
+        ensures ready { IfOk result (λ prepared. CanTake self.new prepared.effect) }
+        ensures node { node_of self.new ≡ node_of self.old }
+        ensures actor { IsSameActor self.old self.new }
+    {
+        let contents = self.contents(alloc)?;
+        let answers = self.copy_reports(alloc, self.copied + 1, &contents)?;
+        Ok(Prepared {
+            answers,
+            effect: Effect::Count,
+        })
+    }
+
     /// Makes ready to say what it holds to a node that isn't whole.
     fn prepare_copy(&mut self, alloc: Global, ask: &CopyAsk) -> Result<Prepared, Fault>
         ensures step { Answers step_of (reaction_of self.old (message_of (Message.CopyAsk ask.now))) (node_of self.old) result (node_of self.old) }
@@ -297,23 +403,16 @@ impl Segment {
         if self.epoch < ask.epoch {
             return Err(Fault::AheadMember);
         }
-        if self.whole {
-            let report = CopyReport {
-                group: self.group,
-                epoch: ask.epoch,
-                from: self.member,
-                contents: self.contents(alloc)?,
-            };
-            Ok(Prepared {
-                answers: only(alloc, Message::CopyReport(report))?,
-                effect: Effect::Nothing,
-            })
-        } else {
-            Err(Fault::NotWhole)
+        if !self.whole {
+            return Err(Fault::NotWhole);
         }
+        if self.copied >= MOST_COPIES {
+            return Err(Fault::SeriesSpent);
+        }
+        Ok(self.copied(alloc)?)
     }
 
-    /// Makes ready to keep what another node holds.
+    /// Makes ready to keep a piece of what another node holds.
     fn prepare_copied(&mut self, alloc: Global, report: &CopyReport) -> Result<Prepared, Fault>
         ensures step { Answers step_of (reaction_of self.old (message_of (Message.CopyReport report.now))) (node_of self.old) result (node_of self.old) }
         ensures ready { IfOk result (λ prepared. CanTake self.new prepared.effect) }
@@ -332,13 +431,10 @@ impl Segment {
         if self.epoch < report.epoch {
             return Err(Fault::AheadMember);
         }
-        let effect = match self.copies.prepare(report)? {
-            Some(copied) => Effect::Keep(copied),
-            None => Effect::Nothing,
-        };
+        let keeping = self.copies.prepare(report)?;
         Ok(Prepared {
             answers: Vec::new(alloc),
-            effect,
+            effect: Effect::Keep(keeping),
         })
     }
 
@@ -558,6 +654,12 @@ impl Segment {
                 self.configuration = place.configuration;
                 self.epoch = place.epoch;
                 self.copies.clear();
+                self.assembly.clear();
+            }
+            Effect::Count => self.copied += 1,
+            Effect::Gather { volume, change } => {
+                self.volume = volume;
+                self.assembly.apply(change);
             }
             Effect::Replace {
                 volume,
@@ -567,8 +669,9 @@ impl Segment {
                 self.volume = volume;
                 self.lineage = lineage;
                 self.records = records;
+                self.assembly.clear();
             }
-            Effect::Keep(copied) => self.copies.keep(copied),
+            Effect::Keep(keeping) => self.copies.keep(keeping),
             Effect::Hydrate {
                 volume,
                 lineage,

@@ -1,4 +1,4 @@
-use Rattle.std.proofs.Common.{ℕ, ◌-◌, length}
+use Rattle.std.proofs.Common.{◌-◌, length}
 use Rattle.runs.specs.Places.{index_of}
 use Rattle.runs.specs.Runs.{runs_of, records_of}
 use Rattle.segment_core.proofs.Reaching.{IsOnTheWay}
