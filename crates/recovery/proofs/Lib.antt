@@ -7,3 +7,4 @@ pub mod Firsts
 pub mod Ends
 pub mod Leaves
 pub mod Refusals
+pub mod Bounds

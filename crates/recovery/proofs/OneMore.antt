@@ -1,7 +1,8 @@
 -- One message more, and one report more.
 use Rattle.std.proofs.Common.{◌≡◌, ℕ, ◌+◌, ◌-◌, ◌<◌, Bool, true, false, nat_lt, List, [], ◌∷◌, ◌++◌, length, get_or, take, drop, map, if◌then◌else◌, refl, sym, ap, ap₂, ◌∙◌, append_assoc, append-nil, add-one, arith}
 use Rattle.std.proofs.lemmas.List.{map-append, take_all}
-use Rattle.volume_model.specs.Lists.{each_below}
+use Rattle.volume_model.specs.Lists.{each_below, joined}
+use Rattle.volume_model.proofs.Basics.{joined-append}
 use Rattle.volume_model.specs.Message as model
 use Rattle.volume_model.specs.Message.{place_in}
 use Rattle.volume_model.specs.Lineage.{Contents, Lineage, found_in, newer, newest_with, with_found, with_live}
@@ -31,6 +32,21 @@ message-none old new i test f is before fails =
     ap messages_of is ∙ before ∙ sym (append-nil (each_below i test f))
     ∙ sym (ap (λ b. each_below i test f ++ (if b then f i ∷ [] else [])) fails)
     ∙ sym (ap (λ n. each_below n test f) (add-one i))
+
+-- the messages of one group more, behind those of the groups before it
+pub messages-more : (old new made : List Message) (i : ℕ) (test : ℕ → Bool) (f : ℕ → List model.Message) → new ≡ old ++ made → messages_of old ≡ joined (each_below i test f) → test i ≡ true → messages_of made ≡ f i → messages_of new ≡ joined (each_below (i + 1) test f)
+messages-more old new made i test f is before passes said =
+    ap messages_of is ∙ map-append message_of old made ∙ ap₂ (λ a b. a ++ b) before said
+    ∙ ap (λ l. joined (each_below i test f) ++ l) (sym (append-nil (f i)))
+    ∙ sym (joined-append (each_below i test f) (f i ∷ []))
+    ∙ sym (ap (λ b. joined (each_below i test f ++ (if b then f i ∷ [] else []))) passes)
+    ∙ sym (ap (λ n. joined (each_below n test f)) (add-one i))
+
+pub messages-none : (old new : List Message) (i : ℕ) (test : ℕ → Bool) (f : ℕ → List model.Message) → new ≡ old → messages_of old ≡ joined (each_below i test f) → test i ≡ false → messages_of new ≡ joined (each_below (i + 1) test f)
+messages-none old new i test f is before fails =
+    ap messages_of is ∙ before ∙ ap joined (sym (append-nil (each_below i test f)))
+    ∙ sym (ap (λ b. joined (each_below i test f ++ (if b then f i ∷ [] else []))) fails)
+    ∙ sym (ap (λ n. joined (each_below n test f)) (add-one i))
 
 -- the place of a group, as it is read
 pub place-is : (places : List Place) (i k : ℕ) (d : Place) → i < length places → k ≡ i → place_in (map wire.place_of places) i ≡ wire.place_of (get_or places k d)

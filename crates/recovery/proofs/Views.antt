@@ -2,14 +2,15 @@
 use Rattle.std.proofs.Common.{◌≡◌, ℕ, zero, suc, ◌<◌, Bool, true, false, List, [], ◌∷◌, ◌++◌, Option, Some, None, Result, Ok, Err, length, map, if◌then◌else◌, refl, sym, ap, ap₂, ◌∙◌, subst, arith}
 use Rattle.std.specs.Prelude.{OnOk, OnErr}
 use Rattle.std.proofs.lemmas.Bool.{eq-eqb}
-use Rattle.volume_model.specs.Lists.{each_below}
+use Rattle.volume_model.specs.Lists.{each_below, joined}
 use Rattle.volume_model.specs.Plan.{Plan}
 use Rattle.volume_model.specs.Message as model
 use Rattle.volume_model.specs.Message.{place_in}
-use Rattle.volume_model.specs.Redo.{Redo, of_group}
+use Rattle.volume_model.specs.Redo.{Redo}
+use Rattle.volume_model.specs.Pieces.{in_pieces}
 use Rattle.volume_model.specs.Lineage.{Lineage}
 use Rattle.volume_model.specs.Client.{ClientGroup, unborn, newly_at, place_of, label_of}
-use Rattle.volume_model.specs.ClientRecovery.{fences, installs}
+use Rattle.volume_model.specs.ClientRecovery.{fences, installs, to_install}
 use Rattle.volume_model.specs.ClientMessages.{is_later, later_in, later_group, reread_group, with_places, are_places, taken}
 use Rattle.lineage.specs.Lineage.{lineage_of}
 use Rattle.writer_core.specs.Logs.{log_of}
@@ -54,9 +55,9 @@ installs-with_places : (plan : Plan) (volume : ℕ) (groups : List ClientGroup) 
     → installs plan volume (place_in places) lineage log (later_in (place_of groups) (place_in places)) ≡ installs plan volume (place_of (with_places later_group groups places)) lineage log (later_in (place_of groups) (place_in places))
 installs-with_places plan volume groups places lineage log many good =
     let wide : length places ≡ plan.groups = places-many plan places good in
-    each-same plan.groups (later_in (place_of groups) (place_in places)) (λ k. model.Message.Install k (label_of volume (place_in places) k) (record { lineage = lineage; records = of_group k log }))
-    (λ k. model.Message.Install k (label_of volume (place_of (with_places later_group groups places)) k) (record { lineage = lineage; records = of_group k log }))
-    (λ k l t. ap (λ (p : model.Place). model.Message.Install k (record { volume = volume; member = p.epoch }) (record { lineage = lineage; records = of_group k log })) (sym (with_places-raised later_group (λ g p e. rw e refl) groups places (many ∙ sym wide) k (omega (arith, many, l)) t)))
+    let said : (ℕ → model.Place) → ℕ → List model.Message = λ at k. in_pieces (to_install lineage log k) (model.Message.Install k (label_of volume at k)) in
+    ap joined (each-same plan.groups (later_in (place_of groups) (place_in places)) (said (place_in places)) (said (place_of (with_places later_group groups places)))
+    (λ k l t. ap (λ (p : model.Place). in_pieces (to_install lineage log k) (model.Message.Install k (record { volume = volume; member = p.epoch }))) (sym (with_places-raised later_group (λ g p e. rw e refl) groups places (many ∙ sym wide) k (omega (arith, many, l)) t))))
 
 -- ---- a later View
 

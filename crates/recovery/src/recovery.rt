@@ -6,11 +6,12 @@ ghost use Rattle.recovery.specs.Cuts.{are_older};
 
 use crate::finding::find;
 use crate::found::Found;
+use crate::reported::records_said;
 use crate::speaking::{fences, installs, later_fences, later_installs};
 use plan::CheckedPlan;
 use std::alloc::Global;
 use std::sync::Arc;
-use volume_model::Fault;
+use volume_model::{Fault, steps_are_few};
 use wire::{Ack, Message, Report, View};
 use writer_core::{Standings, Writer, are_places};
 
@@ -26,12 +27,12 @@ pub struct Recovery {
 }
 
 impl Recovery {
-    ghost use Rattle.std.specs.Prelude.{◌≢◌, false, map, IfErr, IfOk, MatchOption, OnOk};
+    ghost use Rattle.std.specs.Prelude.{◌≢◌, false, length, map, IfErr, IfOk, MatchOption, OnOk};
     ghost use Rattle.std.specs.Arc.{arc_value};
     ghost use Rattle.volume_model.specs.Answer.{Answers, AnswersLate, AnswersNew, refusal_of};
     ghost use Rattle.volume_model.specs.declared.fault.Fault.TheVariants.{NoMemory};
     ghost use Rattle.volume_model.specs.Client.{has_cut};
-    ghost use Rattle.volume_model.specs.ClientRecovery.{cut_client, opened};
+    ghost use Rattle.volume_model.specs.ClientRecovery.{cut_client, log_reported, opened};
     ghost use Rattle.volume_model.specs.ClientMessages.{are_places, is_for, taken};
     ghost use Rattle.plan.specs.CheckedModel.{checked_model};
     ghost use Rattle.wire.specs.Message.{message_of, place_of};
@@ -123,7 +124,7 @@ impl Recovery {
     }
 
     /// Takes a later View. Each group moves to its place where that is one of a later epoch; for each such group it makes a Fence
-    /// before its cut, when the group's reports no longer count, and an Install after it. Refused as [`Recovery::admits_view`] says.
+    /// before its cut, when the group's reports no longer count, and the group's Installs after it. Refused as [`Recovery::admits_view`] says.
     pub fn view(&mut self, alloc: Global, view: &View) -> Result<Vec<Message>, Fault>
         ensures answers { Answers acted (taken (recovery_plan self.old) (recovery_volume self.old) (client_of self.old) (message_of (Message.View view.now))) (client_of self.old) result (client_of self.new) }
         ensures plan { recovery_plan self.new ≡ recovery_plan self.old }
@@ -229,8 +230,8 @@ impl Recovery {
         }
     }
 
-    /// Cuts the log that the reports hold, and makes one Install a group with what it has found: the newest lineage with its own
-    /// entry, and the log up to the cut. Refused as [`Recovery::admits_cut`] says.
+    /// Cuts the log that the reports hold, and makes the Installs of what it has found, one a piece of a group: the newest
+    /// lineage with its own entry, and the log up to the cut. Refused as [`Recovery::admits_cut`] says.
     pub fn cut(&mut self, alloc: Global) -> Result<Vec<Message>, Fault>
         ensures answers { AnswersLate is_spent acted (cut_client (recovery_plan self.old) (recovery_volume self.old) (client_of self.old)) (client_of self.old) result (client_of self.new) }
         ensures plan { recovery_plan self.new ≡ recovery_plan self.old }
@@ -243,6 +244,24 @@ impl Recovery {
         let messages = installs(alloc, self.volume, &self.standings, &found)?;
         self.found = Some(found);
         Ok(messages)
+    }
+
+    /// No more records than this many has the log that its reports hold.
+    pub fn reported(&self) -> usize
+        ensures { length (log_reported (recovery_plan self.now) (client_of self.now)) ≤ result }
+    {
+        steps_are_few();
+        records_said(self.standings.as_slice())
+    }
+
+    /// How many records the log has that it has found, and 0 before its cut.
+    pub fn found_len(&self) -> usize
+        ensures { result ≡ length (client_of self.now).found }
+    {
+        match &self.found {
+            Some(found) => found.log.len(),
+            None => 0,
+        }
     }
 
     /// What it has found, and none before its cut.

@@ -1,13 +1,16 @@
 //! What the reports of all groups hold together.
 
-ghost use Rattle.std.specs.Prelude.{◌≡◌, IfOk};
+ghost use Rattle.std.specs.Prelude.{◌≡◌, ◌-◌, ◌^◌, min, IfOk};
+ghost use Rattle.volume_model.specs.Few.{records_in};
 ghost use Rattle.volume_model.specs.Lineage.{found_in, newest, newest_with};
+ghost use Rattle.volume_model.specs.Node.{contents_of};
+ghost use Rattle.hydration.specs.Copies.{copies_in};
 ghost use Rattle.lineage.specs.Lineage.{lineage_of};
 ghost use Rattle.redo_record.specs.RecordSet.{records_of};
 ghost use Rattle.writer_core.specs.Standings.{groups_of};
 ghost use Rattle.recovery.specs.Reported.{reports_in};
 
-use hydration::{newest_with, with_found};
+use hydration::{Copied, newest_with, with_found};
 use lineage::Lineage;
 use redo_record::RecordSet;
 use std::alloc::{AllocError, Global};
@@ -44,6 +47,28 @@ pub fn found_in(
         [first, rest @ ..] => {
             let found = found_in(alloc, lineage, rest)?;
             with_found(alloc, lineage, first.copies.as_slice(), found)
+        }
+    }
+}
+
+/// How many records the reports of a group hold, each counted as often as it is held; at most the greatest number.
+fn records_in(copies: &[Copied]) -> usize
+    ensures { result ≡ min (records_in (contents_of (copies_in copies.now))) (2 ^ 64 - 1) }
+{
+    match copies {
+        [] => 0,
+        [first, rest @ ..] => records_in(rest).saturating_add(first.contents.records.len()),
+    }
+}
+
+/// How many records the reports of all groups hold, each counted as often as it is held; at most the greatest number.
+pub fn records_said(standings: &[Standing]) -> usize
+    ensures { result ≡ min (records_in (reports_in (groups_of standings.now))) (2 ^ 64 - 1) }
+{
+    match standings {
+        [] => 0,
+        [first, rest @ ..] => {
+            records_said(rest).saturating_add(records_in(first.copies.as_slice()))
         }
     }
 }

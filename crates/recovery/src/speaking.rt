@@ -3,12 +3,14 @@
 ghost use Rattle.std.specs.Prelude.{◌≡◌, true, length, map, IfOk};
 ghost use Rattle.volume_model.specs.Message as model;
 ghost use Rattle.volume_model.specs.Message.{place_in};
+ghost use Rattle.volume_model.specs.Pieces.{in_pieces, pieces_of};
 ghost use Rattle.volume_model.specs.Redo.{of_group};
 ghost use Rattle.volume_model.specs.Client.{label_of, place_of};
-ghost use Rattle.volume_model.specs.ClientRecovery.{fences, installs};
+ghost use Rattle.volume_model.specs.ClientRecovery.{fences, installs, to_install};
 ghost use Rattle.volume_model.specs.ClientMessages.{later_in};
 ghost use Rattle.lineage.specs.Lineage.{lineage_of};
 ghost use Rattle.redo_record.specs.RecordSet.{records_of};
+ghost use Rattle.wire.specs.Contents.{contents_of};
 ghost use Rattle.wire.specs.Message as wire;
 ghost use Rattle.wire.specs.Message.{message_of, messages_of};
 ghost use Rattle.writer_core.specs.Logs.{log_of};
@@ -80,21 +82,44 @@ fn of_group(alloc: Global, group: u8, log: &[Packet]) -> Result<RecordSet, Alloc
     Ok(set)
 }
 
-/// The Install of what was found for the nodes of a group.
-fn install(alloc: Global, group: u8, label: Label, found: &Found) -> Result<Message, AllocError>
-    ensures { IfOk result (λ message. message_of message ≡ model.Message.Install group (wire.label_of label) (record { lineage = lineage_of found.now.lineage; records = of_group group (log_of found.now.log.items) })) }
+/// How many pieces the contents make. More than a message can number are as if memory ran out.
+fn pieces_in(contents: &Contents) -> Result<u16, AllocError>
+    ensures { IfOk result (λ of. of ≡ pieces_of (length (contents_of contents.now).records)) }
 {
-    Ok(Message::Install(Install {
-        group,
-        label,
-        contents: Contents {
-            lineage: found.lineage.clone()?,
-            records: of_group(alloc, group, found.log.as_slice())?,
-        },
-    }))
+    match u16::try_from(contents.pieces()) {
+        Ok(of) => Ok(of),
+        Err(_) => Err(AllocError),
+    }
 }
 
-/// One Install a group.
+/// The Installs of what was found for the nodes of a group: one a piece, in growing order.
+fn group_installs(
+    alloc: Global,
+    group: u8,
+    label: Label,
+    found: &Found,
+) -> Result<Vec<Message>, AllocError>
+    ensures { IfOk result (λ messages. messages_of messages.items ≡ in_pieces (to_install (lineage_of found.now.lineage) (log_of found.now.log.items) group) (model.Message.Install group (wire.label_of label))) }
+{
+    let whole = Contents {
+        lineage: found.lineage.clone()?,
+        records: of_group(alloc, group, found.log.as_slice())?,
+    };
+    let of = pieces_in(&whole)?;
+    let mut messages = Vec::new(alloc);
+    for piece in 0..of {
+        messages.push(Message::Install(Install {
+            group,
+            label,
+            piece,
+            of,
+            contents: whole.piece(usize::from(piece))?,
+        }))?;
+    }
+    Ok(messages)
+}
+
+/// The Installs of what was found for all groups, in order of group, then piece.
 pub fn installs(
     alloc: Global,
     volume: u32,
@@ -106,12 +131,13 @@ pub fn installs(
     let mut messages = Vec::new(alloc);
     for group in 0..standings.plan().groups() {
         let label = standings.label(volume, group);
-        messages.push(install(alloc, group, label, found)?)?;
+        let mut pieces = group_installs(alloc, group, label, found)?;
+        messages.append(&mut pieces)?;
     }
     Ok(messages)
 }
 
-/// One Install for each group that these places raise.
+/// The Installs of what was found for each group that these places raise, in order of group, then piece.
 pub fn later_installs(
     alloc: Global,
     volume: u32,
@@ -126,7 +152,9 @@ pub fn later_installs(
     for group in 0..standings.plan().groups() {
         let place = places[usize::from(group)];
         if standings.epoch(group) < place.epoch {
-            messages.push(install(alloc, group, label_at(volume, place), found)?)?;
+            let label = label_at(volume, place);
+            let mut pieces = group_installs(alloc, group, label, found)?;
+            messages.append(&mut pieces)?;
         }
     }
     Ok(messages)

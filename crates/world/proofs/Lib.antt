@@ -7,3 +7,4 @@ pub mod Numbers
 pub mod Runs
 pub mod Moving
 pub mod Returned
+pub mod Few

@@ -62,13 +62,13 @@ client_ordered made (order.Act act) plan volume now = client_acted act plan volu
 abbrev pub IsRefusedOrder : List model.Message → ClientOrder → Type 0
 IsRefusedOrder made order = (plan : Plan) (volume : ℕ) (now : Client) → client_ordered made order plan volume now ≡ Err NoMessage
 
--- an act makes at most so many messages
-abbrev pub ActsFew : Plan → ClientAct → ℕ → Type 0
-ActsFew plan act most = (volume : ℕ) (now : Client) → Few most (client_acted act plan volume now)
+-- an act of this client makes at most so many messages
+abbrev pub ActsFew : Plan → ℕ → Client → ClientAct → ℕ → Type 0
+ActsFew plan volume now act most = Few most (client_acted act plan volume now)
 
--- what an order asks for makes at most so many messages
-abbrev pub MakesAtMost : Plan → ClientOrder → ℕ → Type 0
-MakesAtMost plan order most = (made : List model.Message) (volume : ℕ) (now : Client) → Few most (client_ordered made order plan volume now)
+-- what an order asks of this client makes at most so many messages
+abbrev pub MakesAtMost : Plan → ℕ → Client → ClientOrder → ℕ → Type 0
+MakesAtMost plan volume now order most = (made : List model.Message) → Few most (client_ordered made order plan volume now)
 
 -- the refusals of a client that may come after want of memory: that no log sequence numbers are left, which is found with the log
 abbrev pub client_late : ClientAct → Fault → Bool

@@ -7,9 +7,12 @@ use recovery::Recovery;
 use std::alloc::Global;
 use std::mem;
 use std::sync::Arc;
-use volume_model::Fault;
+use volume_model::{Fault, steps_are_few};
 use wire::Message;
 use writer_core::Writer;
+
+/// How many records a piece of an Install has at most.
+const MOST_IN_PIECE: usize = 256;
 
 /// How far a client has come.
 #[derive(Drop)]
@@ -37,7 +40,10 @@ impl Client {
     ghost use Rattle.std.specs.Arc.{arc_value};
     ghost use Rattle.volume_model.specs.Answer.{never_late, refusal_of, AnswersLate, AnswersNew};
     ghost use Rattle.volume_model.specs.Client.{first_writer, unborn};
-    ghost use Rattle.volume_model.specs.ClientRecovery.{opened};
+    ghost use Rattle.volume_model.specs.ClientMessages.{taken};
+    ghost use Rattle.volume_model.specs.ClientRecovery.{cut_client, opened};
+    ghost use Rattle.volume_model.specs.Few.{Few};
+    ghost use Rattle.volume_model.specs.Message as model;
     ghost use Rattle.plan.specs.CheckedModel.{checked_model};
     ghost use Rattle.writer_core.specs.Writers.{acted, silent};
     ghost use Rattle.recovery.specs.Recoveries.{admitted};
@@ -95,6 +101,37 @@ impl Client {
             ClientState::Unborn => self.plan.groups(),
             ClientState::Recovery(recovery) => recovery.groups(),
             ClientState::Writer(writer) => writer.groups(),
+        }
+    }
+
+    /// No more messages than this many are made by a message that it takes: one a group, and one for each 256 records of the log that it
+    /// found.
+    pub(crate) fn most_taken(&self) -> usize
+        ensures { (message : model.Message) → Few result (taken (client_plan self.now) (client_volume self.now) (seen_client self.now) message) }
+    {
+        steps_are_few();
+        match &self.state {
+            ClientState::Unborn => usize::from(self.plan.groups()),
+            ClientState::Recovery(recovery) => {
+                usize::from(recovery.groups()) + recovery.found_len() / MOST_IN_PIECE
+            }
+            ClientState::Writer(writer) => {
+                usize::from(writer.groups()) + writer.found().len() / MOST_IN_PIECE
+            }
+        }
+    }
+
+    /// No more messages than this many are made by its cut: one a group, and one for each 256 records that its reports hold.
+    pub(crate) fn most_cut(&self) -> usize
+        ensures { Few result (cut_client (client_plan self.now) (client_volume self.now) (seen_client self.now)) }
+    {
+        steps_are_few();
+        match &self.state {
+            ClientState::Unborn => 0,
+            ClientState::Recovery(recovery) => {
+                usize::from(recovery.groups()) + recovery.reported() / MOST_IN_PIECE
+            }
+            ClientState::Writer(_) => 0,
         }
     }
 

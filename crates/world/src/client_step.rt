@@ -28,27 +28,26 @@ pub fn act_of<'a>(order: ClientOrder<'a>, messages: &'a [Message]) -> Result<Cli
     }
 }
 
-/// No more messages than this many are made by an act of a client.
+/// No more messages than this many are made by an act of this client.
 fn most_acted(client: &Client, act: ClientAct<'_>) -> usize
-    ensures { ActsFew (client_plan client.now) act.entry result }
+    ensures { ActsFew (client_plan client.now) (client_volume client.now) (seen_client client.now) act.entry result }
 {
     steps_are_few();
     match act {
-        ClientAct::Take(_) => usize::from(client.groups()),
-        ClientAct::Cut => usize::from(client.groups()),
+        ClientAct::Take(_) => client.most_taken(),
+        ClientAct::Cut => client.most_cut(),
         ClientAct::Issue(changes) => changes.len(),
         ClientAct::Resend { .. } => 1,
         ClientAct::Read { .. } => 1,
     }
 }
 
-/// No more messages than this many are made by what an order asks of a client.
+/// No more messages than this many are made by what an order asks of this client.
 fn most_made(client: &Client, order: ClientOrder<'_>) -> usize
-    ensures { MakesAtMost (client_plan client.now) order.entry result }
+    ensures { MakesAtMost (client_plan client.now) (client_volume client.now) (seen_client client.now) order.entry result }
 {
-    steps_are_few();
     match order {
-        ClientOrder::Take { .. } => usize::from(client.groups()),
+        ClientOrder::Take { .. } => client.most_taken(),
         ClientOrder::Act(act) => most_acted(client, act),
     }
 }

@@ -6,7 +6,7 @@ use Rattle.wire.specs.Message as wire
 use Rattle.volume_model.specs.Lists.{every_below}
 use Rattle.volume_model.specs.Message as model
 use Rattle.volume_model.specs.Message.{place_in}
-use Rattle.volume_model.proofs.ClientSteps.{every_below-all}
+use Rattle.volume_model.proofs.Basics.{every_below-all}
 use Rattle.std.proofs.lemmas.Bool.{cases_Bool, and_parts, ltb-true, eqb-true}
 use Rattle.volume_model.specs.Plan.{Plan}
 use Rattle.writer_core.proofs.Below.{below-fails, is_place}

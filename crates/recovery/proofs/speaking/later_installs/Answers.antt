@@ -5,16 +5,17 @@ use Rattle.volume_model.specs.Message as model
 use Rattle.volume_model.specs.Message.{place_in}
 use Rattle.volume_model.specs.Client.{label_of, place_of}
 use Rattle.volume_model.specs.ClientMessages.{later_in}
-use Rattle.volume_model.specs.Redo.{of_group}
+use Rattle.volume_model.specs.Pieces.{in_pieces}
+use Rattle.volume_model.specs.ClientRecovery.{to_install}
 use Rattle.volume_model.specs.Lineage.{Contents}
 use Rattle.lineage.specs.Lineage.{lineage_of}
 use Rattle.writer_core.specs.Logs.{log_of}
 use Rattle.wire.specs.declared.label.Place.{Place}
 use Rattle.wire.specs.Message as wire
 use Rattle.writer_core.specs.Groups.{groups_in}
-use Rattle.recovery.proofs.OneMore.{message-more, message-none, place-is, raised-is}
+use Rattle.recovery.proofs.OneMore.{messages-more, messages-none, place-is, raised-is}
 use Rattle.recovery.proofs.speaking.later_installs.Goals as goal
-use Rattle.recovery.proofs.speaking.later_installs.Goals.{then-epoch-place+in_ok-install+in_ok-push, else-epoch-place}
+use Rattle.recovery.proofs.speaking.later_installs.Goals.{then-epoch-place+in_ok-pieces+in_ok-append, else-epoch-place}
 
 pub loop-group-preserved : goal.loop-group-preserved
 loop-group-preserved c =
@@ -25,14 +26,14 @@ loop-group-preserved c =
     let k = c.from.result in
     let none : Place = record { configuration = 0; epoch = 0 } in
     let test : ℕ → Bool = later_in (place_of groups) (place_in (map wire.place_of places)) in
-    let contents : ℕ → Contents = λ (group : ℕ). record { lineage = lineage_of c.args.found.now.lineage; records = of_group group (log_of c.args.found.now.log.items) } in
-    let said : ℕ → model.Message = λ group. model.Message.Install group (label_of volume (place_in (map wire.place_of places)) group) (contents group) in
+    let shown : ℕ → Contents = to_install (lineage_of c.args.found.now.lineage) (log_of c.args.found.now.log.items) in
+    let said : ℕ → List model.Message = λ group. in_pieces (shown group) (model.Message.Install group (label_of volume (place_in (map wire.place_of places)) group)) in
     let many = c.groups-group-end.ensures.groups ∙ ap (λ (p : Plan). p.groups) c.plan.ensures ∙ sym c.requires in
     let within : i < length places = subst (λ n. i < n) many c.loop-group-test.true in
     elim c.if-epoch-place.branch [
-      | then-epoch-place+in_ok-install+in_ok-push w ↦ message-more c.loop-group.messages.items c.if-epoch-place.messages.items _ i test said (ap (λ v. v.items) w.messages-is ∙ w.in_ok-push.ensures.items) c.loop-group.invariant
+      | then-epoch-place+in_ok-pieces+in_ok-append w ↦ messages-more c.loop-group.messages.items c.if-epoch-place.messages.items w.in_ok-pieces.pieces.items i test said (ap (λ v. v.items) w.messages-is ∙ w.in_ok-append.ensures.items) c.loop-group.invariant
           (raised-is groups places i k c.epoch.result none true within c.from.ensures c.epoch.ensures (lt-ltb _ _ w.if-epoch-place.true))
-          (w.in_ok-install.ensures ∙ ap (λ l. model.Message.Install i l (contents i)) (w.label_at.ensures ∙ ap (λ (p : model.Place). record { volume = volume; member = p.epoch }) (sym (place-is places i k none within c.from.ensures))))
-      | else-epoch-place w ↦ message-none c.loop-group.messages.items c.if-epoch-place.messages.items i test said (ap (λ v. v.items) w.messages-is) c.loop-group.invariant
+          (w.in_ok-pieces.ensures ∙ ap (λ l. in_pieces (shown i) (model.Message.Install i l)) (w.label_at-label.ensures ∙ ap (λ (p : model.Place). record { volume = volume; member = p.epoch }) (sym (place-is places i k none within c.from.ensures))))
+      | else-epoch-place w ↦ messages-none c.loop-group.messages.items c.if-epoch-place.messages.items i test said (ap (λ v. v.items) w.messages-is) c.loop-group.invariant
           (raised-is groups places i k c.epoch.result none false within c.from.ensures c.epoch.ensures (le-ltb _ _ w.if-epoch-place.false))
     ]

@@ -1,0 +1,33 @@
+-- How many messages a step of a client makes at most.
+use Rattle.std.proofs.Common.{◌≡◌, ℕ, ◌+◌, ◌/◌, ◌≤◌, List, Option, Some, None, Ok, Err, length, arith}
+use Rattle.volume_model.specs.Redo.{Redo}
+use Rattle.volume_model.specs.Plan.{Plan}
+use Rattle.volume_model.specs.Message.{Message}
+use Rattle.volume_model.specs.Client.{Client, ClientAnswer}
+use Rattle.volume_model.specs.ClientMessages.{taken}
+use Rattle.volume_model.specs.ClientRecovery.{cut_client, log_reported}
+use Rattle.volume_model.specs.World.{take}
+use Rattle.volume_model.specs.Few.{Few, StepsAreFew, most_installs}
+
+-- what makes few messages makes no more than a greater number
+few-more : (less more : ℕ) (answer : ClientAnswer) → less ≤ more → Few less answer → Few more answer
+few-more less more (Err fault) h few = tt
+few-more less more (Ok step) h few = let made : length step.made ≤ less = few in omega (arith, h, made)
+
+-- a message that isn't there makes none
+pub few-named : (plan : Plan) (most volume : ℕ) (now : Client) → ((m : Message) → Few most (taken plan volume now m)) → (found : Option Message) → Few most (take plan volume now found)
+few-named plan most volume now few None = tt
+few-named plan most volume now few (Some m) = few m
+
+installs-within : (plan : Plan) (groups many : ℕ) (found : List Redo) → groups ≡ plan.groups → length found ≤ many → most_installs plan found ≤ groups + many / 256
+installs-within plan groups many found same within = omega (arith, same, within)
+
+-- a client takes a message: so many groups, and so many records of the log that it found
+pub few-taken : (plan : Plan) (volume : ℕ) (now : Client) (groups many : ℕ) → StepsAreFew → groups ≡ plan.groups → length now.found ≤ many → (m : Message) → Few (groups + many / 256) (taken plan volume now m)
+few-taken plan volume now groups many law same within m =
+    few-more (most_installs plan now.found) (groups + many / 256) (taken plan volume now m) (installs-within plan groups many now.found same within) (law.take plan volume now m)
+
+-- a client cuts: so many groups, and so many records that are found at most
+pub few-cut : (plan : Plan) (volume : ℕ) (now : Client) (groups many : ℕ) → StepsAreFew → groups ≡ plan.groups → length (log_reported plan now) ≤ many → Few (groups + many / 256) (cut_client plan volume now)
+few-cut plan volume now groups many law same within =
+    few-more (most_installs plan (log_reported plan now)) (groups + many / 256) (cut_client plan volume now) (installs-within plan groups many (log_reported plan now) same within) (law.cut plan volume now)
