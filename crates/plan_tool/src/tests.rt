@@ -10,6 +10,7 @@ mod fleet_runs;
 mod fleets;
 mod gates;
 mod hands;
+mod pieces;
 mod plans;
 mod refutations;
 mod said;

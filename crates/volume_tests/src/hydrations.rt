@@ -1,4 +1,4 @@
-use hydration::{Copied, Hydration, newest_with, senders, with_found};
+use hydration::{Change, Copied, Hydration, Keeping, newest_with, senders, with_found};
 use lineage::Lineage;
 use quorum_expr::Expr;
 use redo_record::{Packet, Payload, Record, RecordSet};
@@ -7,10 +7,10 @@ use std::test::*;
 use volume_model::Fault;
 use wire::{Contents, CopyReport};
 
-/// What a member says: it holds records 1 up to a number of epoch 1, under this lineage.
-fn report(alloc: Global, from: u8, lineage: Lineage, last: u64) -> Result<CopyReport, Fail> {
+/// The records of epoch 1 above a number up to another.
+fn records(alloc: Global, before: u64, last: u64) -> Result<RecordSet, Fail> {
     let mut records = RecordSet::new(alloc);
-    for back in 0..last.min(10) {
+    for back in before..last.min(1000) {
         let record = Record {
             lsn: back + 1,
             volume_epoch: 1,
@@ -25,11 +25,41 @@ fn report(alloc: Global, from: u8, lineage: Lineage, last: u64) -> Result<CopyRe
         };
         records.insert(Packet::pack(alloc, record)?)?;
     }
+    Ok(records)
+}
+
+/// What a member says, in one piece: it holds records 1 up to a number of epoch 1, under this lineage.
+fn report(alloc: Global, from: u8, lineage: Lineage, last: u64) -> Result<CopyReport, Fail> {
+    let records = records(alloc, 0, last)?;
     Ok(CopyReport {
         group: 0,
         epoch: 2,
         from,
+        series: 1,
+        piece: 0,
+        of: 1,
         contents: Contents { lineage, records },
+    })
+}
+
+/// A piece of a copy: its number, of how many it is, and its records, those above a number up to another.
+type Part = (u16, u16, u64, u64);
+
+/// A piece of member 0's copy of this number.
+fn piece(alloc: Global, series: u64, part: Part) -> Result<CopyReport, Fail> {
+    let (piece, of, before, last) = part;
+    let records = records(alloc, before, last)?;
+    Ok(CopyReport {
+        group: 0,
+        epoch: 2,
+        from: 0,
+        series,
+        piece,
+        of,
+        contents: Contents {
+            lineage: Lineage::birth(alloc)?,
+            records,
+        },
     })
 }
 
@@ -69,19 +99,89 @@ fn copies_of_a_read_set(rt: HostRuntime) -> Result<(), Fail> {
     Ok(())
 }
 
-/// A copy is kept in two steps, only as its sender's first, and all copies are dropped at once.
+/// A copy is kept in two steps, only as its sender's first complete one, and all copies are dropped at once.
 #[test]
 fn copies_in_two_steps(rt: HostRuntime) -> Result<(), Fail> {
     let alloc = rt.alloc();
     let mut hydration = Hydration::new(alloc);
     let first = report(alloc, 5, Lineage::birth(alloc)?, 1)?;
-    let copied = hydration.prepare(&first)?.ok_or("5 has sent no copy")?;
+    let keeping = hydration.prepare(&first)?;
     assert_eq!(rt; hydration.senders().contains(5), false);
-    hydration.keep(copied);
+    hydration.keep(keeping);
     assert_eq!(rt; hydration.senders().contains(5), true);
-    assert!(rt; hydration.prepare(&first)?.is_none());
+    assert!(rt; matches!(hydration.prepare(&first)?, Keeping::At(0, Change::Nothing)));
     hydration.clear();
     assert_eq!(rt; hydration.senders().len(), 0);
+    Ok(())
+}
+
+/// The rows that pieces are taken by: the number of the copy, the piece, and how many records make the member whole then, or why not.
+type Row = (u64, Part, Result<Option<usize>, Fault>);
+
+/// How many records the copies make a member whole by, `None` where they don't.
+fn found(alloc: Global, hydration: &Hydration) -> Result<Option<usize>, Fault> {
+    let state = hydration.finish(alloc, &Expr::Member(0))?;
+    Ok(state.map(|state| state.contents.records.len()))
+}
+
+/// The place of the first row that isn't kept to, `None` where all are.
+fn broken(alloc: Global, rows: &[Row]) -> Result<Option<usize>, Fail> {
+    let mut hydration = Hydration::new(alloc);
+    for (place, (series, part, expected)) in rows.iter().enumerate() {
+        let report = piece(alloc, *series, *part)?;
+        let answer = match hydration.take(&report) {
+            Ok(()) => found(alloc, &hydration),
+            Err(fault) => Err(fault),
+        };
+        if answer != *expected {
+            return Ok(Some(place));
+        }
+    }
+    Ok(None)
+}
+
+/// Pieces of two copies don't make one, and a sender counts once all pieces of one are there; after that nothing more of it is kept.
+#[test]
+fn pieces_of_two_copies(rt: HostRuntime) -> Result<(), Fail> {
+    let alloc = rt.alloc();
+    let rows = [
+        (1, (0, 3, 0, 256), Ok(None)),
+        (2, (0, 3, 0, 256), Ok(None)),
+        (1, (1, 3, 256, 512), Ok(None)),
+        (2, (2, 3, 512, 600), Ok(None)),
+        (2, (2, 3, 512, 600), Ok(None)),
+        (1, (2, 3, 512, 600), Ok(None)),
+        (2, (1, 4, 256, 512), Err(Fault::BadPiece)),
+        (2, (3, 3, 256, 512), Err(Fault::BadPiece)),
+        (2, (1, 3, 256, 512), Ok(Some(600))),
+        (3, (0, 2, 600, 700), Ok(Some(600))),
+        (3, (0, 0, 0, 0), Err(Fault::BadPiece)),
+        (2, (0, 2, 0, 256), Err(Fault::BadPiece)),
+    ];
+    assert_eq!(rt; broken(alloc, rows.as_slice())?, None);
+    Ok(())
+}
+
+/// The first piece of a number is kept, and the pieces may have any numbers of records, in any order.
+#[test]
+fn pieces_in_any_order(rt: HostRuntime) -> Result<(), Fail> {
+    let alloc = rt.alloc();
+    let rows = [
+        (1, (3, 4, 0, 4), Ok(None)),
+        (1, (0, 4, 6, 9), Ok(None)),
+        (1, (0, 4, 6, 20), Ok(None)),
+        (1, (2, 4, 2, 7), Ok(None)),
+        (1, (0, 5, 6, 9), Err(Fault::BadPiece)),
+        (1, (1, 4, 9, 9), Ok(Some(9))),
+    ];
+    assert_eq!(rt; broken(alloc, rows.as_slice())?, None);
+    let sizes = [
+        (1, (0, 4097, 0, 1), Err(Fault::BadPiece)),
+        (1, (0, 2, 0, 257), Err(Fault::BadPiece)),
+        (1, (4095, 4096, 0, 256), Ok(None)),
+        (2, (0, 1, 0, 0), Ok(Some(0))),
+    ];
+    assert_eq!(rt; broken(alloc, sizes.as_slice())?, None);
     Ok(())
 }
 

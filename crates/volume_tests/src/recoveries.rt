@@ -193,3 +193,121 @@ fn opening(rt: HostRuntime) -> Result<(), Fail> {
     assert_eq!(rt; writer.resend(4).err(), Some(Fault::NoLogRecord));
     Ok(())
 }
+
+/// Three groups of member 0 alone. In the second, member 1 joins with the child of the root.
+const THREE: &[u8] = br#"{"format":1,"lal":10,"groups":[
+{"configurations":[
+{"parent":null,"members":[0],"full":[0],"read":0,"write":0,"meets":{"rule":"clash","left":0,"right":0},"step":null}]},
+{"configurations":[
+{"parent":null,"members":[0],"full":[0],"read":0,"write":0,"meets":{"rule":"clash","left":0,"right":0},"step":null},
+{"parent":0,"members":[0,1],"full":[0],"read":0,"write":0,"meets":{"rule":"clash","left":0,"right":0},"step":{"rule":"clash","left":0,"right":0}}]},
+{"configurations":[
+{"parent":null,"members":[0],"full":[0],"read":0,"write":0,"meets":{"rule":"clash","left":0,"right":0},"step":null}]}]}"#;
+
+/// Where a group stands at its root.
+const ROOT: Place = Place {
+    configuration: 0,
+    epoch: 1,
+};
+
+/// Where the second group stands once member 1 has joined.
+const CHILD: Place = Place {
+    configuration: 1,
+    epoch: 2,
+};
+
+/// A View of volume epoch 2 that has the second group there, and the others at their roots.
+fn view_of_three(alloc: Global, second: Place) -> Result<View, Fail> {
+    Ok(View {
+        volume: 2,
+        places: vec![in alloc; ROOT, second, ROOT]?,
+    })
+}
+
+/// The record of an LSN: up to 257 the first group's, up to 857, the only consistency point, the second's.
+fn of_three(alloc: Global, lsn: u64) -> Result<Packet, Fail> {
+    let lsn = lsn.clamp(1, 857);
+    let before = if lsn == 258 { 0 } else { lsn - 1 };
+    let record = Record {
+        lsn,
+        volume_epoch: 1,
+        prev_volume: lsn - 1,
+        prev_group: before,
+        prev_block: before,
+        group: u8::from(lsn > 257),
+        block: 0,
+        offset: 0,
+        bytes: Payload::new(b"a").ok_or("one byte is a payload")?,
+        point: lsn == 857,
+    };
+    Ok(Packet::pack(alloc, record)?)
+}
+
+/// Member 0 of a group says that it holds the records above a number up to another.
+fn report_of_three(alloc: Global, group: u8, before: u64, last: u64) -> Result<Report, Fail> {
+    let mut records = RecordSet::new(alloc);
+    for back in before..last.min(857) {
+        records.insert(of_three(alloc, back + 1)?)?;
+    }
+    Ok(Report {
+        group,
+        label: LABEL,
+        from: 0,
+        contents: Contents {
+            lineage: Lineage::birth(alloc)?,
+            records,
+        },
+    })
+}
+
+/// A recovery that has read the three groups, of which the last has no record.
+fn read_three(alloc: Global) -> Result<Recovery, Fail> {
+    let first = Message::View(view_of_three(alloc, ROOT)?);
+    let (mut recovery, _) = Recovery::new(alloc, checked(alloc, THREE)?, &first)?;
+    for (group, before, last) in [(0, 0, 257), (1, 257, 857), (2, 0, 0)] {
+        recovery.take_report(&report_of_three(alloc, group, before, last)?)?;
+    }
+    Ok(recovery)
+}
+
+/// Of an Install its group, the membership epoch of its label, its number, of how many it is, and how many records it has.
+type Told = (u8, u32, u16, u16, usize);
+
+/// Whether these are the Installs, in order.
+fn are_installs(messages: &[Message], expected: &[Told]) -> bool {
+    messages.len() == expected.len()
+        && messages.iter().zip(expected).all(|(message, told)| {
+            let Message::Install(install) = message else {
+                return false;
+            };
+            let records = install.contents.records.len();
+            (
+                install.group,
+                install.label.member,
+                install.piece,
+                install.of,
+                records,
+            ) == *told
+        })
+}
+
+/// What was found is installed in order of group, then piece; of a group that has moved once more.
+#[test]
+fn installs_in_pieces(rt: HostRuntime) -> Result<(), Fail> {
+    let alloc = rt.alloc();
+    let mut recovery = read_three(alloc)?;
+    let installs = recovery.cut(alloc)?;
+    let expected = [
+        (0, 1, 0, 2, 256),
+        (0, 1, 1, 2, 1),
+        (1, 1, 0, 3, 256),
+        (1, 1, 1, 3, 256),
+        (1, 1, 2, 3, 88),
+        (2, 1, 0, 1, 0),
+    ];
+    assert!(rt; are_installs(&installs, expected.as_slice()));
+    let again = recovery.view(alloc, &view_of_three(alloc, CHILD)?)?;
+    let expected = [(1, 2, 0, 3, 256), (1, 2, 1, 3, 256), (1, 2, 2, 3, 88)];
+    assert!(rt; are_installs(&again, expected.as_slice()));
+    Ok(())
+}

@@ -1,9 +1,12 @@
 mod answers;
 mod arrivals;
 mod becoming_whole;
+mod copies;
 mod fullness;
+mod installs;
 mod messages;
 mod nodes;
+mod pieces;
 mod plans;
 mod records;
 mod refusals;

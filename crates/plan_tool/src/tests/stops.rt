@@ -32,7 +32,7 @@ fn beginning(alloc: Global, script: &str, lines: usize) -> Result<String, AllocE
 }
 
 /// What a run tells of a script over this plan.
-fn told<H: Threads + Wait + Sync>(
+pub fn told<H: Threads + Wait + Sync>(
     rt: &H,
     alloc: Global,
     plan: &str,
@@ -43,7 +43,7 @@ fn told<H: Threads + Wait + Sync>(
 }
 
 /// Whether a fleet of one driver makes as many steps of a script as are given, is refused the others, and tells what a run does.
-fn fleet_tells<H: Threads + Wait + Sync>(
+pub fn fleet_tells<H: Threads + Wait + Sync>(
     rt: &H,
     alloc: Global,
     plan: &str,
@@ -84,8 +84,8 @@ fn moved(alloc: Global, word: &str, at: usize) -> Result<String, AllocError> {
     format!(in alloc; " {word}")
 }
 
-/// The script with a restart of member 6 behind line `at`.
-fn restarted(alloc: Global, script: &str, at: usize) -> Result<String, AllocError> {
+/// The script with a restart of a member behind line `at`.
+pub fn restarted(alloc: Global, script: &str, at: usize, member: u8) -> Result<String, AllocError> {
     let mut text = String::new(alloc);
     for (i, line) in script.lines().enumerate() {
         for (j, word) in line.split(' ').enumerate() {
@@ -97,7 +97,7 @@ fn restarted(alloc: Global, script: &str, at: usize) -> Result<String, AllocErro
         }
         text.push_str("\n")?;
         if i.saturating_add(1) == at {
-            text.push_str("restart 0 6\n")?;
+            write!(text, "restart 0 {member}\n")?;
         }
     }
     Ok(text)
@@ -108,7 +108,7 @@ fn copies_before_a_restart_never_count(rt: HostRuntime) -> Result<(), AllocError
     let alloc = rt.alloc();
     let replaced = plan(alloc, &two(alloc, DEAD)?)?;
     for at in 10..19 {
-        let script = restarted(alloc, MADE_WHOLE, at)?;
+        let script = restarted(alloc, MADE_WHOLE, at, 6)?;
         // Lines 15 and 16 take two copies, and 18 the third: after a restart behind these the member isn't whole at the end.
         let is_whole = at < 15;
         let (steps, refused, last) = if is_whole {

@@ -99,7 +99,7 @@ fn printed(alloc: Global, told: &str, end: &str) -> Result<String, AllocError> {
 }
 
 /// Whether a script over a plan tells this of its lines, and this at the end.
-fn tells<H: Threads + Wait + Sync>(
+pub fn tells<H: Threads + Wait + Sync>(
     rt: &H,
     alloc: Global,
     plan: &str,

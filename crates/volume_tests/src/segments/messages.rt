@@ -77,11 +77,13 @@ pub fn gossip(group: u8, label: Label, packet: Packet) -> Message {
     })
 }
 
-/// What a recovery installs in a group.
+/// What a recovery installs in a group, in one piece.
 pub fn install(group: u8, label: Label, contents: Contents) -> Message {
     Message::Install(Install {
         group,
         label,
+        piece: 0,
+        of: 1,
         contents,
     })
 }
@@ -102,12 +104,15 @@ pub fn copy_ask(group: u8, epoch: u32) -> Message {
     Message::CopyAsk(CopyAsk { group, epoch })
 }
 
-/// A member's copy, at a membership epoch.
+/// A member's first copy, at a membership epoch, in one piece.
 pub fn copy_report(group: u8, epoch: u32, from: u8, contents: Contents) -> Message {
     Message::CopyReport(CopyReport {
         group,
         epoch,
         from,
+        series: 1,
+        piece: 0,
+        of: 1,
         contents,
     })
 }

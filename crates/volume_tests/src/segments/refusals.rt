@@ -436,7 +436,8 @@ fn others(alloc: Global) -> Result<Taken, Fail> {
     )
 }
 
-/// Each refusal of each message. 55 is left to the contract: it takes more records than a test should make.
+/// Each refusal of each message, but those of pieces, which `installs` and `copies` have. 62 is left to the contract: it takes more copies
+/// than a test can ask for.
 #[test]
 fn refusals(rt: HostRuntime) -> Result<(), Fail> {
     let alloc = rt.alloc();
