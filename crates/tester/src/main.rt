@@ -6,6 +6,7 @@ mod dice;
 mod fleets;
 mod groups;
 mod judge;
+mod long;
 mod outcome;
 mod plans;
 mod said;

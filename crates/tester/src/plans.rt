@@ -21,6 +21,9 @@ pub struct Side {
     pub least: usize,
 }
 
+/// The allowance of plans that are run with a long log.
+const LONG: usize = 40;
+
 const FIVE: &[u8] = &[0, 1, 2, 3, 4];
 
 const OLD: &[u8] = &[0, 1, 2, 3, 4, 5];
@@ -168,8 +171,17 @@ impl Plan {
         Plan {
             family,
             groups: if dice.chance(25) { 2 } else { 1 },
-            allowance: dice.one_of(&[4, 10, 10, 30]).unwrap_or(10),
+            allowance: if dice.chance(8) {
+                LONG
+            } else {
+                dice.one_of(&[4, 10, 10, 30]).unwrap_or(10)
+            },
         }
+    }
+
+    /// Whether its allowance is great enough for a long log.
+    pub fn is_long(&self) -> bool {
+        self.allowance == LONG
     }
 
     /// Its text, on one line.

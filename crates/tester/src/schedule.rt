@@ -31,6 +31,8 @@ pub struct Schedule {
     tasks: Vec<Task>,
     /// How many of 100 messages are lost.
     loss: usize,
+    /// How many messages a copy or an install of the first group is.
+    pub pieces: u64,
 }
 
 impl Schedule {
@@ -51,6 +53,7 @@ impl Schedule {
             late: Vec::new(alloc),
             tasks: Vec::new(alloc),
             loss,
+            pieces: 1,
         })
     }
 
@@ -142,23 +145,42 @@ impl Schedule {
         Ok(())
     }
 
-    /// Has a recovery send what a line made, a message a group, to members that read, or that write.
-    pub fn send_each(
+    /// How many messages a copy or an install of a group is.
+    pub fn pieces_of(&self, group: u8) -> u64 {
+        if group == 0 { self.pieces } else { 1 }
+    }
+
+    /// Has a recovery send the fences that a line made to members that read.
+    pub fn send_fences(
         &mut self,
         alloc: Global,
         task: &mut Task,
         line: u64,
-        reads: bool,
     ) -> Result<(), AllocError> {
         self.written.note_each(line, self.plan.groups)?;
         for group in 0..self.plan.groups {
-            let members = if reads {
-                self.read_reach(alloc, group)?
-            } else {
-                self.write_reach(alloc, group)?
-            };
+            let members = self.read_reach(alloc, group)?;
             let place = u64::from(group).saturating_add(1);
             self.send(task, (line, place), group, members.as_slice())?;
+        }
+        Ok(())
+    }
+
+    /// Has a recovery send the installs that a line made, all pieces of them, to members that write.
+    pub fn send_installs(
+        &mut self,
+        alloc: Global,
+        task: &mut Task,
+        line: u64,
+    ) -> Result<(), AllocError> {
+        let mut place = 0u64;
+        for group in 0..self.plan.groups {
+            let members = self.write_reach(alloc, group)?;
+            for _ in 0..self.pieces_of(group) {
+                place = place.saturating_add(1);
+                self.written.note(line, place, Receiver::Nodes(group))?;
+                self.send(task, (line, place), group, members.as_slice())?;
+            }
         }
         Ok(())
     }
@@ -300,10 +322,12 @@ impl Schedule {
         all.get(chosen).copied()
     }
 
-    /// Writes a script: one in three begins by a write that arrives late, where the plan has a step; then come its turns, the
-    /// more of two draws between 30 and 400, each of which is a line at most.
+    /// Writes a script: over a plan with a great allowance it begins by a long log, and else one in three by a write that arrives
+    /// late, where the plan has a step; then come its turns, the more of two draws between 30 and 400, each of which is a line at most.
     pub fn fill(&mut self, alloc: Global) -> Result<(), AllocError> {
-        if self.dice.chance(33) {
+        if self.plan.is_long() {
+            self.lengthen(alloc)?;
+        } else if self.dice.chance(33) {
             self.straggle(alloc)?;
         }
         let turns = self.dice.from(30, 371).max(self.dice.from(30, 371));

@@ -105,14 +105,14 @@ impl Schedule {
     fn be_born(&mut self, alloc: Global, task: &mut Task, view: u64) -> Result<(), AllocError> {
         let line = self.written.take(alloc, task.client, view, 1)?;
         task.stage = Stage::Cut;
-        self.send_each(alloc, task, line, true)
+        self.send_fences(alloc, task, line)
     }
 
     /// A recovery cuts, and installs what it has found.
     fn cut(&mut self, alloc: Global, task: &mut Task) -> Result<(), AllocError> {
         let line = self.written.of_client(alloc, "cut", task.client)?;
         task.stage = Stage::Open;
-        self.send_each(alloc, task, line, false)
+        self.send_installs(alloc, task, line)
     }
 
     /// A recovery opens.
@@ -153,7 +153,10 @@ impl Schedule {
             let Some(copy) = task.answers.pop() else {
                 break;
             };
-            self.send(task, (copy.line, 1), group, &[fresh])?;
+            for piece in 0..self.pieces_of(group) {
+                let place = piece.saturating_add(1);
+                self.send(task, (copy.line, place), group, &[fresh])?;
+            }
         }
         Ok(())
     }
