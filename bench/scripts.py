@@ -19,17 +19,18 @@ ROUNDS = {1_000: 15, 10_000: 7, 99_999: 3}
 LONGEST = 60
 LAL = 10_000_000
 GROUPS = 4
-SPAN = 500  # the lines that a writer writes from one recovery to the next, about
+SPAN = 350  # the lines that a writer writes from one recovery to the next, about
+PIECE = 256  # the most records of an Install or of a CopyReport
 REPLACED = os.path.join(os.path.dirname(os.path.abspath(__file__)), "..", "examples", "member_replaced.json")
 
 
 class Script:
-    """The lines of a script, and what a run of it comes to: the LSNs, the writers at their ends, the recoveries."""
+    """The lines of a script, and what a run of it comes to: the LSNs, how many records are durable, the writers at their ends, the recoveries."""
 
     def __init__(self, name):
         self.lines = [f"# {name}"]
         self.volume, self.start = 1, 0
-        self.last, self.durable = 0, 0
+        self.last, self.durable, self.records = 0, 0, 0
         self.transactions = 0
         self.writers, self.recoveries = [], []
 
@@ -41,6 +42,19 @@ class Script:
     def deliver(self, group, members, message):
         """The message goes to each member; gives the names of their answers."""
         return [f"{self.add('deliver', group, member, message)}.1" for member in members]
+
+    def deliver_pieces(self, group, members, line):
+        """The pieces of all durable records, which that line made, go to each member; gives the names of the answers to the last ones."""
+        last = []
+        for member in members:
+            for piece in range(1, self.pieces() + 1):
+                answer = self.add("deliver", group, member, f"{line}.{piece}")
+            last.append(f"{answer}.1")
+        return last
+
+    def pieces(self):
+        """How many pieces all durable records make."""
+        return max(1, -(-self.records // PIECE))
 
     def take(self, messages):
         for message in messages:
@@ -63,6 +77,7 @@ class Script:
         for group, message in zip(groups, messages):
             self.take(self.deliver(group, members, message))
         self.durable = self.last
+        self.records += len(messages)
 
     def ends(self):
         """The lines at the run's end."""
@@ -116,14 +131,14 @@ def recover(script):
     script.last = script.durable
     script.start = max(script.last, script.start) + LAL
     script.recoveries.append(f"recovery {script.volume} cut {script.last} start {script.start}\n")
-    script.take(script.deliver(0, four_from(script.volume), f"{install}.1"))
+    script.take(script.deliver_pieces(0, four_from(script.volume), install))
     script.add("open", script.volume)
 
 
 def recoveries(size):
-    """Like `steady`, with a recovery after each SPAN lines. A report carries all records that its node holds."""
+    """Like `steady`, with a recovery after each SPAN lines. A report carries all records that its node holds; what is installed comes in pieces."""
     script = Script("recoveries between")
-    while len(script.lines) + SPAN + 30 <= size:
+    while len(script.lines) + SPAN + 30 + 4 * (script.pieces() + 1) <= size:
         write_until(script, len(script.lines) + SPAN, one_group, four_from(script.volume))
         recover(script)
     write_until(script, size, one_group, four_from(script.volume))
@@ -131,24 +146,26 @@ def recoveries(size):
 
 
 def copy_to_new_member(script):
-    """The group advances; the new member 6 asks 0, 1 and 2 for copies. Gives the StepTo and the copies, which it hasn't yet taken."""
+    """The group advances; the new member 6 asks 0, 1 and 2 for copies. Gives the StepTo and the lines that made the copies, which it hasn't yet taken."""
     step = f"{script.add('advance', 0, 1)}.1"
     ask = script.deliver(0, [6], step)[0]
     script.deliver(0, [0, 1, 2], step)
-    return step, script.deliver(0, [0, 1, 2], ask)
+    return step, [script.add("deliver", 0, member, ask) for member in (0, 1, 2)]
 
 
 def replace(script):
     """Member 6 comes in beside 5, and becomes whole. Transactions that the writer issues meanwhile reach 5 alone; they are sent once more when the writer has been told of the new configuration, and get durable then."""
     step, copies = copy_to_new_member(script)
+    pieces = script.pieces()
     open_lsns = []
     for _ in range(4):
         lsns, messages = script.issue(one_group(script))
         open_lsns += lsns
         for message in messages:
             script.take(script.deliver(0, [5], message))
-    for copy in copies:
-        script.deliver(0, [6], copy)
+    for line in copies:
+        for piece in range(1, pieces + 1):
+            script.add("deliver", 0, 6, f"{line}.{piece}")
     script.add("hydrate", 0, 6)
     script.take([f"{script.add('refresh', 1)}.1"])
     script.deliver(0, [3, 4, 5], step)
@@ -156,6 +173,7 @@ def replace(script):
         again = script.add("resend", 1, lsn)
         script.take(script.deliver(0, [0, 1, 2, 6], f"{again}.1"))
     script.durable = script.last
+    script.records += len(open_lsns)
 
 
 def replaced(size):
