@@ -10,8 +10,8 @@ use Rattle.volume_model.specs.Message.Message.{View, StepTo, Ack}
 use Rattle.volume_model.specs.Refusal.{refuse_if}
 use Rattle.volume_model.specs.Node.{Node, NodeStep, NodeAnswer, restarted}
 use Rattle.volume_model.specs.Client.{ClientStep, ClientAnswer}
-use Rattle.volume_model.specs.World.{World, Event, AuthorityStep, of_authority, of_client, of_node, after_step, after, run, opening, assigned, advanced, refreshed, if_named}
-use Rattle.volume_model.specs.World.Event.{Assign, Advance, Refresh, Issue, Take, Cut, Open, Resend, Read, Deliver, Hydrate, Restart, Offer}
+use Rattle.volume_model.specs.World.{World, Event, AuthorityStep, of_authority, of_client, of_node, after_step, after, run, opening, assigned, advanced, refreshed, grown, if_there, groups_joined}
+use Rattle.volume_model.specs.World.Event.{Assign, Advance, Refresh, Grow, Issue, Take, Cut, Open, Resend, Read, Deliver, Hydrate, Restart, Offer}
 use Rattle.volume_model.proofs.Basics.{any_from, IsIn-added}
 use Rattle.volume_model.proofs.Logs.{IsChain, at_most_last}
 use Rattle.volume_model.proofs.Greatest.{greatest_where-above}
@@ -27,7 +27,7 @@ use Rattle.volume_model.proofs.Lasting.{IsChain-rest}
 use Rattle.volume_model.proofs.Finds.{event_keeps}
 use Rattle.volume_model.specs.Finds.{StaysFound}
 use Rattle.volume_model.specs.declared.fault.Fault.{Fault}
-use Rattle.volume_model.specs.declared.fault.Fault.TheVariants.{NoActor, EpochsSpent, NoGroup, NotInPlan, Superseded}
+use Rattle.volume_model.specs.declared.fault.Fault.TheVariants.{NoActor, EpochsSpent, NoGroup, NotInPlan, Superseded, AllGrown}
 
 -- ---- a segment that has all records of a chain reaches each of them
 
@@ -117,45 +117,62 @@ module _ (plan : Plan) (certified : IsCertified plan) {held : Held} (world : Wor
         | inr j ↦ inl j
       ]
 
-  said_by_named : (to y : ℕ) (answer : NodeAnswer) → (to < plan.groups → (step : NodeStep) → answer ≡ Ok step → IsGoodStep plan held world to y step) → AcksAreSaid (after_step world (of_node world to y (if_named plan to y answer)))
-  said_by_named to y answer good = go (is_named plan to y) refl
+  said_by_named : (to y : ℕ) (answer : NodeAnswer) → (to < plan.groups → (step : NodeStep) → answer ≡ Ok step → IsGoodStep plan held world to y step) → AcksAreSaid (after_step world (of_node world to y (if_there plan (groups_joined world.authority) to y answer)))
+  said_by_named to y answer good = go (nat_lt to (groups_joined world.authority) && is_named plan to y) refl
     where
-      go : (named : Bool) → is_named plan to y ≡ named → AcksAreSaid (after_step world (of_node world to y (refuse_if (not named) NoActor answer)))
+      go : (is : Bool) → (nat_lt to (groups_joined world.authority) && is_named plan to y) ≡ is → AcksAreSaid (after_step world (of_node world to y (refuse_if (not is) NoActor answer)))
       go false e = λ group l x s i. inl i
-      go true e = (let there : to < plan.groups = ltb-true to plan.groups (and_parts (nat_lt to plan.groups) _ e).0 in said_by_node to y there answer (good there))
+      go true e = (let there : to < plan.groups = ltb-true to plan.groups (and_parts (nat_lt to plan.groups) _ (and_parts (nat_lt to (groups_joined world.authority)) (is_named plan to y) e).1).0 in said_by_node to y there answer (good there))
 
   -- the authority acknowledges nothing
   abbrev SaysNoAck : AuthorityStep → Type 0
-  SaysNoAck step = (group : ℕ) (l : Label) (x s : ℕ) → Ack group l x s ≡ step.made → ⊥
+  SaysNoAck step = (group : ℕ) (l : Label) (x s : ℕ) → IsIn (Ack group l x s) step.made → ⊥
 
   step_is : (a b : AuthorityStep) → ◌≡◌ {A = Result AuthorityStep Fault} (Ok a) (Ok b) → a ≡ b
   step_is a b h = cc
 
   said_by_authority : (answer : Result AuthorityStep Fault) → ((step : AuthorityStep) → answer ≡ Ok step → SaysNoAck step) → AcksAreSaid (after_step world (of_authority world answer))
   said_by_authority (Err number) good group l x s i = inl i
-  said_by_authority (Ok step) good group l x s (inl e) = absurd (good step refl group l x s e)
-  said_by_authority (Ok step) good group l x s (inr i) = inl i
+  said_by_authority (Ok step) good group l x s i =
+      elim (IsIn-added step.made world.messages (Ack group l x s) i) [
+        | inl j ↦ absurd (good step refl group l x s j)
+        | inr j ↦ inl j
+      ]
+
+  no_view : (group : ℕ) (l : Label) (x s volume : ℕ) (places : List Place) → IsIn (Ack group l x s) (View volume places ∷ []) → ⊥
+  no_view group l x s volume places (inl e) = ack_no_view group x s volume l places e
+  no_view group l x s volume places (inr z) = z
+
+  no_step : (group : ℕ) (l : Label) (x s to : ℕ) (place : Place) → IsIn (Ack group l x s) (StepTo to place ∷ []) → ⊥
+  no_step group l x s to place (inl e) = ack_no_step group x s to l place e
+  no_step group l x s to place (inr z) = z
 
   assigned_silent : (step : AuthorityStep) → assigned plan world.authority ≡ Ok step → SaysNoAck step
   assigned_silent step h =
       let (a, h1) = refuse_if-ok _ EpochsSpent _ step h in
-      subst SaysNoAck (step_is _ step h1) (λ group l x s e. ack_no_view group x s _ l _ e)
+      subst SaysNoAck (step_is _ step h1) (λ group l x s i. no_view group l x s _ _ i)
 
   advanced_silent : (group c : ℕ) (step : AuthorityStep) → advanced plan world.authority group c ≡ Ok step → SaysNoAck step
   advanced_silent group c step h =
       let (a, h1) = refuse_if-ok _ NoGroup _ step h in
       let (b, h2) = refuse_if-ok _ NotInPlan _ step h1 in
-      subst SaysNoAck (step_is _ step h2) (λ g l x s e. ack_no_step g x s _ l _ e)
+      subst SaysNoAck (step_is _ step h2) (λ g l x s i. no_step g l x s _ _ i)
 
   refreshed_silent : (volume : ℕ) (step : AuthorityStep) → refreshed plan world.authority volume ≡ Ok step → SaysNoAck step
   refreshed_silent volume step h =
       let (a, h1) = refuse_if-ok _ Superseded _ step h in
-      subst SaysNoAck (step_is _ step h1) (λ group l x s e. ack_no_view group x s _ l _ e)
+      subst SaysNoAck (step_is _ step h1) (λ group l x s i. no_view group l x s _ _ i)
+
+  grown_silent : (step : AuthorityStep) → grown plan world.authority ≡ Ok step → SaysNoAck step
+  grown_silent step h =
+      let (a, h1) = refuse_if-ok _ AllGrown _ step h in
+      subst SaysNoAck (step_is _ step h1) (λ group l x s i. i)
 
   said : (event : Event) → AcksAreSaid (after plan world event)
   said Assign = said_by_authority _ assigned_silent
   said (Advance group c) = said_by_authority _ (advanced_silent group c)
   said (Refresh volume) = said_by_authority _ (refreshed_silent volume)
+  said Grow = said_by_authority _ grown_silent
   said (Issue v changes) = said_by_client v _ (issued_good plan certified world kept v changes)
   said (Take v number) = said_by_client v _ (take_good plan certified world kept v number)
   said (Cut v) = said_by_client v _ (cut_good plan certified world kept v)

@@ -1,5 +1,5 @@
 -- A step is the same where its actor is the same and the messages are kept.
-use Rattle.std.proofs.Common.{◌≡◌, ◌≢◌, ℕ, not, Bool, true, false, List, [], ◌∷◌, Option, Some, None, Result, Ok, Err, refl, sym, ap, ◌∙◌, ⊎_elim}
+use Rattle.std.proofs.Common.{◌≡◌, ◌≢◌, ℕ, not, ◌&&◌, nat_lt, Bool, true, false, List, [], ◌∷◌, Option, Some, None, Result, Ok, Err, refl, sym, ap, ◌∙◌, ⊎_elim}
 use Rattle.volume_model.specs.declared.fault.Fault.{Fault}
 use Rattle.volume_model.specs.declared.fault.Fault.TheVariants.{NoMessage, NoActor}
 use Rattle.volume_model.specs.Lists.{numbered}
@@ -11,16 +11,16 @@ use Rattle.volume_model.specs.Client as model
 use Rattle.volume_model.specs.Client.{ClientAnswer}
 use Rattle.volume_model.specs.ClientWriter.{issued, resent, page_asked}
 use Rattle.volume_model.specs.ClientRecovery.{cut_client, opened}
-use Rattle.volume_model.specs.World.{Authority, World, Event, AuthorityStep, Step, assigned, advanced, refreshed, deliver, take, if_named, of_authority, of_client, of_node, step}
-use Rattle.volume_model.specs.World.Event.{Assign, Advance, Refresh, Issue, Take, Cut, Open, Resend, Read, Deliver, Hydrate, Restart, Offer}
-use Rattle.volume_model.specs.Actor.{actor_of, Agree, Keeps}
+use Rattle.volume_model.specs.World.{Authority, World, Event, AuthorityStep, Step, assigned, advanced, refreshed, grown, deliver, take, if_there, of_authority, of_client, of_node, step, groups_joined}
+use Rattle.volume_model.specs.World.Event.{Assign, Advance, Refresh, Grow, Issue, Take, Cut, Open, Resend, Read, Deliver, Hydrate, Restart, Offer}
+use Rattle.volume_model.specs.Actor.{actor_of, Agree, Keeps, JoinedAlike}
 use Rattle.volume_model.specs.Told.{answer, makes, refusal}
 use Rattle.volume_model.proofs.ListFacts.{by_test, numbered_kept}
 
 -- what is told of a step of each kind of actor
 abbrev pub authority_answer : Result AuthorityStep Fault → Result (List Message) Fault
 authority_answer (Err fault) = Err fault
-authority_answer (Ok s) = Ok (s.made ∷ [])
+authority_answer (Ok s) = Ok s.made
 
 abbrev pub client_answer : ClientAnswer → Result (List Message) Fault
 client_answer (Err fault) = Err fault
@@ -67,34 +67,39 @@ module _ (plan : Plan) where
       ap (λ o. take plan c (w.clients c) o) (sym message) ∙ ap (λ (s : model.Client). take plan c s (numbered v.messages n)) same
 
   -- a Deliver to the same node
-  deliver_same : (w v : World) (g m n : ℕ) → w.nodes g m ≡ v.nodes g m → Keeps w v → answer (of_node w g m (if_named plan g m (deliver plan g m (w.nodes g m) (numbered w.messages n)))) ≢ Err NoMessage
-      → if_named plan g m (deliver plan g m (w.nodes g m) (numbered w.messages n)) ≡ if_named plan g m (deliver plan g m (v.nodes g m) (numbered v.messages n))
-  deliver_same w v g m n same keeps found = ⊎_elim
-      (λ (named : is_named plan g m ≡ true).
-      let told = of_node-answer w g m (if_named plan g m (deliver plan g m (w.nodes g m) (numbered w.messages n))) in
-      let none : node_answer (if_named plan g m (Err NoMessage)) ≡ Err NoMessage = ap (λ (b : Bool). node_answer (refuse_if (not b) NoActor (Err NoMessage))) named in
-      let message = same_message (λ o. node_answer (if_named plan g m (deliver plan g m (w.nodes g m) o))) (Err NoMessage) none w v keeps n (λ e. found (told ∙ e)) (numbered w.messages n) refl in
-      ap (λ o. if_named plan g m (deliver plan g m (w.nodes g m) o)) (sym message) ∙ ap (λ (s : Node). if_named plan g m (deliver plan g m s (numbered v.messages n))) same)
-      (λ (unnamed : is_named plan g m ≡ false).
-      let refused : (r : NodeAnswer) → if_named plan g m r ≡ Err NoActor = λ r. ap (λ (b : Bool). refuse_if (not b) NoActor r) unnamed in
+  deliver_same : (joined : ℕ) (w v : World) (g m n : ℕ) → w.nodes g m ≡ v.nodes g m → Keeps w v → answer (of_node w g m (if_there plan joined g m (deliver plan g m (w.nodes g m) (numbered w.messages n)))) ≢ Err NoMessage
+      → if_there plan joined g m (deliver plan g m (w.nodes g m) (numbered w.messages n)) ≡ if_there plan joined g m (deliver plan g m (v.nodes g m) (numbered v.messages n))
+  deliver_same joined w v g m n same keeps found = ⊎_elim
+      (λ (there : (nat_lt g joined && is_named plan g m) ≡ true).
+      let told = of_node-answer w g m (if_there plan joined g m (deliver plan g m (w.nodes g m) (numbered w.messages n))) in
+      let none : node_answer (if_there plan joined g m (Err NoMessage)) ≡ Err NoMessage = ap (λ (b : Bool). node_answer (refuse_if (not b) NoActor (Err NoMessage))) there in
+      let message = same_message (λ o. node_answer (if_there plan joined g m (deliver plan g m (w.nodes g m) o))) (Err NoMessage) none w v keeps n (λ e. found (told ∙ e)) (numbered w.messages n) refl in
+      ap (λ o. if_there plan joined g m (deliver plan g m (w.nodes g m) o)) (sym message) ∙ ap (λ (s : Node). if_there plan joined g m (deliver plan g m s (numbered v.messages n))) same)
+      (λ (absent : (nat_lt g joined && is_named plan g m) ≡ false).
+      let refused : (r : NodeAnswer) → if_there plan joined g m r ≡ Err NoActor = λ r. ap (λ (b : Bool). refuse_if (not b) NoActor r) absent in
       refused (deliver plan g m (w.nodes g m) (numbered w.messages n)) ∙ sym (refused (deliver plan g m (v.nodes g m) (numbered v.messages n))))
-      (by_test (is_named plan g m))
+      (by_test (nat_lt g joined && is_named plan g m))
 
-  -- The same is told of an event in v as in w, where both have its actor in one state, and v has the messages of w; but that there was no message
-  pub answered_alike : (w v : World) (e : Event) → Agree (actor_of e) w v → Keeps w v → answer (step plan w e) ≢ Err NoMessage → answer (step plan v e) ≡ answer (step plan w e)
-  answered_alike w v Assign same keeps found = authority_alike w v (assigned plan w.authority) (assigned plan v.authority) (ap (λ (s : Authority). assigned plan s) same)
-  answered_alike w v (Advance group c) same keeps found = authority_alike w v (advanced plan w.authority group c) (advanced plan v.authority group c) (ap (λ (s : Authority). advanced plan s group c) same)
-  answered_alike w v (Refresh volume) same keeps found = authority_alike w v (refreshed plan w.authority volume) (refreshed plan v.authority volume) (ap (λ (s : Authority). refreshed plan s volume) same)
-  answered_alike w v (Issue volume changes) same keeps found = client_alike w v volume (issued plan volume (w.clients volume) changes) (issued plan volume (v.clients volume) changes) (ap (λ (s : model.Client). issued plan volume s changes) same)
-  answered_alike w v (Take volume number) same keeps found = client_alike w v volume (take plan volume (w.clients volume) (numbered w.messages number)) (take plan volume (v.clients volume) (numbered v.messages number)) (take_same w v volume number same keeps found)
-  answered_alike w v (Cut volume) same keeps found = client_alike w v volume (cut_client plan volume (w.clients volume)) (cut_client plan volume (v.clients volume)) (ap (λ (s : model.Client). cut_client plan volume s) same)
-  answered_alike w v (Open volume) same keeps found = client_alike w v volume (opened plan (w.clients volume)) (opened plan (v.clients volume)) (ap (λ (s : model.Client). opened plan s) same)
-  answered_alike w v (Resend volume lsn) same keeps found = client_alike w v volume (resent volume (w.clients volume) lsn) (resent volume (v.clients volume) lsn) (ap (λ (s : model.Client). resent volume s lsn) same)
-  answered_alike w v (Read volume group block) same keeps found = client_alike w v volume (page_asked plan volume (w.clients volume) group block) (page_asked plan volume (v.clients volume) group block) (ap (λ (s : model.Client). page_asked plan volume s group block) same)
-  answered_alike w v (Deliver group member number) same keeps found = node_alike w v group member (if_named plan group member (deliver plan group member (w.nodes group member) (numbered w.messages number))) (if_named plan group member (deliver plan group member (v.nodes group member) (numbered v.messages number))) (deliver_same w v group member number same keeps found)
-  answered_alike w v (Hydrate group member) same keeps found = node_alike w v group member (if_named plan group member (hydrated plan group member (w.nodes group member))) (if_named plan group member (hydrated plan group member (v.nodes group member))) (ap (λ (s : Node). if_named plan group member (hydrated plan group member s)) same)
-  answered_alike w v (Restart group member) same keeps found = node_alike w v group member (if_named plan group member (Ok (record { made = []; node = restarted (w.nodes group member) }))) (if_named plan group member (Ok (record { made = []; node = restarted (v.nodes group member) }))) (ap (λ (s : Node). if_named plan group member (Ok (record { made = []; node = restarted s }))) same)
-  answered_alike w v (Offer group member lsn) same keeps found = node_alike w v group member (if_named plan group member (offered group (w.nodes group member) lsn)) (if_named plan group member (offered group (v.nodes group member) lsn)) (ap (λ (s : Node). if_named plan group member (offered group s lsn)) same)
+  -- a node is there in both worlds or in neither
+  there_alike : (i j g m : ℕ) (r : NodeAnswer) → nat_lt g i ≡ nat_lt g j → if_there plan i g m r ≡ if_there plan j g m r
+  there_alike i j g m r e = ap (λ (b : Bool). refuse_if (not (b && is_named plan g m)) NoActor r) e
+
+  -- The same is told of an event in v as in w, where both have its actor in one state, a node is there in both or in neither, and v has the messages of w; but that there was no message
+  pub answered_alike : (w v : World) (e : Event) → Agree (actor_of e) w v → JoinedAlike e w v → Keeps w v → answer (step plan w e) ≢ Err NoMessage → answer (step plan v e) ≡ answer (step plan w e)
+  answered_alike w v Assign same there keeps found = authority_alike w v (assigned plan w.authority) (assigned plan v.authority) (ap (λ (s : Authority). assigned plan s) same)
+  answered_alike w v (Advance group c) same there keeps found = authority_alike w v (advanced plan w.authority group c) (advanced plan v.authority group c) (ap (λ (s : Authority). advanced plan s group c) same)
+  answered_alike w v (Refresh volume) same there keeps found = authority_alike w v (refreshed plan w.authority volume) (refreshed plan v.authority volume) (ap (λ (s : Authority). refreshed plan s volume) same)
+  answered_alike w v Grow same there keeps found = authority_alike w v (grown plan w.authority) (grown plan v.authority) (ap (λ (s : Authority). grown plan s) same)
+  answered_alike w v (Issue volume changes) same there keeps found = client_alike w v volume (issued plan volume (w.clients volume) changes) (issued plan volume (v.clients volume) changes) (ap (λ (s : model.Client). issued plan volume s changes) same)
+  answered_alike w v (Take volume number) same there keeps found = client_alike w v volume (take plan volume (w.clients volume) (numbered w.messages number)) (take plan volume (v.clients volume) (numbered v.messages number)) (take_same w v volume number same keeps found)
+  answered_alike w v (Cut volume) same there keeps found = client_alike w v volume (cut_client plan volume (w.clients volume)) (cut_client plan volume (v.clients volume)) (ap (λ (s : model.Client). cut_client plan volume s) same)
+  answered_alike w v (Open volume) same there keeps found = client_alike w v volume (opened plan (w.clients volume)) (opened plan (v.clients volume)) (ap (λ (s : model.Client). opened plan s) same)
+  answered_alike w v (Resend volume lsn) same there keeps found = client_alike w v volume (resent volume (w.clients volume) lsn) (resent volume (v.clients volume) lsn) (ap (λ (s : model.Client). resent volume s lsn) same)
+  answered_alike w v (Read volume group block) same there keeps found = client_alike w v volume (page_asked volume (w.clients volume) group block) (page_asked volume (v.clients volume) group block) (ap (λ (s : model.Client). page_asked volume s group block) same)
+  answered_alike w v (Deliver group member number) same there keeps found = node_alike w v group member (if_there plan (groups_joined w.authority) group member (deliver plan group member (w.nodes group member) (numbered w.messages number))) (if_there plan (groups_joined v.authority) group member (deliver plan group member (v.nodes group member) (numbered v.messages number))) (deliver_same (groups_joined w.authority) w v group member number same keeps found ∙ there_alike (groups_joined w.authority) (groups_joined v.authority) group member (deliver plan group member (v.nodes group member) (numbered v.messages number)) there)
+  answered_alike w v (Hydrate group member) same there keeps found = node_alike w v group member (if_there plan (groups_joined w.authority) group member (hydrated plan group member (w.nodes group member))) (if_there plan (groups_joined v.authority) group member (hydrated plan group member (v.nodes group member))) (ap (λ (s : Node). if_there plan (groups_joined w.authority) group member (hydrated plan group member s)) same ∙ there_alike (groups_joined w.authority) (groups_joined v.authority) group member (hydrated plan group member (v.nodes group member)) there)
+  answered_alike w v (Restart group member) same there keeps found = node_alike w v group member (if_there plan (groups_joined w.authority) group member (Ok (record { made = []; node = restarted (w.nodes group member) }))) (if_there plan (groups_joined v.authority) group member (Ok (record { made = []; node = restarted (v.nodes group member) }))) (ap (λ (s : Node). if_there plan (groups_joined w.authority) group member (Ok (record { made = []; node = restarted s }))) same ∙ there_alike (groups_joined w.authority) (groups_joined v.authority) group member (Ok (record { made = []; node = restarted (v.nodes group member) })) there)
+  answered_alike w v (Offer group member lsn) same there keeps found = node_alike w v group member (if_there plan (groups_joined w.authority) group member (offered group (w.nodes group member) lsn)) (if_there plan (groups_joined v.authority) group member (offered group (v.nodes group member) lsn)) (ap (λ (s : Node). if_there plan (groups_joined w.authority) group member (offered group s lsn)) same ∙ there_alike (groups_joined w.authority) (groups_joined v.authority) group member (offered group (v.nodes group member) lsn) there)
 
   told-fault : (r : Result Step Fault) (fault : Fault) → answer r ≡ Err fault → r ≡ Err fault
   told-fault (Err other) fault h = let e : other ≡ fault = cc in ap Err e
@@ -110,20 +115,20 @@ module _ (plan : Plan) where
   answer-makes (Ok r) (Ok s) ms e h = let made : s.made ≡ r.made = cc in ap Some made ∙ h
 
   -- the same refusal
-  pub refused_alike : (w v : World) (e : Event) (fault : Fault) → fault ≢ NoMessage → Agree (actor_of e) w v → Keeps w v → step plan w e ≡ Err fault → step plan v e ≡ Err fault
-  refused_alike w v e fault other same keeps h =
+  pub refused_alike : (w v : World) (e : Event) (fault : Fault) → fault ≢ NoMessage → Agree (actor_of e) w v → JoinedAlike e w v → Keeps w v → step plan w e ≡ Err fault → step plan v e ≡ Err fault
+  refused_alike w v e fault other same there keeps h =
       let is : answer (step plan w e) ≡ Err fault = ap answer h in
-      told-fault (step plan v e) fault (answered_alike w v e same keeps (λ none. let both : fault ≡ NoMessage = cc in other both) ∙ is)
+      told-fault (step plan v e) fault (answered_alike w v e same there keeps (λ none. let both : fault ≡ NoMessage = cc in other both) ∙ is)
 
   -- the same refusal, by its number
-  pub refusal_alike : (w v : World) (e : Event) (number : ℕ) → number ≢ 80 → Agree (actor_of e) w v → Keeps w v → refusal (step plan w e) ≡ number → refusal (step plan v e) ≡ number
-  refusal_alike w v e number other same keeps h =
-      let alike = answered_alike w v e same keeps (λ none. other (sym h ∙ sym (answer-refusal (step plan w e)) ∙ ap refusal none)) in
+  pub refusal_alike : (w v : World) (e : Event) (number : ℕ) → number ≢ 80 → Agree (actor_of e) w v → JoinedAlike e w v → Keeps w v → refusal (step plan w e) ≡ number → refusal (step plan v e) ≡ number
+  refusal_alike w v e number other same there keeps h =
+      let alike = answered_alike w v e same there keeps (λ none. other (sym h ∙ sym (answer-refusal (step plan w e)) ∙ ap refusal none)) in
       sym (answer-refusal (step plan v e)) ∙ ap refusal alike ∙ answer-refusal (step plan w e) ∙ h
 
   -- the same messages
-  pub made_alike : (w v : World) (e : Event) (ms : List Message) → Agree (actor_of e) w v → Keeps w v → makes (step plan w e) ≡ Some ms → makes (step plan v e) ≡ Some ms
-  made_alike w v e ms same keeps h = answer-makes (step plan w e) (step plan v e) ms (answered_alike w v e same keeps (λ none. made_not_refused (step plan w e) ms h none)) h
+  pub made_alike : (w v : World) (e : Event) (ms : List Message) → Agree (actor_of e) w v → JoinedAlike e w v → Keeps w v → makes (step plan w e) ≡ Some ms → makes (step plan v e) ≡ Some ms
+  made_alike w v e ms same there keeps h = answer-makes (step plan w e) (step plan v e) ms (answered_alike w v e same there keeps (λ none. made_not_refused (step plan w e) ms h none)) h
     where
       made_not_refused : (r : Result Step Fault) (ms : List Message) → makes r ≡ Some ms → answer r ≡ Err NoMessage → ⊥
       made_not_refused (Err f) ms h e = absurd (cc)

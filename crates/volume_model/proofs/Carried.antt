@@ -11,9 +11,9 @@ use Rattle.volume_model.specs.Message.Message.{View, StepTo, Fence, Report, Inst
 use Rattle.volume_model.specs.Refusal.{refuse_if}
 use Rattle.volume_model.specs.Node.{Node, NodeStep, NodeAnswer, born_node, lineage_epoch, label_checks, most_records, most_copies, take_record, installed, in_group, reaction, hydrated, restarted, gossip_of, offered}
 use Rattle.volume_model.specs.Client.{has_cut}
-use Rattle.volume_model.specs.World.{World, Event, AuthorityStep, of_authority, of_client, of_node, after_step, after, run, opening, assigned, advanced, refreshed, deliver, if_named}
+use Rattle.volume_model.specs.World.{World, Event, AuthorityStep, of_authority, of_client, of_node, after_step, after, run, opening, assigned, advanced, refreshed, grown, deliver, if_there, groups_joined}
 use Rattle.volume_model.specs.Client.{ClientAnswer}
-use Rattle.volume_model.specs.World.Event.{Assign, Advance, Refresh, Issue, Take, Cut, Open, Resend, Read, Deliver, Hydrate, Restart, Offer}
+use Rattle.volume_model.specs.World.Event.{Assign, Advance, Refresh, Grow, Issue, Take, Cut, Open, Resend, Read, Deliver, Hydrate, Restart, Offer}
 use Rattle.volume_model.specs.Finds.{Carries, HasOneLineageAnEpoch, OneLineageAnEpoch}
 use Rattle.volume_model.specs.Finds.Carries.{by_node, by_client, by_report, by_install, by_copy}
 use Rattle.volume_model.proofs.Basics.{put_at-all}
@@ -175,17 +175,18 @@ module _ (plan : Plan) (world : World) (bare : (group x : ℕ) → IsBare plan g
       })
       bare
 
-  by_a_node : (group x : ℕ) (answer : NodeAnswer) → ((step : NodeStep) → answer ≡ Ok step → StaysBare (world.nodes group x) step.node) → AllBare (after_step world (of_node world group x (if_named plan group x answer)))
-  by_a_node group x answer good = go (is_named plan group x) refl
+  by_a_node : (group x : ℕ) (answer : NodeAnswer) → ((step : NodeStep) → answer ≡ Ok step → StaysBare (world.nodes group x) step.node) → AllBare (after_step world (of_node world group x (if_there plan (groups_joined world.authority) group x answer)))
+  by_a_node group x answer good = go (nat_lt group (groups_joined world.authority) && is_named plan group x) refl
     where
-      go : (named : Bool) → is_named plan group x ≡ named → AllBare (after_step world (of_node world group x (refuse_if (not named) NoActor answer)))
+      go : (is : Bool) → (nat_lt group (groups_joined world.authority) && is_named plan group x) ≡ is → AllBare (after_step world (of_node world group x (refuse_if (not is) NoActor answer)))
       go false e = bare
-      go true e = stepped group x (ltb-true group plan.groups (and_parts (nat_lt group plan.groups) _ e).0) answer good
+      go true e = stepped group x (ltb-true group plan.groups (and_parts (nat_lt group plan.groups) _ (and_parts (nat_lt group (groups_joined world.authority)) (is_named plan group x) e).1).0) answer good
 
   event_bare : (event : Event) → AllBare (after plan world event)
   event_bare Assign = by_the_authority (assigned plan world.authority)
   event_bare (Advance group c) = by_the_authority (advanced plan world.authority group c)
   event_bare (Refresh volume) = by_the_authority (refreshed plan world.authority volume)
+  event_bare Grow = by_the_authority (grown plan world.authority)
   event_bare (Issue v changes) = by_a_client v _
   event_bare (Take v number) = by_a_client v _
   event_bare (Cut v) = by_a_client v _

@@ -88,7 +88,8 @@ reads_on child parent child_claim parent_claim fresh meets readers reads none =
 pub claims_certify : ClaimsCertify
 claims_certify plan claims = record {
   lal_positive = claims.lal_positive;
-  group_there = claims.group_there;
+  born_there = claims.born_there;
+  born_within = claims.born_within;
   root_there = claims.root_there;
   root_epoch = claims.root_epoch;
   quorums = λ group c there below. record {

@@ -1,10 +1,11 @@
 -- Each step of a client keeps the invariant
-use Rattle.std.proofs.Common.{◌≡◌, ℕ, ◌+◌, ◌^◌, ◌<◌, ◌≤◌, max, Bool, true, false, not, ◌&&◌, ◌==◌, nat_lt, nat_le, eqb, ◌⊎◌, List, [], ◌∷◌, ◌++◌, Option, Some, None, Ok, Err, length, refl, sym, ap, ◌∙◌, subst, inl, inr, arith}
-use Rattle.std.proofs.lemmas.Bool.{cases_Bool, cases_lt, and_parts, true≢false, both_ways, eqb-true, eq-eqb, ltb-true, leb-true, not-true, not-false}
+use Rattle.std.proofs.Common.{◌≡◌, ℕ, ◌+◌, ◌^◌, ◌<◌, ◌≤◌, max, Bool, true, false, not, ◌&&◌, ◌||◌, ◌==◌, nat_lt, nat_le, eqb, ◌⊎◌, List, [], ◌∷◌, ◌++◌, Option, Some, None, Ok, Err, length, refl, sym, ap, ◌∙◌, subst, inl, inr, arith}
+use Rattle.std.proofs.lemmas.Bool.{cases_Bool, cases_lt, and_parts, true≢false, both_ways, eqb-true, eq-eqb, ltb-true, lt-ltb, leb-true, not-true, not-false}
+use Rattle.std.proofs.lemmas.List.{length-map}
 use Rattle.volume_model.specs.Lists.{IsIn, every, each_below, numbered, put}
 use Rattle.volume_model.specs.Formula.{Formula, sat}
 use Rattle.volume_model.proofs.FormulaLaws.{sat-some}
-use Rattle.volume_model.specs.Redo.{Redo, record_at, last_lsn, cut_of, log_found}
+use Rattle.volume_model.specs.Redo.{Redo, of_group, record_at, last_lsn, cut_of, log_found}
 use Rattle.volume_model.specs.Lineage.{Lineage, last_epoch, last_start, extended, Contents, newest, found_in}
 use Rattle.volume_model.specs.Pieces.{in_pieces}
 use Rattle.volume_model.specs.Plan.{Plan, IsCertified}
@@ -12,27 +13,28 @@ use Rattle.volume_model.specs.Message.{Label, Place, Message, place_in}
 use Rattle.volume_model.specs.Message.Message.{View, StepTo, Fence, Report, Install, Write, Gossip, Ack, CopyAsk, CopyReport, PageAsk, Page}
 use Rattle.volume_model.specs.Node.{From, senders, with_first, in_group}
 use Rattle.volume_model.specs.Client.{Client, Stage, Count, ClientStep, ClientAnswer, is_born, has_cut, is_open, unborn, place_configuration, ClientGroup, newly_at, group_of, place_of, reports_of, counts_of, label_of, stays, place_of, reports_of, counts_of, no_group}
-use Rattle.volume_model.specs.ClientPoints.{reaching, best, with_count, raised_group, raised, groups_now, durable_point}
-use Rattle.volume_model.specs.ClientWriter.{Change, record_of, is_last, issued_log, issued_writes, is_change, is_transaction, issued, write_of, resent, last_of_group_below, page_asked}
+use Rattle.volume_model.specs.ClientPoints.{reaching, best, counted_by, with_count, raised_group, raised, groups_now, durable_point}
+use Rattle.volume_model.specs.ClientWriter.{Change, record_of, is_last, issued_log, issued_writes, is_change, is_transaction, have_joined, issued, write_of, resent, last_of_group_below, page_asked}
 use Rattle.volume_model.specs.ClientRecovery.{fences, to_install, installs, report_taken, all_reports, has_read, has_installed, cut_client, opened}
-use Rattle.volume_model.specs.ClientMessages.{is_later, later_in, later_group, reread_group, with_places, viewed, ack_taken, are_places, taken}
+use Rattle.volume_model.specs.ClientMessages.{is_later, later_in, later_unjoined, later_group, reread_group, with_places, viewed, ack_taken, are_places, taken}
 use Rattle.volume_model.specs.Client.Stage.{Unborn, Reading, Installing, Writing}
-use Rattle.volume_model.specs.World.{World, of_client, after_step, take}
-use Rattle.volume_model.proofs.Basics.{any_passes, numbered-in, IsIn-append_right, every-all, every_below-all, each_below-from, IsIn-joined}
+use Rattle.volume_model.specs.World.{World, groups_joined, of_client, after_step, take}
+use Rattle.volume_model.proofs.Basics.{any_passes, numbered-in, IsIn-append_right, every-all, every_below-all, each_below-chosen, each_below-from, neither, IsIn-joined}
 use Rattle.volume_model.proofs.Logs.{IsLink}
-use Rattle.volume_model.proofs.Chains.{record_at-some}
+use Rattle.volume_model.proofs.Chains.{record_at-some, log_found-within}
 use Rattle.volume_model.proofs.Invariant.{Held, log_of, found_of, lineage_of, HasCut, IsMade, label, WasAt, IsCopy, config}
 use Rattle.volume_model.specs.PieceLaws.{IsPieceOf}
 use Rattle.volume_model.proofs.Pieces.{in_pieces-from}
-use Rattle.volume_model.proofs.Kept.{install_of, IsPlace, IsGrown, HasRead, IsHeir, IsOwned, IsCutClient, IsReached, IsBorn, ClientKept, IsView, MessageKept, IsKept}
+use Rattle.volume_model.proofs.Kept.{install_of, IsPlace, IsGrown, HasRead, IsHeir, IsOwned, IsCutClient, IsReached, AreUnjoined, HasView, IsBorn, ClientKept, IsView, MessageKept, IsKept}
 use Rattle.volume_model.proofs.Added.{MessageNew, messages_added}
 use Rattle.volume_model.proofs.Changed.{ClientGrows, client_changed}
-use Rattle.volume_model.proofs.Records.{of_group-from, of_group-has, newest-most, newest-of, all_reports-from, all_reports-has, with_first-from}
+use Rattle.volume_model.proofs.Records.{of_group-from, of_group-has, of_group-none, found_in-from, newest-most, newest-of, all_reports-from, all_reports-has, all_reports-beyond, with_first-from, from_there}
 use Rattle.volume_model.proofs.Sound.{born_from_cut, is_sound}
 use Rattle.volume_model.proofs.NodeSteps.{refuse_if-ok, extension-ok}
-use Rattle.volume_model.proofs.Groups.{set-all, group_of-with_places, later_group-none, reread_group-none, group_of-new, group_of-raised}
+use Rattle.volume_model.proofs.Groups.{set-all, length-slice_set, length-with_places, length-raised, group_of-beyond, group_of-with_places, later_group-none, reread_group-none, group_of-new, group_of-raised, raised-keeps}
+use Rattle.volume_model.proofs.Views.{place_in-there}
 use Rattle.std.specs.Prelude.{map, slice_set}
-use Rattle.volume_model.specs.declared.fault.Fault.TheVariants.{AlreadyDone, BadTransaction, LimitReached, LsnSpent, NoActor, NoGroup, NotAddressed, NotInPlan, NotOpen, NotReady}
+use Rattle.volume_model.specs.declared.fault.Fault.TheVariants.{AlreadyDone, BadTransaction, LimitReached, LsnSpent, NoActor, NoGroup, NotAddressed, NotInPlan, NotJoined, NotOpen, NotReady}
 
 cut_from_open : (stage : Stage) → is_open stage ≡ true → has_cut stage ≡ true
 cut_from_open Unborn h = h
@@ -184,8 +186,8 @@ module _ (plan : Plan) (certified : IsCertified plan) {held : Held} (world : Wor
   }
 
   -- the facts of a cut, where only the stage is new, and of the groups all but the reports
-  cut_moved : (stage : Stage) (groups : List ClientGroup) → ((group : ℕ) → reports_of groups group ≡ reports_of client.groups group) → IsCutClient plan world v client → IsCutClient plan world v (record client { stage = stage; groups = groups })
-  cut_moved stage groups same k =
+  cut_moved : (stage : Stage) (groups : List ClientGroup) → ((group : ℕ) → reports_of groups group ≡ reports_of client.groups group) → length client.groups ≤ length groups → IsCutClient plan world v client → IsCutClient plan world v (record client { stage = stage; groups = groups })
+  cut_moved stage groups same long k =
       let all : all_reports (reports_of client.groups) plan.groups ≡ all_reports (reports_of groups) plan.groups = λ i. all_reports (λ group. sym (same group) i) plan.groups in
       record {
         own = k.own;
@@ -200,7 +202,8 @@ module _ (plan : Plan) (certified : IsCertified plan) {held : Held} (world : Wor
             parent_cut = child.parent_cut;
             lineage = child.lineage ∙ ap (λ z. extended (lineage_of world child.parent) v (cut_of (found_in (lineage_of world child.parent) z)) plan.lal) all;
             found = child.found ∙ ap (λ z. log_found (found_in (lineage_of world child.parent) z)) all;
-            reads = λ group there. (let r : HasRead plan world v client child.parent group = child.reads group there in record {
+            told = λ group there from i. child.told group there from (subst (λ z. IsIn from z) (same group) i);
+            reads = λ group there views. (let r : HasRead plan world v client child.parent group = child.reads group there views in record {
               at = r.at;
               positive = r.positive;
               there = r.there;
@@ -210,11 +213,12 @@ module _ (plan : Plan) (certified : IsCertified plan) {held : Held} (world : Wor
             });
           })
         ];
+        found_there = λ r i. (let l : r.group < length client.groups = k.found_there r i in omega arith);
       }
 
   -- where a client may have a group
   abbrev PlaceGood : ℕ → Place → Type 0
-  PlaceGood group place = IsPlace plan world group place × WasAt world v group place.epoch
+  PlaceGood group place = IsPlace plan world group place × WasAt plan world v group place.epoch
 
   -- each count comes from an acknowledgement that may be counted
   abbrev CountsGood : ℕ → ClientGroup → Type 0
@@ -233,7 +237,7 @@ module _ (plan : Plan) (certified : IsCertified plan) {held : Held} (world : Wor
 
   -- what a client that has cut may keep of all groups
   abbrev AreGood : List ClientGroup → Type 0
-  AreGood groups = (group : ℕ) → group < plan.groups → IsGoodGroup group (group_of groups group)
+  AreGood groups = (group : ℕ) → group < length groups → IsGoodGroup group (group_of groups group)
 
   groups_good : has_cut client.stage ≡ true → AreGood client.groups
   groups_good cut group there = record {
@@ -244,15 +248,16 @@ module _ (plan : Plan) (certified : IsCertified plan) {held : Held} (world : Wor
   }
 
   -- a client that has cut, with later places, more counts and higher points
-  moved_good : has_cut client.stage ≡ true → (stage : Stage) → has_cut stage ≡ true → (groups : List ClientGroup) → ((group : ℕ) → reports_of groups group ≡ reports_of client.groups group) → AreGood groups → (made : List Message) → ((m : Message) → IsIn m made → ClientSays v (record client { stage = stage; groups = groups }) m) → IsGoodMove plan world v (record { made = made; client = record client { stage = stage; groups = groups } })
-  moved_good cut stage cut' groups same good made says =
+  moved_good : has_cut client.stage ≡ true → (stage : Stage) → has_cut stage ≡ true → (groups : List ClientGroup) → ((group : ℕ) → reports_of groups group ≡ reports_of client.groups group) → length client.groups ≤ length groups → length groups ≤ plan.groups → AreGood groups → (is_open stage ≡ true → AreUnjoined (record client { stage = stage; groups = groups })) → (made : List Message) → ((m : Message) → IsIn m made → ClientSays v (record client { stage = stage; groups = groups }) m) → IsGoodMove plan world v (record { made = made; client = record client { stage = stage; groups = groups } })
+  moved_good cut stage cut' groups same long within good unjoined made says =
       let b : IsBorn plan world v client = now.born (born_from_cut client.stage cut) in
       record {
         grows = record { cut = λ h. cut'; lineage = λ h. refl; found = λ h. refl; logs = λ h r i. i };
         client = record {
-          born = λ h. record { positive = b.positive; known = b.known; places = λ group there. (good group there).place };
+          born = λ h. record { positive = b.positive; known = b.known; within = within; viewed = inl cut'; places = λ group there. (good group there).place };
           reading = λ h. absurd (both_ways (has_cut stage) h cut');
-          cut = λ h. cut_moved stage groups same (now.cut cut);
+          cut = λ h. cut_moved stage groups same long (now.cut cut);
+          unjoined = unjoined;
           counts = λ group there. (good group there).counts;
           points = λ group there. (good group there).point;
         };
@@ -290,12 +295,23 @@ module _ (plan : Plan) (certified : IsCertified plan) {held : Held} (world : Wor
 
   raised_good : (groups : List ClientGroup) → AreGood groups → AreGood (raised plan groups)
   raised_good groups good group there =
-      subst (IsGoodGroup group) (sym (group_of-raised plan groups group)) (
-      let g : IsGoodGroup group (group_of groups group) = good group there in
+      let l : length (raised plan groups) ≡ length groups = length-raised plan groups in
+      let there' : group < length groups = omega arith in
+      subst (IsGoodGroup group) (sym (group_of-raised plan groups group there')) (
+      let g : IsGoodGroup group (group_of groups group) = good group there' in
       record { reports = g.reports; place = g.place; counts = g.counts; point = raised_point_good group (group_of groups group) g })
 
   raised_reports : (groups : List ClientGroup) (group : ℕ) → reports_of (raised plan groups) group ≡ reports_of groups group
-  raised_reports groups group = ap (λ g. g.reports) (group_of-raised plan groups group)
+  raised_reports groups group = raised-keeps (λ g. g.reports) (λ p k g. refl) plan groups group
+
+  -- a group that hasn't joined once points are raised hadn't before
+  raised_unjoined : (stage : Stage) (groups : List ClientGroup) → AreUnjoined (record client { stage = stage; groups = groups }) → AreUnjoined (record client { stage = stage; groups = raised plan groups })
+  raised_unjoined stage groups h group there not_yet =
+      let l : length (raised plan groups) ≡ length groups = length-raised plan groups in
+      let there' : group < length groups = omega arith in
+      let g : ClientGroup = group_of groups group in
+      let e : (g.joined || sat (place_configuration plan group g.place).write (counted_by g.counts)) ≡ false = ap (λ z. z.joined) (sym (group_of-raised plan groups group there')) ∙ not_yet in
+      h group there' (neither g.joined _ e).0
 
   -- own records behind what was found, after these changes
   record IsOwnLog (found log : List Redo) : Type 0 where
@@ -339,20 +355,24 @@ module _ (plan : Plan) (certified : IsCertified plan) {held : Held} (world : Wor
       let last : ℕ = max (last_lsn client.log) start + length changes in
       let (z, h0) = refuse_if-ok (not (is_born client.stage)) NoActor _ step h in
       let (a, h1) = refuse_if-ok (not (is_open client.stage)) NotOpen _ step h0 in
-      let (b, h2) = refuse_if-ok (not (is_transaction plan.groups changes)) BadTransaction _ step h1 in
+      let (b, h1') = refuse_if-ok (not (is_transaction (length client.groups) changes)) BadTransaction _ step h1 in
+      let (j, h2) = refuse_if-ok (not (have_joined client.groups changes)) NotJoined _ step h1' in
       let (c, h3) = refuse_if-ok (nat_lt (2 ^ 62) last) LsnSpent _ step h2 in
       let (d, h4) = refuse_if-ok (nat_lt (max (durable_point client) start + plan.lal) last) LimitReached _ step h3 in
       let cut : has_cut client.stage ≡ true = cut_from_open client.stage (not-false _ a) in
       let k : IsCutClient plan world v client = now.cut cut in
-      let good : (nat_le 1 (length changes) ≡ true) × ((nat_le (length changes) 32 && every (is_change plan.groups) changes) ≡ true) = and_parts _ _ (not-false _ b) in
-      let each : every (is_change plan.groups) changes ≡ true = (and_parts (nat_le (length changes) 32) _ good.1).1 in
-      let there : (change : Change) → IsIn change changes → change.group < plan.groups = λ change i. ltb-true change.group plan.groups (and_parts (nat_lt change.group plan.groups) _ (every-all (is_change plan.groups) changes each change i)).0 in
+      let good : (nat_le 1 (length changes) ≡ true) × ((nat_le (length changes) 32 && every (is_change (length client.groups)) changes) ≡ true) = and_parts _ _ (not-false _ b) in
+      let each : every (is_change (length client.groups)) changes ≡ true = (and_parts (nat_le (length changes) 32) _ good.1).1 in
+      let b' : IsBorn plan world v client = now.born (born_from_cut client.stage cut) in
+      let there : (change : Change) → IsIn change changes → change.group < plan.groups =
+      λ change i. (let w : length client.groups ≤ plan.groups = b'.within in let l : change.group < length client.groups = ltb-true change.group (length client.groups) (and_parts (nat_lt change.group (length client.groups)) _ (every-all (is_change (length client.groups)) changes each change i)).0 in omega arith) in
       let o : IsOwnLog client.found (issued_log v start changes client.log) = issued_own changes there client.found client.log (record { own = k.own; is = k.log; grown = k.grown; owned = k.owned }) in
       let after : Client = record client { log = issued_log v start changes client.log } in
       subst (λ s. IsGoodMove plan world v s) (Ok-is _ step h4) (record {
         grows = record { cut = λ h. h; lineage = λ h. refl; found = λ h. refl; logs = λ h r i. issued_keeps start changes client.log r i };
         client = record {
-          born = λ h. (let n : IsBorn plan world v client = now.born h in record { positive = n.positive; known = n.known; places = n.places });
+          born = λ h. (let n : IsBorn plan world v client = now.born h in record { positive = n.positive; known = n.known; within = n.within; viewed = n.viewed; places = n.places });
+          unjoined = now.unjoined;
           reading = now.reading;
           cut = λ h. record {
             own = o.own;
@@ -367,9 +387,11 @@ module _ (plan : Plan) (certified : IsCertified plan) {held : Held} (world : Wor
                 parent_cut = child.parent_cut;
                 lineage = child.lineage;
                 found = child.found;
-                reads = λ group t. (let r : HasRead plan world v client child.parent group = child.reads group t in record { at = r.at; positive = r.positive; there = r.there; was = r.was; reads = r.reads; kept = r.kept });
+                told = child.told;
+                reads = λ group t views. (let r : HasRead plan world v client child.parent group = child.reads group t views in record { at = r.at; positive = r.positive; there = r.there; was = r.was; reads = r.reads; kept = r.kept });
               })
             ];
+            found_there = k.found_there;
           };
           counts = now.counts;
           points = now.points;
@@ -393,11 +415,11 @@ module _ (plan : Plan) (certified : IsCertified plan) {held : Held} (world : Wor
             | inr z ↦ absurd z
           ])))
 
-  pub asked_good : (group block : ℕ) (step : ClientStep) → page_asked plan v client group block ≡ Ok step → IsGoodMove plan world v step
+  pub asked_good : (group block : ℕ) (step : ClientStep) → page_asked v client group block ≡ Ok step → IsGoodMove plan world v step
   asked_good group block step h =
       let (z, h0) = refuse_if-ok (not (is_born client.stage)) NoActor _ step h in
       let (a, h1) = refuse_if-ok (not (is_open client.stage)) NotOpen _ step h0 in
-      let (b, h2) = refuse_if-ok (not (nat_lt group plan.groups)) NoGroup _ step h1 in
+      let (b, h2) = refuse_if-ok (not (nat_lt group (length client.groups))) NoGroup _ step h1 in
       subst (λ s. IsGoodMove plan world v s) (Ok-is _ step h2) (stays_good _ (λ m i. (
       let j : (m ≡ PageAsk group (label_of v (place_of client.groups) group) block (last_of_group_below group (durable_point client) client.log)) ⊎ ⊥ = i in
       elim j [
@@ -412,25 +434,44 @@ module _ (plan : Plan) (certified : IsCertified plan) {held : Held} (world : Wor
       let (b, h2) = refuse_if-ok (not (has_cut client.stage && has_installed plan client)) NotReady _ step h1 in
       let cut : has_cut client.stage ≡ true = (and_parts (has_cut client.stage) _ (not-false _ b)).0 in
       subst (λ s. IsGoodMove plan world v s) (Ok-is _ step h2)
-      (moved_good cut Writing refl (raised plan client.groups) (raised_reports client.groups) (raised_good client.groups (groups_good cut)) [] (λ m i. absurd i))
+      (let l : length (raised plan client.groups) ≡ length client.groups = length-raised plan client.groups in
+      let within : length client.groups ≤ plan.groups = (now.born (born_from_cut client.stage cut)).within in
+      let all : has_installed plan client ≡ true = (and_parts (has_cut client.stage) _ (not-false _ b)).1 in
+      moved_good cut Writing refl (raised plan client.groups) (raised_reports client.groups) (omega arith) (omega arith) (raised_good client.groups (groups_good cut))
+      (λ is group there not_yet. (
+      let there' : group < length client.groups = omega arith in
+      let g : ClientGroup = group_of client.groups group in
+      let counted : sat (place_configuration plan group g.place).write (counted_by g.counts) ≡ true = every_below-all (length client.groups) (λ k. sat (place_configuration plan k (place_of client.groups k)).write (counted_by (counts_of client.groups k))) all group there' in
+      let e : (g.joined || sat (place_configuration plan group g.place).write (counted_by g.counts)) ≡ false = ap (λ z. z.joined) (sym (group_of-raised plan client.groups group there')) ∙ not_yet in
+      absurd (both_ways _ (neither g.joined _ e).1 counted)))
+      [] (λ m i. absurd i))
 
-  -- the Installs of a client that has cut
-  installs_says : (after : Client) → has_cut after.stage ≡ true → (places : ℕ → Place) (test : ℕ → Bool) → (m : Message) → IsIn m (installs plan v places after.lineage after.found test) → ClientSays v after m
-  installs_says after cut places test m i =
-      let of_group : ℕ → List Message = λ group. in_pieces (to_install after.lineage after.found group) (Install group (label_of v places group)) in
-      let (ms, j, k) = IsIn-joined (each_below plan.groups test of_group) m i in
-      let (group, l, same) = each_below-from plan.groups test of_group ms j in
-      let (p, c, is, e) = in_pieces-from (to_install after.lineage after.found group) (Install group (label_of v places group)) m (subst (λ z. IsIn m z) same k) in
-      subst (λ z. ClientSays v after z) (sym e) (cut, refl, is)
+  -- the Installs of a client that has cut, with what it found of each group that they are for
+  installs_says : (after : Client) → has_cut after.stage ≡ true → (groups : ℕ) (places : ℕ → Place) (found : List Redo) (test : ℕ → Bool) → ((group : ℕ) → test group ≡ true → of_group group found ≡ of_group group after.found) → (m : Message) → IsIn m (installs groups v places after.lineage found test) → ClientSays v after m
+  installs_says after cut groups places found test alike m i =
+      let told : ℕ → List Message = λ group. in_pieces (to_install after.lineage found group) (Install group (label_of v places group)) in
+      let (ms, j, k) = IsIn-joined (each_below groups test told) m i in
+      let (group, l, chosen, same) = each_below-chosen groups test told ms j in
+      let (p, c, is, e) = in_pieces-from (to_install after.lineage found group) (Install group (label_of v places group)) m (subst (λ z. IsIn m z) same k) in
+      let is' : IsPieceOf (to_install after.lineage after.found group) p c = subst (λ z. IsPieceOf (record { lineage = after.lineage; records = z }) p c) (alike group chosen) is in
+      subst (λ z. ClientSays v after z) (sym e) (cut, refl, is')
 
-  fences_says : (after : Client) (places : ℕ → Place) (test : ℕ → Bool) → (m : Message) → IsIn m (fences plan v places test) → ClientSays v after m
-  fences_says after places test m i =
-      let (group, l, e) = each_below-from plan.groups test (λ group. Fence group (label_of v places group)) m i in
+  fences_says : (after : Client) (groups : ℕ) (places : ℕ → Place) (test : ℕ → Bool) → (m : Message) → IsIn m (fences groups v places test) → ClientSays v after m
+  fences_says after groups places test m i =
+      let (group, l, e) = each_below-from groups test (λ group. Fence group (label_of v places group)) m i in
       subst (λ z. ClientSays v after z) (sym e) tt
+
+  view_of : (q : List Place) → IsMade world (View v q) → IsView plan world v q
+  view_of q i = kept.messages _ i
+
+  not_cut : (has_cut client.stage ≡ true) ⊎ HasView world v client → has_cut client.stage ≡ false → HasView world v client
+  not_cut (inl h) n = absurd (both_ways _ n h)
+  not_cut (inr h) n = h
 
   pub cut_good : (step : ClientStep) → cut_client plan v client ≡ Ok step → IsGoodMove plan world v step
   cut_good step h =
-      let reported : List Contents = all_reports (reports_of client.groups) plan.groups in
+      let groups : ℕ = length client.groups in
+      let reported : List Contents = all_reports (reports_of client.groups) groups in
       let parent : Lineage = newest reported in
       let records : List Redo = found_in parent reported in
       let lineage : Lineage = extended parent v (cut_of records) plan.lal in
@@ -440,17 +481,22 @@ module _ (plan : Plan) (certified : IsCertified plan) {held : Held} (world : Wor
       let (b, h2) = refuse_if-ok (not (has_read plan client)) NotReady _ step h1 in
       let h3 = extension-ok parent v (cut_of records) plan.lal _ step h2 in
       let born : IsBorn plan world v client = now.born (not-false _ z) in
-      let reads : (group : ℕ) → group < plan.groups → sat (plan.configuration group (place_of client.groups group).configuration).read (senders (reports_of client.groups group)) ≡ true =
-      λ group there. every_below-all plan.groups (λ group. sat (place_configuration plan group (place_of client.groups group)).read (senders (reports_of client.groups group))) (not-false _ b) group there in
-      let at : (group : ℕ) → group < plan.groups → IsPlace plan world group (place_of client.groups group) = λ group there. (born.places group there).0 in
-      let line_there : (group : ℕ) → group < plan.groups → (place_of client.groups group).configuration < plan.configurations group =
-      λ group there. subst (λ c. c < plan.configurations group) (sym (at group there).configuration) (((is_sound plan certified world kept).line group there).there (place_of client.groups group).epoch (at group there).positive (at group there).there) in
-      let zero_there : 0 < plan.groups = certified.group_there in
-      let some : (y : ℕ) × (senders (reports_of client.groups 0) y ≡ true) = sat-some (plan.configuration 0 (place_of client.groups 0).configuration).read (senders (reports_of client.groups 0)) (certified.quorums 0 (place_of client.groups 0).configuration zero_there (line_there 0 zero_there)).valid_read (reads 0 zero_there) in
+      let within : groups ≤ plan.groups = born.within in
+      let beyond : all_reports (reports_of client.groups) plan.groups ≡ reported = all_reports-beyond client.groups plan.groups within in
+      let (q, viewed, shorter) = not_cut born.viewed a in
+      let birth : plan.born ≤ length q = (view_of q viewed).born in
+      let reads : (group : ℕ) → group < groups → sat (plan.configuration group (place_of client.groups group).configuration).read (senders (reports_of client.groups group)) ≡ true =
+      λ group there. every_below-all groups (λ group. sat (place_configuration plan group (place_of client.groups group)).read (senders (reports_of client.groups group))) (not-false _ b) group there in
+      let at : (group : ℕ) → group < groups → IsPlace plan world group (place_of client.groups group) = λ group there. (born.places group there).0 in
+      let line_there : (group : ℕ) → group < groups → (place_of client.groups group).configuration < plan.configurations group =
+      λ group there. subst (λ c. c < plan.configurations group) (sym (at group there).configuration) (((is_sound plan certified world kept).line group (omega arith)).there (place_of client.groups group).epoch (at group there).positive (at group there).there) in
+      let one_there : 0 < plan.born = certified.born_there in
+      let zero_there : 0 < groups = omega arith in
+      let some : (y : ℕ) × (senders (reports_of client.groups 0) y ≡ true) = sat-some (plan.configuration 0 (place_of client.groups 0).configuration).read (senders (reports_of client.groups 0)) (certified.quorums 0 (place_of client.groups 0).configuration (omega arith) (line_there 0 zero_there)).valid_read (reads 0 zero_there) in
       let first : (f : From) × IsIn f (reports_of client.groups 0) × ((f.sender == some.0) ≡ true) = any_passes (λ f. f.sender == some.0) (reports_of client.groups 0) some.1 in
-      let one : (d : Contents) × IsIn d reported × (parent ≡ d.lineage) = newest-of reported first.0.contents (all_reports-has (reports_of client.groups) plan.groups 0 first.0 zero_there first.1) in
+      let one : (d : Contents) × IsIn d reported × (parent ≡ d.lineage) = newest-of reported first.0.contents (all_reports-has (reports_of client.groups) groups 0 first.0 zero_there first.1) in
       let d : Contents = one.0 in
-      let came : (group : ℕ) × (group < plan.groups) × (from : From) × IsIn from (reports_of client.groups group) × (from.contents ≡ d) = all_reports-from (reports_of client.groups) plan.groups d one.1 in
+      let came : (group : ℕ) × (group < groups) × (from : From) × IsIn from (reports_of client.groups group) × (from.contents ≡ d) = all_reports-from (reports_of client.groups) groups d one.1 in
       let told : IsMade world (Report came.0 (label v (place_of client.groups came.0).epoch) came.2.sender came.2.contents) × (last_epoch came.2.contents.lineage < v) = now.reading a came.0 came.1 came.2 came.3 in
       let report : MessageKept plan held world (Report came.0 (label v (place_of client.groups came.0).epoch) came.2.sender came.2.contents) = kept.messages _ told.0 in
       let copy : IsCopy world came.0 d = subst (λ z. IsCopy world came.0 z) came.4 report.0 in
@@ -463,16 +509,22 @@ module _ (plan : Plan) (certified : IsCertified plan) {held : Held} (world : Wor
         parent = p;
         below = omega arith;
         parent_cut = subst (λ u. HasCut world u) same_last copy.cut;
-        lineage = ap (λ z. extended z v (cut_of (found_in z reported)) plan.lal) known;
-        found = ap (λ z. log_found (found_in z reported)) known;
-        reads = λ group there. record {
-          at = (place_of client.groups group).epoch;
-          positive = (at group there).positive;
-          there = (at group there).there;
-          was = (born.places group there).1;
-          reads = subst (λ c. sat (plan.configuration group c).read (senders (reports_of client.groups group)) ≡ true) (at group there).configuration (reads group there);
-          kept = λ from i. ((now.reading a group there from i).0, newest-most reported from.contents (all_reports-has (reports_of client.groups) plan.groups group from there i));
-        };
+        lineage = ap (λ z. extended z v (cut_of (found_in z reported)) plan.lal) known ∙ ap (λ z. extended (lineage_of world p) v (cut_of (found_in (lineage_of world p) z)) plan.lal) (sym beyond);
+        found = ap (λ z. log_found (found_in z reported)) known ∙ ap (λ z. log_found (found_in (lineage_of world p) z)) (sym beyond);
+        told = λ group there from i. (
+            let t : group < groups = from_there client.groups group from i in
+            ((place_of client.groups group).epoch, (now.reading a group t from i).0, newest-most reported from.contents (all_reports-has (reports_of client.groups) groups group from t i)));
+        reads = λ group there views. (
+            let named : group < length q = place_in-there q group (views q viewed) in
+            let t : group < groups = omega arith in
+            record {
+              at = (place_of client.groups group).epoch;
+              positive = (at group t).positive;
+              there = (at group t).there;
+              was = (born.places group t).1;
+              reads = subst (λ c. sat (plan.configuration group c).read (senders (reports_of client.groups group)) ≡ true) (at group t).configuration (reads group t);
+              kept = λ from i. ((now.reading a group t from i).0, newest-most reported from.contents (all_reports-has (reports_of client.groups) groups group from t i));
+            });
       } in
       subst (λ s. IsGoodMove plan world v s) (Ok-is _ step h3) (record {
         grows = record {
@@ -482,22 +534,50 @@ module _ (plan : Plan) (certified : IsCertified plan) {held : Held} (world : Wor
           logs = λ h. absurd (both_ways _ a h);
         };
         client = record {
-          born = λ h. record { positive = born.positive; known = born.known; places = born.places };
+          born = λ h. record { positive = born.positive; known = born.known; within = within; viewed = inl refl; places = born.places };
           reading = λ h. absurd (true≢false h);
-          cut = λ h. record { own = []; log = refl; grown = tt; owned = λ r i. absurd i; origin = inr child };
+          unjoined = λ h. absurd (true≢false (sym h));
+          cut = λ h. record {
+            own = [];
+            log = refl;
+            grown = tt;
+            owned = λ r i. absurd i;
+            origin = inr child;
+            found_there = λ r i. (
+                let (c, j, in_report, live) = found_in-from parent reported r (log_found-within records r i) in
+                let (group, l, from, k, e) = all_reports-from (reports_of client.groups) groups c j in
+                let said : MessageKept plan held world (Report group (label v (place_of client.groups group).epoch) from.sender from.contents) = kept.messages _ (now.reading a group l from k).0 in
+                let is : r.group ≡ group = ((subst (λ z. IsCopy world group z) e said.0).records r in_report).1 in
+                omega arith);
+          };
           counts = now.counts;
           points = now.points;
         };
-        says = installs_says after refl (place_of client.groups) (λ group. true);
+        says = installs_says after refl groups (place_of client.groups) found (λ group. true) (λ group t. refl);
       })
 
   -- a View of its epoch
   module _ (listed : List Place) (made : IsMade world (View v listed)) where
-    view : IsView plan world v (place_in listed)
+    view : IsView plan world v listed
     view = kept.messages _ made
 
-    new_placed : (group : ℕ) → group < plan.groups → PlaceGood group (place_in listed group)
+    listed_within : length listed ≤ plan.groups
+    listed_within = let a : length listed ≤ groups_joined world.authority = view.joined in let b : groups_joined world.authority ≤ plan.groups = kept.authority.within in omega arith
+
+    new_placed : (group : ℕ) → group < length listed → PlaceGood group (place_in listed group)
     new_placed group there = (view.standing group there, inr (listed, made, refl))
+
+    -- a place of a later epoch stands in the list
+    later_there : (group : ℕ) (place : Place) → is_later place (place_in listed group) ≡ true → group < length listed
+    later_there group place e = let up : place.epoch < (place_in listed group).epoch = ltb-true _ _ e in place_in-there listed group (omega arith)
+
+    -- a group of the list that the client lacks is at a later epoch than none
+    new_later : (group : ℕ) → group < length listed → is_later no_group.place (place_in listed group) ≡ true
+    new_later group there = let p : 1 ≤ (place_in listed group).epoch = (view.standing group there).positive in lt-ltb 0 (place_in listed group).epoch (omega arith)
+
+    -- a group that either list has, and the client lacks, stands in the View
+    listed_there : (group : ℕ) → group < max (length client.groups) (length listed) → length client.groups ≤ group → group < length listed
+    listed_there group there beyond = omega arith
 
     -- the groups, with_places on
     abbrev later : List ClientGroup
@@ -514,23 +594,47 @@ module _ (plan : Plan) (certified : IsCertified plan) {held : Held} (world : Wor
         ])
 
     -- epochs only rise
-    later_group_good : (group : ℕ) → group < plan.groups → (g : ClientGroup) → IsGoodGroup group g → IsGoodGroup group (later_group g (place_in listed group))
-    later_group_good group there g good =
+    later_group_good : (group : ℕ) → (g : ClientGroup) → IsGoodGroup group g → IsGoodGroup group (later_group g (place_in listed group))
+    later_group_good group g good =
         elim (cases_Bool (is_later g.place (place_in listed group))) [
           | inl e ↦ (
               let up : g.place.epoch < (place_in listed group).epoch = ltb-true _ _ e in
               let is : record g { place = place_in listed group } ≡ later_group g (place_in listed group) = rw e refl in
               subst (IsGoodGroup group) is (record {
                 reports = good.reports;
-                place = new_placed group there;
+                place = new_placed group (later_there group g.place e);
                 counts = λ count i. (let t : (a : ℕ) × (a ≤ g.place.epoch) × IsMade world (Ack group (label v a) count.sender count.reached) = good.counts count i in let below : t.0 ≤ g.place.epoch = t.1 in (t.0, omega arith, t.2));
                 point = good.point;
               }))
           | inr e ↦ (let is : g ≡ later_group g (place_in listed group) = rw e refl in subst (IsGoodGroup group) is good)
         ]
 
+    later_long : length later ≡ max (length client.groups) (length listed)
+    later_long = length-with_places later_group client.groups listed
+
     later_good : AreGood client.groups → AreGood later
-    later_good good group there = subst (IsGoodGroup group) (sym (later-at group)) (later_group_good group there (group_of client.groups group) (good group there))
+    later_good good group there =
+        let l : length later ≡ max (length client.groups) (length listed) = later_long in
+        subst (IsGoodGroup group) (sym (later-at group)) (elim (cases_lt group (length client.groups)) [
+          | inl old ↦ later_group_good group (group_of client.groups group) (good group old)
+          | inr beyond ↦ (
+              let t : group < length listed = listed_there group (omega arith) beyond in
+              let none : group_of client.groups group ≡ no_group = group_of-beyond client.groups group beyond in
+              let is : record no_group { place = place_in listed group } ≡ later_group no_group (place_in listed group) = rw (new_later group t) refl in
+              let fresh : IsGoodGroup group (record no_group { place = place_in listed group }) = record { reports = ap (λ g. g.reports) (sym none); place = new_placed group t; counts = λ count i. absurd i; point = inl refl } in
+              subst (λ g. IsGoodGroup group (later_group g (place_in listed group))) (sym none) (subst (IsGoodGroup group) is fresh))
+        ])
+
+    -- a group that hasn't joined then hadn't before, or is new
+    later_unjoined_still : (stage : Stage) → has_cut client.stage ≡ true → AreUnjoined client → AreUnjoined (record client { stage = stage; groups = later })
+    later_unjoined_still stage cut old group there not_yet r i same =
+        elim (cases_lt group (length client.groups)) [
+          | inl within ↦ old group within (sym (ap (λ g. g.joined) (later-at group) ∙ later_joined (group_of client.groups group) (place_in listed group)) ∙ not_yet) r i same
+          | inr beyond ↦ (let l : r.group < length client.groups = (now.cut cut).found_there r i in omega arith)
+        ]
+      where
+        later_joined : (g : ClientGroup) (place : Place) → (later_group g place).joined ≡ g.joined
+        later_joined g place = elim (cases_Bool (is_later g.place place)) [ inl e ↦ rw e refl | inr e ↦ rw e refl ]
 
     -- the groups of a client that has not cut, with_places on
     abbrev reread : List ClientGroup
@@ -543,14 +647,14 @@ module _ (plan : Plan) (certified : IsCertified plan) {held : Held} (world : Wor
       counts : CountsGood group g
       point : PointGood group g.group_point
 
-    reread_group_good : (group : ℕ) → group < plan.groups → (g : ClientGroup) → IsReadGroup group g → IsReadGroup group (reread_group g (place_in listed group))
-    reread_group_good group there g good =
+    reread_group_good : (group : ℕ) → (g : ClientGroup) → IsReadGroup group g → IsReadGroup group (reread_group g (place_in listed group))
+    reread_group_good group g good =
         elim (cases_Bool (is_later g.place (place_in listed group))) [
           | inl e ↦ (
               let up : g.place.epoch < (place_in listed group).epoch = ltb-true _ _ e in
               let is : record g { place = place_in listed group; reports = [] } ≡ reread_group g (place_in listed group) = rw e refl in
               subst (IsReadGroup group) is (record {
-                place = new_placed group there;
+                place = new_placed group (later_there group g.place e);
                 reports = λ from i. absurd i;
                 counts = λ count i. (let t : (a : ℕ) × (a ≤ g.place.epoch) × IsMade world (Ack group (label v a) count.sender count.reached) = good.counts count i in let below : t.0 ≤ g.place.epoch = t.1 in (t.0, omega arith, t.2));
                 point = good.point;
@@ -558,29 +662,54 @@ module _ (plan : Plan) (certified : IsCertified plan) {held : Held} (world : Wor
           | inr e ↦ (let is : g ≡ reread_group g (place_in listed group) = rw e refl in subst (IsReadGroup group) is good)
         ]
 
-    reread_good : has_cut client.stage ≡ false → is_born client.stage ≡ true → (group : ℕ) → group < plan.groups → IsReadGroup group (group_of reread group)
+    reread_long : length reread ≡ max (length client.groups) (length listed)
+    reread_long = length-with_places reread_group client.groups listed
+
+    reread_good : has_cut client.stage ≡ false → is_born client.stage ≡ true → (group : ℕ) → group < length reread → IsReadGroup group (group_of reread group)
     reread_good n born group there =
+        let l : length reread ≡ max (length client.groups) (length listed) = reread_long in
         subst (IsReadGroup group) (sym (group_of-with_places reread_group reread_group-none client.groups listed group))
-        (reread_group_good group there (group_of client.groups group)
-        (record { place = (now.born born).places group there; reports = now.reading n group there; counts = now.counts group there; point = now.points group there }))
+        (elim (cases_lt group (length client.groups)) [
+          | inl old ↦ reread_group_good group (group_of client.groups group)
+              (record { place = (now.born born).places group old; reports = now.reading n group old; counts = now.counts group old; point = now.points group old })
+          | inr beyond ↦ (
+              let t : group < length listed = listed_there group (omega arith) beyond in
+              let none : group_of client.groups group ≡ no_group = group_of-beyond client.groups group beyond in
+              let is : record no_group { place = place_in listed group; reports = [] } ≡ reread_group no_group (place_in listed group) = rw (new_later group t) refl in
+              let fresh : IsReadGroup group (record no_group { place = place_in listed group; reports = [] }) = record { place = new_placed group t; reports = λ from i. absurd i; counts = λ count i. absurd i; point = inl refl } in
+              subst (λ g. IsReadGroup group (reread_group g (place_in listed group))) (sym none) (subst (IsReadGroup group) is fresh))
+        ])
 
     -- a group that is new to the client
-    new_good : (group : ℕ) → group < plan.groups → IsReadGroup group (group_of (map newly_at listed) group)
+    new_good : (group : ℕ) → group < length listed → IsReadGroup group (group_of (map newly_at listed) group)
     new_good group there =
         subst (IsReadGroup group) (sym (group_of-new listed group))
         (record { place = new_placed group there; reports = λ from i. absurd i; counts = λ count i. absurd i; point = inl refl })
+
+    -- nothing was found of a group that is raised and hasn't joined
+    none_found : has_cut client.stage ≡ true → is_open client.stage ≡ true → (group : ℕ) → later_unjoined client.groups (place_in listed) group ≡ true → (r : Redo) → IsIn r client.found → r.group ≡ group → ⊥
+    none_found cut is group t r i same =
+        let parts : (later_in (place_of client.groups) (place_in listed) group ≡ true) × (not (group_of client.groups group).joined ≡ true) = and_parts _ _ t in
+        elim (cases_lt group (length client.groups)) [
+          | inl within ↦ now.unjoined is group within (not-true _ parts.1) r i same
+          | inr beyond ↦ (let l : r.group < length client.groups = (now.cut cut).found_there r i in omega arith)
+        ]
+
+    born_there : (group : ℕ) → group < length (map newly_at listed) → group < length listed
+    born_there group there = let l : length (map newly_at listed) ≡ length listed = length-map listed newly_at in omega arith
 
     viewed_good : (stage : Stage) → client.stage ≡ stage → IsGoodMove plan world v (viewed plan v client listed stage)
     viewed_good Unborn e = record {
       grows = (let n : has_cut client.stage ≡ false = ap has_cut e in record { cut = λ h. absurd (both_ways _ n h); lineage = λ h. absurd (both_ways _ n h); found = λ h. absurd (both_ways _ n h); logs = λ h. absurd (both_ways _ n h) });
       client = record {
-        born = λ h. record { positive = view.positive; known = view.known; places = λ group there. (new_good group there).place };
-        reading = λ h group there. (new_good group there).reports;
+        born = λ h. record { positive = view.positive; known = view.known; within = (let l : length (map newly_at listed) ≡ length listed = length-map listed newly_at in let w : length listed ≤ plan.groups = listed_within in omega arith); viewed = inr (listed, made, (let l : length (map newly_at listed) ≡ length listed = length-map listed newly_at in omega arith)); places = λ group there. (new_good group (born_there group there)).place };
+        reading = λ h group there. (new_good group (born_there group there)).reports;
         cut = λ h. absurd (true≢false (sym h));
-        counts = λ group there. (new_good group there).counts;
-        points = λ group there. (new_good group there).point;
+        unjoined = λ h. absurd (true≢false (sym h));
+        counts = λ group there. (new_good group (born_there group there)).counts;
+        points = λ group there. (new_good group (born_there group there)).point;
       };
-      says = fences_says (record unborn { stage = Reading; groups = map newly_at listed }) (place_in listed) (λ group. true);
+      says = fences_says (record unborn { stage = Reading; groups = map newly_at listed }) (length listed) (place_in listed) (λ group. true);
     }
     viewed_good Reading e =
         let n : has_cut client.stage ≡ false = ap has_cut e in
@@ -589,21 +718,38 @@ module _ (plan : Plan) (certified : IsCertified plan) {held : Held} (world : Wor
         record {
           grows = record { cut = λ h. absurd (both_ways _ n h); lineage = λ h. absurd (both_ways _ n h); found = λ h. absurd (both_ways _ n h); logs = λ h. absurd (both_ways _ n h) };
           client = record {
-            born = λ h. record { positive = b.positive; known = b.known; places = λ group there. (reread_good n born group there).place };
+            born = λ h. record {
+              positive = b.positive;
+              known = b.known;
+              within = (let l : length reread ≡ max (length client.groups) (length listed) = reread_long in let w : length listed ≤ plan.groups = listed_within in let w' : length client.groups ≤ plan.groups = b.within in omega arith);
+              viewed = elim b.viewed [ inl c ↦ inl c | inr q ↦ inr (q.0, q.1, (let s : length q.0 ≤ length client.groups = q.2 in let l : length reread ≡ max (length client.groups) (length listed) = reread_long in omega arith)) ];
+              places = λ group there. (reread_good n born group there).place;
+            };
+            unjoined = λ h. absurd (both_ways _ (ap is_open e) h);
             reading = λ h group there. (reread_good n born group there).reports;
             cut = λ h. absurd (both_ways _ n h);
             counts = λ group there. (reread_good n born group there).counts;
             points = λ group there. (reread_good n born group there).point;
           };
-          says = fences_says (record client { groups = reread }) (place_of reread) (later_in (place_of client.groups) (place_in listed));
+          says = fences_says (record client { groups = reread }) (length listed) (place_of reread) (later_in (place_of client.groups) (place_in listed));
         }
     viewed_good Installing e =
         let cut : has_cut client.stage ≡ true = ap has_cut e in
-        moved_good cut client.stage cut later later_reports (later_good (groups_good cut)) _
-        (installs_says (record client { stage = client.stage; groups = later }) cut (place_of later) (later_in (place_of client.groups) (place_in listed)))
+        let w : length client.groups ≤ plan.groups = (now.born (born_from_cut client.stage cut)).within in
+        let w' : length listed ≤ plan.groups = listed_within in
+        let l : length later ≡ max (length client.groups) (length listed) = later_long in
+        moved_good cut client.stage cut later later_reports (omega arith) (omega arith) (later_good (groups_good cut)) (λ is. absurd (both_ways _ (ap is_open e) is)) _
+        (installs_says (record client { stage = client.stage; groups = later }) cut (length listed) (place_of later) client.found (later_in (place_of client.groups) (place_in listed)) (λ group t. refl))
     viewed_good Writing e =
         let cut : has_cut client.stage ≡ true = ap has_cut e in
-        moved_good cut client.stage cut (raised plan later) (λ group. raised_reports later group ∙ later_reports group) (raised_good later (later_good (groups_good cut))) [] (λ m i. absurd i)
+        let is_writer : is_open client.stage ≡ true = ap is_open e in
+        let w : length client.groups ≤ plan.groups = (now.born (born_from_cut client.stage cut)).within in
+        let w' : length listed ≤ plan.groups = listed_within in
+        let l : length later ≡ max (length client.groups) (length listed) = later_long in
+        let l' : length (raised plan later) ≡ length later = length-raised plan later in
+        moved_good cut client.stage cut (raised plan later) (λ group. raised_reports later group ∙ later_reports group) (omega arith) (omega arith) (raised_good later (later_good (groups_good cut)))
+        (λ o. raised_unjoined client.stage later (later_unjoined_still client.stage cut (now.unjoined is_writer))) _
+        (installs_says (record client { stage = client.stage; groups = raised plan later }) cut (length listed) (place_of later) [] (later_unjoined client.groups (place_in listed)) (λ group t. sym (of_group-none group client.found (none_found cut is_writer group t))))
 
   label-is : (l : Label) (volume member : ℕ) → l.volume ≡ volume → l.member ≡ member → l ≡ label volume member
   label-is l volume member a b = λ i. record { volume = a i; member = b i }
@@ -620,23 +766,27 @@ module _ (plan : Plan) (certified : IsCertified plan) {held : Held} (world : Wor
             let at : l ≡ label v (place_of client.groups group).epoch = label-is l v (place_of client.groups group).epoch e (eqb-true _ _ both.0) in
             let made' : IsMade world (Report group (label v (place_of client.groups group).epoch) sender c) = subst (λ z. IsMade world (Report group z sender c)) at made in
             let with_report : ClientGroup = record (group_of client.groups group) { reports = with_first (record { sender = sender; contents = c }) (reports_of client.groups group) } in
+            let as_long : length (slice_set client.groups group with_report) ≡ length client.groups = length-slice_set client.groups group with_report in
             record {
               grows = record { cut = λ h. absurd (both_ways _ n h); lineage = λ h. absurd (both_ways _ n h); found = λ h. absurd (both_ways _ n h); logs = λ h. absurd (both_ways _ n h) };
               client = record {
                 born = λ h. (let b : IsBorn plan world v client = now.born h in record {
                   positive = b.positive;
                   known = b.known;
-                  places = set-all no_group (λ g x. g < plan.groups → PlaceGood g x.place) client.groups group with_report (b.places group) b.places;
+                  within = (let w : length client.groups ≤ plan.groups = b.within in omega arith);
+                  viewed = elim b.viewed [ inl c ↦ inl c | inr q ↦ inr (q.0, q.1, (let s : length q.0 ≤ length client.groups = q.2 in omega arith)) ];
+                  places = λ k there. set-all no_group (λ g x. g < length client.groups → PlaceGood g x.place) client.groups group with_report (b.places group) b.places k (omega arith);
                 });
-                reading = λ h. set-all no_group (λ g x. g < plan.groups → (from : From) → IsIn from x.reports → IsMade world (Report g (label v x.place.epoch) from.sender from.contents) × (last_epoch from.contents.lineage < v)) client.groups group with_report
+                unjoined = λ is. absurd (both_ways _ n (cut_from_open client.stage is));
+                reading = λ h k there. set-all no_group (λ g x. g < length client.groups → (from : From) → IsIn from x.reports → IsMade world (Report g (label v x.place.epoch) from.sender from.contents) × (last_epoch from.contents.lineage < v)) client.groups group with_report
                     (λ there from i. elim (with_first-from (record { sender = sender; contents = c }) (reports_of client.groups group) from i) [
                       | inl new ↦ subst (λ z. IsMade world (Report group (label v (place_of client.groups group).epoch) z.sender z.contents) × (last_epoch z.contents.lineage < v)) (sym new) (made', ltb-true _ _ both.1)
                       | inr old ↦ now.reading n group there from old
                     ])
-                    (now.reading n);
+                    (now.reading n) k (omega arith);
                 cut = λ h. absurd (both_ways _ n h);
-                counts = set-all no_group (λ g x. g < plan.groups → CountsGood g x) client.groups group with_report (now.counts group) now.counts;
-                points = set-all no_group (λ g x. g < plan.groups → PointGood g x.group_point) client.groups group with_report (now.points group) now.points;
+                counts = λ k there. set-all no_group (λ g x. g < length client.groups → CountsGood g x) client.groups group with_report (now.counts group) now.counts k (omega arith);
+                points = λ k there. set-all no_group (λ g x. g < length client.groups → PointGood g x.group_point) client.groups group with_report (now.points group) now.points k (omega arith);
               };
               says = λ m i. absurd i;
             })
@@ -654,8 +804,9 @@ module _ (plan : Plan) (certified : IsCertified plan) {held : Held} (world : Wor
             let made' : IsMade world (Ack group (label v l.member) sender reached) = subst (λ z. IsMade world (Ack group z sender reached)) at made in
             let with_ack : ClientGroup = record (group_of client.groups group) { counts = with_count sender reached (counts_of client.groups group) } in
             let groups : List ClientGroup = slice_set client.groups group with_ack in
-            let good : AreGood groups =
-            set-all no_group (λ g x. g < plan.groups → IsGoodGroup g x) client.groups group with_ack
+            let as_long : length groups ≡ length client.groups = length-slice_set client.groups group with_ack in
+            let good : AreGood groups = λ k there.
+            set-all no_group (λ g x. g < length client.groups → IsGoodGroup g x) client.groups group with_ack
             (λ there. (let old : IsGoodGroup group (group_of client.groups group) = groups_good cut group there in record {
               reports = old.reports;
               place = old.place;
@@ -667,9 +818,13 @@ module _ (plan : Plan) (certified : IsCertified plan) {held : Held} (world : Wor
               ];
               point = old.point;
             }))
-            (groups_good cut) in
+            (groups_good cut) k (omega arith) in
             let same : (g : ℕ) → reports_of groups g ≡ reports_of client.groups g = set-all no_group (λ g x. x.reports ≡ reports_of client.groups g) client.groups group with_ack refl (λ g. refl) in
-            moved_good cut client.stage cut (groups_now plan client.stage groups) (now_reports client.stage groups same) (now_good client.stage groups good) [] (λ m i. absurd i))
+            let joined : (k : ℕ) → (group_of groups k).joined ≡ (group_of client.groups k).joined = set-all no_group (λ g x. x.joined ≡ (group_of client.groups g).joined) client.groups group with_ack refl (λ g. refl) in
+            let unjoined : is_open client.stage ≡ true → AreUnjoined (record client { groups = groups }) = λ is k there not_yet. now.unjoined is k (omega arith) (sym (joined k) ∙ not_yet) in
+            let within : length client.groups ≤ plan.groups = (now.born (born_from_cut client.stage cut)).within in
+            let l : length (groups_now plan client.stage groups) ≡ length groups = now_long client.stage groups in
+            moved_good cut client.stage cut (groups_now plan client.stage groups) (now_reports client.stage groups same) (omega arith) (omega arith) (now_good client.stage groups good) (λ is. now_unjoined client.stage client.stage groups (unjoined is)) [] (λ m i. absurd i))
       ]
     where
       now_good : (stage : Stage) (groups : List ClientGroup) → AreGood groups → AreGood (groups_now plan stage groups)
@@ -677,6 +832,18 @@ module _ (plan : Plan) (certified : IsCertified plan) {held : Held} (world : Wor
       now_good Reading groups good = good
       now_good Installing groups good = good
       now_good Writing groups good = raised_good groups good
+
+      now_long : (stage : Stage) (groups : List ClientGroup) → length (groups_now plan stage groups) ≡ length groups
+      now_long Unborn groups = refl
+      now_long Reading groups = refl
+      now_long Installing groups = refl
+      now_long Writing groups = length-raised plan groups
+
+      now_unjoined : (at stage : Stage) (groups : List ClientGroup) → AreUnjoined (record client { stage = at; groups = groups }) → AreUnjoined (record client { stage = at; groups = groups_now plan stage groups })
+      now_unjoined at Unborn groups h = h
+      now_unjoined at Reading groups h = h
+      now_unjoined at Installing groups h = h
+      now_unjoined at Writing groups h = raised_unjoined at groups h
 
       now_reports : (stage : Stage) (groups : List ClientGroup) → ((g : ℕ) → reports_of groups g ≡ reports_of client.groups g) → (g : ℕ) → reports_of (groups_now plan stage groups) g ≡ reports_of client.groups g
       now_reports Unborn groups same = same
@@ -735,5 +902,5 @@ module _ (plan : Plan) (certified : IsCertified plan) {held : Held} (world : Wor
   pub resend_kept : (lsn : ℕ) → IsKept plan held (after_step world (of_client world v (resent v (world.clients v) lsn)))
   resend_kept lsn = client_step _ (resent_good lsn)
 
-  pub read_kept : (group block : ℕ) → IsKept plan held (after_step world (of_client world v (page_asked plan v (world.clients v) group block)))
+  pub read_kept : (group block : ℕ) → IsKept plan held (after_step world (of_client world v (page_asked v (world.clients v) group block)))
   read_kept group block = client_step _ (asked_good group block)

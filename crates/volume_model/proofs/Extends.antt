@@ -1,5 +1,5 @@
 -- A later world, and that every fact of the invariant stays true in it
-use Rattle.std.proofs.Common.{◌≡◌, ℕ, ◌≤◌, true, List, [], ◌∷◌, sym, ap, ◌∙◌, subst, inl, inr, arith}
+use Rattle.std.proofs.Common.{◌≡◌, ℕ, ◌≤◌, true, List, [], ◌∷◌, length, sym, ap, ◌∙◌, subst, inl, inr, arith}
 use Rattle.volume_model.specs.Lists.{IsIn}
 use Rattle.volume_model.specs.Formula.{Members, sat}
 use Rattle.volume_model.specs.Redo.{Redo, cut_of, log_found}
@@ -10,7 +10,7 @@ use Rattle.volume_model.specs.Message.Message.{View, StepTo, Fence, Report, Inst
 use Rattle.volume_model.specs.Node.{Node, senders}
 use Rattle.volume_model.specs.Client.{Client, place_of, reports_of, group_point_of}
 use Rattle.volume_model.specs.ClientRecovery.{to_install}
-use Rattle.volume_model.specs.World.{World}
+use Rattle.volume_model.specs.World.{World, groups_joined}
 use Rattle.volume_model.specs.PieceLaws.{IsPieceOf}
 use Rattle.volume_model.proofs.Pieces.{ArePieces-more}
 use Rattle.volume_model.proofs.Invariant.{Held, epoch_now, path, config, log_of, found_of, lineage_of, HasCut, IsMade, WasAt, IsCopy, IsSource, IsSourced, MessageSourced, IsHistory}
@@ -20,6 +20,7 @@ use Rattle.volume_model.proofs.Kept.{IsPlace, Retains, NodeGrows, IsToldCopy, Is
 pub record Extends (plan : Plan) (world later : World) : Type 0 where
   pub messages : (m : Message) → IsMade world m → IsMade later m
   pub last : world.authority.last_volume ≤ later.authority.last_volume
+  pub joined : groups_joined world.authority ≤ groups_joined later.authority
   pub epoch : (group : ℕ) → epoch_now plan world group ≤ epoch_now plan later group
   pub path_same : (group e : ℕ) → 1 ≤ e → e ≤ epoch_now plan world group → path plan later group e ≡ path plan world group e
   pub cut : (v : ℕ) → HasCut world v → HasCut later v
@@ -45,7 +46,7 @@ Retains-source world group v s q q' source retains =
     }
 
 module _ (plan : Plan) (world later : World) (extends : Extends plan world later) where
-  pub WasAt-later : (v group e : ℕ) → WasAt world v group e → WasAt later v group e
+  pub WasAt-later : (v group e : ℕ) → WasAt plan world v group e → WasAt plan later v group e
   WasAt-later v group e (inl h) = inl h
   WasAt-later v group e (inr h) = inr (h.0, extends.messages _ h.1, h.2)
 
@@ -102,7 +103,8 @@ module _ (plan : Plan) (world later : World) (extends : Extends plan world later
         parent_cut = extends.cut h.parent h.parent_cut;
         lineage = h.lineage ∙ ap (λ z. extended z v (cut_of (found_in z (reported_to plan client))) plan.lal) same;
         found = h.found ∙ ap (λ z. log_found (found_in z (reported_to plan client))) same;
-        reads = λ group there. HasRead-later v client h.parent group (h.reads group there);
+        reads = λ group there views. HasRead-later v client h.parent group (h.reads group there (λ q m. views q (extends.messages _ m)));
+        told = λ group there from i. (let (at, m, l) = h.told group there from i in (at, extends.messages _ m, l));
       }
 
   IsReached-later : (v group n : ℕ) → IsReached plan world v group n → IsReached plan later v group n
@@ -121,6 +123,8 @@ module _ (plan : Plan) (world later : World) (extends : Extends plan world later
     born = λ b. record {
       positive = (h.born b).positive;
       known = (let k : v ≤ world.authority.last_volume = (h.born b).known in let l : world.authority.last_volume ≤ later.authority.last_volume = extends.last in omega arith);
+      within = (h.born b).within;
+      viewed = elim (h.born b).viewed [ inl c ↦ inl c | inr q ↦ inr (q.0, extends.messages _ q.1, q.2) ];
       places = λ group there. (IsPlace-later group (place_of client.groups group) ((h.born b).places group there).0, WasAt-later v group _ ((h.born b).places group there).1);
     };
     reading = λ n group there from i. (extends.messages _ (h.reading n group there from i).0, (h.reading n group there from i).1);
@@ -130,7 +134,9 @@ module _ (plan : Plan) (world later : World) (extends : Extends plan world later
       grown = (h.cut c).grown;
       owned = (h.cut c).owned;
       origin = elim (h.cut c).origin [ inl r ↦ inl r | inr k ↦ inr (IsHeir-later v client k) ];
+      found_there = (h.cut c).found_there;
     };
+    unjoined = h.unjoined;
     counts = λ group there count i. (let (a, p, m) = h.counts group there count i in (a, p, extends.messages _ m));
     points = λ group there. elim (h.points group there) [ inl z ↦ inl z | inr r ↦ inr (IsReached-later v group (group_point_of client.groups group) r) ];
   }
@@ -186,6 +192,8 @@ module _ (plan : Plan) (held : Held) (world later : World) (extends : Extends pl
   MessageKept-later (View v places) h = record {
     known = (let k : v ≤ world.authority.last_volume = h.known in let l : world.authority.last_volume ≤ later.authority.last_volume = extends.last in omega arith);
     positive = h.positive;
+    born = h.born;
+    joined = (let a : length places ≤ groups_joined world.authority = h.joined in let b : groups_joined world.authority ≤ groups_joined later.authority = extends.joined in omega arith);
     standing = λ group there. IsPlace-later plan world later extends group (place_in places group) (h.standing group there);
   }
   MessageKept-later (StepTo group place) h = IsPlace-later plan world later extends group place h

@@ -1,6 +1,6 @@
 -- How many messages the step of a client makes at most.
-use Rattle.std.proofs.Common.{◌≡◌, ℕ, zero, suc, ◌+◌, ◌/◌, ◌<◌, ◌≤◌, ◌==◌, nat_le, eqb, Bool, true, false, List, [], ◌∷◌, ◌++◌, Option, Some, None, Result, Ok, Err, length, if◌then◌else◌, option_map, length-append, ap, sym, subst, refl, inl, inr, arith, le_trans}
-use Rattle.std.proofs.lemmas.Bool.{cases_Bool, cases_eq, ne_eqb, leb-true, le-leb, lt-leb}
+use Rattle.std.proofs.Common.{◌≡◌, ℕ, zero, suc, ◌+◌, ◌/◌, ◌<◌, ◌≤◌, ◌==◌, nat_le, eqb, Bool, true, false, List, [], ◌∷◌, ◌++◌, Option, Some, None, Result, Ok, Err, length, if◌then◌else◌, option_map, length-append, ap, sym, subst, refl, inl, inr, arith, le_trans, not, nat_le}
+use Rattle.std.proofs.lemmas.Bool.{cases_Bool, cases_eq, ne_eqb, leb-true, le-leb, lt-leb, and_parts}
 use Rattle.volume_model.proofs.Basics.{joined-append}
 use Rattle.volume_model.specs.declared.fault.Fault.{Fault}
 use Rattle.volume_model.specs.Lists.{IsIn, each_below, joined}
@@ -14,12 +14,13 @@ use Rattle.volume_model.specs.Message.{Place, Message, place_in}
 use Rattle.volume_model.specs.Message.Message.{View, StepTo, Fence, Report, Install, Write, Gossip, Ack, CopyAsk, CopyReport, PageAsk, Page}
 use Rattle.volume_model.specs.Client.{Client, ClientAnswer, Stage, label_of, place_of, reports_of}
 use Rattle.volume_model.specs.ClientWriter.{Change, issued, issued_writes, page_asked, record_of, resent, write_of, is_last}
-use Rattle.volume_model.specs.ClientRecovery.{to_install, installs, all_reports, cut_step, live_reported, log_reported, cut_client}
-use Rattle.volume_model.specs.ClientMessages.{later_group, later_in, taken, viewed, with_places}
+use Rattle.volume_model.specs.ClientRecovery.{to_install, installs, all_reports, cut_step, live_reported, log_reported, cut_client, reported}
+use Rattle.volume_model.specs.ClientMessages.{later_group, later_in, taken, viewed, with_places, later_unjoined, are_places}
 use Rattle.volume_model.specs.Client.Stage.{Unborn, Reading, Installing, Writing}
 use Rattle.volume_model.specs.Leading.{VolumeLinksFall}
 use Rattle.volume_model.specs.Few.{Few, most_installs, records_in, records_said}
 use Rattle.volume_model.proofs.Chains.{record_at-some}
+use Rattle.volume_model.specs.declared.fault.Fault.TheVariants.{NotInPlan, NotAddressed}
 
 -- what follows an answer
 few_then : {A : Type 0} (most : ℕ) (first : Result A Fault) (rest : A → ClientAnswer) → ((x : A) → Few most (rest x)) → Few most (first >>= rest)
@@ -138,26 +139,40 @@ module _ (lineage : Lineage) (found : List Redo) (chosen : ℕ → Bool) (say : 
       let sum : length (joined before ++ joined last) ≡ length (joined before) + length (joined last) = length-append (joined before) (joined last) in
       omega arith
 
-few_installs : (plan : Plan) (volume : ℕ) (places : ℕ → Place) (lineage : Lineage) (found : List Redo) (chosen : ℕ → Bool) → length (installs plan volume places lineage found chosen) ≤ most_installs plan found
-few_installs plan volume places lineage found chosen =
-    let few : length (installs plan volume places lineage found chosen) ≤ plan.groups + all_groups plan.groups found / most_in_piece = pieces_below lineage found chosen (λ group. Install group (label_of volume places group)) plan.groups in
-    let within : all_groups plan.groups found ≤ length found = all_groups-within plan.groups found in
+few_installs : (groups volume : ℕ) (places : ℕ → Place) (lineage : Lineage) (found : List Redo) (chosen : ℕ → Bool) → length (installs groups volume places lineage found chosen) ≤ most_installs groups found
+few_installs groups volume places lineage found chosen =
+    let few : length (installs groups volume places lineage found chosen) ≤ groups + all_groups groups found / most_in_piece = pieces_below lineage found chosen (λ group. Install group (label_of volume places group)) groups in
+    let within : all_groups groups found ≤ length found = all_groups-within groups found in
     omega arith
 
-few_fences : {A : Type 0} (plan : Plan) (found : List Redo) (test : ℕ → Bool) (f : ℕ → A) → length (each_below plan.groups test f) ≤ most_installs plan found
-few_fences plan found test f = let few : length (each_below plan.groups test f) ≤ plan.groups = few_below plan.groups test f in omega arith
+few_fences : {A : Type 0} (groups : ℕ) (found : List Redo) (test : ℕ → Bool) (f : ℕ → A) → length (each_below groups test f) ≤ most_installs groups found
+few_fences groups found test f = let few : length (each_below groups test f) ≤ groups = few_below groups test f in omega arith
 
-few_viewed : (plan : Plan) (volume : ℕ) (client : Client) (places : List Place) (stage : Stage) → length (viewed plan volume client places stage).made ≤ most_installs plan client.found
-few_viewed plan volume client places Unborn = few_fences plan client.found _ _
-few_viewed plan volume client places Reading = few_fences plan client.found _ _
-few_viewed plan volume client places Installing = few_installs plan volume (place_of (with_places later_group client.groups places)) client.lineage client.found (later_in (place_of client.groups) (place_in places))
-few_viewed plan volume client places Writing = omega arith
+few_viewed : (plan : Plan) (volume : ℕ) (client : Client) (places : List Place) (stage : Stage) → length (viewed plan volume client places stage).made ≤ most_installs (length places) client.found
+few_viewed plan volume client places Unborn = few_fences (length places) client.found _ _
+few_viewed plan volume client places Reading = few_fences (length places) client.found _ _
+few_viewed plan volume client places Installing = few_installs (length places) volume (place_of (with_places later_group client.groups places)) client.lineage client.found (later_in (place_of client.groups) (place_in places))
+few_viewed plan volume client places Writing =
+    let few : length (installs (length places) volume (place_of (with_places later_group client.groups places)) client.lineage [] (later_unjoined client.groups (place_in places))) ≤ most_installs (length places) [] =
+    few_installs (length places) volume (place_of (with_places later_group client.groups places)) client.lineage [] (later_unjoined client.groups (place_in places)) in
+    omega arith
 
-pub few_taken : (plan : Plan) (volume : ℕ) (client : Client) (m : Message) → Few (most_installs plan client.found) (taken plan volume client m)
-few_taken plan volume client (View of places) = let few = few_viewed plan volume client places client.stage in search (few_if (most_installs plan client.found), few) depth 8
-few_taken plan volume client (Report group label sender contents) = let few : 0 ≤ most_installs plan client.found = omega arith in search (few_if (most_installs plan client.found), few) depth 8
-few_taken plan volume client (Ack group label sender reached) = let few : 0 ≤ most_installs plan client.found = omega arith in search (few_if (most_installs plan client.found), few) depth 8
-few_taken plan volume client (Page group label sender block point bytes) = let few : 0 ≤ most_installs plan client.found = omega arith in search (few_if (most_installs plan client.found), few) depth 8
+pub few_taken : (plan : Plan) (volume : ℕ) (client : Client) (m : Message) → Few (most_installs plan.groups client.found) (taken plan volume client m)
+few_taken plan volume client (View of places) = few_addressed (not (of == volume))
+  where
+    few_placed : (b : Bool) → are_places plan places ≡ b → Few (most_installs plan.groups client.found) (refuse_if (not b) NotInPlan (Ok (viewed plan volume client places client.stage)))
+    few_placed false e = tt
+    few_placed true e =
+        let few : length (viewed plan volume client places client.stage).made ≤ most_installs (length places) client.found = few_viewed plan volume client places client.stage in
+        let short : length places ≤ plan.groups = leb-true _ _ (and_parts (nat_le (length places) plan.groups) _ (and_parts (nat_le plan.born (length places)) _ e).1).0 in
+        omega arith
+
+    few_addressed : (b : Bool) → Few (most_installs plan.groups client.found) (refuse_if b NotAddressed (refuse_if (not (are_places plan places)) NotInPlan (Ok (viewed plan volume client places client.stage))))
+    few_addressed true = tt
+    few_addressed false = few_placed (are_places plan places) refl
+few_taken plan volume client (Report group label sender contents) = let few : 0 ≤ most_installs plan.groups client.found = omega arith in search (few_if (most_installs plan.groups client.found), few) depth 8
+few_taken plan volume client (Ack group label sender reached) = let few : 0 ≤ most_installs plan.groups client.found = omega arith in search (few_if (most_installs plan.groups client.found), few) depth 8
+few_taken plan volume client (Page group label sender block point bytes) = let few : 0 ≤ most_installs plan.groups client.found = omega arith in search (few_if (most_installs plan.groups client.found), few) depth 8
 few_taken plan volume client (StepTo group place) = tt
 few_taken plan volume client (Fence group label) = tt
 few_taken plan volume client (Install group label piece contents) = tt
@@ -173,15 +188,15 @@ few_issued plan volume client changes =
     let most = few (place_of client.groups) (last_start client.lineage) in
     search (few_if (length changes), most) depth 12
 
-pub few_cut : (plan : Plan) (volume : ℕ) (client : Client) → Few (most_installs plan (log_reported plan client)) (cut_client plan volume client)
+pub few_cut : (plan : Plan) (volume : ℕ) (client : Client) → Few (most_installs (length client.groups) (log_reported client)) (cut_client plan volume client)
 few_cut plan volume client =
-    let reported = all_reports (reports_of client.groups) plan.groups in
-    let parent = newest reported in
-    let records = found_in parent reported in
-    let most = most_installs plan (log_found records) in
-    let few : (lineage : Lineage) → Few most (Ok (cut_step plan volume client (log_found records) lineage)) =
-    λ lineage. few_installs plan volume (place_of client.groups) lineage (log_found records) (λ group. true) in
-    let rest = few_then most (extension parent volume (cut_of records) plan.lal) (λ lineage. Ok (cut_step plan volume client (log_found records) lineage)) few in
+    let said = reported client in
+    let parent = newest said in
+    let records = found_in parent said in
+    let most = most_installs (length client.groups) (log_found records) in
+    let few : (lineage : Lineage) → Few most (Ok (cut_step volume client (log_found records) lineage)) =
+    λ lineage. few_installs (length client.groups) volume (place_of client.groups) lineage (log_found records) (λ group. true) in
+    let rest = few_then most (extension parent volume (cut_of records) plan.lal) (λ lineage. Ok (cut_step volume client (log_found records) lineage)) few in
     search (few_if most, rest) depth 12
 
 few_write : (volume : ℕ) (client : Client) (found : Option Redo) → Few 1 (write_of volume client found)
@@ -191,8 +206,8 @@ few_write volume client (Some r) = omega arith
 pub few_resent : (volume : ℕ) (client : Client) (lsn : ℕ) → Few 1 (resent volume client lsn)
 few_resent volume client lsn = let few = few_write volume client (record_at client.log lsn) in search (few_if 1, few) depth 12
 
-pub few_asked : (plan : Plan) (volume : ℕ) (client : Client) (group block : ℕ) → Few 1 (page_asked plan volume client group block)
-few_asked plan volume client group block =
+pub few_asked : (volume : ℕ) (client : Client) (group block : ℕ) → Few 1 (page_asked volume client group block)
+few_asked volume client group block =
     let few : (m : Message) → length (m ∷ []) ≤ 1 = λ m. omega arith in
     search (few_if 1, few) depth 12
 
@@ -278,11 +293,11 @@ module _ (records : List Redo) (fall : VolumeLinksFall records) where
         | inr e ↦ rw e (by_record steps short n (record_at records n) refl)
       ]
 
-pub few_found : (plan : Plan) (client : Client) → VolumeLinksFall (live_reported plan client) → length (log_reported plan client) ≤ records_said plan client
-few_found plan client fall =
-    let reported = all_reports (reports_of client.groups) plan.groups in
-    let records = live_reported plan client in
+pub few_found : (client : Client) → VolumeLinksFall (live_reported client) → length (log_reported client) ≤ records_said client
+few_found client fall =
+    let said = reported client in
+    let records = live_reported client in
     let short : length (log_found records) ≤ at_most (cut_of records) records = chain_short records fall (cut_of records) (cut_of records) in
     let within : at_most (cut_of records) records ≤ length records = at_most-length (cut_of records) records in
-    let said : length records ≤ records_in reported = found-length (newest reported) reported in
+    let said : length records ≤ records_in said = found-length (newest said) said in
     omega arith

@@ -10,17 +10,17 @@ use Rattle.volume_model.specs.Message.Message.{View, StepTo, Fence, Report, Inst
 use Rattle.volume_model.specs.Node.{From, NodeAnswer, in_group}
 use Rattle.volume_model.specs.Client.{Client, Stage, ClientStep, ClientAnswer, ClientGroup, is_born, has_cut, is_open, place_of, reports_of, first_writer, unborn}
 use Rattle.volume_model.specs.ClientPoints.{durable_point}
-use Rattle.volume_model.specs.ClientWriter.{Change, is_transaction, issued, write_of, resent, page_asked}
-use Rattle.volume_model.specs.ClientRecovery.{report_taken, all_reports, has_read, cut_client, opened}
+use Rattle.volume_model.specs.ClientWriter.{Change, is_transaction, issued, write_of, resent, page_asked, have_joined}
+use Rattle.volume_model.specs.ClientRecovery.{report_taken, all_reports, has_read, cut_client, opened, reported}
 use Rattle.volume_model.specs.ClientMessages.{viewed, ack_taken, are_places, taken}
 use Rattle.volume_model.specs.Client.Stage.{Unborn, Reading, Installing, Writing}
-use Rattle.volume_model.specs.World.{World, Event, AuthorityStep, of_authority, of_client, of_node, after_step, after, run, opening, assigned, advanced, refreshed, take}
-use Rattle.volume_model.specs.World.Event.{Assign, Advance, Refresh, Issue, Take, Cut, Open, Resend, Read, Deliver, Hydrate, Restart, Offer}
+use Rattle.volume_model.specs.World.{World, Event, AuthorityStep, of_authority, of_client, of_node, after_step, after, run, opening, assigned, advanced, refreshed, grown, take}
+use Rattle.volume_model.specs.World.Event.{Assign, Advance, Refresh, Grow, Issue, Take, Cut, Open, Resend, Read, Deliver, Hydrate, Restart, Offer}
 use Rattle.volume_model.specs.Finds.{StaysFound, FindsLast}
 use Rattle.volume_model.proofs.Basics.{put-all}
 use Rattle.volume_model.proofs.NodeSteps.{refuse_if-ok, extension-ok}
 use Rattle.volume_model.specs.declared.fault.Fault.{Fault}
-use Rattle.volume_model.specs.declared.fault.Fault.TheVariants.{AlreadyDone, BadTransaction, LimitReached, LsnSpent, NoActor, NoGroup, NotAddressed, NotInPlan, NotOpen, NotReady}
+use Rattle.volume_model.specs.declared.fault.Fault.TheVariants.{AlreadyDone, BadTransaction, LimitReached, LsnSpent, NoActor, NoGroup, NotAddressed, NotInPlan, NotOpen, NotReady, NotJoined}
 
 -- before its cut a client has found nothing and has no lineage, and before it is open its log is what it found
 pub record IsTidy (client : Client) : Type 0 where
@@ -63,7 +63,8 @@ module _ (plan : Plan) (v : ℕ) (client : Client) where
       let last : ℕ = max (last_lsn client.log) start + length changes in
       let (z, h0) = refuse_if-ok (not (is_born client.stage)) NoActor _ step h in
       let (a, h1) = refuse_if-ok (not (is_open client.stage)) NotOpen _ step h0 in
-      let (b, h2) = refuse_if-ok (not (is_transaction plan.groups changes)) BadTransaction _ step h1 in
+      let (b, h1') = refuse_if-ok (not (is_transaction (length client.groups) changes)) BadTransaction _ step h1 in
+      let (j, h2) = refuse_if-ok (not (have_joined client.groups changes)) NotJoined _ step h1' in
       let (c, h3) = refuse_if-ok (nat_lt (2 ^ 62) last) LsnSpent _ step h2 in
       let (d, h4) = refuse_if-ok (nat_lt (max (durable_point client) start + plan.lal) last) LimitReached _ step h3 in
       let open_now : is_open client.stage ≡ true = not-false _ a in
@@ -74,12 +75,12 @@ module _ (plan : Plan) (v : ℕ) (client : Client) where
 
   cut_keeps : (step : ClientStep) → cut_client plan v client ≡ Ok step → IsKeeping step
   cut_keeps step h =
-      let reported = all_reports (reports_of client.groups) plan.groups in
-      let records = found_in (newest reported) reported in
+      let said = reported client in
+      let records = found_in (newest said) said in
       let (z, h0) = refuse_if-ok (not (is_born client.stage)) NoActor _ step h in
       let (a, h1) = refuse_if-ok (has_cut client.stage) AlreadyDone _ step h0 in
       let (b, h2) = refuse_if-ok (not (has_read plan client)) NotReady _ step h1 in
-      let h3 = extension-ok (newest reported) v (cut_of records) plan.lal _ step h2 in
+      let h3 = extension-ok (newest said) v (cut_of records) plan.lal _ step h2 in
       subst IsKeeping (Ok-is _ step h3) (record {
         stays = λ h. absurd (both_ways _ a h);
         tidy = λ t. record { no_lineage = λ n. absurd (true≢false n); none_found = λ n. absurd (true≢false n); log_found = λ n. refl };
@@ -105,11 +106,11 @@ module _ (plan : Plan) (v : ℕ) (client : Client) where
       go None h = cc
       go (Some r) h = subst IsKeeping (Ok-is _ step h) (same_keeps client)
 
-  read_keeps : (group block : ℕ) (step : ClientStep) → page_asked plan v client group block ≡ Ok step → IsKeeping step
+  read_keeps : (group block : ℕ) (step : ClientStep) → page_asked v client group block ≡ Ok step → IsKeeping step
   read_keeps group block step h =
       let (z, h0) = refuse_if-ok (not (is_born client.stage)) NoActor _ step h in
       let (a, h1) = refuse_if-ok (not (is_open client.stage)) NotOpen _ step h0 in
-      let (b, h2) = refuse_if-ok (not (nat_lt group plan.groups)) NoGroup _ step h1 in
+      let (b, h2) = refuse_if-ok (not (nat_lt group (length client.groups))) NoGroup _ step h1 in
       subst IsKeeping (Ok-is _ step h2) (same_keeps client)
 
   viewed_keeps : (places : List Place) (stage : Stage) → client.stage ≡ stage → IsKeeping (viewed plan v client places stage)
@@ -186,6 +187,7 @@ module _ (plan : Plan) (world : World) where
   event_keeps Assign = by_authority (assigned plan world.authority)
   event_keeps (Advance group c) = by_authority (advanced plan world.authority group c)
   event_keeps (Refresh volume) = by_authority (refreshed plan world.authority volume)
+  event_keeps Grow = by_authority (grown plan world.authority)
   event_keeps (Issue v changes) = by_client v _ (issue_keeps plan v (world.clients v) changes)
   event_keeps (Take v number) = by_client v _ (take_keeps plan v (world.clients v) (numbered world.messages number))
   event_keeps (Cut v) = by_client v _ (cut_keeps plan v (world.clients v))

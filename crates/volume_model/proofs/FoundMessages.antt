@@ -1,5 +1,5 @@
 -- Messages of a journal, and the entries that made them.
-use Rattle.std.proofs.Common.{◌≡◌, ℕ, zero, suc, ◌+◌, ◌-◌, ◌<◌, ◌≤◌, not, Bool, true, false, List, length, take, Option, Some, None, refl, sym, ap, ◌∙◌, subst, ⊎_elim, arith}
+use Rattle.std.proofs.Common.{◌≡◌, ℕ, zero, suc, ◌+◌, ◌-◌, ◌<◌, ◌≤◌, not, ◌&&◌, nat_lt, Bool, true, false, List, length, take, Option, Some, None, refl, sym, ap, ◌∙◌, subst, ⊎_elim, arith}
 use Rattle.std.specs.Prelude.{slice_get}
 use mathlib.Core.List.{IsPrefix}
 use Rattle.volume_model.specs.declared.fault.Fault.TheVariants.{NoActor}
@@ -7,9 +7,9 @@ use Rattle.volume_model.specs.Lists.{added, numbered}
 use Rattle.volume_model.specs.Refusal.{refuse_if}
 use Rattle.volume_model.specs.Plan.{Plan, is_named}
 use Rattle.volume_model.specs.Message.{Message}
-use Rattle.volume_model.specs.World.{World, Event, step, after, deliver, if_named, of_client, of_node}
+use Rattle.volume_model.specs.World.{World, Event, step, after, deliver, if_there, of_client, of_node, groups_joined}
 use Rattle.volume_model.specs.World as model
-use Rattle.volume_model.specs.World.Event.{Assign, Advance, Refresh, Issue, Take, Cut, Open, Resend, Read, Deliver, Hydrate, Restart, Offer}
+use Rattle.volume_model.specs.World.Event.{Assign, Advance, Refresh, Grow, Issue, Take, Cut, Open, Resend, Read, Deliver, Hydrate, Restart, Offer}
 use Rattle.volume_model.specs.Actor.{Keeps, named_by}
 use Rattle.volume_model.specs.Told.{makes}
 use Rattle.volume_model.specs.Journal.{Entry, world_at, IsRun, before}
@@ -35,13 +35,14 @@ pub named_before : (plan : Plan) (w : World) (e : Event) (ms : List Message) (n 
 named_before plan w Assign ms n h is = absurd (cc)
 named_before plan w (Advance group c) ms n h is = absurd (cc)
 named_before plan w (Refresh volume) ms n h is = absurd (cc)
+named_before plan w Grow ms n h is = absurd (cc)
 named_before plan w (Issue volume changes) ms n h is = absurd (cc)
 named_before plan w (Take volume x) ms n h is = let e : x ≡ n = cc in subst (λ k. k ≤ length w.messages) e (named_client plan w volume x (numbered w.messages x) refl ms h)
 named_before plan w (Cut volume) ms n h is = absurd (cc)
 named_before plan w (Open volume) ms n h is = absurd (cc)
 named_before plan w (Resend volume lsn) ms n h is = absurd (cc)
 named_before plan w (Read volume group block) ms n h is = absurd (cc)
-named_before plan w (Deliver group member x) ms n h is = let e : x ≡ n = cc in subst (λ k. k ≤ length w.messages) e (named_node plan w group member x (numbered w.messages x) refl (is_named plan group member) ms h)
+named_before plan w (Deliver group member x) ms n h is = let e : x ≡ n = cc in subst (λ k. k ≤ length w.messages) e (named_node plan w group member x (numbered w.messages x) refl (nat_lt group (groups_joined w.authority) && is_named plan group member) ms h)
 named_before plan w (Hydrate group member) ms n h is = absurd (cc)
 named_before plan w (Restart group member) ms n h is = absurd (cc)
 named_before plan w (Offer group member lsn) ms n h is = absurd (cc)

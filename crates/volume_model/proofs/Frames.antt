@@ -8,8 +8,8 @@ use Rattle.volume_model.specs.Node.{NodeAnswer, hydrated, restarted, offered}
 use Rattle.volume_model.specs.Client.{ClientAnswer}
 use Rattle.volume_model.specs.ClientWriter.{issued, resent, page_asked}
 use Rattle.volume_model.specs.ClientRecovery.{cut_client, opened}
-use Rattle.volume_model.specs.World.{World, Event, AuthorityStep, assigned, advanced, refreshed, deliver, take, if_named, of_authority, of_client, of_node, after, after_step}
-use Rattle.volume_model.specs.World.Event.{Assign, Advance, Refresh, Issue, Take, Cut, Open, Resend, Read, Deliver, Hydrate, Restart, Offer}
+use Rattle.volume_model.specs.World.{World, Event, AuthorityStep, assigned, advanced, refreshed, grown, deliver, take, if_there, of_authority, of_client, of_node, after, after_step, groups_joined}
+use Rattle.volume_model.specs.World.Event.{Assign, Advance, Refresh, Grow, Issue, Take, Cut, Open, Resend, Read, Deliver, Hydrate, Restart, Offer}
 use Rattle.volume_model.specs.Actor.{Actor, actor_of, same_actor, Agree}
 use Rattle.volume_model.specs.Actor.Actor.{TheAuthority, Client, Node}
 
@@ -62,16 +62,17 @@ pub frame : (plan : Plan) (w : World) (e : Event) (actor : Actor) → same_actor
 frame plan w Assign actor h = of_authority-else w (assigned plan w.authority) actor h
 frame plan w (Advance group c) actor h = of_authority-else w (advanced plan w.authority group c) actor h
 frame plan w (Refresh volume) actor h = of_authority-else w (refreshed plan w.authority volume) actor h
+frame plan w Grow actor h = of_authority-else w (grown plan w.authority) actor h
 frame plan w (Issue volume changes) actor h = of_client-else w volume (issued plan volume (w.clients volume) changes) actor h
 frame plan w (Take volume number) actor h = of_client-else w volume (take plan volume (w.clients volume) (numbered w.messages number)) actor h
 frame plan w (Cut volume) actor h = of_client-else w volume (cut_client plan volume (w.clients volume)) actor h
 frame plan w (Open volume) actor h = of_client-else w volume (opened plan (w.clients volume)) actor h
 frame plan w (Resend volume lsn) actor h = of_client-else w volume (resent volume (w.clients volume) lsn) actor h
-frame plan w (Read volume group block) actor h = of_client-else w volume (page_asked plan volume (w.clients volume) group block) actor h
-frame plan w (Deliver group member number) actor h = of_node-else w group member (if_named plan group member (deliver plan group member (w.nodes group member) (numbered w.messages number))) actor h
-frame plan w (Hydrate group member) actor h = of_node-else w group member (if_named plan group member (hydrated plan group member (w.nodes group member))) actor h
-frame plan w (Restart group member) actor h = of_node-else w group member (if_named plan group member (Ok (record { made = []; node = restarted (w.nodes group member) }))) actor h
-frame plan w (Offer group member lsn) actor h = of_node-else w group member (if_named plan group member (offered group (w.nodes group member) lsn)) actor h
+frame plan w (Read volume group block) actor h = of_client-else w volume (page_asked volume (w.clients volume) group block) actor h
+frame plan w (Deliver group member number) actor h = of_node-else w group member (if_there plan (groups_joined w.authority) group member (deliver plan group member (w.nodes group member) (numbered w.messages number))) actor h
+frame plan w (Hydrate group member) actor h = of_node-else w group member (if_there plan (groups_joined w.authority) group member (hydrated plan group member (w.nodes group member))) actor h
+frame plan w (Restart group member) actor h = of_node-else w group member (if_there plan (groups_joined w.authority) group member (Ok (record { made = []; node = restarted (w.nodes group member) }))) actor h
+frame plan w (Offer group member lsn) actor h = of_node-else w group member (if_there plan (groups_joined w.authority) group member (offered group (w.nodes group member) lsn)) actor h
 
 pub agree-refl : (actor : Actor) (w : World) → Agree actor w w
 agree-refl TheAuthority w = refl

@@ -1,5 +1,5 @@
 -- The headline, from what holds of a world
-use Rattle.std.proofs.Common.{◌≡◌, ℕ, zero, suc, ◌+◌, ◌-◌, ◌<◌, ◌≤◌, true, false, ◌&&◌, ◌==◌, nat_le, eqb, ◌⊎◌, List, [], ◌∷◌, ◌++◌, refl, sym, ap, ◌∙◌, subst, inl, inr, arith, le_refl}
+use Rattle.std.proofs.Common.{◌≡◌, ℕ, zero, suc, ◌+◌, ◌-◌, ◌<◌, ◌≤◌, true, false, ◌&&◌, ◌==◌, nat_le, eqb, ◌⊎◌, List, [], ◌∷◌, ◌++◌, length, refl, sym, ap, ◌∙◌, subst, inl, inr, arith, le_refl}
 use Rattle.std.proofs.lemmas.Bool.{cases_lt, cases_eq, cases_order, and_parts, both_ways, eqb-true, leb-true}
 use Rattle.volume_model.specs.Lists.{IsIn, IsBeginningOf}
 use Rattle.volume_model.specs.Formula.{Members, sat}
@@ -17,9 +17,10 @@ use Rattle.volume_model.specs.World.{World}
 use Rattle.volume_model.specs.Headline.{Acknowledges, KeepsCommits}
 use Rattle.volume_model.proofs.Basics.{any_passes, IsIn-append}
 use Rattle.volume_model.proofs.Line.{IsLate, descent}
+use Rattle.volume_model.proofs.Views.{place_in-there}
 use Rattle.volume_model.proofs.Logs.{IsChain, same_record, IsIn-up_to, from_up_to, at_most_of_up_to, up_to-up_to, up_to-newer, IsBeginningOf-up_to}
 use Rattle.volume_model.proofs.Chains.{complete_of-covers, consistency_point_below-at_most}
-use Rattle.volume_model.proofs.Invariant.{Held, epoch_now, path, config, log_of, found_of, lineage_of, HasCut, IsMade, label, WasAt, IsCopy, Covers, IsSource, IsSourced, MessageSourced, IsHistory, IsReported, HasReadGroup, HasParent, IsLogged, IsSound}
+use Rattle.volume_model.proofs.Invariant.{Held, epoch_now, path, config, log_of, found_of, lineage_of, HasCut, IsMade, label, WasAt, IsInViews, IsCopy, Covers, IsSource, IsSourced, MessageSourced, IsHistory, IsReported, HasReadGroup, HasParent, IsLogged, IsSound}
 
 pub Covers-weaker : (world : World) (group v m n : ℕ) (q : Contents) → n ≤ m → Covers world group v m q → Covers world group v n q
 Covers-weaker world group v m n q h c = record { epoch = c.epoch; records = λ e r i g l. c.records e r i g (omega arith) }
@@ -46,20 +47,31 @@ module _ (plan : Plan) (certified : IsCertified plan) {held : Held} (world : Wor
   pub volume_positive : (v : ℕ) → HasCut world v → 1 ≤ v
   volume_positive v h = elim (sound.logged v h).origin [ inl f ↦ (let o : v ≡ 1 = f.one in omega arith) | inr p ↦ (let b : p.parent < v = p.below in omega arith) ]
 
+  -- every View of a later client names each group that an earlier one had
+  pub named_later : (u v group e : ℕ) → u < v → group < plan.groups → 1 ≤ e → WasAt plan world u group e → IsInViews world v group
+  named_later u v group e h there positive (inl a) q i =
+      let born : plan.born ≤ length q = sound.view_born v q i in
+      let below : group < plan.born = a.2 in
+      (sound.view_epoch v q i group (omega arith)).0
+  named_later u v group e h there positive (inr a) q i =
+      let e' : (place_in a.0 group).epoch ≡ e = a.2 in
+      let o : (place_in a.0 group).epoch ≤ (place_in q group).epoch = sound.views_ordered u v a.0 q h a.1 i group there in
+      omega arith
+
   -- a later client's epochs are no earlier
-  pub epochs_ordered : (u v group e f : ℕ) → 1 ≤ u → u < v → group < plan.groups → WasAt world u group e → WasAt world v group f → (1 ≤ e) × (e ≤ f) × (f ≤ epoch_now plan world group)
-  epochs_ordered u v group e f l h there (inl a) (inl b) = absurd (let b' : v ≡ 1 = b.0 in omega arith)
-  epochs_ordered u v group e f l h there (inr a) (inl b) = absurd (let b' : v ≡ 1 = b.0 in omega arith)
-  epochs_ordered u v group e f l h there (inl a) (inr b) =
+  pub epochs_ordered : (u v group e f : ℕ) → 1 ≤ u → u < v → group < plan.groups → 1 ≤ e → 1 ≤ f → WasAt plan world u group e → WasAt plan world v group f → (1 ≤ e) × (e ≤ f) × (f ≤ epoch_now plan world group)
+  epochs_ordered u v group e f l h there pe pf (inl a) (inl b) = absurd (let b' : v ≡ 1 = b.0 in omega arith)
+  epochs_ordered u v group e f l h there pe pf (inr a) (inl b) = absurd (let b' : v ≡ 1 = b.0 in omega arith)
+  epochs_ordered u v group e f l h there pe pf (inl a) (inr b) =
       let e' : e ≡ 1 = a.1 in
       let f' : (place_in b.0 group).epoch ≡ f = b.2 in
-      let k : (1 ≤ (place_in b.0 group).epoch) × ((place_in b.0 group).epoch ≤ epoch_now plan world group) = sound.view_epoch v b.0 b.1 group there in
+      let k : (1 ≤ (place_in b.0 group).epoch) × ((place_in b.0 group).epoch ≤ epoch_now plan world group) = sound.view_epoch v b.0 b.1 group (place_in-there b.0 group (omega arith)) in
       (omega arith, omega arith, omega arith)
-  epochs_ordered u v group e f l h there (inr a) (inr b) =
+  epochs_ordered u v group e f l h there pe pf (inr a) (inr b) =
       let e' : (place_in a.0 group).epoch ≡ e = a.2 in
       let f' : (place_in b.0 group).epoch ≡ f = b.2 in
-      let i : (1 ≤ (place_in a.0 group).epoch) × ((place_in a.0 group).epoch ≤ epoch_now plan world group) = sound.view_epoch u a.0 a.1 group there in
-      let k : (1 ≤ (place_in b.0 group).epoch) × ((place_in b.0 group).epoch ≤ epoch_now plan world group) = sound.view_epoch v b.0 b.1 group there in
+      let i : (1 ≤ (place_in a.0 group).epoch) × ((place_in a.0 group).epoch ≤ epoch_now plan world group) = sound.view_epoch u a.0 a.1 group (place_in-there a.0 group (omega arith)) in
+      let k : (1 ≤ (place_in b.0 group).epoch) × ((place_in b.0 group).epoch ≤ epoch_now plan world group) = sound.view_epoch v b.0 b.1 group (place_in-there b.0 group (omega arith)) in
       let o : (place_in a.0 group).epoch ≤ (place_in b.0 group).epoch = sound.views_ordered u v a.0 b.0 h a.1 b.1 group there in
       (omega arith, omega arith, omega arith)
 
@@ -145,12 +157,12 @@ module _ (plan : Plan) (certified : IsCertified plan) {held : Held} (world : Wor
         let group : ℕ = s.group in
         let logged : IsLogged plan world v = sound.logged v cut in
         let there : group < plan.groups = logged.group_there s i in
-        let read : HasReadGroup plan world later h.parent group = h.reads group there in
         let k : s.lsn ≤ group_point_of (world.clients v).groups group = covered s i l in
         elim (sound.written v group there cut) [
           | inl z ↦ absurd (let pos : 0 < s.lsn = lsn_positive' (log_of world v) logged.chain s i in omega arith)
           | inr w ↦ (
-              let (one, low, high) = epochs_ordered v later group w.at read.at (volume_positive v cut) below there w.was read.was in
+              let read : HasReadGroup plan world later h.parent group = h.reads group there (named_later v later group w.at below there w.positive w.was) in
+              let (one, low, high) = epochs_ordered v later group w.at read.at (volume_positive v cut) below there w.positive read.positive w.was read.was in
               let sum : read.at - w.at + w.at ≡ read.at = omega arith in
               let reads : sat (plan.configuration group (path plan world group (read.at - w.at + w.at))).read (senders (reports_of (world.clients later).groups group)) ≡ true =
               subst (λ a. sat (plan.configuration group (path plan world group a)).read (senders (reports_of (world.clients later).groups group)) ≡ true) (sym sum) read.reads in

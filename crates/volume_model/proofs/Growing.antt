@@ -8,8 +8,8 @@ use Rattle.volume_model.specs.Node.{NodeAnswer, hydrated, restarted, offered}
 use Rattle.volume_model.specs.Client.{ClientAnswer}
 use Rattle.volume_model.specs.ClientWriter.{issued, resent, page_asked}
 use Rattle.volume_model.specs.ClientRecovery.{cut_client, opened}
-use Rattle.volume_model.specs.World.{World, Event, AuthorityStep, Step, assigned, advanced, refreshed, deliver, take, if_named, of_authority, of_client, of_node, step, after, after_step}
-use Rattle.volume_model.specs.World.Event.{Assign, Advance, Refresh, Issue, Take, Cut, Open, Resend, Read, Deliver, Hydrate, Restart, Offer}
+use Rattle.volume_model.specs.World.{World, Event, AuthorityStep, Step, assigned, advanced, refreshed, grown, deliver, take, if_there, of_authority, of_client, of_node, step, after, after_step, groups_joined}
+use Rattle.volume_model.specs.World.Event.{Assign, Advance, Refresh, Grow, Issue, Take, Cut, Open, Resend, Read, Deliver, Hydrate, Restart, Offer}
 use Rattle.volume_model.specs.Actor.{Keeps}
 use Rattle.volume_model.specs.Told.{makes}
 use Rattle.volume_model.proofs.ListFacts.{added_before, beginning-refl, length-added}
@@ -25,7 +25,7 @@ leaves w r made ms h e =
 
 of_authority-leaves : (w : World) (r : Result AuthorityStep Fault) (ms : List Message) → makes (of_authority w r) ≡ Some ms → Leaves w (of_authority w r) ms
 of_authority-leaves w (Err fault) ms h = absurd (cc)
-of_authority-leaves w (Ok s) ms h = leaves w (of_authority w (Ok s)) (s.made ∷ []) ms refl cc
+of_authority-leaves w (Ok s) ms h = leaves w (of_authority w (Ok s)) s.made ms refl cc
 
 of_client-leaves : (w : World) (v : ℕ) (r : ClientAnswer) (ms : List Message) → makes (of_client w v r) ≡ Some ms → Leaves w (of_client w v r) ms
 of_client-leaves w v (Err fault) ms h = absurd (cc)
@@ -40,16 +40,17 @@ pub messages_grow : (plan : Plan) (w : World) (e : Event) (ms : List Message) �
 messages_grow plan w Assign ms h = of_authority-leaves w (assigned plan w.authority) ms h
 messages_grow plan w (Advance group c) ms h = of_authority-leaves w (advanced plan w.authority group c) ms h
 messages_grow plan w (Refresh volume) ms h = of_authority-leaves w (refreshed plan w.authority volume) ms h
+messages_grow plan w Grow ms h = of_authority-leaves w (grown plan w.authority) ms h
 messages_grow plan w (Issue volume changes) ms h = of_client-leaves w volume (issued plan volume (w.clients volume) changes) ms h
 messages_grow plan w (Take volume number) ms h = of_client-leaves w volume (take plan volume (w.clients volume) (numbered w.messages number)) ms h
 messages_grow plan w (Cut volume) ms h = of_client-leaves w volume (cut_client plan volume (w.clients volume)) ms h
 messages_grow plan w (Open volume) ms h = of_client-leaves w volume (opened plan (w.clients volume)) ms h
 messages_grow plan w (Resend volume lsn) ms h = of_client-leaves w volume (resent volume (w.clients volume) lsn) ms h
-messages_grow plan w (Read volume group block) ms h = of_client-leaves w volume (page_asked plan volume (w.clients volume) group block) ms h
-messages_grow plan w (Deliver group member number) ms h = of_node-leaves w group member (if_named plan group member (deliver plan group member (w.nodes group member) (numbered w.messages number))) ms h
-messages_grow plan w (Hydrate group member) ms h = of_node-leaves w group member (if_named plan group member (hydrated plan group member (w.nodes group member))) ms h
-messages_grow plan w (Restart group member) ms h = of_node-leaves w group member (if_named plan group member (Ok (record { made = []; node = restarted (w.nodes group member) }))) ms h
-messages_grow plan w (Offer group member lsn) ms h = of_node-leaves w group member (if_named plan group member (offered group (w.nodes group member) lsn)) ms h
+messages_grow plan w (Read volume group block) ms h = of_client-leaves w volume (page_asked volume (w.clients volume) group block) ms h
+messages_grow plan w (Deliver group member number) ms h = of_node-leaves w group member (if_there plan (groups_joined w.authority) group member (deliver plan group member (w.nodes group member) (numbered w.messages number))) ms h
+messages_grow plan w (Hydrate group member) ms h = of_node-leaves w group member (if_there plan (groups_joined w.authority) group member (hydrated plan group member (w.nodes group member))) ms h
+messages_grow plan w (Restart group member) ms h = of_node-leaves w group member (if_there plan (groups_joined w.authority) group member (Ok (record { made = []; node = restarted (w.nodes group member) }))) ms h
+messages_grow plan w (Offer group member lsn) ms h = of_node-leaves w group member (if_there plan (groups_joined w.authority) group member (offered group (w.nodes group member) lsn)) ms h
 
 unmoved : (w : World) (r : Result Step Fault) (fault : Fault) → r ≡ Err fault → after_step w r ≡ w
 unmoved w r fault h = ap (after_step w) h

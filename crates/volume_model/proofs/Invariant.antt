@@ -1,5 +1,5 @@
 -- What holds of every world that a run leads to, as far as the headline needs it
-use Rattle.std.proofs.Common.{◌≡◌, ℕ, ◌-◌, ◌<◌, ◌≤◌, true, ◌⊎◌, List, [], ◌∷◌, ◌++◌}
+use Rattle.std.proofs.Common.{◌≡◌, ℕ, ◌-◌, ◌<◌, ◌≤◌, true, ◌⊎◌, List, [], ◌∷◌, ◌++◌, length}
 use Rattle.volume_model.specs.Lists.{IsIn}
 use Rattle.volume_model.specs.Formula.{Members, sat}
 use Rattle.volume_model.specs.Redo.{Redo, last_lsn, up_to}
@@ -52,8 +52,12 @@ abbrev pub label : ℕ → ℕ → Label
 label volume member = record { volume = volume; member = member }
 
 -- the client has been at this epoch of the group
-abbrev pub WasAt : World → ℕ → ℕ → ℕ → Type 0
-WasAt world v group e = ((v ≡ 1) × (e ≡ 1)) ⊎ ((places : List Place) × IsMade world (View v places) × ((place_in places group).epoch ≡ e))
+abbrev pub WasAt : Plan → World → ℕ → ℕ → ℕ → Type 0
+WasAt plan world v group e = ((v ≡ 1) × (e ≡ 1) × (group < plan.born)) ⊎ ((places : List Place) × IsMade world (View v places) × ((place_in places group).epoch ≡ e))
+
+-- every View of the client that was made names the group
+abbrev pub IsInViews : World → ℕ → ℕ → Type 0
+IsInViews world v group = (q : List Place) → IsMade world (View v q) → 1 ≤ (place_in q group).epoch
 
 -- what a whole node says of itself: the lineage of a client that has cut, records of its log, and at least those that it found
 pub record IsCopy (world : World) (group : ℕ) (q : Contents) : Type 0 where
@@ -117,7 +121,8 @@ IsReported world v s = (from : From) × IsIn from (reports_of (world.clients v).
 -- of a group, the client has read a read set of an epoch at which it was
 pub record HasReadGroup (plan : Plan) (world : World) (v parent group : ℕ) : Type 0 where
   pub at : ℕ
-  pub was : WasAt world v group at
+  pub positive : 1 ≤ at
+  pub was : WasAt plan world v group at
   pub reads : sat (config plan world group at).read (senders (reports_of (world.clients v).groups group)) ≡ true
   pub kept : (from : From) → IsIn from (reports_of (world.clients v).groups group) → IsMade world (Report group (label v at) from.sender from.contents) × (last_epoch from.contents.lineage ≤ parent)
 
@@ -132,7 +137,7 @@ pub record HasParent (plan : Plan) (world : World) (v : ℕ) : Type 0 where
   pub found : found_of world v ≡ up_to cut (log_of world parent)
   pub start_above : cut ≤ start
   pub cut_within : cut ≤ last_lsn (log_of world parent)
-  pub reads : (group : ℕ) → group < plan.groups → HasReadGroup plan world v parent group
+  pub reads : (group : ℕ) → group < plan.groups → IsInViews world v group → HasReadGroup plan world v parent group
   pub complete : (r : Redo) → IsIn r (log_of world parent) → r.point ≡ true → ((s : Redo) → IsIn s (log_of world parent) → s.lsn ≤ r.lsn → IsReported world v s) → r.lsn ≤ cut
 
 -- the client is the first writer
@@ -153,7 +158,8 @@ pub record IsLogged (plan : Plan) (world : World) (v : ℕ) : Type 0 where
 -- the group point is acknowledged by a write set of an epoch at which the client was
 pub record IsWritten (plan : Plan) (world : World) (v group n : ℕ) : Type 0 where
   pub at : ℕ
-  pub was : WasAt world v group at
+  pub positive : 1 ≤ at
+  pub was : WasAt plan world v group at
   pub writers : Members
   pub writes : sat (config plan world group at).write writers ≡ true
   pub acked : (x : ℕ) → writers x ≡ true → (a : ℕ) × (s : ℕ) × (a ≤ at) × (n ≤ s) × IsMade world (Ack group (label v a) x s)
@@ -163,7 +169,8 @@ pub record IsSound (plan : Plan) (held : Held) (world : World) : Type 0 where
   pub line : (group : ℕ) → group < plan.groups → IsLine plan group (path plan world group) (epoch_now plan world group)
   pub logged : (v : ℕ) → HasCut world v → IsLogged plan world v
   pub written : (v group : ℕ) → group < plan.groups → HasCut world v → (group_point_of (world.clients v).groups group ≡ 0) ⊎ IsWritten plan world v group (group_point_of (world.clients v).groups group)
-  pub view_epoch : (v : ℕ) (places : List Place) → IsMade world (View v places) → (group : ℕ) → group < plan.groups → (1 ≤ (place_in places group).epoch) × ((place_in places group).epoch ≤ epoch_now plan world group)
+  pub view_born : (v : ℕ) (places : List Place) → IsMade world (View v places) → plan.born ≤ length places
+  pub view_epoch : (v : ℕ) (places : List Place) → IsMade world (View v places) → (group : ℕ) → group < length places → (1 ≤ (place_in places group).epoch) × ((place_in places group).epoch ≤ epoch_now plan world group)
   pub views_ordered : (u v : ℕ) (p q : List Place) → u < v → IsMade world (View u p) → IsMade world (View v q) → (group : ℕ) → group < plan.groups → (place_in p group).epoch ≤ (place_in q group).epoch
   pub copies : (group f x s : ℕ) (p : Piece) (c : Contents) → IsMade world (CopyReport group f x s p c) → IsCopy world group (held group x s)
   pub reports : (group : ℕ) (l : Label) (x : ℕ) (q : Contents) → IsMade world (Report group l x q) → IsCopy world group q

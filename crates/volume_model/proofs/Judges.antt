@@ -2,10 +2,10 @@
 use Rattle.std.proofs.Common.{◌≡◌, ◌≢◌, ℕ, ◌≤◌, List, ◌++◌, length, take, refl, sym, ap, ◌∙◌, subst, arith}
 use mathlib.Core.List.{IsPrefix}
 use Rattle.volume_model.specs.declared.fault.Fault.{Fault}
-use Rattle.volume_model.specs.declared.fault.Fault.TheVariants.{Short, BadField, Trailing, NoMemory, BadCount, TooDeep, NotAMember, Malformed, NoSuchItem, NotDead, NoClash, NotAll, TooFewPicked, BadPair, CountTooSmall, BranchCount, BadParent, MemberReused, NoCertificate, Certificate, OverLimit, Superseded, NotInPlan, NoGroup, EpochsSpent, StaleVolume, StaleMember, AheadMember, NotInstalled, NotWhole, Full, AlreadyWhole, NotEnough, NoRecord, BadPiece, TailSegment, PointAhead, SeriesSpent, NotOpen, LimitReached, BadTransaction, LsnSpent, NotReady, AlreadyDone, NoLogRecord, NoMessage, NotAddressed, NoActor, NoSlot, JournalFull}
+use Rattle.volume_model.specs.declared.fault.Fault.TheVariants.{Short, BadField, Trailing, NoMemory, BadCount, TooDeep, NotAMember, Malformed, NoSuchItem, NotDead, NoClash, NotAll, TooFewPicked, BadPair, CountTooSmall, BranchCount, BadParent, MemberReused, NoCertificate, Certificate, OverLimit, Superseded, NotInPlan, NoGroup, EpochsSpent, AllGrown, StaleVolume, StaleMember, AheadMember, NotInstalled, NotWhole, Full, AlreadyWhole, NotEnough, NoRecord, BadPiece, TailSegment, PointAhead, SeriesSpent, NotOpen, LimitReached, BadTransaction, LsnSpent, NotReady, AlreadyDone, NoLogRecord, NotJoined, NoMessage, NotAddressed, NoActor, NoSlot, JournalFull}
 use Rattle.volume_model.specs.Plan.{Plan}
-use Rattle.volume_model.specs.World.{World, Event, step}
-use Rattle.volume_model.specs.Actor.{Actor, actor_of, Agree, Keeps}
+use Rattle.volume_model.specs.World.{World, Event, step, groups_joined}
+use Rattle.volume_model.specs.Actor.{Actor, actor_of, Agree, Keeps, is_joined, JoinedAlike}
 use Rattle.volume_model.specs.Actor.Actor.{TheAuthority, Client, Node}
 use Rattle.volume_model.specs.Told.{refusal}
 use Rattle.volume_model.specs.Journal.{Entry, world_at, last_of}
@@ -34,12 +34,29 @@ placed-keeps actor w u v k = (k.0, k.1 ∙ sym (placed-messages actor w v))
 placed-keeps_both : (actor : Actor) (w u v : World) → Keeps u v → Keeps (placed actor w u) (placed actor w v)
 placed-keeps_both actor w u v k = (k.0, ap (λ l. k.0 ++ l) (placed-messages actor w u) ∙ k.1 ∙ sym (placed-messages actor w v))
 
+-- once it is placed a node is there or not, whatever the rest is
+placed-alike : (actor : Actor) (w u v : World) → is_joined (groups_joined (placed actor w u).authority) actor ≡ is_joined (groups_joined (placed actor w v).authority) actor
+placed-alike TheAuthority w u v = refl
+placed-alike (Client c) w u v = refl
+placed-alike (Node g m) w u v = refl
+
+-- and is there as it is in v, where it was so in w
+placed-joined : (actor : Actor) (w v : World) → is_joined (groups_joined w.authority) actor ≡ is_joined (groups_joined v.authority) actor → is_joined (groups_joined v.authority) actor ≡ is_joined (groups_joined (placed actor w v).authority) actor
+placed-joined TheAuthority w v h = refl
+placed-joined (Client c) w v h = refl
+placed-joined (Node g m) w v h = sym h
+
 module _ (plan : Plan) where
+  -- the actor of an event is the same in both worlds, and there in both or in neither
+  abbrev IsOne : Event → World → World → Type 0
+  IsOne event w v = Agree (actor_of event) w v × JoinedAlike event w v
+
   -- a refusal with the actor placed stays, when the rest has gone on
   pub placed_later : (w u v : World) (e : Event) (number : ℕ) → number ≢ 80 → Keeps u v → refusal (step plan (placed (actor_of e) w u) e) ≡ number → refusal (step plan (placed (actor_of e) w v) e) ≡ number
   placed_later w u v e number other keeps h =
       refusal_alike plan (placed (actor_of e) w u) (placed (actor_of e) w v) e number other
       (agree-trans (actor_of e) (placed (actor_of e) w u) w (placed (actor_of e) w v) (agree-sym (actor_of e) w (placed (actor_of e) w u) (placed-agree (actor_of e) w u)) (placed-agree (actor_of e) w v))
+      (placed-alike (actor_of e) w u v)
       (placed-keeps_both (actor_of e) w u v keeps) h
 
   own_longer : (number : ℕ) (es fs : List Entry) (event : Event) (code : ℕ) → code ≢ 80 → IsPrefix es fs → number ≤ length es
@@ -48,13 +65,14 @@ module _ (plan : Plan) where
       placed_later (world_at plan (take number fs)) (world_at plan es) (world_at plan fs) event code other (keeps_at plan es fs p)
       (subst (λ l. refusal (step plan (placed (actor_of event) (world_at plan l) (world_at plan es)) event) ≡ code) (take_prefix es fs number p le) h)
 
-  own_noted : (number : ℕ) (es : List Entry) (event : Event) (code : ℕ) → code ≢ 80 → Agree (actor_of event) (world_at plan (take number es)) (world_at plan es)
+  own_noted : (number : ℕ) (es : List Entry) (event : Event) (code : ℕ) → code ≢ 80 → IsOne event (world_at plan (take number es)) (world_at plan es)
       → refusal (step plan (world_at plan es) event) ≡ code → refusal (step plan (judged plan es number event) event) ≡ code
   own_noted number es event code other agree h =
       let w = world_at plan (take number es) in
       let v = world_at plan es in
       refusal_alike plan v (placed (actor_of event) w v) event code other
-      (agree-trans (actor_of event) v w (placed (actor_of event) w v) (agree-sym (actor_of event) w v agree) (placed-agree (actor_of event) w v))
+      (agree-trans (actor_of event) v w (placed (actor_of event) w v) (agree-sym (actor_of event) w v agree.0) (placed-agree (actor_of event) w v))
+      (placed-joined (actor_of event) w v agree.1)
       (placed-keeps (actor_of event) w v v (beginning-refl v.messages)) h
 
   last_agrees : (actor : Actor) (w v : World) → actor ≡ TheAuthority → Agree actor w v → w.authority.last_volume ≡ v.authority.last_volume
@@ -88,6 +106,7 @@ module _ (plan : Plan) where
   told_longer slots cells number es fs event NotInPlan p room le h = own_longer number es fs event 41 (λ (e : 41 ≡ 80). omega (arith, e)) p le h
   told_longer slots cells number es fs event NoGroup p room le h = own_longer number es fs event 42 (λ (e : 42 ≡ 80). omega (arith, e)) p le h
   told_longer slots cells number es fs event EpochsSpent p room le h = own_longer number es fs event 43 (λ (e : 43 ≡ 80). omega (arith, e)) p le h
+  told_longer slots cells number es fs event AllGrown p room le h = own_longer number es fs event 44 (λ (e : 44 ≡ 80). omega (arith, e)) p le h
   told_longer slots cells number es fs event StaleVolume p room le h = own_longer number es fs event 50 (λ (e : 50 ≡ 80). omega (arith, e)) p le h
   told_longer slots cells number es fs event StaleMember p room le h = own_longer number es fs event 51 (λ (e : 51 ≡ 80). omega (arith, e)) p le h
   told_longer slots cells number es fs event AheadMember p room le h = own_longer number es fs event 52 (λ (e : 52 ≡ 80). omega (arith, e)) p le h
@@ -108,6 +127,7 @@ module _ (plan : Plan) where
   told_longer slots cells number es fs event NotReady p room le h = own_longer number es fs event 74 (λ (e : 74 ≡ 80). omega (arith, e)) p le h
   told_longer slots cells number es fs event AlreadyDone p room le h = own_longer number es fs event 75 (λ (e : 75 ≡ 80). omega (arith, e)) p le h
   told_longer slots cells number es fs event NoLogRecord p room le h = own_longer number es fs event 76 (λ (e : 76 ≡ 80). omega (arith, e)) p le h
+  told_longer slots cells number es fs event NotJoined p room le h = own_longer number es fs event 77 (λ (e : 77 ≡ 80). omega (arith, e)) p le h
   told_longer slots cells number es fs event NoMessage p room le h = h
   told_longer slots cells number es fs event NotAddressed p room le h = own_longer number es fs event 81 (λ (e : 81 ≡ 80). omega (arith, e)) p le h
   told_longer slots cells number es fs event NoActor p room le h = own_longer number es fs event 82 (λ (e : 82 ≡ 80). omega (arith, e)) p le h
@@ -120,7 +140,7 @@ module _ (plan : Plan) where
       let within = h.within in
       record { within = omega (arith, l, within); told = told_longer slots cells n.number es fs n.event n.fault p room h.within h.told }
 
-  told_now : (slots cells number : ℕ) (es : List Entry) (event : Event) (fault : Fault) → IsNoted fault → Agree (actor_of event) (world_at plan (take number es)) (world_at plan es)
+  told_now : (slots cells number : ℕ) (es : List Entry) (event : Event) (fault : Fault) → IsNoted fault → IsOne event (world_at plan (take number es)) (world_at plan es)
       → Exact plan slots cells es event fault → found_in plan es number event fault ≡ wanted slots cells fault
   told_now slots cells number es event Short is agree h = own_noted number es event 1 (λ (e : 1 ≡ 80). omega (arith, e)) agree h
   told_now slots cells number es event BadField is agree h = own_noted number es event 2 (λ (e : 2 ≡ 80). omega (arith, e)) agree h
@@ -147,6 +167,7 @@ module _ (plan : Plan) where
   told_now slots cells number es event NotInPlan is agree h = own_noted number es event 41 (λ (e : 41 ≡ 80). omega (arith, e)) agree h
   told_now slots cells number es event NoGroup is agree h = own_noted number es event 42 (λ (e : 42 ≡ 80). omega (arith, e)) agree h
   told_now slots cells number es event EpochsSpent is agree h = own_noted number es event 43 (λ (e : 43 ≡ 80). omega (arith, e)) agree h
+  told_now slots cells number es event AllGrown is agree h = own_noted number es event 44 (λ (e : 44 ≡ 80). omega (arith, e)) agree h
   told_now slots cells number es event StaleVolume is agree h = own_noted number es event 50 (λ (e : 50 ≡ 80). omega (arith, e)) agree h
   told_now slots cells number es event StaleMember is agree h = own_noted number es event 51 (λ (e : 51 ≡ 80). omega (arith, e)) agree h
   told_now slots cells number es event AheadMember is agree h = own_noted number es event 52 (λ (e : 52 ≡ 80). omega (arith, e)) agree h
@@ -167,20 +188,21 @@ module _ (plan : Plan) where
   told_now slots cells number es event NotReady is agree h = own_noted number es event 74 (λ (e : 74 ≡ 80). omega (arith, e)) agree h
   told_now slots cells number es event AlreadyDone is agree h = own_noted number es event 75 (λ (e : 75 ≡ 80). omega (arith, e)) agree h
   told_now slots cells number es event NoLogRecord is agree h = own_noted number es event 76 (λ (e : 76 ≡ 80). omega (arith, e)) agree h
+  told_now slots cells number es event NotJoined is agree h = own_noted number es event 77 (λ (e : 77 ≡ 80). omega (arith, e)) agree h
   told_now slots cells number es event NoMessage is agree h = absurd is
   told_now slots cells number es event NotAddressed is agree h = own_noted number es event 81 (λ (e : 81 ≡ 80). omega (arith, e)) agree h
   told_now slots cells number es event NoActor is agree h = own_noted number es event 82 (λ (e : 82 ≡ 80). omega (arith, e)) agree h
-  told_now slots cells number es event NoSlot is agree h = last_agrees (actor_of event) (world_at plan (take number es)) (world_at plan es) (ap actor_of h.0) agree ∙ h.2
+  told_now slots cells number es event NoSlot is agree h = last_agrees (actor_of event) (world_at plan (take number es)) (world_at plan es) (ap actor_of h.0) agree.0 ∙ h.2
   told_now slots cells number es event JournalFull is agree h = h.1
 
   -- what the model refuses now may be noted
-  pub noted : (slots cells number : ℕ) (es : List Entry) (event : Event) (fault : Fault) → IsNoted fault → number ≤ length es → Agree (actor_of event) (world_at plan (take number es)) (world_at plan es)
+  pub noted : (slots cells number : ℕ) (es : List Entry) (event : Event) (fault : Fault) → IsNoted fault → number ≤ length es → IsOne event (world_at plan (take number es)) (world_at plan es)
       → Exact plan slots cells es event fault → IsRefused plan slots cells es (record { event = event; fault = fault; number = number })
   noted slots cells number es event fault is le agree h = record { within = le; told = told_now slots cells number es event fault is agree h }
 
   -- by the actor's last number alone
   pub noted_at_last : (slots cells number : ℕ) (es : List Entry) (event : Event) (fault : Fault) → IsNoted fault → number ≤ length es → last_of (actor_of event) es ≤ number
-      → Exact plan slots cells es event fault → IsRefused plan slots cells es (record { event = event; fault = fault; number = number })
-  noted_at_last slots cells number es event fault is le last h =
+      → JoinedAlike event (world_at plan (take number es)) (world_at plan es) → Exact plan slots cells es event fault → IsRefused plan slots cells es (record { event = event; fault = fault; number = number })
+  noted_at_last slots cells number es event fault is le last there h =
       let seen = length-take_within es number le in
-      noted slots cells number es event fault is le (agree_at_last plan (actor_of event) (take number es) es (take_begins es number) (omega (arith, seen, last))) h
+      noted slots cells number es event fault is le (agree_at_last plan (actor_of event) (take number es) es (take_begins es number) (omega (arith, seen, last)), there) h

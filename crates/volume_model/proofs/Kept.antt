@@ -1,5 +1,5 @@
 -- The invariant: facts of each actor and each message that, once true, stay true
-use Rattle.std.proofs.Common.{◌≡◌, ℕ, ◌<◌, ◌≤◌, true, false, ◌⊎◌, Some, List, [], ◌∷◌, ◌++◌}
+use Rattle.std.proofs.Common.{◌≡◌, ℕ, ◌<◌, ◌≤◌, true, false, ◌⊎◌, Some, List, [], ◌∷◌, ◌++◌, length}
 use Rattle.volume_model.specs.Lists.{IsIn}
 use Rattle.volume_model.specs.Formula.{Members, sat}
 use Rattle.volume_model.specs.Redo.{Redo, scl, cut_of, log_found}
@@ -9,14 +9,14 @@ use Rattle.volume_model.specs.Plan.{Plan}
 use Rattle.volume_model.specs.Message.{Label, Place, Message, place_in}
 use Rattle.volume_model.specs.Message.Message.{View, StepTo, Fence, Report, Install, Write, Gossip, Ack, CopyAsk, CopyReport, PageAsk, Page}
 use Rattle.volume_model.specs.Node.{From, Node, senders, page_of}
-use Rattle.volume_model.specs.Client.{Client, Count, is_born, has_cut, place_of, reports_of, counts_of, group_point_of}
+use Rattle.volume_model.specs.Client.{Client, Count, is_born, has_cut, is_open, group_of, place_of, reports_of, counts_of, group_point_of}
 use Rattle.volume_model.specs.ClientRecovery.{to_install, all_reports}
-use Rattle.volume_model.specs.World.{Authority, World, configuration_of}
+use Rattle.volume_model.specs.World.{Authority, World, configuration_of, groups_joined}
 use Rattle.volume_model.proofs.Logs.{IsLink}
 use Rattle.volume_model.proofs.Ordered.{IsOrdered}
 use Rattle.volume_model.specs.PieceLaws.{IsPieceOf}
 use Rattle.volume_model.proofs.Pieces.{ArePieces}
-use Rattle.volume_model.proofs.Invariant.{Held, epoch_now, path, config, log_of, found_of, lineage_of, HasCut, IsMade, label, WasAt, IsCopy, IsSource, IsSourced, IsHistory}
+use Rattle.volume_model.proofs.Invariant.{Held, epoch_now, path, config, log_of, found_of, lineage_of, HasCut, IsMade, label, WasAt, IsInViews, IsCopy, IsSource, IsSourced, IsHistory}
 
 -- an epoch of the group that has been, with its configuration
 pub record IsPlace (plan : Plan) (world : World) (group : ℕ) (place : Place) : Type 0 where
@@ -73,7 +73,7 @@ pub record HasRead (plan : Plan) (world : World) (v : ℕ) (client : Client) (pa
   pub at : ℕ
   pub positive : 1 ≤ at
   pub there : at ≤ epoch_now plan world group
-  pub was : WasAt world v group at
+  pub was : WasAt plan world v group at
   pub reads : sat (config plan world group at).read (senders (reports_of client.groups group)) ≡ true
   pub kept : (from : From) → IsIn from (reports_of client.groups group) → IsMade world (Report group (label v at) from.sender from.contents) × (last_epoch from.contents.lineage ≤ parent)
 
@@ -92,7 +92,8 @@ pub record IsHeir (plan : Plan) (world : World) (v : ℕ) (client : Client) : Ty
   pub parent_cut : HasCut world parent
   pub lineage : client.lineage ≡ extended (lineage_of world parent) v (cut_of (records_of plan world client parent)) plan.lal
   pub found : client.found ≡ log_found (records_of plan world client parent)
-  pub reads : (group : ℕ) → group < plan.groups → HasRead plan world v client parent group
+  pub reads : (group : ℕ) → group < plan.groups → IsInViews world v group → HasRead plan world v client parent group
+  pub told : (group : ℕ) → group < plan.groups → (from : From) → IsIn from (reports_of client.groups group) → (at : ℕ) × IsMade world (Report group (label v at) from.sender from.contents) × (last_epoch from.contents.lineage ≤ parent)
 
 -- the first writer
 pub record IsRoot (v : ℕ) (client : Client) : Type 0 where
@@ -113,30 +114,42 @@ pub record IsCutClient (plan : Plan) (world : World) (v : ℕ) (client : Client)
   pub grown : IsGrown client.found own
   pub owned : (r : Redo) → IsIn r own → IsOwned plan v client r
   pub origin : IsRoot v client ⊎ IsHeir plan world v client
+  pub found_there : (r : Redo) → IsIn r client.found → r.group < length client.groups
 
 -- the group point is acknowledged by a write set of an epoch at which the client was
 pub record IsReached (plan : Plan) (world : World) (v group n : ℕ) : Type 0 where
   pub at : ℕ
   pub positive : 1 ≤ at
   pub there : at ≤ epoch_now plan world group
-  pub was : WasAt world v group at
+  pub was : WasAt plan world v group at
   pub writers : Members
   pub writes : sat (config plan world group at).write writers ≡ true
   pub acked : (x : ℕ) → writers x ≡ true → (a : ℕ) × (s : ℕ) × (a ≤ at) × (n ≤ s) × IsMade world (Ack group (label v a) x s)
+
+-- the client has taken a View of no more groups
+abbrev pub HasView : World → ℕ → Client → Type 0
+HasView world v client = (q : List Place) × IsMade world (View v q) × (length q ≤ length client.groups)
+
+-- no record that was found is of a group that hasn't joined
+abbrev pub AreUnjoined : Client → Type 0
+AreUnjoined client = (group : ℕ) → group < length client.groups → (group_of client.groups group).joined ≡ false → (r : Redo) → IsIn r client.found → r.group ≡ group → ⊥
 
 -- what is known of a client that is born
 pub record IsBorn (plan : Plan) (world : World) (v : ℕ) (client : Client) : Type 0 where
   pub positive : 1 ≤ v
   pub known : v ≤ world.authority.last_volume
-  pub places : (group : ℕ) → group < plan.groups → IsPlace plan world group (place_of client.groups group) × WasAt world v group (place_of client.groups group).epoch
+  pub within : length client.groups ≤ plan.groups
+  pub viewed : (has_cut client.stage ≡ true) ⊎ HasView world v client
+  pub places : (group : ℕ) → group < length client.groups → IsPlace plan world group (place_of client.groups group) × WasAt plan world v group (place_of client.groups group).epoch
 
 -- what is known of a client
 pub record ClientKept (plan : Plan) (world : World) (v : ℕ) (client : Client) : Type 0 where
   pub born : is_born client.stage ≡ true → IsBorn plan world v client
-  pub reading : has_cut client.stage ≡ false → (group : ℕ) → group < plan.groups → (from : From) → IsIn from (reports_of client.groups group) → IsMade world (Report group (label v (place_of client.groups group).epoch) from.sender from.contents) × (last_epoch from.contents.lineage < v)
+  pub reading : has_cut client.stage ≡ false → (group : ℕ) → group < length client.groups → (from : From) → IsIn from (reports_of client.groups group) → IsMade world (Report group (label v (place_of client.groups group).epoch) from.sender from.contents) × (last_epoch from.contents.lineage < v)
   pub cut : has_cut client.stage ≡ true → IsCutClient plan world v client
-  pub counts : (group : ℕ) → group < plan.groups → (count : Count) → IsIn count (counts_of client.groups group) → (a : ℕ) × (a ≤ (place_of client.groups group).epoch) × IsMade world (Ack group (label v a) count.sender count.reached)
-  pub points : (group : ℕ) → group < plan.groups → (group_point_of client.groups group ≡ 0) ⊎ IsReached plan world v group (group_point_of client.groups group)
+  pub unjoined : is_open client.stage ≡ true → AreUnjoined client
+  pub counts : (group : ℕ) → group < length client.groups → (count : Count) → IsIn count (counts_of client.groups group) → (a : ℕ) × (a ≤ (place_of client.groups group).epoch) × IsMade world (Ack group (label v a) count.sender count.reached)
+  pub points : (group : ℕ) → group < length client.groups → (group_point_of client.groups group ≡ 0) ⊎ IsReached plan world v group (group_point_of client.groups group)
 
 -- what is known of an acknowledgement
 pub record IsAck (world : World) (group : ℕ) (l : Label) (x s : ℕ) : Type 0 where
@@ -161,10 +174,12 @@ pub record IsPage (world : World) (group : ℕ) (l : Label) (block point : ℕ) 
   pub page : page_of kept block point ≡ bytes
 
 -- what is known of a View
-pub record IsView (plan : Plan) (world : World) (v : ℕ) (places : ℕ → Place) : Type 0 where
+pub record IsView (plan : Plan) (world : World) (v : ℕ) (places : List Place) : Type 0 where
   pub known : v ≤ world.authority.last_volume
   pub positive : 1 ≤ v
-  pub standing : (group : ℕ) → group < plan.groups → IsPlace plan world group (places group)
+  pub born : plan.born ≤ length places
+  pub joined : length places ≤ groups_joined world.authority
+  pub standing : (group : ℕ) → group < length places → IsPlace plan world group (place_in places group)
 
 -- what a client that has cut installs in a group
 abbrev pub install_of : World → ℕ → ℕ → Contents
@@ -186,7 +201,7 @@ pub record IsCopied (held : Held) (world : World) (group f x s : ℕ) (piece : P
 
 -- what is known of a message
 abbrev pub MessageKept : Plan → Held → World → Message → Type 0
-MessageKept plan held world (View v places) = IsView plan world v (place_in places)
+MessageKept plan held world (View v places) = IsView plan world v places
 MessageKept plan held world (StepTo group place) = IsPlace plan world group place
 MessageKept plan held world (Fence group l) = Unit {0}
 MessageKept plan held world (Report group l x q) = IsCopy world group q × (l.volume ≤ (world.nodes group x).volume)
@@ -202,6 +217,8 @@ MessageKept plan held world (Page group l x block point bytes) = IsPage world gr
 -- what is known of the authority
 pub record AuthorityKept (plan : Plan) (authority : Authority) : Type 0 where
   pub positive : 1 ≤ authority.last_volume
+  pub born : plan.born ≤ groups_joined authority
+  pub within : groups_joined authority ≤ plan.groups
   pub there : (group : ℕ) → group < plan.groups → configuration_of authority group < plan.configurations group
 
 -- the invariant

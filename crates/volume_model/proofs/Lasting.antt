@@ -1,6 +1,6 @@
 -- What a writer has acknowledged it has acknowledged for good
 use Rattle.std.proofs.Common.{◌≡◌, ℕ, ◌+◌, ◌^◌, ◌<◌, ◌≤◌, max, Bool, true, false, not, ◌&&◌, ◌==◌, nat_lt, nat_le, eqb, List, [], ◌∷◌, ◌++◌, append_assoc, Option, Some, None, Result, Ok, Err, length, refl, sym, ap, ◌∙◌, subst, inl, inr, arith}
-use Rattle.std.proofs.lemmas.Bool.{cases_Bool, and_parts, and_from, both_ways, eqb-true, eq-eqb, leb-true, le-leb, not-true}
+use Rattle.std.proofs.lemmas.Bool.{cases_Bool, and_parts, and_from, both_ways, eqb-true, eq-eqb, leb-true, le-leb, not-true, cases_lt}
 use Rattle.volume_model.specs.Lists.{IsIn, any, numbered}
 use Rattle.volume_model.specs.Redo.{Redo, last_lsn, record_at, up_to}
 use Rattle.volume_model.specs.Lineage.{last_start, last_epoch}
@@ -10,12 +10,12 @@ use Rattle.volume_model.specs.Message.Message.{View, StepTo, Fence, Report, Inst
 use Rattle.volume_model.specs.Node.{From, NodeAnswer, in_group}
 use Rattle.volume_model.specs.Client.{Client, Stage, ClientStep, ClientAnswer, is_born, has_cut, is_open, place_of, counts_of, group_point_of, ClientGroup, no_group, group_of}
 use Rattle.volume_model.specs.ClientPoints.{complete_of, consistency_point_below, is_consistency_point, complete_point, durable_point, groups_now, with_count, raised, raised_group}
-use Rattle.volume_model.specs.ClientWriter.{Change, issued_log, record_of, is_last, is_transaction, issued, write_of, resent, page_asked}
+use Rattle.volume_model.specs.ClientWriter.{Change, issued_log, record_of, is_last, is_transaction, issued, write_of, resent, page_asked, have_joined}
 use Rattle.volume_model.specs.ClientRecovery.{report_taken, cut_client, opened}
 use Rattle.volume_model.specs.ClientMessages.{viewed, ack_taken, are_places, taken, with_places, later_group, is_later}
 use Rattle.volume_model.specs.Client.Stage.{Unborn, Reading, Installing, Writing}
-use Rattle.volume_model.specs.World.{World, Event, AuthorityStep, of_authority, of_client, of_node, after_step, after, run, opening, assigned, advanced, refreshed, take}
-use Rattle.volume_model.specs.World.Event.{Assign, Advance, Refresh, Issue, Take, Cut, Open, Resend, Read, Deliver, Hydrate, Restart, Offer}
+use Rattle.volume_model.specs.World.{World, Event, AuthorityStep, of_authority, of_client, of_node, after_step, after, run, opening, assigned, advanced, refreshed, grown, take}
+use Rattle.volume_model.specs.World.Event.{Assign, Advance, Refresh, Grow, Issue, Take, Cut, Open, Resend, Read, Deliver, Hydrate, Restart, Offer}
 use Rattle.volume_model.specs.Headline.{Acknowledges, part_of, AcknowledgementsLast}
 use Rattle.volume_model.proofs.Basics.{any_passes, any_from, put-all, IsIn-append_right}
 use Rattle.volume_model.proofs.Logs.{IsChain, up_to-newer}
@@ -23,10 +23,10 @@ use Rattle.volume_model.proofs.Renewed.{IsKeptWorld}
 use Rattle.volume_model.proofs.Sound.{facts}
 use Rattle.volume_model.proofs.NodeSteps.{refuse_if-ok}
 use Rattle.volume_model.proofs.Run.{opening_kept, run_kept}
-use Rattle.volume_model.proofs.Groups.{set-all, group_of-with_places, later_group-none, group_of-raised}
+use Rattle.volume_model.proofs.Groups.{set-all, group_of-with_places, later_group-none, group_of-beyond, group_of-raised}
 use Rattle.std.specs.Prelude.{slice_set}
 use Rattle.volume_model.specs.declared.fault.Fault.{Fault}
-use Rattle.volume_model.specs.declared.fault.Fault.TheVariants.{AlreadyDone, BadTransaction, LimitReached, LsnSpent, NoActor, NoGroup, NotAddressed, NotInPlan, NotOpen}
+use Rattle.volume_model.specs.declared.fault.Fault.TheVariants.{AlreadyDone, BadTransaction, LimitReached, LsnSpent, NoActor, NoGroup, NotAddressed, NotInPlan, NotOpen, NotJoined}
 
 -- what an open client has it keeps
 pub record Lasts (old new : Client) : Type 0 where
@@ -74,7 +74,8 @@ module _ (plan : Plan) (v : ℕ) (client : Client) where
       let last : ℕ = max (last_lsn client.log) start + length changes in
       let (z, h0) = refuse_if-ok (not (is_born client.stage)) NoActor _ step h in
       let (a, h1) = refuse_if-ok (not (is_open client.stage)) NotOpen _ step h0 in
-      let (b, h2) = refuse_if-ok (not (is_transaction plan.groups changes)) BadTransaction _ step h1 in
+      let (b, h1') = refuse_if-ok (not (is_transaction (length client.groups) changes)) BadTransaction _ step h1 in
+      let (j, h2) = refuse_if-ok (not (have_joined client.groups changes)) NotJoined _ step h1' in
       let (c, h3) = refuse_if-ok (nat_lt (2 ^ 62) last) LsnSpent _ step h2 in
       let (d, h4) = refuse_if-ok (nat_lt (max (durable_point client) start + plan.lal) last) LimitReached _ step h3 in
       subst IsLater (Ok-is _ step h4) (record { open_on = λ h. h; points = λ h group. omega arith; log = λ h. issued_later v start changes client.log })
@@ -101,17 +102,19 @@ module _ (plan : Plan) (v : ℕ) (client : Client) where
       go None h = cc
       go (Some r) h = subst IsLater (Ok-is _ step h) (same_lasts client)
 
-  read_lasts : (group block : ℕ) (step : ClientStep) → page_asked plan v client group block ≡ Ok step → IsLater step
+  read_lasts : (group block : ℕ) (step : ClientStep) → page_asked v client group block ≡ Ok step → IsLater step
   read_lasts group block step h =
       let (z, h0) = refuse_if-ok (not (is_born client.stage)) NoActor _ step h in
       let (a, h1) = refuse_if-ok (not (is_open client.stage)) NotOpen _ step h0 in
-      let (b, h2) = refuse_if-ok (not (nat_lt group plan.groups)) NoGroup _ step h1 in
+      let (b, h2) = refuse_if-ok (not (nat_lt group (length client.groups))) NoGroup _ step h1 in
       subst IsLater (Ok-is _ step h2) (same_lasts client)
 
   raised_rises : (groups : List ClientGroup) (group : ℕ) → group_point_of groups group ≤ group_point_of (raised plan groups) group
   raised_rises groups group =
-      let e : group_point_of (raised plan groups) group ≡ (raised_group plan group (group_of groups group)).group_point = ap (λ g. g.group_point) (group_of-raised plan groups group) in
-      omega arith
+      elim (cases_lt group (length groups)) [
+        | inl there ↦ (let e : group_point_of (raised plan groups) group ≡ (raised_group plan group (group_of groups group)).group_point = ap (λ g. g.group_point) (group_of-raised plan groups group there) in omega arith)
+        | inr beyond ↦ (let e : group_point_of groups group ≡ 0 = ap (λ g. g.group_point) (group_of-beyond groups group beyond) in omega arith)
+      ]
 
   later_point : (g : ClientGroup) (place : Place) → (later_group g place).group_point ≡ g.group_point
   later_point g place = elim (cases_Bool (is_later g.place place)) [ inl e ↦ rw e refl | inr e ↦ rw e refl ]
@@ -213,6 +216,7 @@ module _ (plan : Plan) (world : World) where
   by_event Assign = by_authority (assigned plan world.authority)
   by_event (Advance group c) = by_authority (advanced plan world.authority group c)
   by_event (Refresh volume) = by_authority (refreshed plan world.authority volume)
+  by_event Grow = by_authority (grown plan world.authority)
   by_event (Issue v changes) = by_client v _ (issue_lasts plan v (world.clients v) changes)
   by_event (Take v number) = by_client v _ (take_lasts plan v (world.clients v) (numbered world.messages number))
   by_event (Cut v) = by_client v _ (cut_lasts plan v (world.clients v))

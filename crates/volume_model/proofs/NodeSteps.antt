@@ -13,7 +13,7 @@ use Rattle.volume_model.specs.Message.{Label, Place, Message}
 use Rattle.volume_model.specs.Message.Message.{View, StepTo, Fence, Report, Install, Write, Gossip, Ack, CopyAsk, CopyReport, PageAsk, Page}
 use Rattle.volume_model.specs.Refusal.{refuse_if}
 use Rattle.volume_model.specs.Node.{Node, NodeStep, NodeAnswer, lineage_epoch, has_configuration, label_checks, most_records, most_copies, take_record, install_step, installed, page_of, page_checks, page_answer, in_group, reaction, Hydrated, or_not_enough, gathered, whole_node, whole_from, hydrated, restarted, gossip_of, offered}
-use Rattle.volume_model.specs.World.{World, of_node, after_step, deliver, if_named}
+use Rattle.volume_model.specs.World.{World, groups_joined, of_node, after_step, deliver, if_there}
 use Rattle.volume_model.proofs.Basics.{numbered-in, map-has}
 use Rattle.volume_model.proofs.Chains.{record_at-some}
 use Rattle.volume_model.proofs.Invariant.{Held, label, path, log_of, found_of, lineage_of, HasCut, IsMade, IsCopy, IsSource, IsHydrated, IsSourced}
@@ -160,12 +160,12 @@ module _ (plan : Plan) (certified : IsCertified plan) {held : Held} (world : Wor
       (node_changed plan world kept group x step.node g.grows g.node)
       (λ m i. says_new there step.node m (g.says m i))
 
-  pub named_step : (answer : NodeAnswer) → (group < plan.groups → (step : NodeStep) → answer ≡ Ok step → IsGoodStep plan held world group x step) → IsKept plan held (after_step world (of_node world group x (if_named plan group x answer)))
-  named_step answer good = go (is_named plan group x) refl
+  pub named_step : (joined : ℕ) (answer : NodeAnswer) → (group < plan.groups → (step : NodeStep) → answer ≡ Ok step → IsGoodStep plan held world group x step) → IsKept plan held (after_step world (of_node world group x (if_there plan joined group x answer)))
+  named_step joined answer good = go (nat_lt group joined && is_named plan group x) refl
     where
-      go : (named : Bool) → is_named plan group x ≡ named → IsKept plan held (after_step world (of_node world group x (refuse_if (not named) NoActor answer)))
+      go : (is : Bool) → (nat_lt group joined && is_named plan group x) ≡ is → IsKept plan held (after_step world (of_node world group x (refuse_if (not is) NoActor answer)))
       go false e = kept
-      go true e = (let there : group < plan.groups = ltb-true group plan.groups (and_parts (nat_lt group plan.groups) _ e).0 in node_step there answer (good there))
+      go true e = (let there : group < plan.groups = ltb-true group plan.groups (and_parts (nat_lt group plan.groups) _ (and_parts (nat_lt group joined) (is_named plan group x) e).1).0 in node_step there answer (good there))
 
   abbrev node : Node
   node = world.nodes group x
@@ -613,14 +613,14 @@ module _ (plan : Plan) (certified : IsCertified plan) {held : Held} (world : Wor
         go None e h = cc
         go (Some m) e h = reaction_good m (numbered-in world.messages number m e) step h
 
-  pub deliver_kept : (number : ℕ) → IsKept plan held (after_step world (of_node world group x (if_named plan group x (deliver plan group x (world.nodes group x) (numbered world.messages number)))))
-  deliver_kept number = named_step _ (λ there step h. delivered_good there number step h)
+  pub deliver_kept : (number : ℕ) → IsKept plan held (after_step world (of_node world group x (if_there plan (groups_joined world.authority) group x (deliver plan group x (world.nodes group x) (numbered world.messages number)))))
+  deliver_kept number = named_step _ _ (λ there step h. delivered_good there number step h)
 
-  pub hydrate_kept : IsKept plan held (after_step world (of_node world group x (if_named plan group x (hydrated plan group x (world.nodes group x)))))
-  hydrate_kept = named_step _ (λ there step h. hydrated_good there step h)
+  pub hydrate_kept : IsKept plan held (after_step world (of_node world group x (if_there plan (groups_joined world.authority) group x (hydrated plan group x (world.nodes group x)))))
+  hydrate_kept = named_step _ _ (λ there step h. hydrated_good there step h)
 
-  pub restart_kept : IsKept plan held (after_step world (of_node world group x (if_named plan group x (Ok (record { made = []; node = restarted (world.nodes group x) })))))
-  restart_kept = named_step _ (λ there step h. subst (λ z. IsGoodStep plan held world group x z) (Ok-is there _ step h) (restarted_good there))
+  pub restart_kept : IsKept plan held (after_step world (of_node world group x (if_there plan (groups_joined world.authority) group x (Ok (record { made = []; node = restarted (world.nodes group x) })))))
+  restart_kept = named_step _ _ (λ there step h. subst (λ z. IsGoodStep plan held world group x z) (Ok-is there _ step h) (restarted_good there))
 
-  pub offer_kept : (lsn : ℕ) → IsKept plan held (after_step world (of_node world group x (if_named plan group x (offered group (world.nodes group x) lsn))))
-  offer_kept lsn = named_step _ (λ there step h. offered_good there lsn step h)
+  pub offer_kept : (lsn : ℕ) → IsKept plan held (after_step world (of_node world group x (if_there plan (groups_joined world.authority) group x (offered group (world.nodes group x) lsn))))
+  offer_kept lsn = named_step _ _ (λ there step h. offered_good there lsn step h)

@@ -1,5 +1,5 @@
 -- A client that opens has its cut as its durable point
-use Rattle.std.proofs.Common.{◌≡◌, ℕ, ◌<◌, ◌≤◌, max, true, false, not, ◌&&◌, nat_le, ◌⊎◌, List, [], ◌∷◌, Option, Some, Result, Ok, Err, refl, sym, ap, ◌∙◌, subst, inl, inr, arith, le_refl}
+use Rattle.std.proofs.Common.{◌≡◌, ℕ, ◌<◌, ◌≤◌, max, true, false, not, ◌&&◌, nat_le, ◌⊎◌, List, [], ◌∷◌, Option, Some, Result, Ok, Err, refl, sym, ap, ◌∙◌, subst, inl, inr, arith, le_refl, length}
 use Rattle.std.proofs.lemmas.Bool.{and_parts, and_from, le-leb, not-false}
 use Rattle.volume_model.specs.Lists.{IsIn}
 use Rattle.volume_model.specs.Formula.{Formula, sat}
@@ -92,31 +92,32 @@ module _ (plan : Plan) (certified : IsCertified plan) (events : List Event) (v :
 
   module _ (born : is_born client.stage ≡ true) (cut : HasCut world v) (installed : has_installed plan client ≡ true) where
     -- what is counted of a group reaches each record of it that was found
-    counted_reaches : (group : ℕ) → group < plan.groups → (r : Redo) → IsIn r client.found → r.group ≡ group → (count : Count) → IsIn count (counts_of client.groups group) → r.lsn ≤ count.reached
+    counted_reaches : (group : ℕ) → group < length client.groups → (r : Redo) → IsIn r client.found → r.group ≡ group → (count : Count) → IsIn count (counts_of client.groups group) → r.lsn ≤ count.reached
     counted_reaches group there r i g count j =
         let (a, l, made) = (kept.clients v).counts group there count j in
         (acks_reach plan certified events).reach group (label v a) count.sender count.reached made r i g
 
     -- the write expression of a group holds in no empty set
-    write_filled : (group : ℕ) → group < plan.groups → IsFilled (place_configuration plan group (place_of client.groups group)).write
+    write_filled : (group : ℕ) → group < length client.groups → IsFilled (place_configuration plan group (place_of client.groups group)).write
     write_filled group there =
         let place : IsPlace plan world group (place_of client.groups group) = (((kept.clients v).born born).places group there).0 in
-        let line : IsLine plan group (path plan world group) (epoch_now plan world group) = (is_sound plan certified world kept).line group there in
+        let within : length client.groups ≤ plan.groups = ((kept.clients v).born born).within in
+        let line : IsLine plan group (path plan world group) (epoch_now plan world group) = (is_sound plan certified world kept).line group (omega arith) in
         let at : (place_of client.groups group).configuration < plan.configurations group = subst (λ c. c < plan.configurations group) (sym place.configuration) (line.there (place_of client.groups group).epoch place.positive place.there) in
         filled (place_configuration plan group (place_of client.groups group)).read (place_configuration plan group (place_of client.groups group)).write
-        (certified.quorums group (place_of client.groups group).configuration there at).valid_read
-        (certified.quorums group (place_of client.groups group).configuration there at).meets
+        (certified.quorums group (place_of client.groups group).configuration (omega arith) at).valid_read
+        (certified.quorums group (place_of client.groups group).configuration (omega arith) at).meets
 
     -- so the group's point, once it is raised, covers the record
-    covered : (group : ℕ) → group < plan.groups → (r : Redo) → IsIn r client.found → r.group ≡ group → r.lsn ≤ group_point_of (raised plan client.groups) group
+    covered : (group : ℕ) → group < length client.groups → (r : Redo) → IsIn r client.found → r.group ≡ group → r.lsn ≤ group_point_of (raised plan client.groups) group
     covered group there r i g =
         let write : Formula = (place_configuration plan group (place_of client.groups group)).write in
         let counts : List Count = counts_of client.groups group in
-        let all : sat write (counted_by counts) ≡ true = every_below-all plan.groups (λ k. sat (place_configuration plan k (place_of client.groups k)).write (counted_by (counts_of client.groups k))) installed group there in
+        let all : sat write (counted_by counts) ≡ true = every_below-all (length client.groups) (λ k. sat (place_configuration plan k (place_of client.groups k)).write (counted_by (counts_of client.groups k))) installed group there in
         let written : IsWrittenTo write counts r.lsn = sat_more write (counted_by counts) (reaching counts r.lsn)
         (λ x h. (let (count, j, e, z) = reaching-some counts 0 x h in reaching-from counts r.lsn x count j e (counted_reaches group there r i g count j))) all in
         let low : r.lsn ≤ best write counts counts = (best-greatest write (write_filled group there) counts).at_least_each r.lsn written in
-        let is : group_point_of (raised plan client.groups) group ≡ max (group_point_of client.groups group) (best write counts counts) = ap (λ z. z.group_point) (group_of-raised plan client.groups group) in
+        let is : group_point_of (raised plan client.groups) group ≡ max (group_point_of client.groups group) (best write counts counts) = ap (λ z. z.group_point) (group_of-raised plan client.groups group there) in
         omega arith
 
     at_cut : is_open client.stage ≡ false → IsAtItsCut (record client { stage = Writing; groups = raised plan client.groups })
@@ -124,9 +125,8 @@ module _ (plan : Plan) (certified : IsCertified plan) (events : List Event) (v :
         let points : ℕ → ℕ = group_point_of (raised plan client.groups) in
         let same : client.log ≡ client.found = (run_tidy plan events v).log_found closed in
         let chain : IsChain client.found = found_chain plan certified world kept v cut in
-        let f : Facts plan world v = facts plan certified world kept v cut in
         let complete : complete_of points client.found ≡ last_lsn client.found = all_complete points client.found (grow_chain client.found chain) (complete_greatest points client.found (grow_chain client.found chain))
-        (λ r i. covered r.group (f.group_there r (subst (λ z. IsIn r z) (sym same) i)) r i refl) in
+        (λ r i. covered r.group (((kept.clients v).cut cut).found_there r i) r i refl) in
         ap (λ z. consistency_point_below (complete_of points z) z) same ∙ ap (λ n. consistency_point_below n client.found) complete ∙ durable_at (last_cut client.lineage) client.found (found_ends cut)
 
   client_is : (a b : ClientStep) → ◌≡◌ {A = ClientAnswer} (Ok a) (Ok b) → a ≡ b

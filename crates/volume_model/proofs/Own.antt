@@ -12,9 +12,9 @@ use Rattle.volume_model.specs.Message.Message.{View, StepTo, Fence, Report, Inst
 use Rattle.volume_model.specs.Node.{Node, NodeStep, NodeAnswer, label_checks, take_record, page_checks, page_answer, reaction, Hydrated, finished, or_not_enough, gathered, whole_from, hydrated, offered, gossip_of}
 use Rattle.volume_model.specs.Client.{Client, ClientStep, is_born, reports_of}
 use Rattle.volume_model.specs.ClientWriter.{Change, issued, resent, write_of, page_asked}
-use Rattle.volume_model.specs.ClientRecovery.{all_reports, cut_step, cut_client, opened}
+use Rattle.volume_model.specs.ClientRecovery.{all_reports, cut_step, cut_client, opened, reported}
 use Rattle.volume_model.specs.ClientMessages.{taken}
-use Rattle.volume_model.specs.World.{Authority, AuthorityStep, assigned, advanced, refreshed}
+use Rattle.volume_model.specs.World.{Authority, AuthorityStep, assigned, advanced, refreshed, grown}
 use Rattle.volume_model.specs.Told.{Refuses, IsOwn, IsOwnOfClient}
 
 module _ {A : Type 0} (P : Fault → Type 0) where
@@ -35,6 +35,9 @@ module _ {A : Type 0} (P : Fault → Type 0) where
 
 pub assigned_own : (plan : Plan) (a : Authority) → Refuses IsOwn (assigned plan a)
 assigned_own plan a = search (refuses_if {A = AuthorityStep} IsOwn) depth 12
+
+pub grown_own : (plan : Plan) (a : Authority) → Refuses IsOwn (grown plan a)
+grown_own plan a = search (refuses_if {A = AuthorityStep} IsOwn) depth 12
 
 pub advanced_own : (plan : Plan) (a : Authority) (g c : ℕ) → Refuses IsOwn (advanced plan a g c)
 advanced_own plan a g c = search (refuses_if {A = AuthorityStep} IsOwn) depth 12
@@ -105,23 +108,23 @@ issued_own_born plan volume client changes born = search (refuses_if {A = Client
 
 -- what is found refuses nothing but where no number is left
 found_own : (P : Fault → Type 0) → P LsnSpent → (plan : Plan) (volume : ℕ) (client : Client) (parent : Lineage) (records : List Redo)
-    → Refuses P (extension parent volume (cut_of records) plan.lal >>= λ lineage. Ok (cut_step plan volume client (log_found records) lineage))
+    → Refuses P (extension parent volume (cut_of records) plan.lal >>= λ lineage. Ok (cut_step volume client (log_found records) lineage))
 found_own P p plan volume client parent records =
     let own = extended parent volume (cut_of records) plan.lal in
-    refuses_then {A = ClientStep} P (extension parent volume (cut_of records) plan.lal) (λ lineage. Ok (cut_step plan volume client (log_found records) lineage))
+    refuses_then {A = ClientStep} P (extension parent volume (cut_of records) plan.lal) (λ lineage. Ok (cut_step volume client (log_found records) lineage))
     (refuses_if {A = Lineage} P (nat_lt (2 ^ 62) (last_start own)) LsnSpent (Ok own) p tt) (λ lineage. tt)
 
 pub cut_own : (plan : Plan) (volume : ℕ) (client : Client) → Refuses IsOwnOfClient (cut_client plan volume client)
 cut_own plan volume client =
-    let reported = all_reports (reports_of client.groups) plan.groups in
-    let rest = found_own IsOwnOfClient tt plan volume client (newest reported) (found_in (newest reported) reported) in
+    let said = reported client in
+    let rest = found_own IsOwnOfClient tt plan volume client (newest said) (found_in (newest said) said) in
     search (refuses_if {A = ClientStep} IsOwnOfClient, rest) depth 12
 
 -- of a client that is born
 pub cut_own_born : (plan : Plan) (volume : ℕ) (client : Client) → is_born client.stage ≡ true → Refuses IsOwn (cut_client plan volume client)
 cut_own_born plan volume client born =
-    let reported = all_reports (reports_of client.groups) plan.groups in
-    let rest = found_own IsOwn tt plan volume client (newest reported) (found_in (newest reported) reported) in
+    let said = reported client in
+    let rest = found_own IsOwn tt plan volume client (newest said) (found_in (newest said) said) in
     search (refuses_if {A = ClientStep} IsOwn, refuses_not {A = ClientStep} IsOwn, born, rest) depth 12
 
 pub opened_own : (plan : Plan) (client : Client) → Refuses IsOwnOfClient (opened plan client)
@@ -138,12 +141,12 @@ resent_own volume client lsn = let found = write_own IsOwnOfClient tt volume cli
 pub resent_own_born : (volume : ℕ) (client : Client) (lsn : ℕ) → is_born client.stage ≡ true → Refuses IsOwn (resent volume client lsn)
 resent_own_born volume client lsn born = let found = write_own IsOwn tt volume client (record_at client.log lsn) in search (refuses_if {A = ClientStep} IsOwn, refuses_not {A = ClientStep} IsOwn, born, found) depth 12
 
-pub page_asked_own : (plan : Plan) (volume : ℕ) (client : Client) (group block : ℕ) → Refuses IsOwnOfClient (page_asked plan volume client group block)
-page_asked_own plan volume client group block = search (refuses_if {A = ClientStep} IsOwnOfClient) depth 12
+pub page_asked_own : (volume : ℕ) (client : Client) (group block : ℕ) → Refuses IsOwnOfClient (page_asked volume client group block)
+page_asked_own volume client group block = search (refuses_if {A = ClientStep} IsOwnOfClient) depth 12
 
 -- of a client that is born
-pub page_asked_own_born : (plan : Plan) (volume : ℕ) (client : Client) (group block : ℕ) → is_born client.stage ≡ true → Refuses IsOwn (page_asked plan volume client group block)
-page_asked_own_born plan volume client group block born = search (refuses_if {A = ClientStep} IsOwn, refuses_not {A = ClientStep} IsOwn, born) depth 12
+pub page_asked_own_born : (volume : ℕ) (client : Client) (group block : ℕ) → is_born client.stage ≡ true → Refuses IsOwn (page_asked volume client group block)
+page_asked_own_born volume client group block born = search (refuses_if {A = ClientStep} IsOwn, refuses_not {A = ClientStep} IsOwn, born) depth 12
 
 pub taken_own : (plan : Plan) (volume : ℕ) (client : Client) (m : Message) → Refuses IsOwnOfClient (taken plan volume client m)
 taken_own plan volume client (View of places) = search (refuses_if {A = ClientStep} IsOwnOfClient) depth 12

@@ -1,7 +1,7 @@
 -- The numbers of the faults that actors find by themselves.
 use Rattle.std.proofs.Common.{◌≡◌, ◌≢◌, ℕ, ◌==◌, ◌||◌, Bool, true, false, Result, Ok, Err, refl, sym, ap, ◌∙◌, subst, true≢false, arith}
 use Rattle.volume_model.specs.declared.fault.Fault.{Fault}
-use Rattle.volume_model.specs.declared.fault.Fault.TheVariants.{Short, BadField, Trailing, NoMemory, BadCount, TooDeep, NotAMember, Malformed, NoSuchItem, NotDead, NoClash, NotAll, TooFewPicked, BadPair, CountTooSmall, BranchCount, BadParent, MemberReused, NoCertificate, Certificate, OverLimit, Superseded, NotInPlan, NoGroup, EpochsSpent, StaleVolume, StaleMember, AheadMember, NotInstalled, NotWhole, Full, AlreadyWhole, NotEnough, NoRecord, BadPiece, TailSegment, PointAhead, SeriesSpent, NotOpen, LimitReached, BadTransaction, LsnSpent, NotReady, AlreadyDone, NoLogRecord, NoMessage, NotAddressed, NoActor, NoSlot, JournalFull}
+use Rattle.volume_model.specs.declared.fault.Fault.TheVariants.{Short, BadField, Trailing, NoMemory, BadCount, TooDeep, NotAMember, Malformed, NoSuchItem, NotDead, NoClash, NotAll, TooFewPicked, BadPair, CountTooSmall, BranchCount, BadParent, MemberReused, NoCertificate, Certificate, OverLimit, Superseded, NotInPlan, NoGroup, EpochsSpent, AllGrown, StaleVolume, StaleMember, AheadMember, NotInstalled, NotWhole, Full, AlreadyWhole, NotEnough, NoRecord, BadPiece, TailSegment, PointAhead, SeriesSpent, NotOpen, LimitReached, BadTransaction, LsnSpent, NotReady, AlreadyDone, NoLogRecord, NotJoined, NoMessage, NotAddressed, NoActor, NoSlot, JournalFull}
 use Rattle.volume_model.specs.Numbers.{number_of}
 use Rattle.volume_model.specs.Told.{Refuses, IsOwn, refusal}
 
@@ -35,6 +35,7 @@ own-number Superseded h = refl
 own-number NotInPlan h = refl
 own-number NoGroup h = refl
 own-number EpochsSpent h = refl
+own-number AllGrown h = refl
 own-number StaleVolume h = refl
 own-number StaleMember h = refl
 own-number AheadMember h = refl
@@ -55,6 +56,7 @@ own-number LsnSpent h = refl
 own-number NotReady h = refl
 own-number AlreadyDone h = refl
 own-number NoLogRecord h = refl
+own-number NotJoined h = refl
 own-number NoMessage h = absurd h
 own-number NotAddressed h = refl
 own-number NoActor h = absurd h
@@ -96,6 +98,7 @@ number-80 Superseded h = absurd (omega (arith, h))
 number-80 NotInPlan h = absurd (omega (arith, h))
 number-80 NoGroup h = absurd (omega (arith, h))
 number-80 EpochsSpent h = absurd (omega (arith, h))
+number-80 AllGrown h = absurd (omega (arith, h))
 number-80 StaleVolume h = absurd (omega (arith, h))
 number-80 StaleMember h = absurd (omega (arith, h))
 number-80 AheadMember h = absurd (omega (arith, h))
@@ -116,6 +119,7 @@ number-80 LsnSpent h = absurd (omega (arith, h))
 number-80 NotReady h = absurd (omega (arith, h))
 number-80 AlreadyDone h = absurd (omega (arith, h))
 number-80 NoLogRecord h = absurd (omega (arith, h))
+number-80 NotJoined h = absurd (omega (arith, h))
 number-80 NoMessage h = refl
 number-80 NotAddressed h = absurd (omega (arith, h))
 number-80 NoActor h = absurd (omega (arith, h))

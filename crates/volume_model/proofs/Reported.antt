@@ -11,6 +11,7 @@ use Rattle.volume_model.specs.Reported.{KeepsMade, ReportsWereMade}
 use Rattle.volume_model.proofs.Invariant.{label}
 use Rattle.volume_model.proofs.Kept.{IsKept}
 use Rattle.volume_model.proofs.Carried.{end, held, kept}
+use Rattle.volume_model.proofs.Records.{from_there}
 
 module _ (plan : Plan) (certified : IsCertified plan) (events : List Event) where
   -- the world of the run
@@ -25,9 +26,9 @@ module _ (plan : Plan) (certified : IsCertified plan) (events : List Event) wher
       elim (cases_Bool (has_cut (world.clients v).stage)) [
         | inl cut ↦ elim ((is_kept.clients v).cut cut).origin [
           | inl root ↦ absurd (later root.one)
-          | inr heir ↦ ((heir.reads group there).at, ((heir.reads group there).kept from i).0)
+          | inr heir ↦ (let (at, made, below) = heir.told group there from i in (at, made))
         ]
-        | inr not_cut ↦ ((place_of (world.clients v).groups group).epoch, ((is_kept.clients v).reading not_cut group there from i).0)
+        | inr not_cut ↦ ((place_of (world.clients v).groups group).epoch, ((is_kept.clients v).reading not_cut group (from_there (world.clients v).groups group from i) from i).0)
       ]
 
   keeps_made : KeepsMade plan world

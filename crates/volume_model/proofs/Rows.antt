@@ -26,7 +26,7 @@ one_or_two (suc c) = both_sixes
 
 -- two configurations
 abbrev stepped : Plan
-stepped = record { lal = 10; groups = 1; configurations = λ g. 2; configuration = λ g c. one_or_two c }
+stepped = record { lal = 10; born = 1; groups = 1; configurations = λ g. 2; configuration = λ g c. one_or_two c }
 
 -- one byte at a place of block 0
 abbrev write_of : ℕ → ℕ → Change
@@ -129,7 +129,7 @@ lone_one (suc c) = lone_step
 
 -- one group that takes one step
 abbrev lone_plan : Plan
-lone_plan = record { lal = 10; groups = 1; configurations = λ g. 2; configuration = λ g c. lone_one c }
+lone_plan = record { lal = 10; born = 1; groups = 1; configurations = λ g. 2; configuration = λ g c. lone_one c }
 
 zero_meets : (clear : FinSet nat_cmp) → Meets (member 0) (member 0) clear
 zero_meets clear r w r_members w_members apart clear_of reads writes = apart 0 reads writes
@@ -161,7 +161,8 @@ lone_step_claim group (suc (suc c)) below positive = absurd (omega arith)
 lone_claims : KeepsClaims lone_plan
 lone_claims = record {
   lal_positive = omega arith;
-  group_there = omega arith;
+  born_there = omega arith;
+  born_within = omega arith;
   root_there = λ group there. omega arith;
   root_epoch = λ group there. refl;
   quorums = λ group c there below. lone_claim c;

@@ -1,15 +1,15 @@
 -- The invariant holds of the opening world and of every world that a list of events leads to; so does the headline
-use Rattle.std.proofs.Common.{◌≡◌, ℕ, zero, suc, ◌-◌, ◌<◌, ◌≤◌, true, not, ◌&&◌, ◌==◌, nat_lt, List, [], ◌∷◌, ◌++◌, length, length-append, Result, Ok, Err, refl, sym, ap, ◌∙◌, subst, inl, inr, arith, ◌⊎◌}
+use Rattle.std.proofs.Common.{◌≡◌, ℕ, zero, suc, ◌-◌, ◌<◌, ◌≤◌, true, not, ◌&&◌, ◌==◌, nat_lt, List, [], ◌∷◌, ◌++◌, length, replicate, Result, Ok, Err, refl, sym, ap, ◌∙◌, subst, inl, inr, arith, ◌⊎◌}
 use Rattle.std.proofs.lemmas.Bool.{cases_Bool, cases_lt, and_parts, true≢false, eqb-true, ltb-true, not-false}
-use Rattle.volume_model.specs.Lists.{IsIn, put, each_below}
+use Rattle.volume_model.specs.Lists.{IsIn, put}
 use Rattle.volume_model.specs.Plan.{Plan, has_member, parent_of, epoch_of, IsCertified}
 use Rattle.volume_model.proofs.Above.{ancestor}
-use Rattle.volume_model.specs.Message.{Place, place_in}
+use Rattle.volume_model.specs.Message.{Message}
 use Rattle.volume_model.specs.Message.Message.{View, StepTo, Ack}
 use Rattle.volume_model.specs.Node.{born_node}
-use Rattle.volume_model.specs.Client.{first_writer, unborn, Count, newly_at, no_group, at_root}
-use Rattle.volume_model.specs.World.{Authority, World, Event, opening, place_now, places_now, AuthorityStep, assigned, advanced, refreshed, of_authority, after_step, after, run, configuration_of}
-use Rattle.volume_model.specs.World.Event.{Assign, Advance, Refresh, Issue, Take, Cut, Open, Resend, Read, Deliver, Hydrate, Restart, Offer}
+use Rattle.volume_model.specs.Client.{first_writer, unborn, Count, born_group, no_group}
+use Rattle.volume_model.specs.World.{Authority, World, Event, opening, place_now, places_now, AuthorityStep, assigned, advanced, refreshed, grown, groups_joined, of_authority, after_step, after, run, configuration_of}
+use Rattle.volume_model.specs.World.Event.{Assign, Advance, Refresh, Grow, Issue, Take, Cut, Open, Resend, Read, Deliver, Hydrate, Restart, Offer}
 use Rattle.volume_model.specs.Headline.{KeepsCommits, VolumeKeepsCommits, SaysTruePages, PagesAreTrue}
 use Rattle.volume_model.specs.Redo.{Redo, of_group, scl}
 use Rattle.volume_model.proofs.Chains.{scl-all}
@@ -18,56 +18,40 @@ use Rattle.volume_model.proofs.Ordered.{page_of-same, of_group-ordered}
 use Rattle.volume_model.proofs.Basics.{put-all}
 use Rattle.volume_model.proofs.Invariant.{Held, IsMade, label, WasAt}
 use Rattle.volume_model.proofs.Kept.{IsPage, IsPlace, IsReached, NodeKept, ClientKept, IsKept}
-use Rattle.volume_model.proofs.Added.{MessageNew, message_added}
-use Rattle.volume_model.proofs.Changed.{volume_assigned, step_taken}
+use Rattle.volume_model.proofs.Added.{MessageNew, messages_added}
+use Rattle.volume_model.proofs.Changed.{volume_assigned, step_taken, group_joined}
 use Rattle.volume_model.proofs.Sound.{is_sound, facts}
 use Rattle.volume_model.proofs.FromInvariant.{keeps_commits}
 use Rattle.volume_model.proofs.Renewed.{IsKeptWorld, renewed, renewed_kept, renewed_ready}
 use Rattle.volume_model.proofs.NodeSteps.{refuse_if-ok, deliver_kept, hydrate_kept, restart_kept, offer_kept}
 use Rattle.volume_model.proofs.ClientSteps.{issue_kept, take_kept, cut_kept, open_kept, resend_kept, read_kept}
 use Rattle.std.specs.Prelude.{slice_set}
-use Rattle.volume_model.proofs.Groups.{replicate-all}
+use Rattle.std.proofs.lemmas.List.{length-replicate}
+use Rattle.volume_model.proofs.Groups.{replicate-all, index-beyond}
 use Rattle.volume_model.specs.declared.fault.Fault.{Fault}
-use Rattle.volume_model.specs.declared.fault.Fault.TheVariants.{EpochsSpent, NoGroup, NotInPlan, Superseded}
+use Rattle.volume_model.specs.declared.fault.Fault.TheVariants.{AllGrown, EpochsSpent, NoGroup, NotInPlan, Superseded}
 
 Ok-is : (a b : AuthorityStep) → ◌≡◌ {A = Result AuthorityStep Fault} (Ok a) (Ok b) → a ≡ b
 Ok-is a b h = cc
 
-place_in-append : (xs : List Place) (k : ℕ) (ys : List Place) → k < length xs → place_in (xs ++ ys) k ≡ place_in xs k
-place_in-append [] k ys h = absurd (omega arith)
-place_in-append (x ∷ xs) zero ys h = refl
-place_in-append (x ∷ xs) (suc k) ys h = place_in-append xs k ys (omega arith)
-
-place_in-last : (xs : List Place) (y : Place) → place_in (xs ++ y ∷ []) (length xs) ≡ y
-place_in-last [] y = refl
-place_in-last (x ∷ xs) y = place_in-last xs y
-
-length-each : (n : ℕ) (f : ℕ → Place) → length (each_below n (λ k. true) f) ≡ n
-length-each zero f = refl
-length-each (suc n) f = simp (length-append) (let h : length (each_below n (λ k. true) f) ≡ n = length-each n f in omega arith)
-
--- the list of all groups' places has each
-place_in-each : (n : ℕ) (f : ℕ → Place) (k : ℕ) → k < n → place_in (each_below n (λ k. true) f) k ≡ f k
-place_in-each zero f k h = absurd (omega arith)
-place_in-each (suc n) f k h =
-    let l : length (each_below n (λ k. true) f) ≡ n = length-each n f in
-    elim (cases_lt k n) [
-      | inl b ↦ place_in-append (each_below n (λ k. true) f) k (f n ∷ []) (omega arith) ∙ place_in-each n f k b
-      | inr b ↦ (
-          let e : k ≡ length (each_below n (λ k. true) f) = omega arith in
-          let e' : k ≡ n = omega arith in
-          ap (place_in (each_below n (λ k. true) f ++ f n ∷ [])) e ∙ place_in-last (each_below n (λ k. true) f) (f n) ∙ ap f (sym e'))
-    ]
-
 module _ (plan : Plan) (certified : IsCertified plan) {held : Held} (world : World) (kept : IsKept plan held world) where
-  -- a step of the authority: a change, and then the message that it makes
-  authority_step : (answer : Result AuthorityStep Fault) → ((s : AuthorityStep) → answer ≡ Ok s → IsKept plan held (record world { authority = s.authority }) × MessageNew plan held (record world { authority = s.authority }) s.made) → IsKept plan held (after_step world (of_authority world answer))
+  -- each of the messages says what its maker is
+  abbrev AreNew : World → List Message → Type 0
+  AreNew w made = (m : Message) → IsIn m made → MessageNew plan held w m
+
+  -- one message is new where it says what its maker is
+  one_new : (w : World) (m : Message) → MessageNew plan held w m → AreNew w (m ∷ [])
+  one_new w m new k (inl e) = subst (λ z. MessageNew plan held w z) (sym e) new
+  one_new w m new k (inr z) = absurd z
+
+  -- a step of the authority: a change, and then the messages that it makes
+  authority_step : (answer : Result AuthorityStep Fault) → ((s : AuthorityStep) → answer ≡ Ok s → IsKept plan held (record world { authority = s.authority }) × AreNew (record world { authority = s.authority }) s.made) → IsKept plan held (after_step world (of_authority world answer))
   authority_step (Err number) good = kept
-  authority_step (Ok s) good = message_added plan certified (record world { authority = s.authority }) (good s refl).0 s.made (good s refl).1
+  authority_step (Ok s) good = messages_added plan certified held s.made (record world { authority = s.authority }) (good s refl).0 (good s refl).1
 
   -- a step of the authority that keeps the invariant
   abbrev IsGood : AuthorityStep → Type 0
-  IsGood s = IsKept plan held (record world { authority = s.authority }) × MessageNew plan held (record world { authority = s.authority }) s.made
+  IsGood s = IsKept plan held (record world { authority = s.authority }) × AreNew (record world { authority = s.authority }) s.made
 
   as_answered : (s t : AuthorityStep) → ◌≡◌ {A = Result AuthorityStep Fault} (Ok s) (Ok t) → IsGood s → IsGood t
   as_answered s t e g = subst IsGood (Ok-is s t e) g
@@ -75,25 +59,33 @@ module _ (plan : Plan) (certified : IsCertified plan) {held : Held} (world : Wor
   assigned_good : (s : AuthorityStep) → assigned plan world.authority ≡ Ok s → IsGood s
   assigned_good s h =
       let (a, h1) = refuse_if-ok _ EpochsSpent _ s h in
-      as_answered (record { made = View (suc world.authority.last_volume) (places_now plan world.authority); authority = record world.authority { last_volume = suc world.authority.last_volume } }) s h1
-      (volume_assigned plan world kept, (refl, λ group there. place_in-each plan.groups (place_now plan world.authority) group there))
+      let next : Authority = record world.authority { last_volume = suc world.authority.last_volume } in
+      let told : Message = View (suc world.authority.last_volume) (places_now plan world.authority) in
+      as_answered (record { made = told ∷ []; authority = next }) s h1
+      (volume_assigned plan world kept, one_new (record world { authority = next }) told (refl, refl))
 
   advanced_good : (group c : ℕ) (s : AuthorityStep) → advanced plan world.authority group c ≡ Ok s → IsGood s
   advanced_good group c s h =
-      let (a, h1) = refuse_if-ok (not (nat_lt group plan.groups)) NoGroup _ s h in
+      let (a, h1) = refuse_if-ok (not (nat_lt group (groups_joined world.authority))) NoGroup _ s h in
       let (b, h2) = refuse_if-ok (not (nat_lt 0 c && (nat_lt c (plan.configurations group) && parent_of plan group c == configuration_of world.authority group))) NotInPlan _ s h1 in
-      let there : group < plan.groups = ltb-true _ _ (not-false _ a) in
+      let there : group < plan.groups = (let w : groups_joined world.authority ≤ plan.groups = kept.authority.within in let l : group < groups_joined world.authority = ltb-true _ _ (not-false _ a) in omega arith) in
       let parts : (nat_lt 0 c ≡ true) × ((nat_lt c (plan.configurations group) && parent_of plan group c == configuration_of world.authority group) ≡ true) = and_parts _ _ (not-false _ b) in
       let both : (nat_lt c (plan.configurations group) ≡ true) × ((parent_of plan group c == configuration_of world.authority group) ≡ true) = and_parts _ _ parts.1 in
       let next : Authority = record world.authority { configurations = slice_set world.authority.configurations group c } in
-      as_answered (record { made = StepTo group (place_now plan next group); authority = next }) s h2
-      (step_taken plan world kept certified group c there (ltb-true _ _ parts.0) (ltb-true _ _ both.0) (eqb-true _ _ both.1), (there, refl))
+      as_answered (record { made = StepTo group (place_now plan next group) ∷ []; authority = next }) s h2
+      (step_taken plan world kept certified group c there (ltb-true _ _ parts.0) (ltb-true _ _ both.0) (eqb-true _ _ both.1), one_new (record world { authority = next }) (StepTo group (place_now plan next group)) (there, refl))
 
   refreshed_good : (volume : ℕ) (s : AuthorityStep) → refreshed plan world.authority volume ≡ Ok s → IsGood s
   refreshed_good volume s h =
       let (a, h1) = refuse_if-ok (not (volume == world.authority.last_volume)) Superseded _ s h in
-      as_answered (record { made = View volume (places_now plan world.authority); authority = world.authority }) s h1
-      (kept, (eqb-true volume world.authority.last_volume (not-false _ a), λ group there. place_in-each plan.groups (place_now plan world.authority) group there))
+      as_answered (record { made = View volume (places_now plan world.authority) ∷ []; authority = world.authority }) s h1
+      (kept, one_new world (View volume (places_now plan world.authority)) (eqb-true volume world.authority.last_volume (not-false _ a), refl))
+
+  grown_good : (s : AuthorityStep) → grown plan world.authority ≡ Ok s → IsGood s
+  grown_good s h =
+      let (a, h1) = refuse_if-ok (not (nat_lt (groups_joined world.authority) plan.groups)) AllGrown _ s h in
+      as_answered (record { made = []; authority = record world.authority { configurations = world.authority.configurations ++ 0 ∷ [] } }) s h1
+      (group_joined plan world kept (ltb-true _ _ (not-false _ a)), λ m i. absurd i)
 
   assign_kept : IsKept plan held (after_step world (of_authority world (assigned plan world.authority)))
   assign_kept = authority_step (assigned plan world.authority) assigned_good
@@ -103,6 +95,9 @@ module _ (plan : Plan) (certified : IsCertified plan) {held : Held} (world : Wor
 
   refresh_kept : (volume : ℕ) → IsKept plan held (after_step world (of_authority world (refreshed plan world.authority volume)))
   refresh_kept volume = authority_step (refreshed plan world.authority volume) (refreshed_good volume)
+
+  grow_kept : IsKept plan held (after_step world (of_authority world (grown plan world.authority)))
+  grow_kept = authority_step (grown plan world.authority) grown_good
 
   -- an event that no node tells a copy at
   by_event : (event : Event) → IsKept plan held (after plan world event) → IsKeptWorld plan (after plan world event)
@@ -119,6 +114,7 @@ module _ (plan : Plan) (certified : IsCertified plan) {held : Held} (world : Wor
   event_kept Assign = by_event Assign assign_kept
   event_kept (Advance group c) = by_event (Advance group c) (advance_kept group c)
   event_kept (Refresh volume) = by_event (Refresh volume) (refresh_kept volume)
+  event_kept Grow = by_event Grow grow_kept
   event_kept (Issue volume changes) = by_event (Issue volume changes) (issue_kept plan certified world kept volume changes)
   event_kept (Take volume number) = by_event (Take volume number) (take_kept plan certified world kept volume number)
   event_kept (Cut volume) = by_event (Cut volume) (cut_kept plan certified world kept volume)
@@ -135,8 +131,11 @@ module _ (plan : Plan) (certified : IsCertified plan) where
   abbrev pub start : World
   start = opening plan
 
-  at_first : (group : ℕ) → group < plan.groups → configuration_of start.authority group ≡ 0
-  at_first group there = replicate-all 0 (λ c. c ≡ 0) plan.groups 0 refl group there
+  at_first : (group : ℕ) → configuration_of start.authority group ≡ 0
+  at_first group = elim (cases_lt group plan.born) [
+    | inl there ↦ replicate-all 0 (λ c. c ≡ 0) plan.born 0 refl group there
+    | inr beyond ↦ index-beyond (replicate {A = ℕ} plan.born 0) group (let l : length (replicate {A = ℕ} plan.born 0) ≡ plan.born = length-replicate plan.born 0 in omega arith)
+  ]
 
   root_place : (group : ℕ) → group < plan.groups → IsPlace plan start group (record { configuration = 0; epoch = 1 })
   root_place group there =
@@ -145,8 +144,8 @@ module _ (plan : Plan) (certified : IsCertified plan) where
       let zero_there : 1 ≤ epoch_of plan group 0 = omega arith in
       record {
         positive = omega arith;
-        there = subst (λ c. 1 ≤ epoch_of plan group c) (sym (at_first group there)) zero_there;
-        configuration = subst (λ c. 0 ≡ ancestor plan group (epoch_of plan group c - 1) c) (sym (at_first group there)) (ap (λ n. ancestor plan group n 0) d);
+        there = subst (λ c. 1 ≤ epoch_of plan group c) (sym (at_first group)) zero_there;
+        configuration = subst (λ c. 0 ≡ ancestor plan group (epoch_of plan group c - 1) c) (sym (at_first group)) (ap (λ n. ancestor plan group n 0) d);
       }
 
   -- nothing was told yet
@@ -170,26 +169,45 @@ module _ (plan : Plan) (certified : IsCertified plan) where
         | inr e ↦ rw e (record { place = inl refl; copies = λ copy i. absurd i; install = λ pieces e. cc; whole = λ h. absurd (true≢false (sym h)) })
       ]
 
+  at_birth : (group : ℕ) → group < length (replicate plan.born born_group) → group < plan.born
+  at_birth group there = let l : length (replicate plan.born born_group) ≡ plan.born = length-replicate plan.born born_group in omega arith
+
   opening_client : (v : ℕ) → ClientKept plan start v (put (λ volume. unborn) 1 (first_writer plan) v)
   opening_client = put-all (λ v c. ClientKept plan start v c) (λ volume. unborn) 1 (first_writer plan)
       (record {
-        born = λ h. record { positive = omega arith; known = omega arith; places = λ group there. replicate-all no_group (λ g. IsPlace plan start group g.place × WasAt start 1 group g.place.epoch) plan.groups (newly_at at_root) (root_place group there, inl (refl, refl)) group there };
+        born = λ h. record {
+          positive = omega arith;
+          known = omega arith;
+          within = (let l : length (replicate plan.born born_group) ≡ plan.born = length-replicate plan.born born_group in let w : plan.born ≤ plan.groups = certified.born_within in omega arith);
+          viewed = inl refl;
+          places = λ group there. (
+              let b : group < plan.born = at_birth group there in
+              let w : plan.born ≤ plan.groups = certified.born_within in
+              replicate-all no_group (λ g. IsPlace plan start group g.place × WasAt plan start 1 group g.place.epoch) plan.born born_group (root_place group (omega arith), inl (refl, refl, b)) group b);
+        };
         reading = λ h. absurd (true≢false h);
-        cut = λ h. record { own = []; log = refl; grown = tt; owned = λ r i. absurd i; origin = inl (record { one = refl; lineage = refl; found = refl }) };
-        counts = λ group there. replicate-all no_group (λ g. (count : Count) → IsIn count g.counts → (a : ℕ) × (a ≤ g.place.epoch) × IsMade start (Ack group (label 1 a) count.sender count.reached)) plan.groups (newly_at at_root) (λ count i. absurd i) group there;
-        points = λ group there. replicate-all no_group (λ g. (g.group_point ≡ 0) ⊎ IsReached plan start 1 group g.group_point) plan.groups (newly_at at_root) (inl refl) group there;
+        cut = λ h. record { own = []; log = refl; grown = tt; owned = λ r i. absurd i; origin = inl (record { one = refl; lineage = refl; found = refl }); found_there = λ r i. absurd i };
+        unjoined = λ is group there not_yet r i. absurd i;
+        counts = λ group there. replicate-all no_group (λ g. (count : Count) → IsIn count g.counts → (a : ℕ) × (a ≤ g.place.epoch) × IsMade start (Ack group (label 1 a) count.sender count.reached)) plan.born born_group (λ count i. absurd i) group (at_birth group there);
+        points = λ group there. replicate-all no_group (λ g. (g.group_point ≡ 0) ⊎ IsReached plan start 1 group g.group_point) plan.born born_group (inl refl) group (at_birth group there);
       })
       (λ v. record {
         born = λ h. absurd (true≢false (sym h));
         reading = λ h group there from i. absurd i;
         cut = λ h. absurd (true≢false (sym h));
+        unjoined = λ h. absurd (true≢false (sym h));
         counts = λ group there count i. absurd i;
         points = λ group there. inl refl;
       })
 
   first_kept : IsKept plan none_held start
   first_kept = record {
-    authority = record { positive = omega arith; there = λ group there. subst (λ c. c < plan.configurations group) (sym (at_first group there)) (certified.root_there group there) };
+    authority = record {
+      positive = omega arith;
+      born = (let l : length (replicate {A = ℕ} plan.born 0) ≡ plan.born = length-replicate plan.born 0 in omega arith);
+      within = (let l : length (replicate {A = ℕ} plan.born 0) ≡ plan.born = length-replicate plan.born 0 in let w : plan.born ≤ plan.groups = certified.born_within in omega arith);
+      there = λ group there. subst (λ c. c < plan.configurations group) (sym (at_first group)) (certified.root_there group there);
+    };
     nodes = opening_node;
     clients = opening_client;
     messages = λ m i. absurd i;

@@ -90,7 +90,8 @@ three_meet = counts_meet 1 3 three (omega arith)
 pub six_copies_certified : SixCopiesCertified
 six_copies_certified = record {
   lal_positive = omega arith;
-  group_there = omega arith;
+  born_there = omega arith;
+  born_within = omega arith;
   root_there = λ group there. omega arith;
   root_epoch = λ group there. refl;
   quorums = λ group c there below. record { valid_read = six_counts 3 (omega arith) (omega arith); meets = six_meet };
@@ -100,7 +101,8 @@ six_copies_certified = record {
 pub full_and_tail_certified : FullAndTailCertified
 full_and_tail_certified = record {
   lal_positive = omega arith;
-  group_there = omega arith;
+  born_there = omega arith;
+  born_within = omega arith;
   root_there = λ group there. omega arith;
   root_epoch = λ group there. refl;
   quorums = λ group c there below. record { valid_read = (omega arith, omega arith, omega arith, (six_counts 3 (omega arith) (omega arith), (three_counts 1 (omega arith) (omega arith), tt))); meets = both_meet_one (count_of 3 six) (count_of 1 three) (count_of 4 six) (count_of 3 three) six_meet three_meet };
@@ -185,7 +187,8 @@ replacing_step group (suc (suc (suc (suc c)))) below positive = absurd (omega ar
 pub member_replaced_certified : MemberReplacedCertified
 member_replaced_certified = record {
   lal_positive = omega arith;
-  group_there = omega arith;
+  born_there = omega arith;
+  born_within = omega arith;
   root_there = λ group there. omega arith;
   root_epoch = λ group there. refl;
   quorums = λ group c there below. record { valid_read = replacing_counts c; meets = replacing_meets c };

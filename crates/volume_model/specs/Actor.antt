@@ -1,5 +1,5 @@
 -- Actors, and what each does by itself, over the messages that it is handed.
-use Rattle.std.specs.Prelude.{◌≡◌, ℕ, Bool, true, false, ◌&&◌, ◌==◌, List, [], ◌∷◌, Option, Some, None, Result, Ok, Err}
+use Rattle.std.specs.Prelude.{◌≡◌, ℕ, Bool, true, false, ◌&&◌, ◌==◌, nat_lt, List, [], ◌∷◌, Option, Some, None, Result, Ok, Err}
 use Rattle.volume_model.specs.declared.fault.Fault.{Fault}
 use Rattle.volume_model.specs.Lists.{added, numbered, put, put_at, IsBeginningOf}
 use Rattle.volume_model.specs.Plan.{Plan}
@@ -10,8 +10,8 @@ use Rattle.volume_model.specs.Client as client
 use Rattle.volume_model.specs.Client.{ClientAnswer}
 use Rattle.volume_model.specs.ClientWriter.{issued, page_asked, resent}
 use Rattle.volume_model.specs.ClientRecovery.{cut_client, opened}
-use Rattle.volume_model.specs.World.{World, Event, Authority, AuthorityStep, Step, advanced, assigned, deliver, if_named, refreshed, take}
-use Rattle.volume_model.specs.World.Event.{Assign, Advance, Refresh, Issue, Take, Cut, Open, Resend, Read, Deliver, Hydrate, Restart, Offer}
+use Rattle.volume_model.specs.World.{World, Event, Authority, AuthorityStep, Step, advanced, assigned, deliver, groups_joined, grown, if_there, refreshed, take}
+use Rattle.volume_model.specs.World.Event.{Assign, Advance, Refresh, Grow, Issue, Take, Cut, Open, Resend, Read, Deliver, Hydrate, Restart, Offer}
 
 -- an actor: the authority, the client of a volume epoch, or the node of a group and member
 pub data Actor : Type 0 where
@@ -24,6 +24,7 @@ abbrev pub actor_of : Event → Actor
 actor_of Assign = Actor.TheAuthority
 actor_of (Advance group configuration) = Actor.TheAuthority
 actor_of (Refresh volume) = Actor.TheAuthority
+actor_of Grow = Actor.TheAuthority
 actor_of (Issue volume changes) = Actor.Client volume
 actor_of (Take volume number) = Actor.Client volume
 actor_of (Cut volume) = Actor.Client volume
@@ -67,7 +68,7 @@ pub record Acted (actor : Actor) : Type 0 where
 -- the answer of the authority, as that of an actor
 abbrev pub authority_acted : Result AuthorityStep Fault → Result (Acted Actor.TheAuthority) Fault
 authority_acted (Err fault) = Err fault
-authority_acted (Ok s) = Ok (record { made = s.made ∷ []; state = s.authority })
+authority_acted (Ok s) = Ok (record { made = s.made; state = s.authority })
 
 -- the answer of a client, as that of an actor
 abbrev pub client_acted : (volume : ℕ) → ClientAnswer → Result (Acted (Actor.Client volume)) Fault
@@ -79,21 +80,22 @@ abbrev pub node_acted : (group member : ℕ) → NodeAnswer → Result (Acted (A
 node_acted group member (Err fault) = Err fault
 node_acted group member (Ok s) = Ok (record { made = s.made; state = s.node })
 
--- what the actor of an event does, where these messages were made, newest first
-abbrev pub acted : Plan → List Message → (event : Event) → State (actor_of event) → Result (Acted (actor_of event)) Fault
-acted plan messages Assign now = authority_acted (assigned plan now)
-acted plan messages (Advance group configuration) now = authority_acted (advanced plan now group configuration)
-acted plan messages (Refresh volume) now = authority_acted (refreshed plan now volume)
-acted plan messages (Issue volume changes) now = client_acted volume (issued plan volume now changes)
-acted plan messages (Take volume number) now = client_acted volume (take plan volume now (numbered messages number))
-acted plan messages (Cut volume) now = client_acted volume (cut_client plan volume now)
-acted plan messages (Open volume) now = client_acted volume (opened plan now)
-acted plan messages (Resend volume lsn) now = client_acted volume (resent volume now lsn)
-acted plan messages (Read volume group block) now = client_acted volume (page_asked plan volume now group block)
-acted plan messages (Deliver group member number) now = node_acted group member (if_named plan group member (deliver plan group member now (numbered messages number)))
-acted plan messages (Hydrate group member) now = node_acted group member (if_named plan group member (hydrated plan group member now))
-acted plan messages (Restart group member) now = node_acted group member (if_named plan group member (Ok (record { made = []; node = restarted now })))
-acted plan messages (Offer group member lsn) now = node_acted group member (if_named plan group member (offered group now lsn))
+-- what the actor of an event does, where so many groups have joined, and these messages were made, newest first
+abbrev pub acted : Plan → ℕ → List Message → (event : Event) → State (actor_of event) → Result (Acted (actor_of event)) Fault
+acted plan joined messages Assign now = authority_acted (assigned plan now)
+acted plan joined messages (Advance group configuration) now = authority_acted (advanced plan now group configuration)
+acted plan joined messages (Refresh volume) now = authority_acted (refreshed plan now volume)
+acted plan joined messages Grow now = authority_acted (grown plan now)
+acted plan joined messages (Issue volume changes) now = client_acted volume (issued plan volume now changes)
+acted plan joined messages (Take volume number) now = client_acted volume (take plan volume now (numbered messages number))
+acted plan joined messages (Cut volume) now = client_acted volume (cut_client plan volume now)
+acted plan joined messages (Open volume) now = client_acted volume (opened plan now)
+acted plan joined messages (Resend volume lsn) now = client_acted volume (resent volume now lsn)
+acted plan joined messages (Read volume group block) now = client_acted volume (page_asked volume now group block)
+acted plan joined messages (Deliver group member number) now = node_acted group member (if_there plan joined group member (deliver plan group member now (numbered messages number)))
+acted plan joined messages (Hydrate group member) now = node_acted group member (if_there plan joined group member (hydrated plan group member now))
+acted plan joined messages (Restart group member) now = node_acted group member (if_there plan joined group member (Ok (record { made = []; node = restarted now })))
+acted plan joined messages (Offer group member lsn) now = node_acted group member (if_there plan joined group member (offered group now lsn))
 
 -- a world in which one actor is this
 abbrev pub with_state : World → (actor : Actor) → State actor → World
@@ -106,6 +108,16 @@ abbrev pub in_world : World → (actor : Actor) → Result (Acted actor) Fault �
 in_world w actor (Err fault) = Err fault
 in_world w actor (Ok s) =
     Ok (record { made = s.made; world = record (with_state w actor s.state) { messages = added s.made w.messages } })
+
+-- the actor is there, as far as groups have joined, which are the first so many: a node's group has
+abbrev pub is_joined : ℕ → Actor → Bool
+is_joined joined Actor.TheAuthority = true
+is_joined joined (Actor.Client volume) = true
+is_joined joined (Actor.Node group member) = nat_lt group joined
+
+-- the actor of an event is there in both worlds or in neither, as far as groups have joined
+abbrev pub JoinedAlike : Event → World → World → Type 0
+JoinedAlike e w v = is_joined (groups_joined w.authority) (actor_of e) ≡ is_joined (groups_joined v.authority) (actor_of e)
 
 -- both worlds have this actor in one state
 abbrev pub Agree : Actor → World → World → Type 0

@@ -42,16 +42,18 @@ pub record Count : Type 0 where
   pub sender : ℕ
   pub reached : ℕ
 
--- what a client keeps of a group: where it stands, the reports kept, the acknowledgements counted, the group point
+-- what a client keeps of a group: where it stands, the reports kept, the acknowledgements counted, the group point, and whether the group has
+-- joined the open writer
 pub record ClientGroup : Type 0 where
   pub place : Place
   pub reports : List From
   pub counts : List Count
   pub group_point : ℕ
+  pub joined : Bool
 
 -- a group, as a client comes to it
 abbrev pub newly_at : Place → ClientGroup
-newly_at place = record { place = place; reports = []; counts = []; group_point = 0 }
+newly_at place = record { place = place; reports = []; counts = []; group_point = 0; joined = false }
 
 -- a group that the client doesn't have
 abbrev pub no_group : ClientGroup
@@ -89,9 +91,13 @@ pub record Client : Type 0 where
 abbrev pub at_root : Place
 at_root = record { configuration = 0; epoch = 1 }
 
--- the writer of volume epoch 1, with no record
+-- a group that is there when the volume is born, as the first writer has it
+abbrev pub born_group : ClientGroup
+born_group = record (newly_at at_root) { joined = true }
+
+-- the writer of volume epoch 1, with no record, over the groups that are there at birth
 abbrev pub first_writer : Plan → Client
-first_writer plan = record { stage = Writing; groups = replicate plan.groups (newly_at at_root); lineage = birth; found = []; log = [] }
+first_writer plan = record { stage = Writing; groups = replicate plan.born born_group; lineage = birth; found = []; log = [] }
 
 -- a client that no View has reached
 abbrev pub unborn : Client

@@ -20,6 +20,10 @@ is_later old new = nat_lt old.epoch new.epoch
 abbrev pub later_in : (ℕ → Place) → (ℕ → Place) → ℕ → Bool
 later_in old new group = is_later (old group) (new group)
 
+-- the groups whose places are of later epochs, and that haven't joined
+abbrev pub later_unjoined : List ClientGroup → (ℕ → Place) → ℕ → Bool
+later_unjoined groups new group = later_in (place_of groups) new group && not (group_of groups group).joined
+
 -- a group, at a place of a later epoch
 abbrev pub later_group : ClientGroup → Place → ClientGroup
 later_group group place = if is_later group.place place then record group { place = place } else group
@@ -28,28 +32,33 @@ later_group group place = if is_later group.place place then record group { plac
 abbrev pub reread_group : ClientGroup → Place → ClientGroup
 reread_group group place = if is_later group.place place then record group { place = place; reports = [] } else group
 
--- each group at its place in a View, by what becomes of one
+-- each group at its place in a View, by what becomes of one. A group that is new to the client counts as one of a later epoch
 abbrev pub with_places : (ClientGroup → Place → ClientGroup) → List ClientGroup → List Place → List ClientGroup
 with_places move groups [] = groups
 with_places move [] (place ∷ places) = move no_group place ∷ with_places move [] places
 with_places move (group ∷ groups) (place ∷ places) = move group place ∷ with_places move groups places
 
--- a later View
+-- A View. Groups raised are fenced before the cut, and installed after it; of an open writer those alone that haven't joined, with no records
 abbrev pub viewed : Plan → ℕ → Client → List Place → Stage → ClientStep
-viewed plan volume client places Unborn = born_client plan volume places
+viewed plan volume client places Unborn = born_client volume places
 viewed plan volume client places Reading =
     let now = with_places reread_group client.groups places in
     record {
-      made = fences plan volume (place_of now) (later_in (place_of client.groups) (place_in places));
+      made = fences (length places) volume (place_of now) (later_in (place_of client.groups) (place_in places));
       client = record client { groups = now };
     }
 viewed plan volume client places Installing =
     let now = with_places later_group client.groups places in
     record {
-      made = installs plan volume (place_of now) client.lineage client.found (later_in (place_of client.groups) (place_in places));
+      made = installs (length places) volume (place_of now) client.lineage client.found (later_in (place_of client.groups) (place_in places));
       client = record client { groups = now };
     }
-viewed plan volume client places Writing = record { made = []; client = record client { groups = raised plan (with_places later_group client.groups places) } }
+viewed plan volume client places Writing =
+    let now = with_places later_group client.groups places in
+    record {
+      made = installs (length places) volume (place_of now) client.lineage [] (later_unjoined client.groups (place_in places));
+      client = record client { groups = raised plan now };
+    }
 
 -- an acknowledgement counts from the cut on, of a membership epoch that is at most the client's
 abbrev pub ack_taken : Plan → Client → ℕ → Label → ℕ → ℕ → Client
@@ -59,10 +68,10 @@ ack_taken plan client group label sender reached =
     then record client { groups = groups_now plan client.stage (slice_set client.groups group (record now { counts = with_count sender reached now.counts })) }
     else client
 
--- each group has a place, and it is one of a configuration of the plan
+-- each group that is there at birth has a place, no other than the plan's groups, and each place is one of a configuration of the plan
 abbrev pub are_places : Plan → List Place → Bool
 are_places plan places =
-    length places == plan.groups && every_below plan.groups (λ group. is_configuration plan group (place_in places group).configuration (place_in places group).epoch)
+    nat_le plan.born (length places) && (nat_le (length places) plan.groups && every_below (length places) (λ group. is_configuration plan group (place_in places group).configuration (place_in places group).epoch))
 
 -- The message is for the client of this volume epoch, over so many groups: it is a View of the volume epoch, or a report, an acknowledgement or
 -- a page of one of the groups, from a member, and a report's records are those of the group.

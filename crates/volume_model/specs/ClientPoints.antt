@@ -1,5 +1,5 @@
 -- What a client counts of acknowledgements, and the points that it reaches.
-use Rattle.std.specs.Prelude.{ℕ, suc, Bool, ◌&&◌, ◌==◌, nat_le, if◌then◌else◌, List, [], ◌∷◌, max}
+use Rattle.std.specs.Prelude.{ℕ, suc, Bool, ◌&&◌, ◌||◌, ◌==◌, nat_le, if◌then◌else◌, List, [], ◌∷◌, max}
 use Rattle.volume_model.specs.Lists.{any}
 use Rattle.volume_model.specs.Formula.{Formula, Members, sat}
 use Rattle.volume_model.specs.Redo.{Redo, last_lsn}
@@ -28,10 +28,11 @@ with_count sender reached (count ∷ rest) =
     then record { sender = sender; reached = max count.reached reached } ∷ rest
     else count ∷ with_count sender reached rest
 
--- a group, its point raised to what its counts satisfy now
+-- a group, its point raised to what its counts satisfy now. It has joined where they satisfy the write expression now, or did at a moment before
 abbrev pub raised_group : Plan → ℕ → ClientGroup → ClientGroup
 raised_group plan number group =
-    record group { group_point = max group.group_point (best (place_configuration plan number group.place).write group.counts group.counts) }
+    let write = (place_configuration plan number group.place).write in
+    record group { group_point = max group.group_point (best write group.counts group.counts); joined = group.joined || sat write (counted_by group.counts) }
 
 -- the groups from a number on, their points raised
 abbrev pub raised_from : Plan → ℕ → List ClientGroup → List ClientGroup

@@ -1,5 +1,5 @@
 -- What a client does before it is open: it fences, takes reports, cuts, installs and opens.
-use Rattle.std.specs.Prelude.{ℕ, zero, suc, Bool, true, not, ◌&&◌, ◌==◌, nat_lt, if◌then◌else◌, List, [], ◌++◌, Ok, map, slice_set}
+use Rattle.std.specs.Prelude.{ℕ, zero, suc, Bool, true, not, ◌&&◌, ◌==◌, nat_lt, if◌then◌else◌, List, [], ◌++◌, Ok, length, map, slice_set}
 use Rattle.volume_model.specs.Answer.{◌>>=◌}
 use Rattle.volume_model.specs.Lists.{every_below, each_below, joined}
 use Rattle.volume_model.specs.Formula.{sat}
@@ -16,24 +16,24 @@ use Rattle.volume_model.specs.Client.{is_born, has_cut, is_open, newly_at, group
 use Rattle.volume_model.specs.Client.Stage.{Reading, Installing, Writing}
 use Rattle.volume_model.specs.ClientPoints.{counted_by, raised}
 
--- one Fence for each chosen group
-abbrev pub fences : Plan → ℕ → (ℕ → Place) → (ℕ → Bool) → List Message
-fences plan volume places chosen = each_below plan.groups chosen (λ group. Fence group (label_of volume places group))
+-- one Fence for each chosen group of so many
+abbrev pub fences : ℕ → ℕ → (ℕ → Place) → (ℕ → Bool) → List Message
+fences groups volume places chosen = each_below groups chosen (λ group. Fence group (label_of volume places group))
 
 -- what a client installs in a group
 abbrev pub to_install : Lineage → List Redo → ℕ → Contents
 to_install lineage found group = record { lineage = lineage; records = of_group group found }
 
--- the pieces of the Installs of each chosen group, in order of group, then piece
-abbrev pub installs : Plan → ℕ → (ℕ → Place) → Lineage → List Redo → (ℕ → Bool) → List Message
-installs plan volume places lineage found chosen =
-    joined (each_below plan.groups chosen (λ group. in_pieces (to_install lineage found group) (Install group (label_of volume places group))))
+-- the pieces of the Installs of each chosen group of so many, in order of group, then piece
+abbrev pub installs : ℕ → ℕ → (ℕ → Place) → Lineage → List Redo → (ℕ → Bool) → List Message
+installs groups volume places lineage found chosen =
+    joined (each_below groups chosen (λ group. in_pieces (to_install lineage found group) (Install group (label_of volume places group))))
 
 -- birth, by the first View of its epoch that it takes
-abbrev pub born_client : Plan → ℕ → List Place → ClientStep
-born_client plan volume places =
+abbrev pub born_client : ℕ → List Place → ClientStep
+born_client volume places =
     record {
-      made = fences plan volume (place_in places) (λ group. true);
+      made = fences (length places) volume (place_in places) (λ group. true);
       client = record unborn { stage = Reading; groups = map newly_at places };
     }
 
@@ -45,46 +45,48 @@ report_taken volume client group label report =
     then record client { groups = slice_set client.groups group (record now { reports = with_first report now.reports }) }
     else client
 
--- the reports of all groups
+-- the reports of so many groups
 abbrev pub all_reports : (ℕ → List From) → ℕ → List Contents
 all_reports reports zero = []
 all_reports reports (suc group) = all_reports reports group ++ contents_of (reports group)
 
--- in each group the senders of the kept reports are a read set
+-- in each group of its view the senders of the kept reports are a read set
 abbrev pub has_read : Plan → Client → Bool
-has_read plan client = every_below plan.groups (λ group. sat (place_configuration plan group (place_of client.groups group)).read (senders (reports_of client.groups group)))
+has_read plan client = every_below (length client.groups) (λ group. sat (place_configuration plan group (place_of client.groups group)).read (senders (reports_of client.groups group)))
 
--- in each group the members with a counted acknowledgement are a write set
+-- in each group of its view the members with a counted acknowledgement are a write set
 abbrev pub has_installed : Plan → Client → Bool
-has_installed plan client = every_below plan.groups (λ group. sat (place_configuration plan group (place_of client.groups group)).write (counted_by (counts_of client.groups group)))
+has_installed plan client = every_below (length client.groups) (λ group. sat (place_configuration plan group (place_of client.groups group)).write (counted_by (counts_of client.groups group)))
 
 -- the step of a cut that finds this log, under this lineage
-abbrev pub cut_step : Plan → ℕ → Client → List Redo → Lineage → ClientStep
-cut_step plan volume client found lineage = record {
-  made = installs plan volume (place_of client.groups) lineage found (λ group. true);
+abbrev pub cut_step : ℕ → Client → List Redo → Lineage → ClientStep
+cut_step volume client found lineage = record {
+  made = installs (length client.groups) volume (place_of client.groups) lineage found (λ group. true);
   client = record client { stage = Installing; lineage = lineage; found = found; log = found };
 }
 
+-- what all kept reports say
+abbrev pub reported : Client → List Contents
+reported client = all_reports (reports_of client.groups) (length client.groups)
+
 -- the records that the reports hold, as far as they are live in the newest lineage
-abbrev pub live_reported : Plan → Client → List Redo
-live_reported plan client =
-    let reported = all_reports (reports_of client.groups) plan.groups in
-    found_in (newest reported) reported
+abbrev pub live_reported : Client → List Redo
+live_reported client =
+    found_in (newest (reported client)) (reported client)
 
 -- the log that a client finds by its reports
-abbrev pub log_reported : Plan → Client → List Redo
-log_reported plan client = log_found (live_reported plan client)
+abbrev pub log_reported : Client → List Redo
+log_reported client = log_found (live_reported client)
 
 -- what a cut leaves
 abbrev pub cut_client : Plan → ℕ → Client → ClientAnswer
 cut_client plan volume client =
-    let reported = all_reports (reports_of client.groups) plan.groups in
-    let parent = newest reported in
-    let records = found_in parent reported in
+    let parent = newest (reported client) in
+    let records = found_in parent (reported client) in
     refuse_if (not (is_born client.stage)) NoActor (
     refuse_if (has_cut client.stage) AlreadyDone (
     refuse_if (not (has_read plan client)) NotReady (
-    extension parent volume (cut_of records) plan.lal >>= λ lineage. Ok (cut_step plan volume client (log_found records) lineage))))
+    extension parent volume (cut_of records) plan.lal >>= λ lineage. Ok (cut_step volume client (log_found records) lineage))))
 
 -- the writer that a recovery becomes
 abbrev pub writing : Plan → Client → Client

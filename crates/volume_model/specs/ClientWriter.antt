@@ -7,8 +7,8 @@ use Rattle.volume_model.specs.Plan.{Plan}
 use Rattle.volume_model.specs.Message.{Place, Message}
 use Rattle.volume_model.specs.Message.Message.{Write, PageAsk}
 use Rattle.volume_model.specs.Refusal.{refuse_if}
-use Rattle.volume_model.specs.declared.fault.Fault.TheVariants.{BadTransaction, LimitReached, LsnSpent, NoActor, NoGroup, NoLogRecord, NotOpen}
-use Rattle.volume_model.specs.Client.{is_born, is_open, place_of, Client, ClientStep, ClientAnswer, label_of}
+use Rattle.volume_model.specs.declared.fault.Fault.TheVariants.{BadTransaction, LimitReached, LsnSpent, NoActor, NoGroup, NoLogRecord, NotJoined, NotOpen}
+use Rattle.volume_model.specs.Client.{is_born, is_open, ClientGroup, group_of, place_of, Client, ClientStep, ClientAnswer, label_of}
 use Rattle.volume_model.specs.ClientPoints.{durable_point}
 
 -- a change that a transaction asks for
@@ -59,6 +59,10 @@ is_change groups change = nat_lt change.group groups && (nat_le 1 (length change
 abbrev pub is_transaction : ℕ → List Change → Bool
 is_transaction groups changes = nat_le 1 (length changes) && (nat_le (length changes) 32 && every (is_change groups) changes)
 
+-- each group that is changed has joined
+abbrev pub have_joined : List ClientGroup → List Change → Bool
+have_joined groups changes = every (λ change. (group_of groups change.group).joined) changes
+
 -- the step of a transaction that isn't refused
 abbrev pub issue_step : ℕ → Client → List Change → ClientStep
 issue_step volume client changes = record {
@@ -73,10 +77,11 @@ issued plan volume client changes =
     let last = max (last_lsn client.log) start + length changes in
     refuse_if (not (is_born client.stage)) NoActor (
     refuse_if (not (is_open client.stage)) NotOpen (
-    refuse_if (not (is_transaction plan.groups changes)) BadTransaction (
+    refuse_if (not (is_transaction (length client.groups) changes)) BadTransaction (
+    refuse_if (not (have_joined client.groups changes)) NotJoined (
     refuse_if (nat_lt (2 ^ 62) last) LsnSpent (
     refuse_if (nat_lt (max (durable_point client) start + plan.lal) last) LimitReached (
-    Ok (issue_step volume client changes))))))
+    Ok (issue_step volume client changes)))))))
 
 -- the Write of a record that was found
 abbrev pub write_of : ℕ → Client → Option Redo → ClientAnswer
@@ -97,11 +102,11 @@ last_of_group_below group n (r ∷ older) =
     if r.group == group && nat_le r.lsn n then r.lsn else last_of_group_below group n older
 
 -- what a writer does when it asks for a page at the durable point
-abbrev pub page_asked : Plan → ℕ → Client → ℕ → ℕ → ClientAnswer
-page_asked plan volume client group block =
+abbrev pub page_asked : ℕ → Client → ℕ → ℕ → ClientAnswer
+page_asked volume client group block =
     refuse_if (not (is_born client.stage)) NoActor (
     refuse_if (not (is_open client.stage)) NotOpen (
-    refuse_if (not (nat_lt group plan.groups)) NoGroup (
+    refuse_if (not (nat_lt group (length client.groups))) NoGroup (
     Ok (record {
       made = PageAsk group (label_of volume (place_of client.groups) group) block (last_of_group_below group (durable_point client) client.log) ∷ [];
       client = client;

@@ -1,5 +1,5 @@
 -- The laws of actors, and of runs that are kept as entries of a journal.
-use Rattle.std.specs.Prelude.{◌≡◌, ℕ, ◌+◌, ◌≤◌, true, false, List, [], ◌∷◌, ◌++◌, length, Some, Err, slice_get}
+use Rattle.std.specs.Prelude.{◌≡◌, ℕ, ◌+◌, ◌≤◌, true, false, List, [], ◌∷◌, ◌++◌, length, take, Some, Err, slice_get}
 use mathlib.Core.List.{IsPrefix}
 use Rattle.volume_model.specs.declared.fault.Fault.{Fault}
 use Rattle.volume_model.specs.declared.fault.Fault.TheVariants.{NoMessage}
@@ -11,15 +11,15 @@ use Rattle.volume_model.specs.Client.{Client, is_born}
 use Rattle.volume_model.specs.ClientWriter.{Change, issued, resent, page_asked}
 use Rattle.volume_model.specs.ClientRecovery.{cut_client, opened}
 use Rattle.volume_model.specs.ClientMessages.{taken}
-use Rattle.volume_model.specs.World.{World, Event, Authority, step, after, assigned, advanced, refreshed}
-use Rattle.volume_model.specs.Actor.{Actor, acted, actor_of, in_world, named_by, same_actor, state_in, Agree, Keeps}
+use Rattle.volume_model.specs.World.{World, Event, Authority, step, after, assigned, advanced, groups_joined, grown, refreshed}
+use Rattle.volume_model.specs.Actor.{Actor, acted, actor_of, in_world, named_by, same_actor, state_in, Agree, JoinedAlike, Keeps}
 use Rattle.volume_model.specs.Told.{makes, Refuses, IsOwn, IsOwnOfClient}
 use Rattle.volume_model.specs.Journal.{Entry, world_at, Goes, IsRun, last_of, before}
 use Rattle.volume_model.specs.Judging.{Refusal, IsRefused, Exact, IsNoted}
 
--- a step of the world is the step of the event's actor, over what the actor is there and the messages made so far
+-- a step of the world is the step of the event's actor, over what the actor is there, how many groups have joined, and the messages made so far
 abbrev pub StepsAreOfActors : Type 0
-StepsAreOfActors = (plan : Plan) (w : World) (e : Event) → step plan w e ≡ in_world w (actor_of e) (acted plan w.messages e (state_in w (actor_of e)))
+StepsAreOfActors = (plan : Plan) (w : World) (e : Event) → step plan w e ≡ in_world w (actor_of e) (acted plan (groups_joined w.authority) w.messages e (state_in w (actor_of e)))
 
 -- an event leaves all actors but its own as they are
 abbrev pub LeavesOthers : Type 0
@@ -40,11 +40,11 @@ pub record RunsGoOn : Type 0 where
   pub firsts : (plan : Plan) (es : List Entry) (k : ℕ) (e : Entry) → IsRun plan es → slice_get es k ≡ Some e → e.first ≡ before plan es k
   pub messages : (plan : Plan) (es : List Entry) (e : Entry) → Goes plan (world_at plan es) e → length (world_at plan (es ++ e ∷ [])).messages ≡ e.first + length e.made
 
--- where two worlds have the actor of an event alike, and the second has the messages of the first: the same refusal,
+-- where two worlds have the actor of an event alike, a node's group has joined in both or in neither, and the second has the messages of the first: the same refusal,
 -- but that there was no message, and else the same messages
 pub record StepsAlike : Type 0 where
-  pub refused : (plan : Plan) (w v : World) (e : Event) (fault : Fault) → (fault ≡ NoMessage → ⊥) → Agree (actor_of e) w v → Keeps w v → step plan w e ≡ Err fault → step plan v e ≡ Err fault
-  pub made : (plan : Plan) (w v : World) (e : Event) (ms : List Message) → Agree (actor_of e) w v → Keeps w v → makes (step plan w e) ≡ Some ms → makes (step plan v e) ≡ Some ms
+  pub refused : (plan : Plan) (w v : World) (e : Event) (fault : Fault) → (fault ≡ NoMessage → ⊥) → Agree (actor_of e) w v → JoinedAlike e w v → Keeps w v → step plan w e ≡ Err fault → step plan v e ≡ Err fault
+  pub made : (plan : Plan) (w v : World) (e : Event) (ms : List Message) → Agree (actor_of e) w v → JoinedAlike e w v → Keeps w v → makes (step plan w e) ≡ Some ms → makes (step plan v e) ≡ Some ms
 
 -- a message keeps its number, which its entry and its place in it tell
 pub record MessagesAreFound : Type 0 where
@@ -60,16 +60,18 @@ pub record RefusalsAreOwn : Type 0 where
   pub assign : (plan : Plan) (a : Authority) → Refuses IsOwn (assigned plan a)
   pub advance : (plan : Plan) (a : Authority) (group c : ℕ) → Refuses IsOwn (advanced plan a group c)
   pub refresh : (plan : Plan) (a : Authority) (volume : ℕ) → Refuses IsOwn (refreshed plan a volume)
+  pub grow : (plan : Plan) (a : Authority) → Refuses IsOwn (grown plan a)
   pub issue : (plan : Plan) (volume : ℕ) (client : Client) (changes : List Change) → is_born client.stage ≡ true → Refuses IsOwn (issued plan volume client changes)
   pub take : (plan : Plan) (volume : ℕ) (client : Client) (m : Message) → is_born client.stage ≡ true → Refuses IsOwn (taken plan volume client m)
   pub take_unborn : (plan : Plan) (volume : ℕ) (client : Client) (m : Message) → Refuses IsOwnOfClient (taken plan volume client m)
   pub cut : (plan : Plan) (volume : ℕ) (client : Client) → is_born client.stage ≡ true → Refuses IsOwn (cut_client plan volume client)
   pub opening : (plan : Plan) (client : Client) → is_born client.stage ≡ true → Refuses IsOwn (opened plan client)
   pub resend : (volume : ℕ) (client : Client) (lsn : ℕ) → is_born client.stage ≡ true → Refuses IsOwn (resent volume client lsn)
-  pub read : (plan : Plan) (volume : ℕ) (client : Client) (group block : ℕ) → is_born client.stage ≡ true → Refuses IsOwn (page_asked plan volume client group block)
+  pub read : (volume : ℕ) (client : Client) (group block : ℕ) → is_born client.stage ≡ true → Refuses IsOwn (page_asked volume client group block)
 
--- what the model refuses may be noted, and stays true as the journal grows
+-- what the model refuses may be noted, from the number of the actor's last entry on where a node's group has joined then as it has now, and stays
+-- true as the journal grows
 pub record RefusalsLast : Type 0 where
   pub noted : (plan : Plan) (slots cells number : ℕ) (es : List Entry) (event : Event) (fault : Fault) → IsNoted fault → number ≤ length es → last_of (actor_of event) es ≤ number
-      → Exact plan slots cells es event fault → IsRefused plan slots cells es (record { event = event; fault = fault; number = number })
+      → JoinedAlike event (world_at plan (take number es)) (world_at plan es) → Exact plan slots cells es event fault → IsRefused plan slots cells es (record { event = event; fault = fault; number = number })
   pub longer : (plan : Plan) (slots cells : ℕ) (es fs : List Entry) (n : Refusal) → IsPrefix es fs → length fs ≤ cells → IsRefused plan slots cells es n → IsRefused plan slots cells fs n

@@ -10,11 +10,11 @@ use Rattle.volume_model.specs.Actor.{Actor, actor_of}
 use Rattle.volume_model.specs.Told.{refusal}
 use Rattle.volume_model.specs.Journal.{Entry, world_at}
 
--- the world v, but for one actor, which is as in w
+-- the world v, but for one actor, which is as in w; for a node, as many groups have joined as in w
 abbrev pub placed : Actor → World → World → World
 placed Actor.TheAuthority w v = record v { authority = w.authority }
 placed (Actor.Client c) w v = record v { clients = put v.clients c (w.clients c) }
-placed (Actor.Node g m) w v = record v { nodes = put_at v.nodes g m (w.nodes g m) }
+placed (Actor.Node g m) w v = record v { authority = w.authority; nodes = put_at v.nodes g m (w.nodes g m) }
 
 -- the world of these entries, but for the actor of an event, which is as after so many of them
 abbrev pub judged : Plan → List Entry → ℕ → Event → World

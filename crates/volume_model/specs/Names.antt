@@ -3,7 +3,7 @@ use Rattle.std.specs.Prelude.{ℕ, List, ◌++◌, codes}
 use Rattle.std.specs.Fmt.{decimal}
 use Rattle.volume_model.specs.Numbers.{number_of}
 use Rattle.volume_model.specs.declared.fault.Fault.{Fault}
-use Rattle.volume_model.specs.declared.fault.Fault.TheVariants.{Short, BadField, Trailing, NoMemory, BadCount, TooDeep, NotAMember, Malformed, NoSuchItem, NotDead, NoClash, NotAll, TooFewPicked, BadPair, CountTooSmall, BranchCount, BadParent, MemberReused, NoCertificate, Certificate, OverLimit, Superseded, NotInPlan, NoGroup, EpochsSpent, StaleVolume, StaleMember, AheadMember, NotInstalled, NotWhole, Full, AlreadyWhole, NotEnough, NoRecord, BadPiece, TailSegment, PointAhead, SeriesSpent, NotOpen, LimitReached, BadTransaction, LsnSpent, NotReady, AlreadyDone, NoLogRecord, NoMessage, NotAddressed, NoActor, NoSlot, JournalFull}
+use Rattle.volume_model.specs.declared.fault.Fault.TheVariants.{Short, BadField, Trailing, NoMemory, BadCount, TooDeep, NotAMember, Malformed, NoSuchItem, NotDead, NoClash, NotAll, TooFewPicked, BadPair, CountTooSmall, BranchCount, BadParent, MemberReused, NoCertificate, Certificate, OverLimit, Superseded, NotInPlan, NoGroup, EpochsSpent, AllGrown, StaleVolume, StaleMember, AheadMember, NotInstalled, NotWhole, Full, AlreadyWhole, NotEnough, NoRecord, BadPiece, TailSegment, PointAhead, SeriesSpent, NotOpen, LimitReached, BadTransaction, LsnSpent, NotReady, AlreadyDone, NoLogRecord, NotJoined, NoMessage, NotAddressed, NoActor, NoSlot, JournalFull}
 
 -- its name
 abbrev pub name_of : Fault → List ℕ
@@ -32,6 +32,7 @@ name_of Superseded = codes "Superseded"
 name_of NotInPlan = codes "NotInPlan"
 name_of NoGroup = codes "NoGroup"
 name_of EpochsSpent = codes "EpochsSpent"
+name_of AllGrown = codes "AllGrown"
 name_of StaleVolume = codes "StaleVolume"
 name_of StaleMember = codes "StaleMember"
 name_of AheadMember = codes "AheadMember"
@@ -52,6 +53,7 @@ name_of LsnSpent = codes "LsnSpent"
 name_of NotReady = codes "NotReady"
 name_of AlreadyDone = codes "AlreadyDone"
 name_of NoLogRecord = codes "NoLogRecord"
+name_of NotJoined = codes "NotJoined"
 name_of NoMessage = codes "NoMessage"
 name_of NotAddressed = codes "NotAddressed"
 name_of NoActor = codes "NoActor"

@@ -1,7 +1,7 @@
 -- The number of each fault, as the program prints it.
 use Rattle.std.specs.Prelude.{ℕ}
 use Rattle.volume_model.specs.declared.fault.Fault.{Fault}
-use Rattle.volume_model.specs.declared.fault.Fault.TheVariants.{Short, BadField, Trailing, NoMemory, BadCount, TooDeep, NotAMember, Malformed, NoSuchItem, NotDead, NoClash, NotAll, TooFewPicked, BadPair, CountTooSmall, BranchCount, BadParent, MemberReused, NoCertificate, Certificate, OverLimit, Superseded, NotInPlan, NoGroup, EpochsSpent, StaleVolume, StaleMember, AheadMember, NotInstalled, NotWhole, Full, AlreadyWhole, NotEnough, NoRecord, BadPiece, TailSegment, PointAhead, SeriesSpent, NotOpen, LimitReached, BadTransaction, LsnSpent, NotReady, AlreadyDone, NoLogRecord, NoMessage, NotAddressed, NoActor, NoSlot, JournalFull}
+use Rattle.volume_model.specs.declared.fault.Fault.TheVariants.{Short, BadField, Trailing, NoMemory, BadCount, TooDeep, NotAMember, Malformed, NoSuchItem, NotDead, NoClash, NotAll, TooFewPicked, BadPair, CountTooSmall, BranchCount, BadParent, MemberReused, NoCertificate, Certificate, OverLimit, Superseded, NotInPlan, NoGroup, EpochsSpent, AllGrown, StaleVolume, StaleMember, AheadMember, NotInstalled, NotWhole, Full, AlreadyWhole, NotEnough, NoRecord, BadPiece, TailSegment, PointAhead, SeriesSpent, NotOpen, LimitReached, BadTransaction, LsnSpent, NotReady, AlreadyDone, NoLogRecord, NotJoined, NoMessage, NotAddressed, NoActor, NoSlot, JournalFull}
 
 -- its number
 abbrev pub number_of : Fault → ℕ
@@ -30,6 +30,7 @@ number_of Superseded = 40
 number_of NotInPlan = 41
 number_of NoGroup = 42
 number_of EpochsSpent = 43
+number_of AllGrown = 44
 number_of StaleVolume = 50
 number_of StaleMember = 51
 number_of AheadMember = 52
@@ -50,6 +51,7 @@ number_of LsnSpent = 73
 number_of NotReady = 74
 number_of AlreadyDone = 75
 number_of NoLogRecord = 76
+number_of NotJoined = 77
 number_of NoMessage = 80
 number_of NotAddressed = 81
 number_of NoActor = 82

@@ -11,9 +11,11 @@ pub record Configuration : Type 0 where
   pub read : Formula
   pub write : Formula
 
--- how far numbers may run ahead of the durable point, the groups, and of each group the configurations, number 0 the root
+-- how far numbers may run ahead of the durable point, how many groups are there when the volume is born, how many there are in all (the others join
+-- one by one, in order), and of each group the configurations, number 0 the root
 pub record Plan : Type 0 where
   pub lal : ℕ
+  pub born : ℕ
   pub groups : ℕ
   pub configurations : ℕ → ℕ
   pub configuration : ℕ → ℕ → Configuration
@@ -79,10 +81,11 @@ pub record HasQuorums (configuration : Configuration) : Type 0 where
   pub valid_read : HasCounts configuration.read
   pub meets : HaveCommonMember configuration.read configuration.write
 
--- Numbers may run ahead, there is a group, each group has a root, of epoch 1, and each configuration has the one property and each but the root the other.
+-- Numbers may run ahead, there is a group at birth, none more than there are in all, each group has a root, of epoch 1, and each configuration has the one property and each but the root the other.
 pub record IsPlanOf (Quorums : Configuration → Type 0) (Step : Plan → ℕ → ℕ → Type 0) (plan : Plan) : Type 0 where
   pub lal_positive : 1 ≤ plan.lal
-  pub group_there : 0 < plan.groups
+  pub born_there : 0 < plan.born
+  pub born_within : plan.born ≤ plan.groups
   pub root_there : (group : ℕ) → group < plan.groups → 0 < plan.configurations group
   pub root_epoch : (group : ℕ) → group < plan.groups → epoch_of plan group 0 ≡ 1
   pub quorums : (group c : ℕ) → group < plan.groups → c < plan.configurations group → Quorums (plan.configuration group c)

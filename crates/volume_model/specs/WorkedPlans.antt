@@ -33,7 +33,7 @@ six_root = record { parent = 0; epoch = 1; members = six; full = six; read = cou
 
 -- one group with one configuration of six full members
 abbrev pub six_copies : Plan
-six_copies = record { lal = 10; groups = 1; configurations = λ group. 1; configuration = λ group c. six_root }
+six_copies = record { lal = 10; born = 1; groups = 1; configurations = λ group. 1; configuration = λ group c. six_root }
 
 -- three members keep whole pages: three of all and one of these read, four of all or these three write
 abbrev pub full_and_tail_root : Configuration
@@ -48,7 +48,7 @@ full_and_tail_root = record {
 
 -- one group with one configuration of full and tail segments
 abbrev pub full_and_tail : Plan
-full_and_tail = record { lal = 10; groups = 1; configurations = λ group. 1; configuration = λ group c. full_and_tail_root }
+full_and_tail = record { lal = 10; born = 1; groups = 1; configurations = λ group. 1; configuration = λ group c. full_and_tail_root }
 
 -- member 6 comes in beside member 5: what reads reads in either six, and what writes writes in both
 abbrev pub both_sixes : Configuration
@@ -78,7 +78,7 @@ replacing (suc (suc (suc c))) = with_first
 
 -- one group in which a member may be replaced
 abbrev pub member_replaced : Plan
-member_replaced = record { lal = 10; groups = 1; configurations = λ group. 4; configuration = λ group c. replacing c }
+member_replaced = record { lal = 10; born = 1; groups = 1; configurations = λ group. 4; configuration = λ group c. replacing c }
 
 -- the plan of six copies is certified
 abbrev pub SixCopiesCertified : Type 0

@@ -1,4 +1,4 @@
-use Rattle.std.specs.Prelude.{ℕ, suc, true, not, ◌&&◌, ◌==◌, nat_lt, nat_le, List, [], ◌∷◌, Option, Some, None, Result, Ok, Err, length, replicate, slice_index_or, slice_set}
+use Rattle.std.specs.Prelude.{ℕ, suc, true, not, ◌&&◌, ◌==◌, nat_lt, nat_le, List, [], ◌∷◌, ◌++◌, Option, Some, None, Result, Ok, Err, length, replicate, slice_index_or, slice_set}
 use Rattle.volume_model.specs.Lists.{added, numbered, put, put_at, each_below}
 use Rattle.volume_model.specs.Plan.{Plan, parent_of, epoch_of, is_named}
 use Rattle.volume_model.specs.Message.{Place, Message}
@@ -10,9 +10,9 @@ use Rattle.volume_model.specs.ClientRecovery.{cut_client, opened}
 use Rattle.volume_model.specs.ClientMessages.{taken}
 use Rattle.volume_model.specs.Refusal.{refuse_if}
 use Rattle.volume_model.specs.declared.fault.Fault.{Fault}
-use Rattle.volume_model.specs.declared.fault.Fault.TheVariants.{EpochsSpent, NoActor, NoGroup, NoMessage, NotInPlan, Superseded}
+use Rattle.volume_model.specs.declared.fault.Fault.TheVariants.{AllGrown, EpochsSpent, NoActor, NoGroup, NoMessage, NotInPlan, Superseded}
 
--- the last volume epoch assigned, and the configuration at which each group stands
+-- the last volume epoch assigned, and the configuration at which each group stands that has joined
 pub record Authority : Type 0 where
   pub last_volume : ℕ
   pub configurations : List ℕ
@@ -20,6 +20,10 @@ pub record Authority : Type 0 where
 -- the configuration at which a group stands
 abbrev pub configuration_of : Authority → ℕ → ℕ
 configuration_of authority group = slice_index_or authority.configurations group 0
+
+-- how many groups have joined
+abbrev pub groups_joined : Authority → ℕ
+groups_joined authority = length authority.configurations
 
 -- all actors, and all messages ever made, newest first. A node is named by group and member, a client by its volume epoch
 pub record World : Type 0 where
@@ -33,6 +37,7 @@ pub data Event : Type 0 where
   Assign : Event
   Advance : (group configuration : ℕ) → Event
   Refresh : (volume : ℕ) → Event
+  Grow : Event
   Issue : (volume : ℕ) → List Change → Event
   Take : (volume number : ℕ) → Event
   Cut : (volume : ℕ) → Event
@@ -48,7 +53,7 @@ pub data Event : Type 0 where
 abbrev pub opening : Plan → World
 opening plan =
     record {
-      authority = record { last_volume = 1; configurations = replicate plan.groups 0 };
+      authority = record { last_volume = 1; configurations = replicate plan.born 0 };
       nodes = born_node plan;
       clients = put (λ volume. unborn) 1 (first_writer plan);
       messages = [];
@@ -59,13 +64,13 @@ abbrev pub place_now : Plan → Authority → ℕ → Place
 place_now plan authority group =
     record { configuration = configuration_of authority group; epoch = epoch_of plan group (configuration_of authority group) }
 
--- the places of all groups, by number
+-- the places of all groups that have joined, by number
 abbrev pub places_now : Plan → Authority → List Place
-places_now plan authority = each_below plan.groups (λ group. true) (place_now plan authority)
+places_now plan authority = each_below (groups_joined authority) (λ group. true) (place_now plan authority)
 
 -- what a step of the authority leaves
 pub record AuthorityStep : Type 0 where
-  pub made : Message
+  pub made : List Message
   pub authority : Authority
 
 -- what the authority does when it assigns a volume epoch
@@ -73,7 +78,7 @@ abbrev pub assigned : Plan → Authority → Result AuthorityStep Fault
 assigned plan authority =
     refuse_if (nat_le 4294967295 authority.last_volume) EpochsSpent (
     Ok (record {
-      made = View (suc authority.last_volume) (places_now plan authority);
+      made = View (suc authority.last_volume) (places_now plan authority) ∷ [];
       authority = record authority { last_volume = suc authority.last_volume };
     }))
 
@@ -81,12 +86,12 @@ assigned plan authority =
 abbrev pub advance_step : Plan → Authority → ℕ → ℕ → AuthorityStep
 advance_step plan authority group c =
     let now = record authority { configurations = slice_set authority.configurations group c } in
-    record { made = StepTo group (place_now plan now group); authority = now }
+    record { made = StepTo group (place_now plan now group) ∷ []; authority = now }
 
 -- what the authority does when a group goes to a child of its configuration
 abbrev pub advanced : Plan → Authority → ℕ → ℕ → Result AuthorityStep Fault
 advanced plan authority group c =
-    refuse_if (not (nat_lt group plan.groups)) NoGroup (
+    refuse_if (not (nat_lt group (groups_joined authority))) NoGroup (
     refuse_if (not (nat_lt 0 c && (nat_lt c (plan.configurations group) && parent_of plan group c == configuration_of authority group))) NotInPlan (
     Ok (advance_step plan authority group c)))
 
@@ -94,7 +99,13 @@ advanced plan authority group c =
 abbrev pub refreshed : Plan → Authority → ℕ → Result AuthorityStep Fault
 refreshed plan authority volume =
     refuse_if (not (volume == authority.last_volume)) Superseded (
-    Ok (record { made = View volume (places_now plan authority); authority = authority }))
+    Ok (record { made = View volume (places_now plan authority) ∷ []; authority = authority }))
+
+-- what the authority does when the next group joins: it stands at its root
+abbrev pub grown : Plan → Authority → Result AuthorityStep Fault
+grown plan authority =
+    refuse_if (not (nat_lt (groups_joined authority) plan.groups)) AllGrown (
+    Ok (record { made = []; authority = record authority { configurations = authority.configurations ++ 0 ∷ [] } }))
 
 -- a step leaves the messages that it makes, in their order, and the world
 pub record Step : Type 0 where
@@ -105,7 +116,7 @@ pub record Step : Type 0 where
 abbrev pub of_authority : World → Result AuthorityStep Fault → Result Step Fault
 of_authority world (Err number) = Err number
 of_authority world (Ok step) =
-    Ok (record { made = step.made ∷ []; world = record world { authority = step.authority; messages = step.made ∷ world.messages } })
+    Ok (record { made = step.made; world = record world { authority = step.authority; messages = added step.made world.messages } })
 
 -- a step of a client, in the world
 abbrev pub of_client : World → ℕ → ClientAnswer → Result Step Fault
@@ -129,27 +140,28 @@ abbrev pub take : Plan → ℕ → Client → Option Message → ClientAnswer
 take plan volume client None = Err NoMessage
 take plan volume client (Some message) = taken plan volume client message
 
--- refused where no configuration of the group has the member
-abbrev pub if_named : Plan → ℕ → ℕ → NodeAnswer → NodeAnswer
-if_named plan group member rest = refuse_if (not (is_named plan group member)) NoActor rest
+-- refused where the group isn't one of the first so many, which have joined, or no configuration of it has the member
+abbrev pub if_there : Plan → ℕ → ℕ → ℕ → NodeAnswer → NodeAnswer
+if_there plan joined group member rest = refuse_if (not (nat_lt group joined && is_named plan group member)) NoActor rest
 
 -- one event: the number of its refusal, or the step
 abbrev pub step : Plan → World → Event → Result Step Fault
 step plan world Assign = of_authority world (assigned plan world.authority)
 step plan world (Advance group c) = of_authority world (advanced plan world.authority group c)
 step plan world (Refresh volume) = of_authority world (refreshed plan world.authority volume)
+step plan world Grow = of_authority world (grown plan world.authority)
 step plan world (Issue volume changes) = of_client world volume (issued plan volume (world.clients volume) changes)
 step plan world (Take volume number) = of_client world volume (take plan volume (world.clients volume) (numbered world.messages number))
 step plan world (Cut volume) = of_client world volume (cut_client plan volume (world.clients volume))
 step plan world (Open volume) = of_client world volume (opened plan (world.clients volume))
 step plan world (Resend volume lsn) = of_client world volume (resent volume (world.clients volume) lsn)
-step plan world (Read volume group block) = of_client world volume (page_asked plan volume (world.clients volume) group block)
+step plan world (Read volume group block) = of_client world volume (page_asked volume (world.clients volume) group block)
 step plan world (Deliver group member number) =
-    of_node world group member (if_named plan group member (deliver plan group member (world.nodes group member) (numbered world.messages number)))
-step plan world (Hydrate group member) = of_node world group member (if_named plan group member (hydrated plan group member (world.nodes group member)))
+    of_node world group member (if_there plan (groups_joined world.authority) group member (deliver plan group member (world.nodes group member) (numbered world.messages number)))
+step plan world (Hydrate group member) = of_node world group member (if_there plan (groups_joined world.authority) group member (hydrated plan group member (world.nodes group member)))
 step plan world (Restart group member) =
-    of_node world group member (if_named plan group member (Ok (record { made = []; node = restarted (world.nodes group member) })))
-step plan world (Offer group member lsn) = of_node world group member (if_named plan group member (offered group (world.nodes group member) lsn))
+    of_node world group member (if_there plan (groups_joined world.authority) group member (Ok (record { made = []; node = restarted (world.nodes group member) })))
+step plan world (Offer group member lsn) = of_node world group member (if_there plan (groups_joined world.authority) group member (offered group (world.nodes group member) lsn))
 
 -- a refused event changes nothing
 abbrev pub after_step : World → Result Step Fault → World

@@ -62,6 +62,8 @@ pub enum Fault {
     NoGroup = 42,
     /// No volume epoch is left.
     EpochsSpent = 43,
+    /// Every group of the plan has joined.
+    AllGrown = 44,
     /// The node has promised a later volume epoch.
     StaleVolume = 50,
     /// The node is at a later membership epoch.
@@ -102,6 +104,8 @@ pub enum Fault {
     AlreadyDone = 75,
     /// The log has no such record.
     NoLogRecord = 76,
+    /// The group hasn't joined the writer: its install doesn't count yet.
+    NotJoined = 77,
     /// No such message was made.
     NoMessage = 80,
     /// The message isn't for this actor.
@@ -152,6 +156,7 @@ impl Fault {
             Fault::NotInPlan => "NotInPlan",
             Fault::NoGroup => "NoGroup",
             Fault::EpochsSpent => "EpochsSpent",
+            Fault::AllGrown => "AllGrown",
             Fault::StaleVolume => "StaleVolume",
             Fault::StaleMember => "StaleMember",
             Fault::AheadMember => "AheadMember",
@@ -172,6 +177,7 @@ impl Fault {
             Fault::NotReady => "NotReady",
             Fault::AlreadyDone => "AlreadyDone",
             Fault::NoLogRecord => "NoLogRecord",
+            Fault::NotJoined => "NotJoined",
             Fault::NoMessage => "NoMessage",
             Fault::NotAddressed => "NotAddressed",
             Fault::NoActor => "NoActor",
