@@ -234,7 +234,8 @@ module _ (certify : ClaimsCertify) (refutes : (rule : Rule) (state : State) → 
   pub certified : IsCertified (model_of (plan_data plan))
   certified = certify (model_of (plan_data plan)) (record {
     lal_positive = plan.lal_some;
-    group_there = omega (arith, plan.some, length-map plan.groups.items group_data);
+    born_there = plan.born_some;
+    born_within = omega (arith, plan.born_within, length-map plan.groups.items group_data);
     root_there = λ g there. root-of plan g there;
     root_epoch = λ g there. refl;
     quorums = keeps-claim;

@@ -9,6 +9,7 @@ pub mod KeepsClaims
 pub mod BothWays
 pub mod OwnMembers
 pub mod Text
+pub mod Headers
 pub mod Loop
 pub mod Listed
 pub mod Reread

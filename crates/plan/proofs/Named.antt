@@ -27,7 +27,7 @@ lt_false i n h = grind (arith, nat_tests)
 -- the group at hand
 pub group-is : (plan : Plan) (xs : List Group) (i g : ℕ) (x : Group) → xs ≡ plan.groups.items → i ≡ g → i < length xs → x ≡ get_or xs i x → group_at (plan_data plan) g ≡ group_data x
 group-is plan xs i g x same is h at =
-    (λ j. group_at (record { lal = plan.lal; groups = map group_data (sym same j) }) (sym is j)) ∙ item-at group_data xs i x [] h at
+    (λ j. group_at (record { format = plan.format; lal = plan.lal; born = plan.born; groups = map group_data (sym same j) }) (sym is j)) ∙ item-at group_data xs i x [] h at
 
 pub names-in : (plan : Plan) (xs : List Group) (i g m : ℕ) (x : Group) → xs ≡ plan.groups.items → i ≡ g → i < length xs → x ≡ get_or xs i x
     → some_below (length (group_data x)) (λ c. nat_lt m 64 && contains (configuration_at (group_data x) c).members m) ≡ is_named (model_of (plan_data plan)) g m

@@ -12,9 +12,13 @@ use Rattle.volume_model.specs.Answer.{◌>>=◌}
 use Rattle.quorum_expr.specs.Reading.{at_key, whole_of}
 use Rattle.refutation.specs.Rule.{Rule}
 use Rattle.refutation.specs.Reading.{has_keys, array_of}
+use Rattle.plan.specs.declared.formats.Format.{Format}
+use Rattle.plan.specs.declared.formats.Format.TheVariants.{Plain, Weighted, Growing}
+use Rattle.plan.specs.Formats.{is_weighted, key_count}
+use Rattle.plan.specs.declared.fault.PlanFault.{PlanFault}
 use Rattle.plan.specs.PlanData.{ConfigurationData, PlanData, by_parent}
 use Rattle.plan.specs.PlanFaults.{is_good_parent}
-use Rattle.plan.specs.PlanText.{◌>=>◌, in_text, certificate_or_null, step_of, configuration_in, configurations_in, is_from_1, group_items, group_in, groups_in, Header, group_list, lal_of, format_of, header_of, plan_in}
+use Rattle.plan.specs.PlanText.{◌>=>◌, in_text, certificate_or_null, step_of, configuration_in, configurations_in, is_from_1, group_items, group_in, groups_in, TopFields, Header, group_list, lal_of, format_of, born_field, top_fields_of, born_of, header_of, plan_in}
 use Rattle.plan.specs.WithCertificates.{certificate_at, claim_count, claim_counts, configuration_with, configurations_with, groups_with, with_certificates}
 use Rattle.plan.specs.Rewriting.{value_or_null, meets_value, step_value, configurations_written, group_object, group_written, groups_written, plan_object, plan_written}
 use Rattle.plan.proofs.Reread.{then_ok, bind_ok, text_ok, ok_is, if_ok, key-nests, array-nests, Rewritten, configuration-reread}
@@ -248,9 +252,16 @@ groups-reread w g (item d ds) (xs ∷ groups) vs rs h good is =
 
 -- ---- the whole
 
+-- how many of the groups are there at birth, in each format
+abbrev IsBorn : Format → ℕ → ℕ → Type 0
+IsBorn Plain groups born = groups ≡ born
+IsBorn Weighted groups born = groups ≡ born
+IsBorn Growing groups born = is_from_1 groups born ≡ true
+
 record Headed (d : Data) (h : Header) : Type 0 where
   lal : is_from_1 10000000 h.lal ≡ true
   few : is_from_1 16 (items_len h.groups) ≡ true
+  born : IsBorn h.format (items_len h.groups) h.born
   nests : suc (items_depth h.groups) < depth d
 
 lal_of-ok : (d : Data) (n : ℕ) → lal_of d ≡ Ok n → is_from_1 10000000 n ≡ true
@@ -267,49 +278,90 @@ group_list-ok d ds h =
     let few = if_ok (is_from_1 16 (items_len listed.0)) listed.0 ds OverLimit listed.2 in
     (subst (λ es. is_from_1 16 (items_len es) ≡ true) few.1 few.0, subst (λ es. items_depth es < depth d) few.1 (array-nests d listed.0 listed.1))
 
-abbrev from_values : Data → Data → Data → Result Header Fault
-from_values f l g = format_of f >>= λ w. lal_of l >>= λ lal. group_list g >>= λ groups. Ok (record { is_weighted = w; lal = lal; groups = groups })
+record Topped (d : Data) (t : TopFields) : Type 0 where
+  born : born_field t.format d ≡ Ok t.born
+  nests : depth t.groups < depth d
+
+abbrev from_keys : Data → Format → Result TopFields Fault
+from_keys d format = at_key (codes "lal") d >>= λ lal. born_field format d >>= λ born. at_key (codes "groups") d >>= λ groups. Ok (record { format = format; lal = lal; born = born; groups = groups })
+
+top_fields_of-ok : (d : Data) (t : TopFields) → top_fields_of d ≡ Ok t → Topped d t
+unfolding top_fields_of
+top_fields_of-ok d t is =
+    let f = bind_ok (at_key (codes "format") d) (λ f. format_of f >>= λ format. has_keys (key_count format) d >>= λ u. from_keys d format) t is in
+    let one = bind_ok (format_of f.0) (λ format. has_keys (key_count format) d >>= λ u. from_keys d format) t f.2 in
+    let keys = bind_ok (has_keys (key_count one.0) d) (λ u. from_keys d one.0) t one.2 in
+    let l = bind_ok (at_key (codes "lal") d) (λ lal. born_field one.0 d >>= λ born. at_key (codes "groups") d >>= λ groups. Ok (record { format = one.0; lal = lal; born = born; groups = groups })) t keys.2 in
+    let b = bind_ok (born_field one.0 d) (λ born. at_key (codes "groups") d >>= λ groups. Ok (record { format = one.0; lal = l.0; born = born; groups = groups })) t l.2 in
+    let g = bind_ok (at_key (codes "groups") d) (λ groups. Ok (record { format = one.0; lal = l.0; born = b.0; groups = groups })) t b.2 in
+    let made : TopFields = record { format = one.0; lal = l.0; born = b.0; groups = g.0 } in
+    subst (Topped d) (ok_is made t g.2) (record { born = b.1; nests = key-nests (codes "groups") d g.0 g.1 })
+
+no-born : (r : Result Data Fault) → (r >>= λ b. Ok (Some b)) ≡ Ok None → ⊥
+no-born (Ok b) h = cc
+no-born (Err e) h = cc
+
+born_of-ok : (f : Format) (d : Data) (b : Option Data) (groups born : ℕ) → born_field f d ≡ Ok b → born_of groups b ≡ Ok born → IsBorn f groups born
+born_of-ok Plain d None groups born h k = ok_is groups born k
+born_of-ok Plain d (Some v) groups born h k = absurd (cc)
+born_of-ok Weighted d None groups born h k = ok_is groups born k
+born_of-ok Weighted d (Some v) groups born h k = absurd (cc)
+born_of-ok Growing d None groups born h k = absurd (no-born (at_key (codes "born") d) h)
+born_of-ok Growing d (Some v) groups born h k =
+    let found = bind_ok (whole_of v) (λ n. if is_from_1 groups n then Ok n else Err OverLimit) born k in
+    let good = if_ok (is_from_1 groups found.0) found.0 born OverLimit found.2 in
+    subst (λ m. is_from_1 groups m ≡ true) good.1 good.0
 
 header_of-ok : (d : Data) (h : Header) → header_of d ≡ Ok h → Headed d h
 unfolding header_of
 header_of-ok d h is =
-    let keys = bind_ok (has_keys 3 d) (λ u. at_key (codes "format") d >>= λ f. at_key (codes "lal") d >>= λ l. at_key (codes "groups") d >>= λ g. from_values f l g) h is in
-    let f = bind_ok (at_key (codes "format") d) (λ f. at_key (codes "lal") d >>= λ l. at_key (codes "groups") d >>= λ g. from_values f l g) h keys.2 in
-    let l = bind_ok (at_key (codes "lal") d) (λ l. at_key (codes "groups") d >>= λ g. from_values f.0 l g) h f.2 in
-    let g = bind_ok (at_key (codes "groups") d) (λ g. from_values f.0 l.0 g) h l.2 in
-    let one = bind_ok (format_of f.0) (λ w. lal_of l.0 >>= λ lal. group_list g.0 >>= λ groups. Ok (record { is_weighted = w; lal = lal; groups = groups })) h g.2 in
-    let lal = bind_ok (lal_of l.0) (λ lal. group_list g.0 >>= λ groups. Ok (record { is_weighted = one.0; lal = lal; groups = groups })) h one.2 in
-    let list = bind_ok (group_list g.0) (λ groups. Ok (record { is_weighted = one.0; lal = lal.0; groups = groups })) h lal.2 in
-    let made : Header = record { is_weighted = one.0; lal = lal.0; groups = list.0 } in
-    let few = group_list-ok g.0 list.0 list.1 in
-    subst (Headed d) (ok_is made h list.2) (record {
-      lal = lal_of-ok l.0 lal.0 lal.1;
+    let t = bind_ok (top_fields_of d) (λ t. lal_of t.lal >>= λ lal. group_list t.groups >>= λ groups. born_of (items_len groups) t.born >>= λ born. Ok (record { format = t.format; lal = lal; born = born; groups = groups })) h is in
+    let lal = bind_ok (lal_of t.0.lal) (λ lal. group_list t.0.groups >>= λ groups. born_of (items_len groups) t.0.born >>= λ born. Ok (record { format = t.0.format; lal = lal; born = born; groups = groups })) h t.2 in
+    let list = bind_ok (group_list t.0.groups) (λ groups. born_of (items_len groups) t.0.born >>= λ born. Ok (record { format = t.0.format; lal = lal.0; born = born; groups = groups })) h lal.2 in
+    let born = bind_ok (born_of (items_len list.0) t.0.born) (λ born. Ok (record { format = t.0.format; lal = lal.0; born = born; groups = list.0 })) h list.2 in
+    let made : Header = record { format = t.0.format; lal = lal.0; born = born.0; groups = list.0 } in
+    let top = top_fields_of-ok d t.0 t.1 in
+    let few = group_list-ok t.0.groups list.0 list.1 in
+    subst (Headed d) (ok_is made h born.2) (record {
+      lal = lal_of-ok t.0.lal lal.0 lal.1;
       few = few.0;
-      nests = omega (arith, few.1, key-nests (codes "groups") d g.0 g.1);
+      born = born_of-ok t.0.format d t.0.born (items_len list.0) born.0 top.born born.1;
+      nests = omega (arith, few.1, top.nests);
     })
 
-header_of-object : (w : Bool) (lal : ℕ) (ys : List Data) → is_from_1 10000000 lal ≡ true → is_from_1 16 (items_len (items_of ys)) ≡ true → header_of (plan_object w lal ys) ≡ Ok (record { is_weighted = w; lal = lal; groups = items_of ys })
-unfolding header_of format_of lal_of group_list
-header_of-object true lal ys h k = rw (h, k) refl
-header_of-object false lal ys h k = rw (h, k) refl
+header_of-object : (f : Format) (lal born : ℕ) (ys : List Data) → is_from_1 10000000 lal ≡ true → is_from_1 16 (items_len (items_of ys)) ≡ true → IsBorn f (items_len (items_of ys)) born
+    → header_of (plan_object f lal born ys) ≡ Ok (record { format = f; lal = lal; born = born; groups = items_of ys })
+unfolding header_of top_fields_of format_of lal_of group_list
+header_of-object Plain lal born ys h k b = rw (h, k) (ap (λ n. Ok (record { format = Plain; lal = lal; born = n; groups = items_of ys })) b)
+header_of-object Weighted lal born ys h k b = rw (h, k) (ap (λ n. Ok (record { format = Weighted; lal = lal; born = n; groups = items_of ys })) b)
+header_of-object Growing lal born ys h k b = rw (h, k, b) refl
+
+object-nests : (f : Format) (lal born : ℕ) (ys : List Data) (n : ℕ) → items_depth (items_of ys) + 2 ≤ n → depth (plan_object f lal born ys) ≤ n
+object-nests Plain lal born ys n h = omega arith
+object-nests Weighted lal born ys n h = omega arith
+object-nests Growing lal born ys n h = omega arith
+
+abbrev from_header : Header → Result PlanData PlanFault
+from_header header = groups_in (is_weighted header.format) 0 header.groups >=> λ groups. Ok (record { format = header.format; lal = header.lal; born = header.born; groups = groups })
 
 -- A plan that is written with other certificates is read as the plan with these.
 pub plan-reread : (d : Data) (plan : PlanData) (vs : List Data) (rs : List (Option Rule)) → AreRead vs rs → AllGood plan.groups → plan_in d ≡ Ok plan
     → Rewritten d (λ y. plan_written d vs ≡ Ok y) (λ y. plan_in y ≡ Ok (with_certificates plan rs)) 86
 unfolding plan_in plan_written
 plan-reread d plan vs rs h good is =
-    let header = then_ok (in_text (header_of d)) (λ header. groups_in header.is_weighted 0 header.groups >=> λ groups. Ok (record { lal = header.lal; groups = groups })) plan is in
+    let header = then_ok (in_text (header_of d)) from_header plan is in
     let found : header_of d ≡ Ok header.0 = text_ok (header_of d) header.0 header.1 in
-    let groups = then_ok (groups_in header.0.is_weighted 0 header.0.groups) (λ groups. Ok (record { lal = header.0.lal; groups = groups })) plan header.2 in
-    let made : PlanData = record { lal = header.0.lal; groups = groups.0 } in
+    let groups = then_ok (groups_in (is_weighted header.0.format) 0 header.0.groups) (λ groups. Ok (record { format = header.0.format; lal = header.0.lal; born = header.0.born; groups = groups })) plan header.2 in
+    let made : PlanData = record { format = header.0.format; lal = header.0.lal; born = header.0.born; groups = groups.0 } in
     let same : made ≡ plan = ok_is made plan groups.2 in
     let headed = header_of-ok d header.0 found in
-    let all = groups-reread header.0.is_weighted 0 header.0.groups groups.0 vs rs h (subst (λ (p : PlanData). AllGood p.groups) (sym same) good) groups.1 in
+    let all = groups-reread (is_weighted header.0.format) 0 header.0.groups groups.0 vs rs h (subst (λ (p : PlanData). AllGood p.groups) (sym same) good) groups.1 in
     let few : is_from_1 16 (items_len (items_of all.values)) ≡ true = ap (is_from_1 16) all.counted ∙ headed.few in
+    let born : IsBorn header.0.format (items_len (items_of all.values)) header.0.born = subst (λ n. IsBorn header.0.format n header.0.born) (sym all.counted) headed.born in
     record {
-      value = plan_object header.0.is_weighted header.0.lal all.values;
-      is = ap (λ (r : Result Header Fault). r >>= λ h. groups_written h.groups vs >>= λ xs. Ok (plan_object h.is_weighted h.lal xs)) found ∙ (λ i. all.is i >>= λ xs. Ok (plan_object header.0.is_weighted header.0.lal xs));
-      read = (λ i. in_text (header_of-object header.0.is_weighted header.0.lal all.values headed.lal few i) >=> λ header. groups_in header.is_weighted 0 header.groups >=> λ groups. Ok (record { lal = header.lal; groups = groups }))
-          ∙ (λ i. all.read i >=> λ groups. Ok (record { lal = header.0.lal; groups = groups })) ∙ ap (λ (p : PlanData). Ok (with_certificates p rs)) same;
-      nests = λ n k l. omega (arith, headed.nests, all.nests (n - 2) (omega (arith, headed.nests)) (omega arith));
+      value = plan_object header.0.format header.0.lal header.0.born all.values;
+      is = ap (λ (r : Result Header Fault). r >>= λ h. groups_written h.groups vs >>= λ xs. Ok (plan_object h.format h.lal h.born xs)) found ∙ (λ i. all.is i >>= λ xs. Ok (plan_object header.0.format header.0.lal header.0.born xs));
+      read = (λ i. in_text (header_of-object header.0.format header.0.lal header.0.born all.values headed.lal few born i) >=> from_header)
+          ∙ (λ i. all.read i >=> λ groups. Ok (record { format = header.0.format; lal = header.0.lal; born = header.0.born; groups = groups })) ∙ ap (λ (p : PlanData). Ok (with_certificates p rs)) same;
+      nests = λ n k l. object-nests header.0.format header.0.lal header.0.born all.values n (omega (arith, headed.nests, all.nests (n - 2) (omega (arith, headed.nests)) (omega arith)));
     }

@@ -1,3 +1,4 @@
+pub mod Formats
 pub mod PlanData
 pub mod PlanFaults
 pub mod Certified

@@ -6,6 +6,7 @@ use Rattle.volume_model.specs.Formula.{Formula, Children, member, at_least, no_c
 use Rattle.volume_model.specs.Sets.{listed}
 use Rattle.volume_model.specs.Plan as model
 use Rattle.refutation.specs.Rule.{Rule}
+use Rattle.plan.specs.declared.formats.Format.{Format}
 
 -- A configuration: its parent's number, its members and those that are full, its expressions, and the certificates of its claims.
 pub record ConfigurationData : Type 0 where
@@ -17,9 +18,11 @@ pub record ConfigurationData : Type 0 where
   pub meets : Option Rule
   pub step : Option Rule
 
--- How far numbers may run ahead, and the configurations of each group.
+-- The format, how far numbers may run ahead, how many groups are there when the volume is born, and the configurations of each group.
 pub record PlanData : Type 0 where
+  pub format : Format
   pub lal : ℕ
+  pub born : ℕ
   pub groups : List (List ConfigurationData)
 
 -- what stands where there is no configuration
@@ -77,6 +80,7 @@ shown epoch x = record {
 abbrev pub model_of : PlanData → model.Plan
 model_of plan = record {
   lal = plan.lal;
+  born = plan.born;
   groups = length plan.groups;
   configurations = λ g. length (group_at plan g);
   configuration = λ g c. shown (epoch_at (group_at plan g) c) (configuration_at (group_at plan g) c);

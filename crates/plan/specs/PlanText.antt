@@ -18,6 +18,9 @@ use Rattle.plan.specs.declared.fault.Quorum.{Quorum}
 use Rattle.plan.specs.declared.fault.Quorum.TheVariants.{Read, Write}
 use Rattle.plan.specs.declared.fault.PlanFault.{PlanFault}
 use Rattle.plan.specs.declared.fault.PlanFault.TheVariants.{Text, Expression}
+use Rattle.plan.specs.declared.formats.Format.{Format}
+use Rattle.plan.specs.declared.formats.Format.TheVariants.{Plain, Weighted, Growing}
+use Rattle.plan.specs.Formats.{is_weighted, key_count}
 use Rattle.plan.specs.PlanData.{ConfigurationData, PlanData}
 
 -- ---- faults of a plan
@@ -147,10 +150,18 @@ groups_in w g (item d ds) = group_in w g d >=> λ x. groups_in w (g + 1) ds >=> 
 
 -- ---- the whole
 
--- whether expressions may have weights, how far numbers may run ahead, and the values of the groups
+-- the format, and the values at the other keys of a plan; how many groups are there at birth stands in format 3 alone
+pub record TopFields : Type 0 where
+  pub format : Format
+  pub lal : Data
+  pub born : Option Data
+  pub groups : Data
+
+-- the format, how far numbers may run ahead, how many groups are there at birth, and the values of the groups
 pub record Header : Type 0 where
-  pub is_weighted : Bool
+  pub format : Format
   pub lal : ℕ
+  pub born : ℕ
   pub groups : Items
 
 -- a list of 1 to 16 values
@@ -161,19 +172,38 @@ group_list d = array_of d >>= λ ds. if is_from_1 16 (items_len ds) then Ok ds e
 unfoldable pub lal_of : Data → Result ℕ Fault
 lal_of d = whole_of d >>= λ n. if is_from_1 10000000 n then Ok n else Err OverLimit
 
--- the number 1, or 2, by which expressions may have weights
-unfoldable pub format_of : Data → Result Bool Fault
-format_of d = whole_of d >>= λ n. if n == 1 then Ok false else (if n == 2 then Ok true else Err Malformed)
+-- one of the numbers 1 to 3
+unfoldable pub format_of : Data → Result Format Fault
+format_of d = whole_of d >>= λ n. if n == 1 then Ok Plain else (if n == 2 then Ok Weighted else (if n == 3 then Ok Growing else Err Malformed))
 
--- an object of the keys format, lal and groups alone, the format being 1 or 2
+-- the value at the key born, in format 3
+abbrev pub born_field : Format → Data → Result (Option Data) Fault
+born_field Plain d = Ok None
+born_field Weighted d = Ok None
+born_field Growing d = at_key (codes "born") d >>= λ b. Ok (Some b)
+
+-- an object of the keys format, lal and groups alone, and in format 3 of these and born alone
+unfoldable pub top_fields_of : Data → Result TopFields Fault
+top_fields_of d =
+    at_key (codes "format") d >>= λ f. format_of f >>= λ format. has_keys (key_count format) d >>= λ u. at_key (codes "lal") d >>= λ lal. born_field format d >>= λ born. at_key (codes "groups") d >>= λ groups.
+    Ok (record { format = format; lal = lal; born = born; groups = groups })
+
+-- how many of the groups are there at birth: all where nothing is said of it, or a whole number from 1 to that of all
+abbrev pub born_of : ℕ → Option Data → Result ℕ Fault
+born_of groups None = Ok groups
+born_of groups (Some d) = whole_of d >>= λ n. if is_from_1 groups n then Ok n else Err OverLimit
+
+-- the head of a plan: its keys first, and then each field in order
 unfoldable pub header_of : Data → Result Header Fault
 header_of d =
-    has_keys 3 d >>= λ u. at_key (codes "format") d >>= λ f. at_key (codes "lal") d >>= λ l. at_key (codes "groups") d >>= λ g.
-    format_of f >>= λ w. lal_of l >>= λ lal. group_list g >>= λ groups. Ok (record { is_weighted = w; lal = lal; groups = groups })
+    top_fields_of d >>= λ top. lal_of top.lal >>= λ lal. group_list top.groups >>= λ groups. born_of (items_len groups) top.born >>= λ born.
+    Ok (record { format = top.format; lal = lal; born = born; groups = groups })
 
 -- the plan that a value spells
 unfoldable pub plan_in : Data → Result PlanData PlanFault
-plan_in d = in_text (header_of d) >=> λ header. groups_in header.is_weighted 0 header.groups >=> λ groups. Ok (record { lal = header.lal; groups = groups })
+plan_in d =
+    in_text (header_of d) >=> λ header. groups_in (is_weighted header.format) 0 header.groups >=> λ groups.
+    Ok (record { format = header.format; lal = header.lal; born = header.born; groups = groups })
 
 -- what a text spells as JSON
 unfoldable pub json_of : List ℕ → Result Data Fault

@@ -1,11 +1,14 @@
 -- The JSON of a plan with other certificates, where all other values are kept.
-use Rattle.std.specs.Prelude.{ℕ, Bool, ◌+◌, ◌-◌, ◌*◌, ◌==◌, List, [], ◌∷◌, drop, Result, Ok, codes, slice_index_or, if◌then◌else◌}
+use Rattle.std.specs.Prelude.{ℕ, ◌+◌, ◌-◌, ◌*◌, ◌==◌, List, [], ◌∷◌, drop, Result, Ok, codes, slice_index_or, if◌then◌else◌}
 use Rattle.serde_json.specs.Data as json
 use Rattle.serde_json.specs.Data.{Data, null, unsigned, Items, no_items, item, no_members}
 use Rattle.serde_json.specs.Events.{items_len}
 use Rattle.serde_json.specs.View.{items_of}
 use Rattle.volume_model.specs.declared.fault.Fault.{Fault}
 use Rattle.volume_model.specs.Answer.{◌>>=◌}
+use Rattle.plan.specs.declared.formats.Format.{Format}
+use Rattle.plan.specs.declared.formats.Format.TheVariants.{Plain, Weighted, Growing}
+use Rattle.plan.specs.Formats.{number_of}
 use Rattle.plan.specs.PlanText.{Fields, fields_of, group_items, header_of}
 
 -- the value at a place, or null
@@ -46,14 +49,17 @@ groups_written no_items certificates = Ok []
 groups_written (item d ds) certificates =
     group_items d >>= λ cs. group_written cs certificates >>= λ x. groups_written ds (drop (2 * items_len cs - 1) certificates) >>= λ xs. Ok (x ∷ xs)
 
--- the number of the format, by which expressions may have weights or not
-abbrev pub format_number : Bool → ℕ
-format_number w = if w then 2 else 1
+-- the values that a plan has in each format
+abbrev pub plan_members : Format → ℕ → List Data → json.Members
+plan_members format lal xs =
+    json.member (codes "format") (json.number (unsigned (number_of format))) (json.member (codes "groups") (json.array (items_of xs)) (json.member (codes "lal") (json.number (unsigned lal)) no_members))
 
-abbrev pub plan_object : Bool → ℕ → List Data → Data
-plan_object w lal xs =
-    json.object (json.member (codes "format") (json.number (unsigned (format_number w))) (json.member (codes "groups") (json.array (items_of xs)) (json.member (codes "lal") (json.number (unsigned lal)) no_members)))
+-- A plan, of which format 3 alone says how many groups are there at birth.
+abbrev pub plan_object : Format → ℕ → ℕ → List Data → Data
+plan_object Plain lal born xs = json.object (plan_members Plain lal xs)
+plan_object Weighted lal born xs = json.object (plan_members Weighted lal xs)
+plan_object Growing lal born xs = json.object (json.member (codes "born") (json.number (unsigned born)) (plan_members Growing lal xs))
 
 -- the whole
 unfoldable pub plan_written : Data → List Data → Result Data Fault
-plan_written d certificates = header_of d >>= λ h. groups_written h.groups certificates >>= λ xs. Ok (plan_object h.is_weighted h.lal xs)
+plan_written d certificates = header_of d >>= λ h. groups_written h.groups certificates >>= λ xs. Ok (plan_object h.format h.lal h.born xs)

@@ -1,8 +1,10 @@
 -- What the parts of a text that the code holds stand for.
+use Rattle.std.specs.Prelude.{option_map}
 use Rattle.serde_json.specs.View.{view, items_view}
 use Rattle.plan.specs.declared.fields.Fields as declared
+use Rattle.plan.specs.declared.fields.TopFields as tops
 use Rattle.plan.specs.declared.fields.Header as headers
-use Rattle.plan.specs.PlanText.{Fields, Header}
+use Rattle.plan.specs.PlanText.{Fields, TopFields, Header}
 
 abbrev pub fields_data : declared.Fields → Fields
 fields_data f = record {
@@ -15,5 +17,8 @@ fields_data f = record {
   step = view f.step.now;
 }
 
+abbrev pub top_fields_data : tops.TopFields → TopFields
+top_fields_data f = record { format = f.format; lal = view f.lal.now; born = option_map (λ b. view b.now) f.born; groups = view f.groups.now }
+
 abbrev pub header_data : headers.Header → Header
-header_data h = record { is_weighted = h.is_weighted; lal = h.lal; groups = items_view h.groups.now.items }
+header_data h = record { format = h.format; lal = h.lal; born = h.born; groups = items_view h.groups.now.items }

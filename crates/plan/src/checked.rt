@@ -52,6 +52,15 @@ impl CheckedPlan {
         self.plan.groups.len() as u8
     }
 
+    /// How many groups, the first ones, are there when the volume is born. The others join it later, in order.
+    pub fn born(&self) -> u8
+        ensures born { result ≡ (checked_model self.now).born }
+        ensures some { 1 ≤ result }
+        ensures within { result ≤ (checked_model self.now).groups }
+    {
+        self.plan.born
+    }
+
     /// How many configurations a group has, and 0 where there is no such group.
     pub fn configurations(&self, group: u8) -> u8
         ensures { result ≡ (checked_model self.now).configurations group }

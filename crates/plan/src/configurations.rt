@@ -6,6 +6,7 @@ ghost use Rattle.quorum_expr.specs.Expr.{formula_of};
 ghost use Rattle.quorum_expr.specs.Valid.{expression_fault};
 ghost use Rattle.plan.specs.PlanData.{names_only};
 
+use crate::formats::Format;
 use quorum_expr::{Expr, MemberSet};
 use refutation::Certificate;
 use std::alloc::Global;
@@ -42,15 +43,22 @@ pub struct Group {
     ghost few: { length configurations.items ≤ 64 },
 }
 
-/// How far log sequence numbers may run ahead of the durable point, from 1 to 10,000,000, and the 1 to 16 groups.
+/// How far log sequence numbers may run ahead of the durable point, from 1 to 10,000,000, and the 1 to 16 groups. The
+/// first of these, 1 at least, are there when the volume is born; the others join it one by one, in order.
 #[derive(Drop)]
 pub struct Plan {
+    /// The format of its text.
+    pub format: Format,
     /// How far log sequence numbers may run ahead of the durable point.
     pub lal: u64,
+    /// How many groups are there when the volume is born.
+    pub born: u8,
     /// The groups by number.
     pub groups: Vec<Group>,
     ghost lal_some: { 1 ≤ lal },
     ghost lal_few: { lal ≤ 10000000 },
+    ghost born_some: { 1 ≤ born },
+    ghost born_within: { born ≤ length groups.items },
     ghost some: { 1 ≤ length groups.items },
     ghost few: { length groups.items ≤ 16 },
 }

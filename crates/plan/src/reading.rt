@@ -12,12 +12,13 @@ ghost use Rattle.quorum_expr.specs.Reading.{expression_in};
 ghost use Rattle.refutation.specs.Certificate.{certificate_rule};
 ghost use Rattle.plan.specs.PlanData.{names_only};
 ghost use Rattle.plan.specs.Plan.{configuration_data, group_data, plan_data};
-ghost use Rattle.plan.specs.TextForms.{fields_data, header_data};
-ghost use Rattle.plan.specs.PlanText.{Reads, fields_of, parent_of, members_from, members_of, some_members_of, lists_of, expression_error, in_quorum, certificate_or_null, step_of, configuration_in, configurations_in, is_from_1, group_items, group_in, groups_in, group_list, lal_of, format_of, header_of, plan_in, json_of, value_of, plan_of};
+ghost use Rattle.plan.specs.TextForms.{fields_data, top_fields_data, header_data};
+ghost use Rattle.plan.specs.PlanText.{Reads, fields_of, parent_of, members_from, members_of, some_members_of, lists_of, expression_error, in_quorum, certificate_or_null, step_of, configuration_in, configurations_in, is_from_1, group_items, group_in, groups_in, group_list, lal_of, format_of, born_field, top_fields_of, born_of, header_of, plan_in, json_of, value_of, plan_of};
 
 use crate::configurations::{Configuration, Group, Plan};
 use crate::fault::{PlanFault, Quorum};
-use crate::fields::{Fields, Header};
+use crate::fields::{Fields, Header, TopFields};
+use crate::formats::Format;
 use quorum_expr::{Expr, Lists, MemberSet, read_expr};
 use refutation::{
     Certificate, array, count, has_keys, number_to, read_certificate, value_at, whole,
@@ -254,16 +255,46 @@ fn groups(alloc: Global, is_weighted: bool, values: &[Value]) -> Result<Vec<Grou
     Ok(list)
 }
 
-/// The number 1, or 2, by which expressions may have weights.
+/// The format of a number from 1 to 3.
 #[tactic(auto, unfolding(crate::specs::PlanText::format_of))]
-fn format(value: &Value) -> Result<bool, Fault>
-    ensures { Gives (λ w. w) result (format_of (view value.now)) }
+fn format(value: &Value) -> Result<Format, Fault>
+    ensures { Gives (λ f. f) result (format_of (view value.now)) }
 {
     match whole(value)? {
-        1 => Ok(false),
-        2 => Ok(true),
+        1 => Ok(Format::Plain),
+        2 => Ok(Format::Weighted),
+        3 => Ok(Format::Growing),
         _ => Err(Fault::Malformed),
     }
+}
+
+/// The value of how many groups are there at birth, where the format says so.
+fn born_field(value: &Value, format: Format) -> Result<Option<&Value>, Fault>
+    ensures { Gives (λ b. option_map (λ v. view v.now) b) result (born_field format (view value.now)) }
+{
+    match format {
+        Format::Plain | Format::Weighted => Ok(None),
+        Format::Growing => Ok(Some(value_at(value, "born")?)),
+    }
+}
+
+/// The format of a plan, and the values at its other keys. `Malformed` for another object.
+#[tactic(auto, unfolding(crate::specs::PlanText::top_fields_of))]
+fn top_fields(value: &Value) -> Result<TopFields<'_>, Fault>
+    ensures { Gives top_fields_data result (top_fields_of (view value.now)) }
+{
+    let first = value_at(value, "format")?;
+    let format = format(first)?;
+    has_keys(value, format.key_count())?;
+    let lal = value_at(value, "lal")?;
+    let born = born_field(value, format)?;
+    let groups = value_at(value, "groups")?;
+    Ok(TopFields {
+        format,
+        lal,
+        born,
+        groups,
+    })
 }
 
 /// How far numbers may run ahead: from 1 to 10,000,000.
@@ -297,25 +328,42 @@ fn group_list(value: &Value) -> Result<&Vec<Value>, Fault>
     Ok(list)
 }
 
+/// How many of so many groups are there at birth: all where nothing is said of it, or from 1 to that many.
+fn born(value: Option<&Value>, groups: u8) -> Result<u8, Fault>
+    requires { 1 ≤ groups }
+    ensures read { Gives (λ n. n) result (born_of groups (option_map (λ v. view v.now) value.entry)) }
+    ensures some { IfOk result (λ n. 1 ≤ n) }
+    ensures within { IfOk result (λ n. n ≤ groups) }
+{
+    let Some(value) = value else {
+        return Ok(groups);
+    };
+    let born = whole(value)?;
+    if born < 1 || born > u64::from(groups) {
+        return Err(Fault::OverLimit);
+    }
+    Ok(born as u8)
+}
+
 /// The head of a plan, and the values of its groups.
 #[tactic(auto, unfolding(crate::specs::PlanText::header_of))]
 pub(crate) fn header(value: &Value) -> Result<Header<'_>, Fault>
     ensures read { Gives header_data result (header_of (view value.now)) }
     ensures lal_some { IfOk result (λ h. 1 ≤ h.lal) }
     ensures lal_few { IfOk result (λ h. h.lal ≤ 10000000) }
+    ensures born_some { IfOk result (λ h. 1 ≤ h.born) }
+    ensures born_within { IfOk result (λ h. h.born ≤ length h.groups.now.items) }
     ensures some { IfOk result (λ h. 1 ≤ length h.groups.now.items) }
     ensures few { IfOk result (λ h. length h.groups.now.items ≤ 16) }
 {
-    has_keys(value, 3)?;
-    let first = value_at(value, "format")?;
-    let second = value_at(value, "lal")?;
-    let third = value_at(value, "groups")?;
-    let is_weighted = format(first)?;
-    let lal = lal(second)?;
-    let groups = group_list(third)?;
+    let fields = top_fields(value)?;
+    let lal = lal(fields.lal)?;
+    let groups = group_list(fields.groups)?;
+    let born = born(fields.born, groups.len() as u8)?;
     Ok(Header {
-        is_weighted,
+        format: fields.format,
         lal,
+        born,
         groups,
     })
 }
@@ -326,9 +374,11 @@ pub(crate) fn plan(alloc: Global, value: &Value) -> Result<Plan, PlanFault>
     ensures { Reads plan_data result (plan_in (view value.now)) }
 {
     let header = header(value)?;
-    let groups = groups(alloc, header.is_weighted, header.groups)?;
+    let groups = groups(alloc, header.format.is_weighted(), header.groups)?;
     Ok(Plan {
+        format: header.format,
         lal: header.lal,
+        born: header.born,
         groups,
     })
 }
@@ -363,10 +413,10 @@ pub(crate) fn value(alloc: Global, text: &[u8]) -> Result<Value, Fault>
 /// The plan that a text spells.
 ///
 /// # Errors
-/// The first fault in reading order: the text's size, its JSON, the format, how far numbers may run ahead, the number of
-/// groups, then group by group the number of its configurations, and for each of these its keys, parent, members, full
-/// members, read and write expression, and the certificates of its claims. `Malformed` is a value of another shape than a
-/// plan's, and `OverLimit` more than a limit.
+/// The first fault in reading order: the text's size, its JSON, the keys and the format, how far numbers may run ahead, the
+/// number of groups, how many of them are there at birth, then group by group the number of its configurations, and for
+/// each of these its keys, parent, members, full members, read and write expression, and the certificates of its claims.
+/// `Malformed` is a value of another shape than a plan's, and `OverLimit` more than a limit.
 #[tactic(auto, unfolding(crate::specs::PlanText::plan_of))]
 pub fn read_plan(alloc: Global, text: &[u8]) -> Result<Plan, PlanFault>
     ensures { Reads plan_data result (plan_of text.now) }

@@ -7,11 +7,12 @@ ghost use Rattle.volume_model.specs.Answer.{Gives};
 ghost use Rattle.refutation.specs.Certificate.{certificate_rule};
 ghost use Rattle.plan.specs.PlanText.{certificate_or_null};
 ghost use Rattle.plan.specs.TextForms.{fields_data};
-ghost use Rattle.plan.specs.Rewriting.{value_or_null, fields_object, step_value, configuration_written, configurations_written, group_object, group_written, groups_written, format_number, plan_object, plan_written};
+ghost use Rattle.plan.specs.Rewriting.{value_or_null, fields_object, step_value, configuration_written, configurations_written, group_object, group_written, groups_written, plan_object, plan_written};
 ghost use Rattle.plan.specs.Written.{rewritten, HasPlaces, Writes, IsCompact};
 
 use crate::fault::PlanFault;
 use crate::fields::Fields;
+use crate::formats::Format;
 use crate::listing::claims;
 use crate::reading::{fields, group_values, header, plan, value};
 use refutation::{Certificate, write_certificate};
@@ -169,24 +170,25 @@ fn groups_json(alloc: Global, values: &[Value], certificates: &[Value]) -> Resul
     Ok(list)
 }
 
-/// The number of the format, by which expressions may have weights or not.
-fn format_number(is_weighted: bool) -> u64
-    ensures { result ≡ format_number is_weighted }
-{
-    if is_weighted { 2 } else { 1 }
-}
-
 fn plan_object(
     alloc: Global,
-    is_weighted: bool,
+    format: Format,
     lal: u64,
+    born: u8,
     groups: Vec<Value>,
 ) -> Result<Value, AllocError>
-    ensures { IfOk result (λ v. view v ≡ plan_object is_weighted lal (map view groups.items)) }
+    ensures { IfOk result (λ v. view v ≡ plan_object format lal born (map view groups.items)) }
 {
-    let format = format_number(is_weighted);
+    let number = format.number();
     let groups = Value::Array(groups);
-    json!(in alloc; {"format": format, "groups": groups, "lal": lal})
+    match format {
+        Format::Plain | Format::Weighted => {
+            json!(in alloc; {"format": number, "groups": groups, "lal": lal})
+        }
+        Format::Growing => {
+            json!(in alloc; {"born": born, "format": number, "groups": groups, "lal": lal})
+        }
+    }
 }
 
 /// The plan of a value, with other certificates.
@@ -196,7 +198,7 @@ fn plan_json(alloc: Global, value: &Value, certificates: &[Value]) -> Result<Val
 {
     let header = header(value)?;
     let groups = groups_json(alloc, header.groups, certificates)?;
-    Ok(plan_object(alloc, header.is_weighted, header.lal, groups)?)
+    Ok(plan_object(alloc, header.format, header.lal, header.born, groups)?)
 }
 
 /// The text of a plan, as compact JSON, with these certificates for its claims in their order, and null for a claim

@@ -5,7 +5,7 @@ use Rattle.serde_json.specs.View.{view}
 use Rattle.serde_json.specs.declared.value.Value.{Value, Object}
 use Rattle.serde_json.proofs.Views.{members_len-members_view, view-Object}
 use Rattle.volume_model.specs.declared.fault.Fault.{Fault}
-use Rattle.volume_model.specs.declared.fault.Fault.TheVariants.{Short, BadField, Trailing, NoMemory, BadCount, TooDeep, NotAMember, Malformed, NoSuchItem, NotDead, NoClash, NotAll, TooFewPicked, BadPair, CountTooSmall, BranchCount, BadParent, MemberReused, NoCertificate, Certificate, OverLimit, Superseded, NotInPlan, NoGroup, EpochsSpent, StaleVolume, StaleMember, AheadMember, NotInstalled, NotWhole, Full, AlreadyWhole, NotEnough, NoRecord, BadPiece, TailSegment, PointAhead, SeriesSpent, NotOpen, LimitReached, BadTransaction, LsnSpent, NotReady, AlreadyDone, NoLogRecord, NoMessage, NotAddressed, NoActor, NoSlot, JournalFull}
+use Rattle.volume_model.specs.declared.fault.Fault.TheVariants.{Short, BadField, Trailing, NoMemory, BadCount, TooDeep, NotAMember, Malformed, NoSuchItem, NotDead, NoClash, NotAll, TooFewPicked, BadPair, CountTooSmall, BranchCount, BadParent, MemberReused, NoCertificate, Certificate, OverLimit, Superseded, NotInPlan, NoGroup, EpochsSpent, AllGrown, StaleVolume, StaleMember, AheadMember, NotInstalled, NotWhole, Full, AlreadyWhole, NotEnough, NoRecord, BadPiece, TailSegment, PointAhead, SeriesSpent, NotOpen, LimitReached, BadTransaction, LsnSpent, NotReady, AlreadyDone, NoLogRecord, NotJoined, NoMessage, NotAddressed, NoActor, NoSlot, JournalFull}
 use Rattle.volume_model.specs.Answer.{Fails}
 use Rattle.volume_model.specs.Formula.{member}
 use Rattle.quorum_expr.specs.declared.form.Lists.{Lists}
@@ -38,6 +38,7 @@ Fails-at Superseded r s k h = k h
 Fails-at NotInPlan r s k h = k h
 Fails-at NoGroup r s k h = k h
 Fails-at EpochsSpent r s k h = k h
+Fails-at AllGrown r s k h = k h
 Fails-at StaleVolume r s k h = k h
 Fails-at StaleMember r s k h = k h
 Fails-at AheadMember r s k h = k h
@@ -58,6 +59,7 @@ Fails-at LsnSpent r s k h = k h
 Fails-at NotReady r s k h = k h
 Fails-at AlreadyDone r s k h = k h
 Fails-at NoLogRecord r s k h = k h
+Fails-at NotJoined r s k h = k h
 Fails-at NoMessage r s k h = k h
 Fails-at NotAddressed r s k h = k h
 Fails-at NoActor r s k h = k h

@@ -1,0 +1,46 @@
+//! The formats of a plan's text.
+
+ghost use Rattle.std.specs.Prelude.{◌≡◌};
+
+/// The format of a plan's text, by which it says more or less of the plan.
+#[derive(Clone, Copy, Debug, PartialEq, Eq)]
+pub enum Format {
+    /// Format 1: expressions without weights, and all groups are there when the volume is born.
+    Plain,
+    /// Format 2: expressions may have weights.
+    Weighted,
+    /// Format 3: expressions may have weights, and the volume may grow by groups that join later.
+    Growing,
+}
+
+impl Format {
+    ghost use Rattle.plan.specs.Formats.{is_weighted, key_count, number_of};
+
+    /// Whether expressions may have weights.
+    pub fn is_weighted(self) -> bool
+        ensures { result ≡ is_weighted self }
+    {
+        self != Format::Plain
+    }
+
+    /// How many keys a plan has.
+    pub(crate) fn key_count(self) -> usize
+        ensures { result ≡ key_count self }
+    {
+        match self {
+            Format::Plain | Format::Weighted => 3,
+            Format::Growing => 4,
+        }
+    }
+
+    /// The number that stands for it in the text.
+    pub(crate) fn number(self) -> u64
+        ensures { result ≡ number_of self }
+    {
+        match self {
+            Format::Plain => 1,
+            Format::Weighted => 2,
+            Format::Growing => 3,
+        }
+    }
+}
