@@ -1,6 +1,6 @@
 //! The authority of a volume.
 
-ghost use Rattle.std.specs.Prelude.{◌≡◌, ◌≤◌, length};
+ghost use Rattle.std.specs.Prelude.{◌≡◌, ◌<◌, ◌≤◌, length};
 ghost use Rattle.std.specs.Arc.{arc_value};
 ghost use Rattle.plan.specs.CheckedModel.{checked_model};
 
@@ -10,31 +10,35 @@ use std::sync::Arc;
 use volume_model::Fault;
 use wire::{Message, Place, StepTo, View};
 
-/// The authority of a volume: it knows the last volume epoch that it has assigned, and where it has each group.
+/// The authority of a volume: it knows the last volume epoch that it has assigned, which groups have joined, the first ones of its plan, and
+/// where it has each of them.
 #[derive(Drop)]
 pub struct Authority {
     plan: Arc<CheckedPlan>,
     last_volume: u32,
-    /// The configuration of each group.
+    /// The configuration of each group that has joined.
     configurations: Vec<u8>,
     ghost assigned: { 1 ≤ last_volume },
-    ghost each_group: { length configurations.items ≡ (checked_model (arc_value plan)).groups },
+    ghost born: { (checked_model (arc_value plan)).born ≤ length configurations.items },
+    ghost within: { length configurations.items ≤ (checked_model (arc_value plan)).groups },
+    ghost few: { length configurations.items < 256 },
 }
 
 impl Authority {
-    ghost use Rattle.std.specs.Prelude.{◌<◌, Err, Ok, IfErr, IfOk, OnOk, map};
+    ghost use Rattle.std.specs.Prelude.{Err, Ok, IfErr, IfOk, OnOk, map};
     ghost use Rattle.volume_model.specs.Answer.{refusal_of, Answers, AnswersAlways, AnswersNew};
-    ghost use Rattle.volume_model.specs.World.{opening, places_now, place_now, assigned, advance_step, advanced, refreshed};
+    ghost use Rattle.volume_model.specs.World.{opening, groups_joined, places_now, place_now, assigned, advance_step, advanced, refreshed, grown};
     ghost use Rattle.wire.specs.Message.{place_of};
-    ghost use Rattle.epochs.specs.Authority.{authority_of, authority_plan, told};
+    ghost use Rattle.epochs.specs.Authority.{authority_of, authority_plan, told, grew};
 
-    /// The authority of a new volume: volume epoch 1 is assigned, and each group stands at its root. Fails for want of memory alone.
+    /// The authority of a new volume: volume epoch 1 is assigned, and each group that is there at birth stands at its root. Fails for want of
+    /// memory alone.
     pub fn new(alloc: Global, plan: Arc<CheckedPlan>) -> Result<Authority, Fault>
         ensures authority { AnswersNew authority_of (Ok (opening (checked_model (arc_value plan))).authority) result }
         ensures plan { IfOk result (λ a. authority_plan a ≡ checked_model (arc_value plan)) }
     {
         let mut configurations = Vec::new(alloc);
-        'groups: for _ in 0..plan.groups() {
+        'groups: for _ in 0..plan.born() {
             configurations.push(0)?;
         }
         Ok(Authority {
@@ -51,6 +55,13 @@ impl Authority {
         self.last_volume
     }
 
+    /// How many groups have joined.
+    pub fn joined(&self) -> u8
+        ensures { result ≡ groups_joined (authority_of self.now) }
+    {
+        self.configurations.len() as u8
+    }
+
     /// Where it has a group.
     fn place(&self, group: u8) -> Place
         ensures { place_of result ≡ place_now (authority_plan self.now) (authority_of self.now) group }
@@ -65,12 +76,12 @@ impl Authority {
         }
     }
 
-    /// Where it has each group, in their order.
+    /// Where it has each group that has joined, in their order.
     fn places(&self, alloc: Global) -> Result<Vec<Place>, AllocError>
         ensures { IfOk result (λ places. map place_of places.items ≡ places_now (authority_plan self.now) (authority_of self.now)) }
     {
         let mut places = Vec::new(alloc);
-        for group in 0..self.plan.groups() {
+        for group in 0..self.joined() {
             places.push(self.place(group))?;
         }
         Ok(places)
@@ -103,11 +114,11 @@ impl Authority {
         }))
     }
 
-    /// The child of a group's configuration that has a number. `NoGroup` where the volume has no such group, `NotInPlan` where the group's
+    /// The child of a group's configuration that has a number. `NoGroup` where no such group has joined, `NotInPlan` where the group's
     /// configuration has no such child.
     fn child(&self, group: u8, configuration: u32) -> Result<u8, Fault>
         ensures number { IfOk result (λ child. child ≡ configuration) }
-        ensures group { OnOk result (group < (authority_plan self.now).groups) }
+        ensures group { OnOk result (group < groups_joined (authority_of self.now)) }
         ensures step { OnOk result (advanced (authority_plan self.now) (authority_of self.now) group configuration ≡ Ok (advance_step (authority_plan self.now) (authority_of self.now) group configuration)) }
         ensures refused { IfErr result (λ fault. advanced (authority_plan self.now) (authority_of self.now) group configuration ≡ Err fault) }
     {
@@ -124,8 +135,8 @@ impl Authority {
         Ok(child)
     }
 
-    /// Whether it would lead a group to a child of its configuration: else `NoGroup` where the volume has no such group, `NotInPlan` where
-    /// the group's configuration has no such child. Takes no memory.
+    /// Whether it would lead a group to a child of its configuration: else `NoGroup` where no such group has joined, `NotInPlan` where the
+    /// group's configuration has no such child. Takes no memory.
     pub fn admits_advance(&self, group: u8, configuration: u32) -> Result<(), Fault>
         ensures { result ≡ refusal_of (advanced (authority_plan self.now) (authority_of self.now) group configuration) }
     {
@@ -175,5 +186,25 @@ impl Authority {
             volume,
             places: self.places(alloc)?,
         }))
+    }
+    /// Whether it would let the next group join: `AllGrown` where every group of the plan has joined. Takes no memory.
+    pub fn admits_grow(&self) -> Result<(), Fault>
+        ensures { result ≡ refusal_of (grown (authority_plan self.now) (authority_of self.now)) }
+    {
+        if self.joined() >= self.plan.groups() {
+            return Err(Fault::AllGrown);
+        }
+        Ok(())
+    }
+
+    /// Lets the next group join, which stands at its root. Refused as [`Authority::admits_grow`] says, and `NoMemory` where there is no
+    /// memory for its number.
+    pub fn grow(&mut self) -> Result<(), Fault>
+        ensures answers { Answers grew (grown (authority_plan self.old) (authority_of self.old)) (authority_of self.old) result (authority_of self.new) }
+        ensures plan { authority_plan self.new ≡ authority_plan self.old }
+    {
+        self.admits_grow()?;
+        self.configurations.push(0)?;
+        Ok(())
     }
 }
