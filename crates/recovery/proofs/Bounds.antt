@@ -5,10 +5,9 @@ use Rattle.std.proofs.lemmas.Bool.{cases_Bool}
 use Rattle.volume_model.specs.Lists.{IsIn, added}
 use Rattle.volume_model.specs.Redo.{Redo, record_at, follow, chain_from, chain_or_none, cut_of}
 use Rattle.volume_model.specs.Lineage.{Contents, newest, found_in}
-use Rattle.volume_model.specs.Plan.{Plan}
 use Rattle.volume_model.specs.Node.{contents_of}
 use Rattle.volume_model.specs.Client.{Client, ClientGroup, reports_of}
-use Rattle.volume_model.specs.ClientRecovery.{all_reports, live_reported, log_reported}
+use Rattle.volume_model.specs.ClientRecovery.{all_reports, reported, live_reported, log_reported}
 use Rattle.volume_model.specs.Leading.{VolumeLinksFall}
 use Rattle.volume_model.specs.Few.{StepsAreFew, records_in, records_said}
 use Rattle.volume_model.proofs.Basics.{IsIn-append}
@@ -131,19 +130,18 @@ groups-are : (groups : List ClientGroup) (before : Option Found) → (client_wit
 groups-are groups None = refl
 groups-are groups (Some found) = refl
 
-pub found-most : (plan : Plan) (standings : List Standing) (before : Option Found) (count : ℕ) → StepsAreFew → length standings ≡ plan.groups → count ≡ min (records_in (reports_in (groups_of standings))) (2 ^ 64 - 1)
-    → length (log_reported plan (client_with (groups_of standings) before)) ≤ count
-found-most plan standings before count law many is =
+pub found-most : (standings : List Standing) (before : Option Found) (count : ℕ) → StepsAreFew → count ≡ min (records_in (reports_in (groups_of standings))) (2 ^ 64 - 1)
+    → length (log_reported (client_with (groups_of standings) before)) ≤ count
+found-most standings before count law is =
     let groups : List ClientGroup = groups_of standings in
     let client : Client = client_with groups before in
-    let same : all_reports (reports_of client.groups) plan.groups ≡ reports_in groups =
-    ap (λ gs. all_reports (reports_of gs) plan.groups) (groups-are groups before) ∙ all-reports groups plan.groups (length-map standings group_at ∙ many) in
-    let live : live_reported plan client ≡ live_records groups = ap (λ reports. found_in (newest reports) reports) same in
-    let ranges : (r : Redo) → IsIn r (live_reported plan client) → HasRanges r = λ r i. live-range standings r (subst (λ rs. IsIn r rs) live i) in
-    let fall : VolumeLinksFall (live_reported plan client) = λ r i. (ranges r i).prev_volume_before in
-    let cut : ℕ = cut_of (live_reported plan client) in
-    count-above (length (log_reported plan client)) (records_said plan client) cut count (law.found plan client fall) (chain-within cut (live_reported plan client) cut)
-    (cut-within (live_reported plan client) (λ r i. (ranges r i).lsn_in_range)) (is ∙ ap (λ reports. min (records_in reports) (2 ^ 64 - 1)) (sym same))
+    let same : reported client ≡ reports_in groups = ap (λ gs. all_reports (reports_of gs) (length gs)) (groups-are groups before) ∙ all-reports groups in
+    let live : live_reported client ≡ live_records groups = ap (λ reports. found_in (newest reports) reports) same in
+    let ranges : (r : Redo) → IsIn r (live_reported client) → HasRanges r = λ r i. live-range standings r (subst (λ rs. IsIn r rs) live i) in
+    let fall : VolumeLinksFall (live_reported client) = λ r i. (ranges r i).prev_volume_before in
+    let cut : ℕ = cut_of (live_reported client) in
+    count-above (length (log_reported client)) (records_said client) cut count (law.found client fall) (chain-within cut (live_reported client) cut)
+    (cut-within (live_reported client) (λ r i. (ranges r i).lsn_in_range)) (is ∙ ap (λ reports. min (records_in reports) (2 ^ 64 - 1)) (sym same))
 
 -- ---- a log as long as its packets
 

@@ -100,8 +100,9 @@ all-first groups (suc n) h =
     ∙ reports-append (take n groups) (get_or groups n no_group ∷ [])
     ∙ ap (λ l. reports_in (take n groups) ++ l) (append-nil (contents_of (reports_of groups n))))
 
-pub all-reports : (groups : List ClientGroup) (n : ℕ) → length groups ≡ n → all_reports (reports_of groups) n ≡ reports_in groups
-all-reports groups n many = all-first groups n (omega (arith, many)) ∙ ap reports_in (take_all n groups (omega (arith, many)))
+-- what a client's reports say, by its groups
+pub all-reports : (groups : List ClientGroup) → all_reports (reports_of groups) (length groups) ≡ reports_in groups
+all-reports groups = all-first groups (length groups) (omega arith) ∙ ap reports_in (take_all (length groups) groups (omega arith))
 
 -- a cut, from the reports that the client has
 abbrev cut_with : Plan → ℕ → List ClientGroup → List Contents → ClientAnswer
@@ -109,34 +110,34 @@ cut_with plan volume groups reported =
     let parent = newest reported in
     let records = found_in parent reported in
     refuse_if (not (has_read plan (keeping groups))) NotReady (
-    extension parent volume (cut_of records) plan.lal >>= λ lineage. Ok (cut_step plan volume (keeping groups) (log_found records) lineage))
+    extension parent volume (cut_of records) plan.lal >>= λ lineage. Ok (cut_step volume (keeping groups) (log_found records) lineage))
 
 -- memory may be missing wherever enough is read
 late-then : (b : Bool) (own : Lineage) (step : Lineage → ClientStep) → may_want_memory is_spent (refuse_if b LsnSpent (Ok own) >>= λ lineage. Ok (step lineage)) ≡ true
 late-then true own step = refl
 late-then false own step = refl
 
-module _ (plan : Plan) (volume : ℕ) (groups : List ClientGroup) (before : Option Found) (many : length groups ≡ plan.groups) (none : before ≡ None) (ready : has_read plan (keeping groups) ≡ true) where
+module _ (plan : Plan) (volume : ℕ) (groups : List ClientGroup) (before : Option Found) (none : before ≡ None) (ready : has_read plan (keeping groups) ≡ true) where
   -- the lineage that it finds
   abbrev found : Result Lineage Fault
   found = extension (newest (reports_in groups)) volume (cut_of (live_records groups)) plan.lal
 
   -- its step, under a lineage
   abbrev cut_under : Lineage → ClientStep
-  cut_under lineage = cut_step plan volume (keeping groups) (log_found (live_records groups)) lineage
+  cut_under lineage = cut_step volume (keeping groups) (log_found (live_records groups)) lineage
 
   cuts : cut_client plan volume (client_with groups before) ≡ (found >>= λ lineage. Ok (cut_under lineage))
   cuts =
       ap (λ b. cut_client plan volume (client_with groups b)) none
-      ∙ ap (cut_with plan volume groups) (all-reports groups plan.groups many)
+      ∙ ap (cut_with plan volume groups) (all-reports groups)
       ∙ ap (λ b. refuse_if (not b) NotReady (found >>= λ lineage. Ok (cut_under lineage))) ready
 
   -- what a recovery finds that hasn't cut, and has read enough, is what its cut leaves
   pub cut-found : (result : Result Found Fault) → Gives (λ f. lineage_of f.lineage) result found → IfOk result (λ f. log_of f.log.items ≡ log_found (live_records groups))
-      → AnswersLate is_spent (found_step plan volume) (cut_client plan volume (client_with groups before)) groups result groups
+      → AnswersLate is_spent (found_step volume) (cut_client plan volume (client_with groups before)) groups result groups
   cut-found (Ok f) h log =
       cuts ∙ ap (λ (r : Result Lineage Fault). r >>= λ lineage. Ok (cut_under lineage)) h
-      ∙ ap (λ (l : List Redo). Ok (cut_step plan volume (keeping groups) l (lineage_of f.lineage))) (sym log)
+      ∙ ap (λ (l : List Redo). Ok (cut_step volume (keeping groups) l (lineage_of f.lineage))) (sym log)
   cut-found (Err NoMemory) h log =
       let own = extended (newest (reports_in groups)) volume (cut_of (live_records groups)) plan.lal in
       (ap (may_want_memory is_spent) cuts ∙ late-then (nat_lt (2 ^ 62) (last_start own)) own cut_under, refl)

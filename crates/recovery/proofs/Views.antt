@@ -1,20 +1,22 @@
 -- What a View does to a recovery.
-use Rattle.std.proofs.Common.{◌≡◌, ℕ, zero, suc, ◌<◌, Bool, true, false, List, [], ◌∷◌, ◌++◌, Option, Some, None, Result, Ok, Err, length, map, if◌then◌else◌, refl, sym, ap, ap₂, ◌∙◌, subst, arith}
+use Rattle.std.proofs.Common.{◌≡◌, ℕ, Bool, true, List, Option, Some, None, Result, Ok, Err, length, map, refl, sym, ap, ap₂, ◌∙◌, subst}
 use Rattle.std.specs.Prelude.{OnOk, OnErr}
 use Rattle.std.proofs.lemmas.Bool.{eq-eqb}
-use Rattle.volume_model.specs.Lists.{each_below, joined}
+use Rattle.std.proofs.lemmas.List.{length-map}
 use Rattle.volume_model.specs.Plan.{Plan}
 use Rattle.volume_model.specs.Message as model
 use Rattle.volume_model.specs.Message.{place_in}
 use Rattle.volume_model.specs.Redo.{Redo}
-use Rattle.volume_model.specs.Pieces.{in_pieces}
 use Rattle.volume_model.specs.Lineage.{Lineage}
 use Rattle.volume_model.specs.Client.{ClientGroup, unborn, newly_at, place_of, label_of}
-use Rattle.volume_model.specs.ClientRecovery.{fences, installs, to_install}
-use Rattle.volume_model.specs.ClientMessages.{is_later, later_in, later_group, reread_group, with_places, are_places, taken}
+use Rattle.volume_model.specs.ClientRecovery.{fences, installs}
+use Rattle.volume_model.specs.ClientMessages.{later_in, later_group, reread_group, with_places, are_places, taken}
+use Rattle.volume_model.proofs.Groups.{group_of-new}
 use Rattle.lineage.specs.Lineage.{lineage_of}
+use Rattle.wire.specs.declared.label.Place.{Place}
+use Rattle.wire.specs.Message as wire
 use Rattle.writer_core.specs.Logs.{log_of}
-use Rattle.writer_core.proofs.Placing.{new-place, places-many}
+use Rattle.writer_core.proofs.Views.{each-same, fences-with_places, installs-with_places}
 use Rattle.recovery.specs.declared.found.Found.{Found}
 use Rattle.recovery.specs.Recoveries.{client_with}
 use Rattle.recovery.specs.Cuts.{are_older}
@@ -25,72 +27,46 @@ pub either : {A B C : Type 0} (r : Result A B) (P : C → Type 0) (new changed o
 either (Ok x) P new changed old e f p q = subst P (sym e) p
 either (Err x) P new changed old e f p q = subst P (sym f) q
 
--- ---- the same messages
-
-each-same : {A : Type 0} (n : ℕ) (test : ℕ → Bool) (f g : ℕ → A) → ((k : ℕ) → k < n → test k ≡ true → f k ≡ g k) → each_below n test f ≡ each_below n test g
-each-same zero test f g h = refl
-each-same (suc n) test f g h =
-    let inner : each_below n test f ≡ each_below n test g = each-same n test f g (λ k l t. h k (omega arith) t) in
-    ap₂ (λ a b. a ++ b) inner (last (test n) refl)
-  where
-    last : (b : Bool) → test n ≡ b → (if b then f n ∷ [] else []) ≡ (if b then g n ∷ [] else [])
-    last true e = ap (λ x. x ∷ []) (h n (omega arith) e)
-    last false e = refl
-
-with_places-raised : (move : ClientGroup → model.Place → ClientGroup) → ((g : ClientGroup) (p : model.Place) → is_later g.place p ≡ true → (move g p).place ≡ p) → (groups : List ClientGroup) (places : List model.Place) → length groups ≡ length places
-    → (k : ℕ) → k < length groups → later_in (place_of groups) (place_in places) k ≡ true → place_of (with_places move groups places) k ≡ place_in places k
-with_places-raised move on [] places many k h raised = absurd (omega arith)
-with_places-raised move on (g ∷ groups) [] many k h raised = absurd (omega arith)
-with_places-raised move on (g ∷ groups) (p ∷ places) many zero h raised = on g p raised
-with_places-raised move on (g ∷ groups) (p ∷ places) many (suc k) h raised = with_places-raised move on groups places (omega arith) k (omega arith) raised
-
-fences-with_places : (plan : Plan) (volume : ℕ) (groups : List ClientGroup) (places : List model.Place) → length groups ≡ plan.groups → are_places plan places ≡ true
-    → fences plan volume (place_in places) (later_in (place_of groups) (place_in places)) ≡ fences plan volume (place_of (with_places reread_group groups places)) (later_in (place_of groups) (place_in places))
-fences-with_places plan volume groups places many good =
-    let wide : length places ≡ plan.groups = places-many plan places good in
-    each-same plan.groups (later_in (place_of groups) (place_in places)) (λ k. model.Message.Fence k (label_of volume (place_in places) k)) (λ k. model.Message.Fence k (label_of volume (place_of (with_places reread_group groups places)) k))
-    (λ k l t. ap (λ (p : model.Place). model.Message.Fence k (record { volume = volume; member = p.epoch })) (sym (with_places-raised reread_group (λ g p e. rw e refl) groups places (many ∙ sym wide) k (omega (arith, many, l)) t)))
-
-installs-with_places : (plan : Plan) (volume : ℕ) (groups : List ClientGroup) (places : List model.Place) (lineage : Lineage) (log : List Redo) → length groups ≡ plan.groups → are_places plan places ≡ true
-    → installs plan volume (place_in places) lineage log (later_in (place_of groups) (place_in places)) ≡ installs plan volume (place_of (with_places later_group groups places)) lineage log (later_in (place_of groups) (place_in places))
-installs-with_places plan volume groups places lineage log many good =
-    let wide : length places ≡ plan.groups = places-many plan places good in
-    let said : (ℕ → model.Place) → ℕ → List model.Message = λ at k. in_pieces (to_install lineage log k) (model.Message.Install k (label_of volume at k)) in
-    ap joined (each-same plan.groups (later_in (place_of groups) (place_in places)) (said (place_in places)) (said (place_of (with_places later_group groups places)))
-    (λ k l t. ap (λ (p : model.Place). in_pieces (to_install lineage log k) (model.Message.Install k (record { volume = volume; member = p.epoch }))) (sym (with_places-raised later_group (λ g p e. rw e refl) groups places (many ∙ sym wide) k (omega (arith, many, l)) t))))
-
 -- ---- a later View
 
-pub view-reading : (plan : Plan) (volume of : ℕ) (groups now : List ClientGroup) (places : List model.Place) (found : Option Found) (made : List model.Message) → of ≡ volume → length groups ≡ plan.groups → are_places plan places ≡ true → found ≡ None
-    → now ≡ with_places reread_group groups places → made ≡ fences plan volume (place_in places) (later_in (place_of groups) (place_in places))
-    → taken plan volume (client_with groups found) (model.Message.View of places) ≡ Ok (record { made = made; client = client_with now found })
-view-reading plan volume of groups now places found made same many good none new is =
-    let base : taken plan volume (client_with groups None) (model.Message.View of places) ≡ Ok (record { made = made; client = client_with (with_places reread_group groups places) None }) =
-    rw (eq-eqb of volume same, good) (ap (λ ms. Ok (record { made = ms; client = client_with (with_places reread_group groups places) None })) (sym (is ∙ fences-with_places plan volume groups places many good))) in
-    subst (λ f. taken plan volume (client_with groups f) (model.Message.View of places) ≡ Ok (record { made = made; client = client_with now f })) (sym none)
-    (base ∙ ap (λ gs. Ok (record { made = made; client = client_with gs None })) (sym new))
+pub view-reading : (plan : Plan) (volume of : ℕ) (groups now : List ClientGroup) (items : List Place) (found : Option Found) (made : List model.Message) → of ≡ volume → are_places plan (map wire.place_of items) ≡ true → found ≡ None
+    → now ≡ with_places reread_group groups (map wire.place_of items) → made ≡ fences (length items) volume (place_in (map wire.place_of items)) (later_in (place_of groups) (place_in (map wire.place_of items)))
+    → taken plan volume (client_with groups found) (model.Message.View of (map wire.place_of items)) ≡ Ok (record { made = made; client = client_with now found })
+view-reading plan volume of groups now items found made same good none new is =
+    let places : List model.Place = map wire.place_of items in
+    let chosen : ℕ → Bool = later_in (place_of groups) (place_in places) in
+    let said : made ≡ fences (length places) volume (place_of (with_places reread_group groups places)) chosen =
+    is ∙ ap (λ n. fences n volume (place_in places) chosen) (sym (length-map items wire.place_of)) ∙ fences-with_places (length places) volume groups places chosen (λ k t. t) in
+    let base : taken plan volume (client_with groups None) (model.Message.View of places) ≡ Ok (record { made = made; client = client_with now None }) =
+    rw (eq-eqb of volume same, good) (ap₂ (λ ms gs. Ok (record { made = ms; client = client_with gs None })) (sym said) (sym new)) in
+    subst (λ f. taken plan volume (client_with groups f) (model.Message.View of places) ≡ Ok (record { made = made; client = client_with now f })) (sym none) base
 
-pub view-installing : (plan : Plan) (volume of : ℕ) (groups now : List ClientGroup) (places : List model.Place) (before : Option Found) (found : Found) (made : List model.Message) → of ≡ volume → length groups ≡ plan.groups → are_places plan places ≡ true → before ≡ Some found
-    → now ≡ with_places later_group groups places → made ≡ installs plan volume (place_in places) (lineage_of found.lineage) (log_of found.log.items) (later_in (place_of groups) (place_in places))
-    → taken plan volume (client_with groups before) (model.Message.View of places) ≡ Ok (record { made = made; client = client_with now before })
-view-installing plan volume of groups now places before found made same many good there new is =
-    let base : taken plan volume (client_with groups (Some found)) (model.Message.View of places) ≡ Ok (record { made = made; client = client_with (with_places later_group groups places) (Some found) }) =
-    rw (eq-eqb of volume same, good) (ap (λ ms. Ok (record { made = ms; client = client_with (with_places later_group groups places) (Some found) })) (sym (is ∙ installs-with_places plan volume groups places (lineage_of found.lineage) (log_of found.log.items) many good))) in
-    subst (λ f. taken plan volume (client_with groups f) (model.Message.View of places) ≡ Ok (record { made = made; client = client_with now f })) (sym there)
-    (base ∙ ap (λ gs. Ok (record { made = made; client = client_with gs (Some found) })) (sym new))
+pub view-installing : (plan : Plan) (volume of : ℕ) (groups now : List ClientGroup) (items : List Place) (before : Option Found) (found : Found) (made : List model.Message) → of ≡ volume → are_places plan (map wire.place_of items) ≡ true → before ≡ Some found
+    → now ≡ with_places later_group groups (map wire.place_of items) → made ≡ installs (length items) volume (place_in (map wire.place_of items)) (lineage_of found.lineage) (log_of found.log.items) (later_in (place_of groups) (place_in (map wire.place_of items)))
+    → taken plan volume (client_with groups before) (model.Message.View of (map wire.place_of items)) ≡ Ok (record { made = made; client = client_with now before })
+view-installing plan volume of groups now items before found made same good there new is =
+    let places : List model.Place = map wire.place_of items in
+    let chosen : ℕ → Bool = later_in (place_of groups) (place_in places) in
+    let lineage : Lineage = lineage_of found.lineage in
+    let log : List Redo = log_of found.log.items in
+    let said : made ≡ installs (length places) volume (place_of (with_places later_group groups places)) lineage log chosen =
+    is ∙ ap (λ n. installs n volume (place_in places) lineage log chosen) (sym (length-map items wire.place_of)) ∙ installs-with_places (length places) volume groups places lineage log chosen (λ k t. t) in
+    let base : taken plan volume (client_with groups (Some found)) (model.Message.View of places) ≡ Ok (record { made = made; client = client_with now (Some found) }) =
+    rw (eq-eqb of volume same, good) (ap₂ (λ ms gs. Ok (record { made = ms; client = client_with gs (Some found) })) (sym said) (sym new)) in
+    subst (λ f. taken plan volume (client_with groups f) (model.Message.View of places) ≡ Ok (record { made = made; client = client_with now f })) (sym there) base
 
 -- ---- the first View
 
-fences-new : (plan : Plan) (volume : ℕ) (places : List model.Place) → are_places plan places ≡ true → fences plan volume (place_of (map newly_at places)) (λ group. true) ≡ fences plan volume (place_in places) (λ group. true)
-fences-new plan volume places good =
-    let wide : length places ≡ plan.groups = places-many plan places good in
-    each-same plan.groups (λ group. true) (λ k. model.Message.Fence k (label_of volume (place_of (map newly_at places)) k)) (λ k. model.Message.Fence k (label_of volume (place_in places) k))
-    (λ k l t. ap (λ (p : model.Place). model.Message.Fence k (record { volume = volume; member = p.epoch })) (new-place places k (omega (arith, wide, l))))
+fences-new : (volume : ℕ) (places : List model.Place) → fences (length (map newly_at places)) volume (place_of (map newly_at places)) (λ group. true) ≡ fences (length places) volume (place_in places) (λ group. true)
+fences-new volume places =
+    ap (λ n. fences n volume (place_of (map newly_at places)) (λ group. true)) (length-map places newly_at)
+    ∙ each-same (length places) (λ group. true) (λ k. model.Message.Fence k (label_of volume (place_of (map newly_at places)) k)) (λ k. model.Message.Fence k (label_of volume (place_in places) k))
+    (λ k l t. ap (λ (g : ClientGroup). model.Message.Fence k (record { volume = volume; member = g.place.epoch })) (group_of-new places k))
 
-pub birth-is : (plan : Plan) (volume : ℕ) (places : List model.Place) (groups : List ClientGroup) (made : List model.Message) → are_places plan places ≡ true → groups ≡ map newly_at places → made ≡ fences plan volume (place_of groups) (λ group. true)
+pub birth-is : (plan : Plan) (volume : ℕ) (places : List model.Place) (groups : List ClientGroup) (made : List model.Message) → are_places plan places ≡ true → groups ≡ map newly_at places → made ≡ fences (length groups) volume (place_of groups) (λ group. true)
     → taken plan volume unborn (model.Message.View volume places) ≡ Ok (record { made = made; client = client_with groups None })
 birth-is plan volume places groups made good same is =
-    let said : made ≡ fences plan volume (place_in places) (λ group. true) = is ∙ ap (λ gs. fences plan volume (place_of gs) (λ group. true)) same ∙ fences-new plan volume places good in
+    let said : made ≡ fences (length places) volume (place_in places) (λ group. true) = is ∙ ap (λ gs. fences (length gs) volume (place_of gs) (λ group. true)) same ∙ fences-new volume places in
     rw (eq-eqb volume volume refl, good) (ap₂ (λ ms gs. Ok (record { made = ms; client = client_with gs None })) (sym said) (sym same))
 
 pub found-older : (volume : ℕ) (places : List model.Place) (groups : List ClientGroup) → groups ≡ map newly_at places → are_older volume groups ≡ true

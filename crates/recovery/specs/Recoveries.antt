@@ -77,8 +77,8 @@ abbrev pub begun : Recovery × Vec Message Global → ClientStep
 begun (r, messages) = record { made = messages_of messages.items; client = client_of r }
 
 -- the cut of a recovery that keeps these of its groups, with what it finds
-abbrev pub found_step : Plan → ℕ → Found → List ClientGroup → ClientStep
-found_step plan volume found groups = cut_step plan volume (keeping groups) (log_of found.log.items) (lineage_of found.lineage)
+abbrev pub found_step : ℕ → Found → List ClientGroup → ClientStep
+found_step volume found groups = cut_step volume (keeping groups) (log_of found.log.items) (lineage_of found.lineage)
 
 -- a call isn't refused
 abbrev pub admitted : Unit {0} → Unit {0} → Unit {0}

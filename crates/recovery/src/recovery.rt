@@ -57,7 +57,7 @@ impl Recovery {
     }
 
     /// Whether a message makes a recovery: `NotAddressed` where it is no View, `NotInPlan` where its places aren't those of the plan's
-    /// groups, each at one of its configurations. Takes no memory.
+    /// first groups, of all that are there at birth at least, each at one of its configurations. Takes no memory.
     pub fn admits_birth(plan: &CheckedPlan, message: &Message) -> Result<(), Fault>
         ensures refusal { result ≡ refusal_of (birth_of (checked_model plan.now) (message_of message.now)) }
         ensures own { IfErr result (λ fault. fault ≢ NoMemory) }
@@ -68,7 +68,7 @@ impl Recovery {
         }
     }
 
-    /// A recovery from its first View, with one Fence a group. Refused as [`Recovery::admits_birth`] says.
+    /// A recovery from its first View, with one Fence a group of the View. Refused as [`Recovery::admits_birth`] says.
     pub fn new(
         alloc: Global,
         plan: Arc<CheckedPlan>,
@@ -101,13 +101,14 @@ impl Recovery {
 
     /// How many groups the volume has.
     pub fn groups(&self) -> u8
-        ensures { result ≡ (recovery_plan self.now).groups }
+        ensures all { result ≡ (recovery_plan self.now).groups }
+        ensures view { length (client_of self.now).groups ≤ result }
     {
         self.standings.plan().groups()
     }
 
     /// Whether a later View can be taken: `NotAddressed` where it is one of another volume epoch, `NotInPlan` where its places aren't
-    /// those of the plan's groups, each at one of its configurations. Takes no memory.
+    /// those of the plan's first groups, of all that are there at birth at least, each at one of its configurations. Takes no memory.
     pub fn admits_view(&self, view: &View) -> Result<(), Fault>
         ensures refusal { result ≡ refusal_of (taken (recovery_plan self.now) (recovery_volume self.now) (client_of self.now) (message_of (Message.View view.now))) }
         ensures epoch { OnOk result (view.now.volume ≡ recovery_volume self.now) }
@@ -123,8 +124,8 @@ impl Recovery {
         Ok(())
     }
 
-    /// Takes a later View. Each group moves to its place where that is one of a later epoch; for each such group it makes a Fence
-    /// before its cut, when the group's reports no longer count, and the group's Installs after it. Refused as [`Recovery::admits_view`] says.
+    /// Takes a later View. Each group moves to its place where that is one of a later epoch, which a group that is new always is; for each
+    /// such group it makes a Fence before its cut, when the group's reports no longer count, and the group's Installs after it. Refused as [`Recovery::admits_view`] says.
     pub fn view(&mut self, alloc: Global, view: &View) -> Result<Vec<Message>, Fault>
         ensures answers { Answers acted (taken (recovery_plan self.old) (recovery_volume self.old) (client_of self.old) (message_of (Message.View view.now))) (client_of self.old) result (client_of self.new) }
         ensures plan { recovery_plan self.new ≡ recovery_plan self.old }
@@ -135,12 +136,12 @@ impl Recovery {
         match &self.found {
             None => {
                 let messages = later_fences(alloc, self.volume, &self.standings, places)?;
-                self.standings.reread(places);
+                self.standings.reread(places)?;
                 Ok(messages)
             }
             Some(found) => {
                 let messages = later_installs(alloc, self.volume, &self.standings, found, places)?;
-                self.standings.follow(places);
+                self.standings.follow(places)?;
                 Ok(messages)
             }
         }
@@ -207,7 +208,7 @@ impl Recovery {
 
     /// What a cut finds, refused as [`Recovery::admits_cut`] says.
     fn find_cut(&self, alloc: Global) -> Result<Found, Fault>
-        ensures { AnswersLate is_spent (found_step (recovery_plan self.now) (recovery_volume self.now)) (cut_client (recovery_plan self.now) (recovery_volume self.now) (client_of self.now)) (recovery_groups self.now) result (recovery_groups self.now) }
+        ensures { AnswersLate is_spent (found_step (recovery_volume self.now)) (cut_client (recovery_plan self.now) (recovery_volume self.now) (client_of self.now)) (recovery_groups self.now) result (recovery_groups self.now) }
     {
         if self.found.is_some() {
             return Err(Fault::AlreadyDone);
@@ -248,7 +249,7 @@ impl Recovery {
 
     /// No more records than this many has the log that its reports hold.
     pub fn reported(&self) -> usize
-        ensures { length (log_reported (recovery_plan self.now) (client_of self.now)) ≤ result }
+        ensures { length (log_reported (client_of self.now)) ≤ result }
     {
         steps_are_few();
         records_said(self.standings.as_slice())

@@ -1,7 +1,7 @@
 -- What a writer does with an acknowledgement.
-use Rattle.std.proofs.Common.{◌≡◌, ℕ, ◌<◌, ◌≤◌, true, List, Ok, sym, ap, ◌∙◌}
-use Rattle.std.specs.Prelude.{not, nat_le, nat_lt, if◌then◌else◌, ◌==◌}
-use Rattle.std.proofs.lemmas.Bool.{and_parts, ltb-true, le-leb}
+use Rattle.std.proofs.Common.{◌≡◌, ℕ, ◌≤◌, true, List, Ok, sym, ap, ◌∙◌}
+use Rattle.std.specs.Prelude.{not, nat_le, if◌then◌else◌}
+use Rattle.std.proofs.lemmas.Bool.{le-leb}
 use Rattle.volume_model.specs.Plan.{Plan}
 use Rattle.volume_model.specs.Redo.{Redo}
 use Rattle.volume_model.specs.Lineage.{Lineage}
@@ -18,11 +18,6 @@ use Rattle.writer_core.specs.Standings.{counted_in}
 -- the writer that keeps these of its groups
 abbrev pub with_groups : List ClientGroup → Lineage → List Redo → List Redo → Client
 with_groups groups lineage found log = record { stage = Writing; groups = groups; lineage = lineage; found = found; log = log }
-
--- it is of a group of the volume
-pub of_group : (volume groups group sender reached : ℕ) (label : Label) → is_for volume groups (Ack group label sender reached) ≡ true → group < groups
-of_group volume groups group sender reached label h =
-    ltb-true group groups (and_parts (nat_lt group groups) (nat_lt sender 64) (and_parts (label.volume == volume) _ h).1).0
 
 -- it is counted, and the points are raised
 pub ack_counted : (plan : Plan) (volume : ℕ) (groups now : List ClientGroup) (lineage : Lineage) (found log : List Redo) (group sender reached : ℕ) (label : Label) → is_for volume plan.groups (Ack group label sender reached) ≡ true

@@ -1,7 +1,7 @@
 -- Tests that each number below a bound passes.
-use Rattle.std.proofs.Common.{◌≡◌, ℕ, zero, suc, ◌+◌, ◌<◌, Bool, true, false, ◌&&◌, List, [], ◌∷◌, length, get_or, map, ap, ap₂, ◌∙◌, refl, subst, inl, inr, arith, add-one}
-use Rattle.std.specs.Prelude.{◌==◌}
-use Rattle.std.proofs.lemmas.Bool.{cases_lt}
+use Rattle.std.proofs.Common.{◌≡◌, ℕ, zero, suc, ◌+◌, ◌<◌, ◌≤◌, Bool, true, false, ◌&&◌, nat_le, List, [], ◌∷◌, length, get_or, map, ap, ap₂, ◌∙◌, refl, subst, inl, inr, arith, add-one}
+use Rattle.std.proofs.lemmas.Bool.{cases_lt, and_parts, leb-true}
+use Rattle.std.proofs.lemmas.List.{length-map}
 use Rattle.volume_model.specs.Lists.{every_below}
 use Rattle.volume_model.specs.Plan.{Plan, is_configuration}
 use Rattle.volume_model.specs.Message as model
@@ -40,9 +40,23 @@ is_place plan places group = is_configuration plan group (place_in places group)
 pub is_place-at : (plan : Plan) (places : List Place) (i : ℕ) (d : Place) → i < length places → is_place plan (map place_of places) i ≡ is_configuration plan i (get_or places i d).configuration (get_or places i d).epoch
 is_place-at plan places i d h = ap (λ (p : model.Place). is_configuration plan i p.configuration p.epoch) (place_in-at places i d h)
 
+-- ---- places of the plan's first groups
+
+-- the places are as many as the plan allows, and each is one of a configuration
+abbrev pub ArePlaces : Plan → List model.Place → Type 0
+ArePlaces plan places = (plan.born ≤ length places) × (length places ≤ plan.groups) × (every_below (length places) (is_place plan places) ≡ true)
+
+pub places-parts : (plan : Plan) (places : List model.Place) → are_places plan places ≡ true → ArePlaces plan places
+places-parts plan places h =
+    let outer = and_parts (nat_le plan.born (length places)) _ h in
+    let inner = and_parts (nat_le (length places) plan.groups) (every_below (length places) (is_place plan places)) outer.1 in
+    (leb-true plan.born (length places) outer.0, leb-true (length places) plan.groups inner.0, inner.1)
+
 -- one place that isn't such
-pub places-fail : (plan : Plan) (places : List Place) (i : ℕ) (d : Place) → i < length places → length places ≡ plan.groups → is_configuration plan i (get_or places i d).configuration (get_or places i d).epoch ≡ false → are_places plan (map place_of places) ≡ false
-places-fail plan places i d h many e =
-    let below : i < plan.groups = omega arith in
-    ap (λ b. (length (map place_of places) == plan.groups) && b) (below-fails plan.groups (is_place plan (map place_of places)) i below (is_place-at plan places i d h ∙ e))
-    ∙ and_false (length (map place_of places) == plan.groups)
+pub places-fail : (plan : Plan) (places : List Place) (i : ℕ) (d : Place) → i < length places → is_configuration plan i (get_or places i d).configuration (get_or places i d).epoch ≡ false → are_places plan (map place_of places) ≡ false
+places-fail plan places i d h e =
+    let ps : List model.Place = map place_of places in
+    let many : length ps ≡ length places = length-map places place_of in
+    ap (λ b. nat_le plan.born (length ps) && (nat_le (length ps) plan.groups && b)) (below-fails (length ps) (is_place plan ps) i (omega arith) (is_place-at plan places i d h ∙ e))
+    ∙ ap (λ b. nat_le plan.born (length ps) && b) (and_false (nat_le (length ps) plan.groups))
+    ∙ and_false (nat_le plan.born (length ps))

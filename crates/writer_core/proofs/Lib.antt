@@ -13,3 +13,5 @@ pub mod OneMore
 pub mod Placing
 pub mod Raising
 pub mod Rising
+pub mod Speaking
+pub mod Views

@@ -88,7 +88,7 @@ module _ (volume start : ℕ) (places : ℕ → model.Place) (changes : List Cha
       parts : (a b : Bool) → (a && b) ≡ true → (a ≡ true) × (b ≡ true)
       parts a b e = grind (arith, nat_tests)
 
-pub front_on : (records : List Packet) (p : Packet) (front : List Packet) → take (length front) records ≡ front → take (length front) (records ++ p ∷ []) ≡ front
+pub front_on : {A : Type 0} (records : List A) (p : A) (front : List A) → take (length front) records ≡ front → take (length front) (records ++ p ∷ []) ≡ front
 front_on records p front e =
     let l : length (take (length front) records) ≡ length front = ap length e in
     let within : length front ≤ length records = omega (arith, l, length-take (length front) records) in

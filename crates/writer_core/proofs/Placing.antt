@@ -1,16 +1,19 @@
 -- Groups whose points are raised, and where they stand.
-use Rattle.std.proofs.Common.{◌≡◌, ℕ, zero, suc, ◌+◌, ◌<◌, Bool, true, false, List, [], ◌∷◌, ◌++◌, length, drop, take, get_or, ◌⊎◌, inl, inr, refl, sym, ap, ap₂, ◌∙◌, arith, subst, drop-cons, add-one, append_assoc}
-use Rattle.std.specs.Prelude.{◌==◌, map, slice_set, replicate, Result, Ok, Err, OnOk, OnErr}
-use Rattle.std.proofs.lemmas.List.{map-append, map-set, take_more_set, drop-set-lt}
+use Rattle.std.proofs.Common.{◌≡◌, ℕ, zero, suc, ◌+◌, ◌-◌, ◌<◌, ◌≤◌, Bool, true, false, List, [], ◌∷◌, ◌++◌, length, drop, take, get_or, ◌⊎◌, inl, inr, refl, sym, ap, ap₂, ◌∙◌, arith, subst, drop-cons, add-one, append_assoc, append-nil}
+use Rattle.std.specs.Prelude.{max, map, slice_set, replicate, Result, Ok, Err, OnOk, OnErr}
+use Rattle.std.proofs.lemmas.List.{length-map, length-replicate, length-set, length_push, replicate_more, drop_all, map-append, map-set, take-append-drop, take_more_set, drop-set-lt}
+use Rattle.wire.specs.declared.label.Place.{Place}
 use Rattle.wire.specs.Message as wire
 use Rattle.volume_model.specs.Lists.{every_below}
 use Rattle.volume_model.specs.Message as model
 use Rattle.volume_model.specs.Message.{place_in}
 use Rattle.volume_model.proofs.Basics.{every_below-all}
-use Rattle.std.proofs.lemmas.Bool.{cases_Bool, and_parts, ltb-true, eqb-true}
+use Rattle.volume_model.proofs.Groups.{length-slice_set, group_of-beyond, length-with_places, group_of-with_places}
+use Rattle.volume_model.proofs.Views.{place_in-beyond}
+use Rattle.std.proofs.lemmas.Bool.{cases_Bool, cases_lt, and_parts, ltb-true}
 use Rattle.volume_model.specs.Plan.{Plan}
-use Rattle.writer_core.proofs.Below.{below-fails, is_place}
-use Rattle.volume_model.specs.Client.{ClientGroup, group_of, place_of, newly_at, at_root}
+use Rattle.writer_core.proofs.Below.{below-fails, is_place, places-parts}
+use Rattle.volume_model.specs.Client.{ClientGroup, no_group, group_of, place_of, newly_at, born_group}
 use Rattle.volume_model.specs.ClientPoints.{raised_group, raised_from}
 use Rattle.volume_model.specs.ClientMessages.{with_places, later_group, reread_group, is_later, are_places}
 use Rattle.writer_core.specs.declared.standing.Standing.{Standing}
@@ -27,16 +30,19 @@ places-set (x ∷ xs) (suc i) (suc k) g e = places-set xs i k g e
 
 -- a group that stays where it stood
 pub placed-set : (plan : Plan) (groups : List ClientGroup) (i : ℕ) (g : ClientGroup) → g.place ≡ place_of groups i → ArePlaced plan groups → ArePlaced plan (slice_set groups i g)
-placed-set plan groups i g e placed k h = subst (λ place. place.configuration < plan.configurations k) (sym (places-set groups i k g e)) (placed k h)
+placed-set plan groups i g e placed k h =
+    subst (λ (place : model.Place). place.configuration < plan.configurations k) (sym (places-set groups i k g e)) (placed k (subst (λ n. k < n) (length-slice_set groups i g) h))
 
-roots-place : (n k : ℕ) → (place_of (replicate n (newly_at at_root)) k).configuration ≡ 0
+roots-place : (n k : ℕ) → (place_of (replicate n born_group) k).configuration ≡ 0
 roots-place zero k = refl
 roots-place (suc n) zero = refl
 roots-place (suc n) (suc k) = roots-place n k
 
 -- groups at their roots
-pub roots-placed : (plan : Plan) (n : ℕ) → ((group : ℕ) → group < plan.groups → 0 < plan.configurations group) → ArePlaced plan (replicate n (newly_at at_root))
-roots-placed plan n there k h = subst (λ c. c < plan.configurations k) (sym (roots-place n k)) (there k h)
+pub roots-placed : (plan : Plan) (n : ℕ) → n ≤ plan.groups → ((group : ℕ) → group < plan.groups → 0 < plan.configurations group) → ArePlaced plan (replicate n born_group)
+roots-placed plan n few there k h =
+    let within : k < n = subst (λ m. k < m) (length-replicate n born_group) h in
+    subst (λ c. c < plan.configurations k) (sym (roots-place n k)) (there k (omega arith))
 
 -- ---- the group at hand
 
@@ -92,13 +98,30 @@ changed-placed plan standings i s t within is stays placed =
     let here : (group_at t).place ≡ place_of (groups_of standings) i = ap wire.place_of stays ∙ sym (ap (λ (g : ClientGroup). g.place) (group-is standings i s within is)) in
     subst (ArePlaced plan) (sym (map-set group_at standings i t)) (placed-set plan (groups_of standings) i (group_at t) here placed)
 
+-- no group more
+pub changed-within : (most : ℕ) (standings : List Standing) (i : ℕ) (t : Standing) → length standings ≤ most → length (slice_set standings i t) ≤ most
+changed-within most standings i t few = subst (λ n. n ≤ most) (sym (length-set standings i t)) few
+
+-- ---- groups that are taken up
+
+-- one more that stands nowhere yet
+pub taken-up : (initial now next : List Standing) (s : Standing) → length initial ≤ length now → next ≡ now ++ s ∷ [] → group_at s ≡ no_group
+    → groups_of now ≡ groups_of initial ++ replicate (length now - length initial) no_group → groups_of next ≡ groups_of initial ++ replicate (length next - length initial) no_group
+taken-up initial now next s within is none before =
+    let longer : length next ≡ length now + 1 = ap length is ∙ length_push now s in
+    let many : (length now - length initial) + 1 ≡ length next - length initial = omega arith in
+    ap groups_of is ∙ map-append group_at now (s ∷ []) ∙ ap₂ (λ gs g. gs ++ g ∷ []) before none
+    ∙ append_assoc (groups_of initial) (replicate (length now - length initial) no_group) (no_group ∷ [])
+    ∙ ap (λ l. groups_of initial ++ l) (replicate_more (length now - length initial) no_group ∙ ap (λ n. replicate n no_group) many)
+
 -- ---- whole read sets and write sets
 
 -- one group that fails, so that not all pass
-pub group-fails : (n : ℕ) (standings : List Standing) (i : ℕ) (s : Standing) (test : ℕ → ClientGroup → Bool) → length standings ≡ n → i < length standings → s ≡ get_or standings i s → test i (group_at s) ≡ false
-    → every_below n (λ g. test g (group_of (groups_of standings) g)) ≡ false
-group-fails n standings i s test many h is e =
-    below-fails n (λ g. test g (group_of (groups_of standings) g)) i (omega arith) (ap (test i) (group-is standings i s h is) ∙ e)
+pub group-fails : (standings : List Standing) (i : ℕ) (s : Standing) (test : ℕ → ClientGroup → Bool) → i < length standings → s ≡ get_or standings i s → test i (group_at s) ≡ false
+    → every_below (length (groups_of standings)) (λ g. test g (group_of (groups_of standings) g)) ≡ false
+group-fails standings i s test h is e =
+    let many : length (groups_of standings) ≡ length standings = length-map standings group_at in
+    below-fails (length (groups_of standings)) (λ g. test g (group_of (groups_of standings) g)) i (omega arith) (ap (test i) (group-is standings i s h is) ∙ e)
 
 -- ---- groups that are moved
 
@@ -112,33 +135,76 @@ later-moves g p = elim (cases_Bool (is_later g.place p)) [ inl e ↦ inr (rw e r
 pub reread-moves : MovesOn reread_group
 reread-moves g p = elim (cases_Bool (is_later g.place p)) [ inl e ↦ inr (rw e refl) | inr e ↦ inl (rw e refl) ]
 
-with_places-place : (move : ClientGroup → model.Place → ClientGroup) → MovesOn move → (groups : List ClientGroup) (places : List model.Place) → length groups ≡ length places → (k : ℕ) → k < length groups
-    → (place_of (with_places move groups places) k ≡ place_of groups k) ⊎ (place_of (with_places move groups places) k ≡ place_in places k)
-with_places-place move on [] places many k h = absurd (omega arith)
-with_places-place move on (g ∷ groups) [] many k h = absurd (omega arith)
-with_places-place move on (g ∷ groups) (p ∷ places) many zero h = on g p
-with_places-place move on (g ∷ groups) (p ∷ places) many (suc k) h = with_places-place move on groups places (omega arith) k (omega arith)
+-- all that have a place are moved to it
+pub moved-all : (move : ClientGroup → model.Place → ClientGroup) (standings : List Standing) (places : List Place) (i : ℕ) (whole : List ClientGroup) → length places ≤ i
+    → groups_of (take i standings) ++ with_places move (groups_of (drop i standings)) (map wire.place_of (drop i places)) ≡ whole → groups_of standings ≡ whole
+moved-all move standings places i whole end h =
+    sym (ap groups_of (take-append-drop i standings)) ∙ map-append group_at (take i standings) (drop i standings)
+    ∙ ap (λ ps. groups_of (take i standings) ++ with_places move (groups_of (drop i standings)) (map wire.place_of ps)) (sym (drop_all i places end)) ∙ h
+
+-- a group that was taken up beforehand is moved as one that is new
+with_places-taken : (move : ClientGroup → model.Place → ClientGroup) (groups : List ClientGroup) (places : List model.Place) (n : ℕ) → n ≡ length places - length groups → with_places move (groups ++ replicate n no_group) places ≡ with_places move groups places
+with_places-taken move groups [] n h = let e : n ≡ 0 = omega arith in ap (λ m. groups ++ replicate m no_group) e ∙ append-nil groups
+with_places-taken move [] (p ∷ places) n h =
+    let e : n ≡ suc (length places) = omega arith in
+    ap (λ m. with_places move (replicate m no_group) (p ∷ places)) e ∙ ap (λ gs. move no_group p ∷ gs) (with_places-taken move [] places (length places) (omega arith))
+with_places-taken move (g ∷ groups) (p ∷ places) n h = ap (λ gs. move g p ∷ gs) (with_places-taken move groups places n (omega arith))
+
+-- groups that were taken up, and then moved
+pub moved-on : (move : ClientGroup → model.Place → ClientGroup) (old extended moved : List Standing) (places : List Place) → groups_of extended ≡ groups_of old ++ replicate (length places - length old) no_group
+    → groups_of moved ≡ with_places move (groups_of extended) (map wire.place_of places) → groups_of moved ≡ with_places move (groups_of old) (map wire.place_of places)
+moved-on move old extended moved places more is =
+    let many : length (map wire.place_of places) ≡ length places = length-map places wire.place_of in
+    let kept : length (groups_of old) ≡ length old = length-map old group_at in
+    is ∙ ap (λ gs. with_places move gs (map wire.place_of places)) more ∙ with_places-taken move (groups_of old) (map wire.place_of places) (length places - length old) (omega arith)
 
 -- each place is one of a configuration
-place-good : (plan : Plan) (places : List model.Place) → are_places plan places ≡ true → (k : ℕ) → k < plan.groups → (place_in places k).configuration < plan.configurations k
+place-good : (plan : Plan) (places : List model.Place) → are_places plan places ≡ true → (k : ℕ) → k < length places → (place_in places k).configuration < plan.configurations k
 place-good plan places h k within =
-    let parts = and_parts (length places == plan.groups) (every_below plan.groups (is_place plan places)) h in
-    let good : is_place plan places k ≡ true = every_below-all plan.groups (is_place plan places) parts.1 k within in
+    let good : is_place plan places k ≡ true = every_below-all (length places) (is_place plan places) (places-parts plan places h).2 k within in
     ltb-true (place_in places k).configuration (plan.configurations k) (and_parts _ _ good).0
 
-pub places-many : (plan : Plan) (places : List model.Place) → are_places plan places ≡ true → length places ≡ plan.groups
-places-many plan places h = eqb-true (length places) plan.groups (and_parts (length places == plan.groups) (every_below plan.groups (is_place plan places)) h).0
+-- no more places than the plan has groups
+pub places-within : (plan : Plan) (places : List model.Place) → are_places plan places ≡ true → length places ≤ plan.groups
+places-within plan places h = (places-parts plan places h).1
+
+-- groups that are moved are no more than the plan has
+pub moved-within : (plan : Plan) (move : ClientGroup → model.Place → ClientGroup) (old moved : List Standing) (places : List model.Place) → length old ≤ plan.groups → are_places plan places ≡ true → groups_of moved ≡ with_places move (groups_of old) places → length moved ≤ plan.groups
+moved-within plan move old moved places few good is =
+    let wide : length places ≤ plan.groups = places-within plan places good in
+    let many : length (groups_of moved) ≡ max (length (groups_of old)) (length places) = ap length is ∙ length-with_places move (groups_of old) places in
+    let before : length (groups_of old) ≡ length old = length-map old group_at in
+    let after : length (groups_of moved) ≡ length moved = length-map moved group_at in
+    omega arith
+
+-- epoch 0 at the root, where a group stands that the client doesn't have
+abbrev nowhere : model.Place
+nowhere = record { configuration = 0; epoch = 0 }
 
 -- groups that are moved to places of the plan
-pub with_places-placed : (plan : Plan) (move : ClientGroup → model.Place → ClientGroup) → MovesOn move → (groups : List ClientGroup) (places : List model.Place) → length groups ≡ plan.groups → are_places plan places ≡ true → ArePlaced plan groups → ArePlaced plan (with_places move groups places)
-with_places-placed plan move on groups places many good placed k h =
-    let wide : length places ≡ plan.groups = places-many plan places good in
-    let same : length groups ≡ length places = many ∙ sym wide in
-    let within : k < length groups = omega (arith, many, h) in
-    elim (with_places-place move on groups places same k within) [
-      | inl e ↦ subst (λ (p : model.Place). p.configuration < plan.configurations k) (sym e) (placed k h)
-      | inr e ↦ subst (λ (p : model.Place). p.configuration < plan.configurations k) (sym e) (place-good plan places good k h)
+pub with_places-placed : (plan : Plan) (move : ClientGroup → model.Place → ClientGroup) → MovesOn move → ((g : ClientGroup) → move g nowhere ≡ g) → (groups : List ClientGroup) (places : List model.Place) → are_places plan places ≡ true → ArePlaced plan groups → ArePlaced plan (with_places move groups places)
+with_places-placed plan move on same groups places good placed k h =
+    let at : group_of (with_places move groups places) k ≡ move (group_of groups k) (place_in places k) = group_of-with_places move same groups places k in
+    let within : k < max (length groups) (length places) = subst (λ n. k < n) (length-with_places move groups places) h in
+    elim (cases_lt k (length places)) [
+      | inl there ↦ fits (ap (λ (g : ClientGroup). g.place) at) there
+      | inr beyond ↦ (
+          let stays : group_of (with_places move groups places) k ≡ group_of groups k = at ∙ ap (move (group_of groups k)) (place_in-beyond places k beyond) ∙ same (group_of groups k) in
+          subst (λ (g : ClientGroup). g.place.configuration < plan.configurations k) (sym stays) (placed k (omega arith)))
     ]
+  where
+    fits : place_of (with_places move groups places) k ≡ (move (group_of groups k) (place_in places k)).place → k < length places → (place_of (with_places move groups places) k).configuration < plan.configurations k
+    fits at there =
+        let fit : (place_in places k).configuration < plan.configurations k = place-good plan places good k there in
+        elim (on (group_of groups k) (place_in places k)) [
+          | inl e ↦ elim (cases_lt k (length groups)) [
+            | inl old ↦ subst (λ (p : model.Place). p.configuration < plan.configurations k) (sym (at ∙ e)) (placed k old)
+            | inr new ↦ (
+                let none : place_of groups k ≡ nowhere = ap (λ (g : ClientGroup). g.place) (group_of-beyond groups k new) in
+                subst (λ (p : model.Place). p.configuration < plan.configurations k) (sym (at ∙ e ∙ none)) (omega arith))
+          ]
+          | inr e ↦ subst (λ (p : model.Place). p.configuration < plan.configurations k) (sym (at ∙ e)) fit
+        ]
 
 pub new-place : (places : List model.Place) (k : ℕ) → k < length places → place_of (map newly_at places) k ≡ place_in places k
 new-place [] k h = absurd (omega arith)
@@ -148,5 +214,5 @@ new-place (p ∷ places) (suc k) h = new-place places k (omega arith)
 -- groups that a client finds at places of the plan
 pub found-placed : (plan : Plan) (places : List model.Place) → are_places plan places ≡ true → ArePlaced plan (map newly_at places)
 found-placed plan places good k h =
-    let wide : length places ≡ plan.groups = places-many plan places good in
-    subst (λ (p : model.Place). p.configuration < plan.configurations k) (sym (new-place places k (omega (arith, wide, h)))) (place-good plan places good k h)
+    let within : k < length places = subst (λ n. k < n) (length-map places newly_at) h in
+    subst (λ (p : model.Place). p.configuration < plan.configurations k) (sym (new-place places k within)) (place-good plan places good k within)

@@ -1,17 +1,17 @@
 -- The point of one group is raised, where those of the others are raised already.
-use Rattle.std.proofs.Common.{◌≡◌, ℕ, zero, suc, ◌+◌, ◌<◌, ◌≤◌, true, false, ◌==◌, max, List, [], ◌∷◌, length, refl, sym, ap, ap₂, ◌∙◌, subst, inl, inr, arith, get_or-set_same}
+use Rattle.std.proofs.Common.{◌≡◌, ℕ, zero, suc, ◌+◌, ◌<◌, ◌≤◌, Bool, true, false, ◌||◌, ◌==◌, max, List, [], ◌∷◌, length, refl, sym, ap, ap₂, ◌∙◌, subst, inl, inr, arith, get_or-set_same}
 use Rattle.std.specs.Prelude.{slice_set}
-use Rattle.std.proofs.lemmas.List.{set-set}
+use Rattle.std.proofs.lemmas.List.{set-set, set_past}
 use Rattle.std.proofs.lemmas.Bool.{cases_Bool, cases_lt, true≢false, eqb-true}
 use Rattle.volume_model.specs.Lists.{IsIn}
 use Rattle.volume_model.specs.Formula.{Formula, sat}
 use Rattle.volume_model.specs.Plan.{Plan}
 use Rattle.volume_model.specs.Client.{Count, ClientGroup, no_group, group_of, group_point_of, place_configuration}
-use Rattle.volume_model.specs.ClientPoints.{reaching, best, with_count, raised_group, raised_from, raised}
+use Rattle.volume_model.specs.ClientPoints.{reaching, best, counted_by, with_count, raised_group, raised_from, raised}
 use Rattle.volume_model.proofs.FormulaLaws.{sat_more}
-use Rattle.volume_model.proofs.Groups.{set-all, group_of-raised}
+use Rattle.volume_model.proofs.Groups.{set-all, length-slice_set, group_of-beyond, group_of-raised, length-raised}
 use Rattle.volume_model.proofs.Points.{reaching-some, reaching-from}
-use Rattle.writer_core.specs.Raised.{counted_point, AreRaised, raised_in}
+use Rattle.writer_core.specs.Raised.{counted_point, AreRaised, HaveJoined, raised_in}
 use Rattle.writer_core.specs.Standings.{counted_group, counted_in}
 
 -- ---- what counts satisfy
@@ -78,23 +78,36 @@ best-counted write counts sender reached n low le =
           | inr e ↦ e
         ]
 
--- ---- points that are raised already
+-- ---- groups that are raised already
 
--- a group whose point is raised already
-raised_group-same : (plan : Plan) (number : ℕ) (g : ClientGroup) → counted_point plan number g ≤ g.group_point → raised_group plan number g ≡ g
-raised_group-same plan number g h =
+-- the group has joined where its counted acknowledgements satisfy its write expression
+abbrev HasJoined : Plan → ℕ → ClientGroup → Type 0
+HasJoined plan number g = sat (place_configuration plan number g.place).write (counted_by g.counts) ≡ true → g.joined ≡ true
+
+or-same : (a b : Bool) → (b ≡ true → a ≡ true) → (a || b) ≡ a
+or-same true b h = refl
+or-same false true h = sym (h refl)
+or-same false false h = refl
+
+or-right : (a b : Bool) → b ≡ true → (a || b) ≡ true
+or-right true b h = refl
+or-right false b h = h
+
+-- a group whose point is raised already, and that has joined if it may
+raised_group-same : (plan : Plan) (number : ℕ) (g : ClientGroup) → counted_point plan number g ≤ g.group_point → HasJoined plan number g → raised_group plan number g ≡ g
+raised_group-same plan number g h j =
     let same : max g.group_point (counted_point plan number g) ≡ g.group_point = omega arith in
-    ap (λ (n : ℕ). record g { group_point = n }) same
+    ap₂ (λ (n : ℕ) (b : Bool). record g { group_point = n; joined = b }) same (or-same g.joined (sat (place_configuration plan number g.place).write (counted_by g.counts)) j)
 
 -- from a number on
 abbrev AreRaisedFrom : Plan → ℕ → List ClientGroup → Type 0
-AreRaisedFrom plan n groups = (k : ℕ) → counted_point plan (n + k) (group_of groups k) ≤ group_point_of groups k
+AreRaisedFrom plan n groups = (k : ℕ) → k < length groups → raised_group plan (n + k) (group_of groups k) ≡ group_of groups k
 
 rest_raised : (plan : Plan) (n : ℕ) (g : ClientGroup) (groups : List ClientGroup) → AreRaisedFrom plan n (g ∷ groups) → AreRaisedFrom plan (suc n) groups
-rest_raised plan n g groups h k = let e : n + suc k ≡ suc n + k = omega arith in subst (λ m. counted_point plan m (group_of groups k) ≤ group_point_of groups k) e (h (suc k))
+rest_raised plan n g groups h k l = let e : n + suc k ≡ suc n + k = omega arith in subst (λ m. raised_group plan m (group_of groups k) ≡ group_of groups k) e (h (suc k) (omega arith))
 
 first_raised : (plan : Plan) (n : ℕ) (g : ClientGroup) (groups : List ClientGroup) → AreRaisedFrom plan n (g ∷ groups) → raised_group plan n g ≡ g
-first_raised plan n g groups h = let e : n + 0 ≡ n = omega arith in raised_group-same plan n g (subst (λ m. counted_point plan m g ≤ g.group_point) e (h 0))
+first_raised plan n g groups h = let e : n + 0 ≡ n = omega arith in subst (λ m. raised_group plan m g ≡ g) e (h 0 (omega arith))
 
 raised_from-same : (plan : Plan) (n : ℕ) (groups : List ClientGroup) → AreRaisedFrom plan n groups → raised_from plan n groups ≡ groups
 raised_from-same plan n [] h = refl
@@ -109,36 +122,58 @@ raised_from-set plan n (x ∷ xs) (suc i) g h =
     let e : suc n + i ≡ n + suc i = omega arith in
     ap₂ (λ (y : ClientGroup) ys. y ∷ ys) (first_raised plan n x xs h) (raised_from-set plan (suc n) xs i g (rest_raised plan n x xs h) ∙ ap (λ m. slice_set xs i (raised_group plan m g)) e)
 
-raised_at_all : (plan : Plan) (groups : List ClientGroup) → AreRaised plan groups → AreRaisedFrom plan 0 groups
-raised_at_all plan groups h k = let e : k ≡ 0 + k = omega arith in subst (λ m. counted_point plan m (group_of groups k) ≤ group_point_of groups k) e (h k)
+raised_at_all : (plan : Plan) (groups : List ClientGroup) → AreRaised plan groups → HaveJoined plan groups → AreRaisedFrom plan 0 groups
+raised_at_all plan groups h j k l =
+    let e : k ≡ 0 + k = omega arith in
+    subst (λ m. raised_group plan m (group_of groups k) ≡ group_of groups k) e (raised_group-same plan k (group_of groups k) (h k) (j k l))
 
 -- raising them again changes nothing
-pub raised-same : (plan : Plan) (groups : List ClientGroup) → AreRaised plan groups → raised plan groups ≡ groups
-raised-same plan groups h = raised_from-same plan 0 groups (raised_at_all plan groups h)
+pub raised-same : (plan : Plan) (groups : List ClientGroup) → AreRaised plan groups → HaveJoined plan groups → raised plan groups ≡ groups
+raised-same plan groups h j = raised_from-same plan 0 groups (raised_at_all plan groups h j)
 
 -- points that were raised
 pub are_raised : (plan : Plan) (groups : List ClientGroup) → AreRaised plan (raised plan groups)
-are_raised plan groups k = subst (λ (g : ClientGroup). counted_point plan k g ≤ g.group_point) (sym (group_of-raised plan groups k)) (omega arith)
+are_raised plan groups k = elim (cases_lt k (length groups)) [
+  | inl there ↦ subst (λ (g : ClientGroup). counted_point plan k g ≤ g.group_point) (sym (group_of-raised plan groups k there)) (omega arith)
+  | inr beyond ↦ (
+      let l : length (raised plan groups) ≡ length groups = length-raised plan groups in
+      subst (λ (g : ClientGroup). counted_point plan k g ≤ g.group_point) (sym (group_of-beyond (raised plan groups) k (omega arith))) (omega arith))
+]
+
+-- groups that were raised have joined where they may
+pub have_joined : (plan : Plan) (groups : List ClientGroup) → HaveJoined plan (raised plan groups)
+have_joined plan groups k l =
+    let within : k < length groups = subst (λ n. k < n) (length-raised plan groups) l in
+    subst (HasJoined plan k) (sym (group_of-raised plan groups k within)) (or-right (group_of groups k).joined (sat (place_configuration plan k (group_of groups k).place).write (counted_by (group_of groups k).counts)))
 
 -- the same, of a plan and of groups that are these
 pub raised_all : (plan now : Plan) (groups next : List ClientGroup) → now ≡ plan → next ≡ raised plan groups → AreRaised now next
 raised_all plan now groups next same rises = subst (λ p. AreRaised p next) (sym same) (subst (AreRaised plan) (sym rises) (are_raised plan groups))
 
+pub joined_all : (plan now : Plan) (groups next : List ClientGroup) → now ≡ plan → next ≡ raised plan groups → HaveJoined now next
+joined_all plan now groups next same rises = subst (λ p. HaveJoined p next) (sym same) (subst (HaveJoined plan) (sym rises) (have_joined plan groups))
+
 -- ---- one acknowledgement more
 
--- where one group has changed, its point alone is to be raised
-pub raised-set : (plan : Plan) (groups : List ClientGroup) (i : ℕ) (g : ClientGroup) → i < length groups → AreRaised plan groups → raised_in plan (slice_set groups i g) i ≡ raised plan (slice_set groups i g)
-raised-set plan groups i g within h =
-    let here : group_of (slice_set groups i g) i ≡ g = get_or-set_same groups i g no_group within in
+-- where one group has changed, it alone is to be raised
+pub raised-set : (plan : Plan) (groups : List ClientGroup) (i : ℕ) (g : ClientGroup) → AreRaised plan groups → HaveJoined plan groups → raised_in plan (slice_set groups i g) i ≡ raised plan (slice_set groups i g)
+raised-set plan groups i g h j =
     let e : 0 + i ≡ i = omega arith in
-    ap (λ x. slice_set (slice_set groups i g) i (raised_group plan i x)) here
-    ∙ set-set groups i g (raised_group plan i g)
-    ∙ sym (raised_from-set plan 0 groups i g (raised_at_all plan groups h) ∙ ap (λ m. slice_set groups i (raised_group plan m g)) e)
+    let whole : raised plan (slice_set groups i g) ≡ slice_set groups i (raised_group plan i g) =
+    raised_from-set plan 0 groups i g (raised_at_all plan groups h j) ∙ ap (λ m. slice_set groups i (raised_group plan m g)) e in
+    elim (cases_lt i (length groups)) [
+      | inl there ↦ ap (λ x. slice_set (slice_set groups i g) i (raised_group plan i x)) (get_or-set_same groups i g no_group there)
+          ∙ set-set groups i g (raised_group plan i g) ∙ sym whole
+      | inr beyond ↦ (
+          let many : length (slice_set groups i g) ≡ length groups = length-slice_set groups i g in
+          set_past (slice_set groups i g) i (raised_group plan i (group_of (slice_set groups i g) i)) (omega arith)
+          ∙ set_past groups i g beyond ∙ sym (set_past groups i (raised_group plan i g) beyond) ∙ sym whole)
+    ]
 
--- an acknowledgement was counted and the point of its group raised: so all are
-pub raised-counted : (plan : Plan) (old now next : List ClientGroup) (group sender reached : ℕ) → AreRaised plan old → group < length old → now ≡ counted_in old group sender reached → next ≡ raised_in plan now group → next ≡ raised plan (counted_in old group sender reached)
-raised-counted plan old now next group sender reached h within counts rises =
-    rises ∙ ap (λ groups. raised_in plan groups group) counts ∙ raised-set plan old group (counted_group (group_of old group) sender reached) within h
+-- an acknowledgement was counted and its group raised: so all are
+pub raised-counted : (plan : Plan) (old now next : List ClientGroup) (group sender reached : ℕ) → AreRaised plan old → HaveJoined plan old → now ≡ counted_in old group sender reached → next ≡ raised_in plan now group → next ≡ raised plan (counted_in old group sender reached)
+raised-counted plan old now next group sender reached h j counts rises =
+    rises ∙ ap (λ groups. raised_in plan groups group) counts ∙ raised-set plan old group (counted_group (group_of old group) sender reached) h j
 
 -- an acknowledgement that isn't above its group's point leaves nothing to raise
 pub counted_raised : (plan : Plan) (groups : List ClientGroup) (group sender reached : ℕ) → AreRaised plan groups → reached ≤ group_point_of groups group → AreRaised plan (counted_in groups group sender reached)
@@ -146,7 +181,18 @@ counted_raised plan groups group sender reached h le =
     set-all no_group (λ k (g : ClientGroup). counted_point plan k g ≤ g.group_point) groups group (counted_group (group_of groups group) sender reached)
     (best-counted (place_configuration plan group (group_of groups group).place).write (group_of groups group).counts sender reached (group_point_of groups group) (h group) le) h
 
+-- one of a group that has joined leaves none to join
+pub counted_joined : (plan : Plan) (groups : List ClientGroup) (group sender reached : ℕ) → HaveJoined plan groups → (group_of groups group).joined ≡ true → HaveJoined plan (counted_in groups group sender reached)
+counted_joined plan groups group sender reached j there k l =
+    set-all no_group (λ k (g : ClientGroup). k < length groups → HasJoined plan k g) groups group (counted_group (group_of groups group) sender reached)
+    (λ within sets. there) j k (subst (λ n. k < n) (length-slice_set groups group (counted_group (group_of groups group) sender reached)) l)
+
 -- it raises no point
 pub group_point_of-counted_in : (groups : List ClientGroup) (group sender reached k : ℕ) → group_point_of (counted_in groups group sender reached) k ≡ group_point_of groups k
 group_point_of-counted_in groups group sender reached =
     set-all no_group (λ g x. x.group_point ≡ group_point_of groups g) groups group (counted_group (group_of groups group) sender reached) refl (λ g. refl)
+
+-- and lets no group join
+pub joined-counted_in : (groups : List ClientGroup) (group sender reached k : ℕ) → (group_of (counted_in groups group sender reached) k).joined ≡ (group_of groups k).joined
+joined-counted_in groups group sender reached =
+    set-all no_group (λ g x. x.joined ≡ (group_of groups g).joined) groups group (counted_group (group_of groups group) sender reached) refl (λ g. refl)

@@ -1,18 +1,19 @@
 -- The points of groups rise.
-use Rattle.std.proofs.Common.{◌≡◌, ℕ, ◌≤◌, List, refl, ap, ◌∙◌, inl, inr, arith}
-use Rattle.std.proofs.lemmas.Bool.{cases_Bool}
+use Rattle.std.proofs.Common.{◌≡◌, ℕ, ◌≤◌, List, length, refl, ap, ◌∙◌, inl, inr, arith}
+use Rattle.std.proofs.lemmas.Bool.{cases_Bool, cases_lt}
 use Rattle.volume_model.specs.Plan.{Plan}
 use Rattle.volume_model.specs.Message.{Place, place_in}
 use Rattle.volume_model.specs.Client.{ClientGroup, no_group, group_of, group_point_of}
 use Rattle.volume_model.specs.ClientPoints.{raised, raised_group}
 use Rattle.volume_model.specs.ClientMessages.{with_places, later_group, is_later}
-use Rattle.volume_model.proofs.Groups.{set-all, group_of-with_places, later_group-none, group_of-raised}
+use Rattle.volume_model.proofs.Groups.{set-all, group_of-beyond, group_of-with_places, later_group-none, group_of-raised}
 use Rattle.writer_core.specs.Standings.{counted_group, counted_in}
 
 group_point_of-raised : (plan : Plan) (groups : List ClientGroup) (k : ℕ) → group_point_of groups k ≤ group_point_of (raised plan groups) k
-group_point_of-raised plan groups k =
-    let e : group_point_of (raised plan groups) k ≡ (raised_group plan k (group_of groups k)).group_point = ap (λ g. g.group_point) (group_of-raised plan groups k) in
-    omega arith
+group_point_of-raised plan groups k = elim (cases_lt k (length groups)) [
+  | inl there ↦ (let e : group_point_of (raised plan groups) k ≡ (raised_group plan k (group_of groups k)).group_point = ap (λ g. g.group_point) (group_of-raised plan groups k there) in omega arith)
+  | inr beyond ↦ (let e : group_point_of groups k ≡ 0 = ap (λ g. g.group_point) (group_of-beyond groups k beyond) in omega arith)
+]
 
 -- an acknowledgement was counted, and the points were raised
 pub group_point_of-counted : (plan : Plan) (groups : List ClientGroup) (group sender reached k : ℕ) → group_point_of groups k ≤ group_point_of (raised plan (counted_in groups group sender reached)) k

@@ -1,5 +1,5 @@
 -- What a client keeps of its groups, as the model's client keeps it.
-use Rattle.std.specs.Prelude.{ℕ, ◌<◌, List, map, slice_set}
+use Rattle.std.specs.Prelude.{ℕ, ◌<◌, List, length, map, slice_set}
 use Rattle.volume_model.specs.Plan.{Plan}
 use Rattle.volume_model.specs.Node.{From, with_first}
 use Rattle.volume_model.specs.Client as model
@@ -14,15 +14,15 @@ use Rattle.writer_core.specs.Counts.{counts_of}
 
 -- what a client keeps of a group
 abbrev pub group_at : Standing → ClientGroup
-group_at s = record { place = place_of s.place; reports = copies_in s.copies.items; counts = counts_of s.counts.items; group_point = s.point }
+group_at s = record { place = place_of s.place; reports = copies_in s.copies.items; counts = counts_of s.counts.items; group_point = s.point; joined = s.joined }
 
 -- what a client keeps of its groups
 abbrev pub groups_of : List Standing → List ClientGroup
 groups_of standings = map group_at standings
 
--- each group of the plan stands at one of its configurations
+-- each group stands at one of its configurations
 abbrev pub ArePlaced : Plan → List ClientGroup → Type 0
-ArePlaced plan groups = (group : ℕ) → group < plan.groups → (model.place_of groups group).configuration < plan.configurations group
+ArePlaced plan groups = (group : ℕ) → group < length groups → (model.place_of groups group).configuration < plan.configurations group
 
 -- a group with an acknowledgement counted
 abbrev pub counted_group : ClientGroup → ℕ → ℕ → ClientGroup

@@ -35,7 +35,7 @@ installing groups lineage log = record { stage = Installing; groups = groups; li
 
 -- a transaction for which there are log sequence numbers
 pub record CanIssue (plan : Plan) (client : Client) (changes : List Change) : Type 0 where
-  pub good : is_transaction plan.groups changes ≡ true
+  pub good : is_transaction (length client.groups) changes ≡ true
   pub room : max (last_lsn client.log) (last_start client.lineage) + length changes ≤ 2 ^ 62
 
 -- the step of a client that makes these messages and becomes this

@@ -14,7 +14,7 @@ ghost use Rattle.volume_model.specs.Client.{label_of};
 ghost use Rattle.wire.specs.Message.{messages_of};
 ghost use Rattle.writer_core.specs.Logs.{log_of, is_growing};
 ghost use Rattle.writer_core.specs.Lasts.{AreLasts, AreLastsOfFront, AreLinkedFrom};
-ghost use Rattle.writer_core.specs.Groups.{groups_in, standings_plan};
+ghost use Rattle.writer_core.specs.Groups.{groups_in};
 ghost use Rattle.writer_core.specs.Changes.{change_of, changes_of};
 ghost use Rattle.writer_core.specs.Carried.{carried_write};
 
@@ -90,8 +90,8 @@ pub fn append(
     requires front { AreLastsOfFront lasts.old log.old.items }
     requires growing { is_growing (log_of log.old.items) ≡ true }
     requires room { max (last_lsn (log_of log.old.items)) span.start + length changes.now ≤ 2 ^ 62 }
-    requires few { (standings_plan standings.now).groups ≤ 16 }
-    requires good { every (is_change (standings_plan standings.now).groups) (changes_of changes.now) ≡ true }
+    requires few { length (groups_in standings.now) ≤ 16 }
+    requires good { every (is_change (length (groups_in standings.now))) (changes_of changes.now) ≡ true }
     ensures logged { OnOk result (log_of log.new.items ≡ issued_log span.volume span.start (changes_of changes.now) (log_of log.old.items)) }
     ensures grown { OnOk result (is_growing (log_of log.new.items) ≡ true) }
     ensures written { OnOk result (messages_of messages.new.items ≡ messages_of messages.old.items ++ issued_writes span.volume (place_of (groups_in standings.now)) span.start (changes_of changes.now) (log_of log.old.items)) }

@@ -5,6 +5,7 @@ mod change;
 mod count;
 mod counts;
 mod covered;
+mod installs;
 mod issuing;
 mod lasts;
 mod log;
@@ -16,6 +17,7 @@ mod writer;
 
 pub use change::Change;
 pub use count::Count;
+pub use installs::{group_installs, label_at};
 pub use moving::are_places;
 pub use standing::Standing;
 pub use standings::Standings;

@@ -19,13 +19,16 @@ pub struct Standing {
     pub counts: Vec<Count>,
     /// The LSN up to which the group is acknowledged.
     pub point: u64,
+    /// Whether the group has joined the writer: it was there at the volume's birth, or a write set has acknowledged its install at a
+    /// moment since the writer opened.
+    pub joined: bool,
 }
 
 impl Standing {
     ghost use Rattle.std.specs.Prelude.{◌≡◌, ◌<◌, OnOk, OnErr};
     ghost use Rattle.volume_model.specs.Formula.{sat};
     ghost use Rattle.volume_model.specs.Node.{senders};
-    ghost use Rattle.volume_model.specs.Client.{newly_at, place_configuration};
+    ghost use Rattle.volume_model.specs.Client.{born_group, newly_at, no_group, place_configuration};
     ghost use Rattle.volume_model.specs.ClientPoints.{raised_group, counted_by};
     ghost use Rattle.volume_model.specs.ClientMessages.{later_group, reread_group};
     ghost use Rattle.plan.specs.CheckedModel.{checked_model};
@@ -41,7 +44,32 @@ impl Standing {
             copies: Vec::new(alloc),
             counts: Vec::new(alloc),
             point: 0,
+            joined: false,
         }
+    }
+
+    /// As the first writer finds it that is there when the volume is born.
+    pub(crate) fn born(alloc: Global) -> Standing
+        ensures { group_at result ≡ born_group }
+    {
+        let root = Place {
+            configuration: 0,
+            epoch: 1,
+        };
+        let mut standing = Standing::at(alloc, root);
+        standing.joined = true;
+        standing
+    }
+
+    /// As a group is to a client that doesn't have it.
+    pub(crate) fn none(alloc: Global) -> Standing
+        ensures { group_at result ≡ no_group }
+    {
+        let nowhere = Place {
+            configuration: 0,
+            epoch: 0,
+        };
+        Standing::at(alloc, nowhere)
     }
 
     /// Counts an acknowledgement. Where memory runs out nothing has changed.
@@ -73,7 +101,7 @@ impl Standing {
         Ok(())
     }
 
-    /// Raises the point to what the counted acknowledgements satisfy now.
+    /// Raises the point to what the counted acknowledgements satisfy now. The group has joined where they satisfy the write expression.
     pub(crate) fn raise(&mut self, plan: &CheckedPlan, group: u8)
         requires group { group < (checked_model plan.now).groups }
         requires configuration { self.old.place.configuration < (checked_model plan.now).configurations group }
@@ -82,6 +110,8 @@ impl Standing {
         if let Some(configuration) = plan.configuration(group, self.place.configuration) {
             let least = self.point;
             self.point = best_from(&configuration.write, self.counts.as_slice(), least);
+            self.joined = self.joined
+                || holds(&configuration.write, reaching(self.counts.as_slice(), 0));
         }
     }
 

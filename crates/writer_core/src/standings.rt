@@ -1,30 +1,30 @@
-//! What a client keeps of the groups of its plan.
+//! What a client keeps of the groups of its view.
 
-ghost use Rattle.std.specs.Prelude.{◌≡◌, length};
+ghost use Rattle.std.specs.Prelude.{◌≡◌, ◌≤◌, length};
 ghost use Rattle.std.specs.Arc.{arc_value};
 ghost use Rattle.plan.specs.CheckedModel.{checked_model};
 ghost use Rattle.writer_core.specs.Standings.{groups_of, ArePlaced};
 
 use crate::count::Count;
-use crate::moving::{are_places, follow, raise, reread};
+use crate::moving::{are_places, extend, follow, raise, reread};
 use crate::standing::Standing;
 use plan::CheckedPlan;
 use std::alloc::{AllocError, AllocFailed, Global};
 use std::sync::Arc;
 use wire::{Ack, Label, Place, Report};
 
-/// What a client keeps of the groups of its plan, in their order.
+/// What a client keeps of the groups of its view: the first ones of its plan, in their order.
 #[derive(Drop)]
 pub struct Standings {
     plan: Arc<CheckedPlan>,
     list: Vec<Standing>,
-    ghost each_group: { length list.items ≡ (checked_model (arc_value plan)).groups },
+    ghost within: { length list.items ≤ (checked_model (arc_value plan)).groups },
     ghost placed: { ArePlaced (checked_model (arc_value plan)) (groups_of list.items) },
 }
 
 impl Standings {
-    ghost use Rattle.std.specs.Prelude.{◌<◌, ◌≤◌, true, IfOk, OnOk, OnErr, MatchOption, map, replicate};
-    ghost use Rattle.volume_model.specs.Client.{newly_at, at_root, group_of, group_point_of};
+    ghost use Rattle.std.specs.Prelude.{◌<◌, true, IfOk, OnOk, OnErr, MatchOption, map, replicate};
+    ghost use Rattle.volume_model.specs.Client.{newly_at, born_group, group_of, group_point_of};
     ghost use Rattle.volume_model.specs.ClientPoints.{raised};
     ghost use Rattle.volume_model.specs.ClientRecovery.{has_read, has_installed};
     ghost use Rattle.volume_model.specs.ClientMessages.{with_places, later_group, reread_group, are_places};
@@ -34,19 +34,15 @@ impl Standings {
     ghost use Rattle.writer_core.specs.Raised.{raised_in};
     ghost use Rattle.writer_core.specs.Groups.{groups_in, standings_plan, keeping};
 
-    /// As a client comes to a new volume: each group at its root.
+    /// As the first writer comes to a new volume: each group that is there at birth, at its root.
     pub fn at_roots(alloc: Global, plan: Arc<CheckedPlan>) -> Result<Standings, AllocError>
-        ensures groups { IfOk result (λ s. groups_in s ≡ replicate (checked_model (arc_value plan)).groups (newly_at at_root)) }
+        ensures groups { IfOk result (λ s. groups_in s ≡ replicate (checked_model (arc_value plan)).born born_group) }
         ensures plan { IfOk result (λ s. standings_plan s ≡ checked_model (arc_value plan)) }
     {
         plan.certified();
-        let root = Place {
-            configuration: 0,
-            epoch: 1,
-        };
         let mut list = Vec::new(alloc);
-        'groups: for _ in 0..plan.groups() {
-            list.push(Standing::at(alloc, root))?;
+        'groups: for _ in 0..plan.born() {
+            list.push(Standing::born(alloc))?;
         }
         Ok(Standings { plan, list })
     }
@@ -75,22 +71,30 @@ impl Standings {
         &self.plan
     }
 
+    /// How many groups the view has.
+    pub fn groups(&self) -> u8
+        ensures groups { result ≡ length (groups_in self.now) }
+        ensures within { result ≤ (standings_plan self.now).groups }
+    {
+        self.list.len() as u8
+    }
+
     /// What is kept of each group, in their order.
     pub fn as_slice(&self) -> &[Standing]
         ensures groups { groups_of result.now ≡ groups_in self.now }
-        ensures many { length result.now ≡ (standings_plan self.now).groups }
+        ensures many { length result.now ≤ (standings_plan self.now).groups }
     {
         self.list.as_slice()
     }
 
-    /// What is kept of a group, and none where the plan has no such group.
+    /// What is kept of a group, and none where the view has no such group.
     pub fn get(&self, group: u8) -> Option<&Standing>
-        ensures { MatchOption result ((standings_plan self.now).groups ≤ group) (λ s. (group < (standings_plan self.now).groups) × (group_of (groups_in self.now) group ≡ group_at s.now)) }
+        ensures { MatchOption result (length (groups_in self.now) ≤ group) (λ s. (group < length (groups_in self.now)) × (group_of (groups_in self.now) group ≡ group_at s.now)) }
     {
         self.list.get(usize::from(group))
     }
 
-    /// The LSN up to which a group is acknowledged, and 0 where the plan has no such group.
+    /// The LSN up to which a group is acknowledged, and 0 where the view has no such group.
     pub fn point(&self, group: u8) -> u64
         ensures { result ≡ group_point_of (groups_in self.now) group }
     {
@@ -99,13 +103,23 @@ impl Standings {
             .map_or(0, |standing| standing.point)
     }
 
-    /// The membership epoch of a group, as far as the client was told, and 0 where the plan has no such group.
+    /// The membership epoch of a group, as far as the client was told, and 0 where the view has no such group.
     pub fn epoch(&self, group: u8) -> u32
         ensures { result ≡ (client.place_of (groups_in self.now) group).epoch }
     {
         self.list
             .get(usize::from(group))
             .map_or(0, |standing| standing.place.epoch)
+    }
+
+    /// Whether a group has joined the writer: it was there at the volume's birth, or a write set has acknowledged its install at a moment
+    /// since the writer opened. None has that isn't in the view.
+    pub fn has_joined(&self, group: u8) -> bool
+        ensures { result ≡ (group_of (groups_in self.now) group).joined }
+    {
+        self.list
+            .get(usize::from(group))
+            .map_or(false, |standing| standing.joined)
     }
 
     /// The label under which a client of this volume epoch speaks to a group.
@@ -118,28 +132,32 @@ impl Standings {
         }
     }
 
-    /// Counts an acknowledgement of a group: the greatest complete point of its sender is kept. No point is raised yet. Where memory
-    /// runs out nothing has changed.
+    /// Counts an acknowledgement of a group: the greatest complete point of its sender is kept. No point is raised yet. One of a group
+    /// outside the view changes nothing. Where memory runs out nothing has changed.
     pub fn count(&mut self, ack: &Ack) -> Result<(), AllocFailed<Count>>
-        requires group { ack.now.group < (standings_plan self.old).groups }
         requires sender { ack.now.from < 64 }
         ensures counted { OnOk result (groups_in self.new ≡ counted_in (groups_in self.old) ack.now.group ack.now.from ack.now.scl) }
         ensures same { OnErr result (groups_in self.new ≡ groups_in self.old) }
         ensures plan { standings_plan self.new ≡ standings_plan self.old }
     {
-        self.list[usize::from(ack.group)].count(ack.from, ack.scl)
+        match self.list.get_mut(usize::from(ack.group)) {
+            Some(standing) => standing.count(ack.from, ack.scl),
+            None => Ok(()),
+        }
     }
 
-    /// Keeps a copy of what a member of a group says that it holds, where it is the member's first report. Where memory runs out
-    /// nothing has changed.
+    /// Keeps a copy of what a member of a group says that it holds, where it is the member's first report. One of a group outside the view
+    /// changes nothing. Where memory runs out nothing has changed.
     pub fn keep(&mut self, report: &Report) -> Result<(), AllocError>
-        requires group { report.now.group < (standings_plan self.old).groups }
         requires sender { report.now.from < 64 }
         ensures kept { OnOk result (groups_in self.new ≡ reported_in (groups_in self.old) report.now.group (report_of report.now)) }
         ensures same { OnErr result (groups_in self.new ≡ groups_in self.old) }
         ensures plan { standings_plan self.new ≡ standings_plan self.old }
     {
-        self.list[usize::from(report.group)].keep(report)
+        match self.list.get_mut(usize::from(report.group)) {
+            Some(standing) => standing.keep(report),
+            None => Ok(()),
+        }
     }
 
     /// Raises the points of all groups to what the counted acknowledgements satisfy now. A point never falls.
@@ -150,38 +168,48 @@ impl Standings {
         raise(&self.plan, self.list.as_mut_slice());
     }
 
-    /// Raises the point of one group to what its counted acknowledgements satisfy now. A point never falls.
+    /// Raises the point of one group of the view to what its counted acknowledgements satisfy now. A point never falls.
     pub fn raise_group(&mut self, group: u8)
-        requires { group < (standings_plan self.old).groups }
         ensures groups { groups_in self.new ≡ raised_in (standings_plan self.old) (groups_in self.old) group }
         ensures plan { standings_plan self.new ≡ standings_plan self.old }
     {
-        self.list[usize::from(group)].raise(&self.plan, group);
+        if let Some(standing) = self.list.get_mut(usize::from(group)) {
+            standing.raise(&self.plan, group);
+        }
     }
 
-    /// Whether these are places of the plan's groups, in their order, each at one of its configurations.
+    /// Whether these are places of the plan's first groups, of all that are there at birth at least, in their order, each at one of its
+    /// configurations.
     pub fn are_places(&self, places: &[Place]) -> bool
         ensures { result ≡ are_places (standings_plan self.now) (map place_of places.now) }
     {
         are_places(&self.plan, places)
     }
 
-    /// Moves each group to its place, where that is one of a later epoch.
-    pub fn follow(&mut self, places: &[Place])
+    /// Moves each group to its place, where that is one of a later epoch, and takes up those that are new. Where memory runs out nothing has
+    /// changed.
+    pub fn follow(&mut self, places: &[Place]) -> Result<(), AllocError>
         requires { are_places (standings_plan self.old) (map place_of places.now) ≡ true }
-        ensures groups { groups_in self.new ≡ with_places later_group (groups_in self.old) (map place_of places.now) }
+        ensures groups { OnOk result (groups_in self.new ≡ with_places later_group (groups_in self.old) (map place_of places.now)) }
+        ensures same { OnErr result (groups_in self.new ≡ groups_in self.old) }
         ensures plan { standings_plan self.new ≡ standings_plan self.old }
     {
+        extend(&mut self.list, places.len())?;
         follow(self.list.as_mut_slice(), places);
+        Ok(())
     }
 
-    /// Moves each group to its place, where that is one of a later epoch, and then drops the group's reports.
-    pub fn reread(&mut self, places: &[Place])
+    /// Moves each group to its place, where that is one of a later epoch, and then drops the group's reports; takes up those that are new.
+    /// Where memory runs out nothing has changed.
+    pub fn reread(&mut self, places: &[Place]) -> Result<(), AllocError>
         requires { are_places (standings_plan self.old) (map place_of places.now) ≡ true }
-        ensures groups { groups_in self.new ≡ with_places reread_group (groups_in self.old) (map place_of places.now) }
+        ensures groups { OnOk result (groups_in self.new ≡ with_places reread_group (groups_in self.old) (map place_of places.now)) }
+        ensures same { OnErr result (groups_in self.new ≡ groups_in self.old) }
         ensures plan { standings_plan self.new ≡ standings_plan self.old }
     {
+        extend(&mut self.list, places.len())?;
         reread(self.list.as_mut_slice(), places);
+        Ok(())
     }
 
     /// Whether in each group the senders of the kept reports are a read set.

@@ -1,10 +1,12 @@
 //! Which transactions are good ones.
 
 ghost use Rattle.std.specs.Prelude.{◌≡◌};
-ghost use Rattle.volume_model.specs.ClientWriter.{is_change, is_transaction};
+ghost use Rattle.volume_model.specs.ClientWriter.{have_joined, is_change, is_transaction};
 ghost use Rattle.writer_core.specs.Changes.{change_of, changes_of};
+ghost use Rattle.writer_core.specs.Groups.{groups_in};
 
 use crate::change::Change;
+use crate::standings::Standings;
 
 /// The bytes of a block.
 const BLOCK: usize = 512;
@@ -35,6 +37,18 @@ pub fn is_transaction(groups: usize, changes: &[Change]) -> bool
     }
     for change in changes {
         if !is_change(groups, change) {
+            return false;
+        }
+    }
+    true
+}
+
+/// Whether each group that is changed has joined the writer.
+pub fn have_joined(standings: &Standings, changes: &[Change]) -> bool
+    ensures { result ≡ have_joined (groups_in standings.now) (changes_of changes.now) }
+{
+    for change in changes {
+        if !standings.has_joined(change.group) {
             return false;
         }
     }

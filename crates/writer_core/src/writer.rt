@@ -5,16 +5,17 @@ ghost use Rattle.writer_core.specs.Logs.{log_of, is_growing};
 ghost use Rattle.writer_core.specs.Lasts.{AreLastsOfFront};
 ghost use Rattle.writer_core.specs.Covered.{CoversLog};
 ghost use Rattle.writer_core.specs.Groups.{groups_in, standings_plan};
-ghost use Rattle.writer_core.specs.Raised.{AreRaised};
+ghost use Rattle.writer_core.specs.Raised.{AreRaised, HaveJoined};
 ghost use Rattle.volume_model.specs.Client.{group_point_of};
 
 use crate::change::Change;
 use crate::covered::Covered;
+use crate::installs::unjoined_installs;
 use crate::issuing::{Span, append, carry};
 use crate::lasts::Lasts;
 use crate::log::{is_point, last_lsn, record_at};
 use crate::standings::Standings;
-use crate::transaction::is_transaction;
+use crate::transaction::{have_joined, is_transaction};
 use lineage::Lineage;
 use plan::CheckedPlan;
 use redo_record::Packet;
@@ -43,6 +44,7 @@ pub struct Writer {
     ghost within: { found ≤ length log.items },
     ghost growing: { is_growing (log_of log.items) ≡ true },
     ghost raised: { AreRaised (standings_plan standings) (groups_in standings) },
+    ghost joined: { HaveJoined (standings_plan standings) (groups_in standings) },
     ghost front: { AreLastsOfFront lasts log.items },
     ghost covers: { CoversLog covered (group_point_of (groups_in standings)) log.items },
 }
@@ -64,7 +66,7 @@ impl Writer {
     ghost use Rattle.writer_core.specs.Writers.{client_of, writer_plan, writer_volume, installing, CanIssue, acted, silent, asked, sent};
     ghost use Rattle.lineage.specs.Lineage.{lineage_of};
 
-    /// The writer that a volume is born with: volume epoch 1, each group at its root, no record. Fails for want of memory alone.
+    /// The writer that a volume is born with: volume epoch 1, each group that is there at its root, no record. Fails for want of memory alone.
     pub fn first(alloc: Global, plan: Arc<CheckedPlan>) -> Result<Writer, Fault>
         ensures client { AnswersNew client_of (Ok (first_writer (checked_model (arc_value plan)))) result }
         ensures plan { IfOk result (λ w. writer_plan w ≡ checked_model (arc_value plan)) }
@@ -178,7 +180,7 @@ impl Writer {
     }
 
     /// Takes an acknowledgement. Refused as [`Writer::admits_ack`] says. It is counted where its membership epoch is at most the one
-    /// that the writer knows of the group; a later one changes nothing. Only its own group's point may rise.
+    /// that the writer knows of the group; a later one changes nothing. Only its own group's point may rise, and only its own group join.
     pub fn take_ack(&mut self, ack: &Ack) -> Result<(), Fault>
         ensures answers { Answers silent (taken (writer_plan self.old) (writer_volume self.old) (client_of self.old) (message_of (Message.Ack ack.now))) (client_of self.old) result (client_of self.new) }
         ensures plan { writer_plan self.new ≡ writer_plan self.old }
@@ -189,7 +191,7 @@ impl Writer {
             return Ok(());
         }
         self.standings.count(ack)?;
-        if ack.scl <= self.standings.point(ack.group) {
+        if ack.scl <= self.standings.point(ack.group) && self.standings.has_joined(ack.group) {
             return Ok(());
         }
         self.standings.raise_group(ack.group);
@@ -198,7 +200,7 @@ impl Writer {
     }
 
     /// Whether a View can be taken: `NotAddressed` where it is one of another volume epoch, `NotInPlan` where its places aren't those
-    /// of the plan's groups, each at one of its configurations. Takes no memory.
+    /// of the plan's first groups, of all that are there at birth at least, each at one of its configurations. Takes no memory.
     pub fn admits_view(&self, view: &View) -> Result<(), Fault>
         ensures refusal { result ≡ refusal_of (taken (writer_plan self.now) (writer_volume self.now) (client_of self.now) (message_of (Message.View view.now))) }
         ensures epoch { OnOk result (view.now.volume ≡ writer_volume self.now) }
@@ -214,19 +216,27 @@ impl Writer {
         Ok(())
     }
 
-    /// Takes a View: each group moves to its place where that is one of a later epoch, and the points of all groups are raised.
-    /// Refused as [`Writer::admits_view`] says. Takes no memory.
-    pub fn view(&mut self, view: &View) -> Result<(), Fault>
-        ensures answers { AnswersAlways silent (taken (writer_plan self.old) (writer_volume self.old) (client_of self.old) (message_of (Message.View view.now))) (client_of self.old) result (client_of self.new) }
-        ensures own { IfErr result (λ fault. fault ≢ NoMemory) }
+    /// Takes a View: each group moves to its place where that is one of a later epoch, those that are new are taken up, and the points of
+    /// all groups are raised. Each group that is raised and hasn't joined is installed, with no records: one Install a group, in their order.
+    /// Refused as [`Writer::admits_view`] says.
+    pub fn view(&mut self, alloc: Global, view: &View) -> Result<Vec<Message>, Fault>
+        ensures answers { Answers acted (taken (writer_plan self.old) (writer_volume self.old) (client_of self.old) (message_of (Message.View view.now))) (client_of self.old) result (client_of self.new) }
         ensures plan { writer_plan self.new ≡ writer_plan self.old }
         ensures volume { writer_volume self.new ≡ writer_volume self.old }
     {
         self.admits_view(view)?;
-        self.standings.follow(view.places.as_slice());
+        let places = view.places.as_slice();
+        let messages = unjoined_installs(
+            alloc,
+            self.volume,
+            &self.standings,
+            &self.lineage,
+            places,
+        )?;
+        self.standings.follow(places)?;
         self.standings.raise();
         self.covered.follow(self.log.as_slice(), &self.standings);
-        Ok(())
+        Ok(messages)
     }
 
     /// A record of the log, to be carried once more by a Write. `NoLogRecord` where the log has none with this LSN. Takes no memory.
@@ -240,12 +250,12 @@ impl Writer {
         }
     }
 
-    /// A question for a block's bytes at the durable point. `NoGroup` where the volume has no such group. Takes no memory.
+    /// A question for a block's bytes at the durable point. `NoGroup` where the view has no such group. Takes no memory.
     pub fn read(&self, group: u8, block: u32) -> Result<Message, Fault>
-        ensures answers { AnswersAlways asked (page_asked (writer_plan self.now) (writer_volume self.now) (client_of self.now) group block) (client_of self.now) result (client_of self.now) }
+        ensures answers { AnswersAlways asked (page_asked (writer_volume self.now) (client_of self.now) group block) (client_of self.now) result (client_of self.now) }
         ensures own { IfErr result (λ fault. fault ≢ NoMemory) }
     {
-        if group >= self.standings.plan().groups() {
+        if group >= self.standings.groups() {
             return Err(Fault::NoGroup);
         }
         Ok(Message::PageAsk(PageAsk {
@@ -257,9 +267,9 @@ impl Writer {
     }
 
     /// The LSN up to which a group is acknowledged: the greatest that a write set of its members has said at some moment. `NoGroup`
-    /// where the volume has no such group.
+    /// where the view has no such group.
     pub fn group_point(&self, group: u8) -> Result<u64, Fault>
-        ensures { MatchResult result (λ point. (group < (writer_plan self.now).groups) × (group_point_of (client_of self.now).groups group ≡ point)) (λ fault. ((writer_plan self.now).groups ≤ group) × (fault ≡ NoGroup)) }
+        ensures { MatchResult result (λ point. (group < length (client_of self.now).groups) × (group_point_of (client_of self.now).groups group ≡ point)) (λ fault. (length (client_of self.now).groups ≤ group) × (fault ≡ NoGroup)) }
     {
         match self.standings.get(group) {
             Some(standing) => Ok(standing.point),
@@ -274,17 +284,20 @@ impl Writer {
         is_point(self.log.as_slice(), lsn) && lsn <= self.durable_point()
     }
 
-    /// Whether a transaction can be issued: `BadTransaction` where it isn't one of 1 to 32 good changes, `LsnSpent` where no log
-    /// sequence numbers are left for it, `LimitReached` where the last of its records would stand further above the durable point
-    /// and the start than the plan allows. Takes no memory.
+    /// Whether a transaction can be issued: `BadTransaction` where it isn't one of 1 to 32 good changes of groups of the view, `NotJoined`
+    /// where one of them is of a group that hasn't joined, `LsnSpent` where no log sequence numbers are left for it, `LimitReached`
+    /// where the last of its records would stand further above the durable point and the start than the plan allows. Takes no memory.
     pub fn admits(&self, changes: &[Change]) -> Result<(), Fault>
         ensures refusal { result ≡ refusal_of (issued (writer_plan self.now) (writer_volume self.now) (client_of self.now) (changes_of changes.now)) }
         ensures ok { OnOk result (issued (writer_plan self.now) (writer_volume self.now) (client_of self.now) (changes_of changes.now) ≡ Ok (issue_step (writer_volume self.now) (client_of self.now) (changes_of changes.now))) }
         ensures can { OnOk result (CanIssue (writer_plan self.now) (client_of self.now) (changes_of changes.now)) }
         ensures own { IfErr result (λ fault. fault ≢ NoMemory) }
     {
-        if !is_transaction(usize::from(self.standings.plan().groups()), changes) {
+        if !is_transaction(usize::from(self.standings.groups()), changes) {
             return Err(Fault::BadTransaction);
+        }
+        if !have_joined(&self.standings, changes) {
+            return Err(Fault::NotJoined);
         }
         let start = self.start();
         let last = last_lsn(self.log.as_slice())

@@ -1,6 +1,5 @@
-use Rattle.std.proofs.Common.{ℕ, Bool, true, false, ◌<◌, List, map, length, subst, sym, ap, ◌∙◌}
+use Rattle.std.proofs.Common.{ℕ, Bool, true, false, ◌<◌, List, map, length, sym, ap, ◌∙◌}
 use Rattle.std.proofs.lemmas.Bool.{lt-ltb, le-ltb}
-use Rattle.volume_model.specs.Plan.{Plan}
 use Rattle.volume_model.specs.Message as model
 use Rattle.volume_model.specs.Message.{place_in}
 use Rattle.volume_model.specs.Client.{label_of, place_of}
@@ -8,7 +7,7 @@ use Rattle.volume_model.specs.ClientMessages.{later_in}
 use Rattle.wire.specs.declared.label.Place.{Place}
 use Rattle.wire.specs.Message as wire
 use Rattle.writer_core.specs.Groups.{groups_in}
-use Rattle.recovery.proofs.OneMore.{message-more, message-none, place-is, raised-is}
+use Rattle.writer_core.proofs.Speaking.{message-more, message-none, place-is, raised-is}
 use Rattle.recovery.proofs.speaking.later_fences.Goals as goal
 use Rattle.recovery.proofs.speaking.later_fences.Goals.{then-epoch-place+in_ok-push, else-epoch-place}
 
@@ -22,8 +21,7 @@ loop-group-preserved c =
     let none : Place = record { configuration = 0; epoch = 0 } in
     let test : ℕ → Bool = later_in (place_of groups) (place_in (map wire.place_of places)) in
     let said : ℕ → model.Message = λ group. model.Message.Fence group (label_of volume (place_in (map wire.place_of places)) group) in
-    let many = c.groups-group-end.ensures.groups ∙ ap (λ (p : Plan). p.groups) c.plan.ensures ∙ sym c.requires in
-    let within : i < length places = subst (λ n. i < n) many c.loop-group-test.true in
+    let within : i < length places = c.loop-group-test.true in
     elim c.if-epoch-place.branch [
       | then-epoch-place+in_ok-push w ↦ message-more c.loop-group.messages.items c.if-epoch-place.messages.items _ i test said (ap (λ v. v.items) w.messages-is ∙ w.in_ok-push.ensures.items) c.loop-group.invariant
           (raised-is groups places i k c.epoch.result none true within c.from.ensures c.epoch.ensures (lt-ltb _ _ w.if-epoch-place.true))

@@ -1,6 +1,5 @@
-use Rattle.std.proofs.Common.{ℕ, Bool, true, false, ◌<◌, List, map, length, subst, sym, ap, ◌∙◌}
+use Rattle.std.proofs.Common.{ℕ, Bool, true, false, ◌<◌, List, map, length, sym, ap, ◌∙◌}
 use Rattle.std.proofs.lemmas.Bool.{lt-ltb, le-ltb}
-use Rattle.volume_model.specs.Plan.{Plan}
 use Rattle.volume_model.specs.Message as model
 use Rattle.volume_model.specs.Message.{place_in}
 use Rattle.volume_model.specs.Client.{label_of, place_of}
@@ -9,11 +8,12 @@ use Rattle.volume_model.specs.Pieces.{in_pieces}
 use Rattle.volume_model.specs.ClientRecovery.{to_install}
 use Rattle.volume_model.specs.Lineage.{Contents}
 use Rattle.lineage.specs.Lineage.{lineage_of}
+use Rattle.redo_record.specs.declared.packet.Packet.{Packet}
 use Rattle.writer_core.specs.Logs.{log_of}
 use Rattle.wire.specs.declared.label.Place.{Place}
 use Rattle.wire.specs.Message as wire
 use Rattle.writer_core.specs.Groups.{groups_in}
-use Rattle.recovery.proofs.OneMore.{messages-more, messages-none, place-is, raised-is}
+use Rattle.writer_core.proofs.Speaking.{messages-more, messages-none, place-is, raised-is}
 use Rattle.recovery.proofs.speaking.later_installs.Goals as goal
 use Rattle.recovery.proofs.speaking.later_installs.Goals.{then-epoch-place+in_ok-pieces+in_ok-append, else-epoch-place}
 
@@ -28,12 +28,13 @@ loop-group-preserved c =
     let test : ℕ → Bool = later_in (place_of groups) (place_in (map wire.place_of places)) in
     let shown : ℕ → Contents = to_install (lineage_of c.args.found.now.lineage) (log_of c.args.found.now.log.items) in
     let said : ℕ → List model.Message = λ group. in_pieces (shown group) (model.Message.Install group (label_of volume (place_in (map wire.place_of places)) group)) in
-    let many = c.groups-group-end.ensures.groups ∙ ap (λ (p : Plan). p.groups) c.plan.ensures ∙ sym c.requires in
-    let within : i < length places = subst (λ n. i < n) many c.loop-group-test.true in
+    let within : i < length places = c.loop-group-test.true in
     elim c.if-epoch-place.branch [
       | then-epoch-place+in_ok-pieces+in_ok-append w ↦ messages-more c.loop-group.messages.items c.if-epoch-place.messages.items w.in_ok-pieces.pieces.items i test said (ap (λ v. v.items) w.messages-is ∙ w.in_ok-append.ensures.items) c.loop-group.invariant
           (raised-is groups places i k c.epoch.result none true within c.from.ensures c.epoch.ensures (lt-ltb _ _ w.if-epoch-place.true))
-          (w.in_ok-pieces.ensures ∙ ap (λ l. in_pieces (shown i) (model.Message.Install i l)) (w.label_at-label.ensures ∙ ap (λ (p : model.Place). record { volume = volume; member = p.epoch }) (sym (place-is places i k none within c.from.ensures))))
+          (w.in_ok-pieces.ensures
+          ∙ ap (λ (xs : List Packet). in_pieces (to_install (lineage_of c.args.found.now.lineage) (log_of xs) i) (model.Message.Install i (wire.label_of w.label_at-label.result))) w.as_slice.ensures.value
+          ∙ ap (λ l. in_pieces (shown i) (model.Message.Install i l)) (w.label_at-label.ensures ∙ ap (λ (p : model.Place). record { volume = volume; member = p.epoch }) (sym (place-is places i k none within c.from.ensures))))
       | else-epoch-place w ↦ messages-none c.loop-group.messages.items c.if-epoch-place.messages.items i test said (ap (λ v. v.items) w.messages-is) c.loop-group.invariant
           (raised-is groups places i k c.epoch.result none false within c.from.ensures c.epoch.ensures (le-ltb _ _ w.if-epoch-place.false))
     ]

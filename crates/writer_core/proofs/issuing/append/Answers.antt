@@ -9,7 +9,7 @@ use Rattle.redo_record.specs.Packet.{packet_redo}
 use Rattle.writer_core.specs.Logs.{log_of}
 use Rattle.writer_core.specs.Lasts.{AreLastsOfFront, IsLinked}
 use Rattle.writer_core.specs.Changes.{change_of}
-use Rattle.writer_core.specs.Groups.{groups_in, standings_plan}
+use Rattle.writer_core.specs.Groups.{groups_in}
 use Rattle.writer_core.proofs.Entering.{front-pushed}
 use Rattle.writer_core.proofs.Leaving.{linked-pushed}
 use Rattle.writer_core.proofs.OneMore.{IsGood, good_here, logged_on, written_on, growing_on, room_on, good_on, front_on, messages_on}
@@ -17,19 +17,19 @@ use Rattle.writer_core.proofs.issuing.append.Goals as goal
 
 pub next_record-record-requires-clause-group : goal.next_record-record-requires-clause-group
 next_record-record-requires-clause-group c =
-    let groups = (standings_plan c.args.standings.now).groups in
+    let groups = length (groups_in c.args.standings.now) in
     let good : IsGood groups c.index-changes-i.result = good_here groups c.args.changes.now c.loop-i.i c.index-changes-i.result c.loop-i-test.true c.index-changes-i.is c.loop-i.invariant.good in
     omega (arith, good.group, c.requires.few)
 
 pub next_record-record-requires-clause-bytes : goal.next_record-record-requires-clause-bytes
 next_record-record-requires-clause-bytes c =
-    let groups = (standings_plan c.args.standings.now).groups in
+    let groups = length (groups_in c.args.standings.now) in
     let good : IsGood groups c.index-changes-i.result = good_here groups c.args.changes.now c.loop-i.i c.index-changes-i.result c.loop-i-test.true c.index-changes-i.is c.loop-i.invariant.good in
     record { not_empty = good.not_empty; not_more = good.not_more }
 
 pub next_record-record-requires-clause-place : goal.next_record-record-requires-clause-place
 next_record-record-requires-clause-place c =
-    let groups = (standings_plan c.args.standings.now).groups in
+    let groups = length (groups_in c.args.standings.now) in
     (good_here groups c.args.changes.now c.loop-i.i c.index-changes-i.result c.loop-i-test.true c.index-changes-i.is c.loop-i.invariant.good).place
 
 pub loop-i-preserved : goal.loop-i-preserved
@@ -55,7 +55,7 @@ loop-i-preserved c =
       lasts = rw logs (front-pushed c.follow.new.self records p (subst (AreLastsOfFront c.follow.new.self) c.as_slice.ensures.value c.in_ok-follow.ensures.front));
       growing = rw logs (growing_on volume start places changes i change within is records p made c.loop-i.invariant.growing);
       room = rw logs (room_on volume start places changes i change within is records p made c.loop-i.invariant.room);
-      good = (good_on volume start places changes i change within is records p made (standings_plan c.args.standings.now).groups c.loop-i.invariant.good).1;
+      good = (good_on volume start places changes i change within is records p made (length (groups_in c.args.standings.now)) c.loop-i.invariant.good).1;
       logged = rw logs (logged_on volume start places changes i change within is records p made ∙ c.loop-i.invariant.logged);
       written = rw (logs, messages) (messages_on c.loop-i.messages.items message _ _ (written_on volume start places changes i change within is records p made _ said) ∙ c.loop-i.invariant.written);
       front = rw logs (front_on records p _ c.loop-i.invariant.front);

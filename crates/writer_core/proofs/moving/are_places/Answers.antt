@@ -1,4 +1,4 @@
-use Rattle.std.proofs.Common.{◌≡◌, map, length, sym, ◌∙◌}
+use Rattle.std.proofs.Common.{map, sym, ◌∙◌}
 use Rattle.plan.specs.CheckedModel.{checked_model}
 use Rattle.volume_model.specs.Plan.{Plan}
 use Rattle.wire.specs.Message.{place_of}
@@ -8,8 +8,7 @@ use Rattle.writer_core.proofs.moving.are_places.Goals as goal
 pub returns-then-not-is_configuration : goal.returns-then-not-is_configuration
 returns-then-not-is_configuration c =
     let plan : Plan = checked_model c.args.plan.now in
-    let many : length c.args.places.now ≡ plan.groups = c.if-places-from.false ∙ c.from.ensures ∙ c.groups.ensures.groups in
-    sym (places-fail plan c.args.places.now c.loop-group.group (record { configuration = 0; epoch = 0 }) c.loop-group-test.true many (sym c.is_configuration.ensures ∙ c.if-not-is_configuration.true))
+    sym (places-fail plan c.args.places.now c.loop-group.group (record { configuration = 0; epoch = 0 }) c.loop-group-test.true (sym c.is_configuration.ensures ∙ c.if-not-is_configuration.true))
 
 pub loop-group-preserved : goal.loop-group-preserved
 loop-group-preserved c =

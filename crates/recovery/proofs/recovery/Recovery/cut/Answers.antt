@@ -11,4 +11,4 @@ pub returns-in-Err-clause-answers : goal.returns-in-Err-clause-answers
 returns-in-Err-clause-answers c =
     let self = c.args.self.now in
     let defined : ClientAnswer = cut_client (recovery_plan self) (recovery_volume self) (client_of self) in
-    same-refusal is_spent (found_step (recovery_plan self) (recovery_volume self)) acted c.in-Err.fault defined (recovery_groups self) (recovery_groups self) (client_of self) (client_of self) (λ e. refl) c.in-Err.ensures
+    same-refusal is_spent (found_step (recovery_volume self)) acted c.in-Err.fault defined (recovery_groups self) (recovery_groups self) (client_of self) (client_of self) (λ e. refl) c.in-Err.ensures

@@ -1,9 +1,7 @@
-use Rattle.std.proofs.Common.{◌≡◌, List, Option, Some, None, length, is_some, false, refl, sym, ◌∙◌}
-use Rattle.std.proofs.lemmas.List.{length-map}
+use Rattle.std.proofs.Common.{◌≡◌, List, Option, Some, None, is_some, false, refl, sym, ◌∙◌}
 use Rattle.std.proofs.lemmas.Bool.{true≢false}
 use Rattle.volume_model.specs.Plan.{Plan}
 use Rattle.volume_model.specs.Client.{ClientGroup}
-use Rattle.writer_core.specs.Standings.{group_at}
 use Rattle.writer_core.specs.Groups.{groups_in, standings_plan}
 use Rattle.recovery.specs.declared.found.Found.{Found}
 use Rattle.recovery.proofs.Leaves.{cut-found}
@@ -18,5 +16,4 @@ returns c =
     let self = c.args.self.now in
     let plan : Plan = standings_plan self.standings in
     let groups : List ClientGroup = groups_in self.standings in
-    let many : length groups ≡ plan.groups = length-map self.standings.list.items group_at ∙ self.standings.each_group in
-    cut-found plan self.volume groups self.found many (is-none self.found (sym c.is_some.ensures ∙ c.if-is_some.false)) (sym c.has_read.ensures ∙ c.if-not-has_read.false) c.find.result c.find.ensures.lineage c.find.ensures.log
+    cut-found plan self.volume groups self.found (is-none self.found (sym c.is_some.ensures ∙ c.if-is_some.false)) (sym c.has_read.ensures ∙ c.if-not-has_read.false) c.find.result c.find.ensures.lineage c.find.ensures.log

@@ -1,6 +1,5 @@
 use Rattle.std.proofs.Common.{◌-◌, ◌^◌, min, ap, ◌∙◌}
 use Rattle.volume_model.specs.Few.{records_in}
-use Rattle.writer_core.specs.Groups.{standings_plan}
 use Rattle.recovery.specs.Reported.{reports_in}
 use Rattle.recovery.proofs.Bounds.{found-most}
 use Rattle.recovery.proofs.recovery.Recovery.reported.Goals as goal
@@ -8,5 +7,5 @@ use Rattle.recovery.proofs.recovery.Recovery.reported.Goals as goal
 pub returns : goal.returns
 returns c =
     let self = c.args.self.now in
-    found-most (standings_plan self.standings) self.standings.list.items self.found c.records_said.result c.steps_are_few.ensures self.standings.each_group
+    found-most self.standings.list.items self.found c.records_said.result c.steps_are_few.ensures
     (c.records_said.ensures ∙ ap (λ gs. min (records_in (reports_in gs)) (2 ^ 64 - 1)) c.as_slice.ensures.groups)

@@ -1,26 +1,31 @@
-use Rattle.std.proofs.Common.{◌<◌, length, sym, subst}
+use Rattle.std.proofs.Common.{◌<◌, length}
 use Rattle.writer_core.specs.Groups.{standings_plan}
 use Rattle.writer_core.specs.Standings.{counted_group}
-use Rattle.writer_core.proofs.Placing.{changed-ok, changed-err, changed-placed}
+use Rattle.writer_core.proofs.Placing.{changed-ok, changed-err, changed-placed, changed-within}
 use Rattle.writer_core.proofs.standings.Standings.count.Goals as goal
 
-pub invariant_of-self-clause-placed : goal.invariant_of-self-clause-placed
-invariant_of-self-clause-placed c =
-    let list = c.args.self.now.list.items in
+pub invariant_of-self : goal.invariant_of-self
+invariant_of-self c =
+    let self = c.args.self.now in
+    let list = self.list.items in
+    let plan = standings_plan self in
     let i = c.from.result in
-    let within : i < length list = subst (λ n. i < n) (sym c.args.self.now.each_group) (subst (λ n. n < (standings_plan c.args.self.now).groups) (sym c.from.ensures) c.requires.group) in
-    changed-placed (standings_plan c.args.self.now) list i c.index_mut.result.now c.count.new.self within c.index_mut.ensures.value c.count.ensures.place c.args.self.now.placed
+    let within : i < length list = c.in-Some.ensures.item.3.0 in
+    record {
+      within = changed-within plan.groups list i c.count.new.self self.within;
+      placed = changed-placed plan list i c.in-Some.standing.now c.count.new.self within c.in-Some.ensures.value c.count.ensures.place self.placed;
+    }
 
-pub returns-clause-counted : goal.returns-clause-counted
-returns-clause-counted c =
+pub returns-in-Some-clause-counted : goal.returns-in-Some-clause-counted
+returns-in-Some-clause-counted c =
     let list = c.args.self.now.list.items in
     let i = c.from.result in
-    let within : i < length list = subst (λ n. i < n) (sym c.args.self.now.each_group) (subst (λ n. n < (standings_plan c.args.self.now).groups) (sym c.from.ensures) c.requires.group) in
-    changed-ok c.count.result (λ g. counted_group g c.args.ack.now.from c.args.ack.now.scl) list i c.args.ack.now.group c.index_mut.result.now c.count.new.self within c.index_mut.ensures.value c.from.ensures c.count.ensures.counted
+    let within : i < length list = c.in-Some.ensures.item.3.0 in
+    changed-ok c.count.result (λ g. counted_group g c.args.ack.now.from c.args.ack.now.scl) list i c.args.ack.now.group c.in-Some.standing.now c.count.new.self within c.in-Some.ensures.value c.from.ensures c.count.ensures.counted
 
-pub returns-clause-same : goal.returns-clause-same
-returns-clause-same c =
+pub returns-in-Some-clause-same : goal.returns-in-Some-clause-same
+returns-in-Some-clause-same c =
     let list = c.args.self.now.list.items in
     let i = c.from.result in
-    let within : i < length list = subst (λ n. i < n) (sym c.args.self.now.each_group) (subst (λ n. n < (standings_plan c.args.self.now).groups) (sym c.from.ensures) c.requires.group) in
-    changed-err c.count.result list i c.index_mut.result.now c.count.new.self within c.index_mut.ensures.value c.count.ensures.same
+    let within : i < length list = c.in-Some.ensures.item.3.0 in
+    changed-err c.count.result list i c.in-Some.standing.now c.count.new.self within c.in-Some.ensures.value c.count.ensures.same

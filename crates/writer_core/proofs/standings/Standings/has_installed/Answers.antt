@@ -25,4 +25,4 @@ returns-then-not-has_installed c =
     let within : i < length self.list.items = subst (λ (xs : List Standing). i < length xs) items c.loop-group-test.true in
     let is : s ≡ get_or self.list.items i s = subst (λ (xs : List Standing). s ≡ get_or xs i s) items c.standing-item.is in
     let fails : test plan i (group_at s) ≡ false = ap (λ (p : CheckedPlan). test (checked_model p) i (group_at s)) (sym c.deref.ensures) ∙ sym c.has_installed.ensures ∙ c.if-not-has_installed.true in
-    sym (group-fails plan.groups self.list.items i s (test plan) self.each_group within is fails)
+    sym (group-fails self.list.items i s (test plan) within is fails)

@@ -1,26 +1,31 @@
-use Rattle.std.proofs.Common.{◌<◌, length, sym, subst}
+use Rattle.std.proofs.Common.{◌<◌, length}
 use Rattle.writer_core.specs.Groups.{standings_plan}
 use Rattle.writer_core.specs.Standings.{report_of, reported_group}
-use Rattle.writer_core.proofs.Placing.{changed-ok, changed-err, changed-placed}
+use Rattle.writer_core.proofs.Placing.{changed-ok, changed-err, changed-placed, changed-within}
 use Rattle.writer_core.proofs.standings.Standings.keep.Goals as goal
 
-pub invariant_of-self-clause-placed : goal.invariant_of-self-clause-placed
-invariant_of-self-clause-placed c =
-    let list = c.args.self.now.list.items in
+pub invariant_of-self : goal.invariant_of-self
+invariant_of-self c =
+    let self = c.args.self.now in
+    let list = self.list.items in
+    let plan = standings_plan self in
     let i = c.from.result in
-    let within : i < length list = subst (λ n. i < n) (sym c.args.self.now.each_group) (subst (λ n. n < (standings_plan c.args.self.now).groups) (sym c.from.ensures) c.requires.group) in
-    changed-placed (standings_plan c.args.self.now) list i c.index_mut.result.now c.keep.new.self within c.index_mut.ensures.value c.keep.ensures.place c.args.self.now.placed
+    let within : i < length list = c.in-Some.ensures.item.3.0 in
+    record {
+      within = changed-within plan.groups list i c.keep.new.self self.within;
+      placed = changed-placed plan list i c.in-Some.standing.now c.keep.new.self within c.in-Some.ensures.value c.keep.ensures.place self.placed;
+    }
 
-pub returns-clause-kept : goal.returns-clause-kept
-returns-clause-kept c =
+pub returns-in-Some-clause-kept : goal.returns-in-Some-clause-kept
+returns-in-Some-clause-kept c =
     let list = c.args.self.now.list.items in
     let i = c.from.result in
-    let within : i < length list = subst (λ n. i < n) (sym c.args.self.now.each_group) (subst (λ n. n < (standings_plan c.args.self.now).groups) (sym c.from.ensures) c.requires.group) in
-    changed-ok c.keep.result (λ g. reported_group g (report_of c.args.report.now)) list i c.args.report.now.group c.index_mut.result.now c.keep.new.self within c.index_mut.ensures.value c.from.ensures c.keep.ensures.kept
+    let within : i < length list = c.in-Some.ensures.item.3.0 in
+    changed-ok c.keep.result (λ g. reported_group g (report_of c.args.report.now)) list i c.args.report.now.group c.in-Some.standing.now c.keep.new.self within c.in-Some.ensures.value c.from.ensures c.keep.ensures.kept
 
-pub returns-clause-same : goal.returns-clause-same
-returns-clause-same c =
+pub returns-in-Some-clause-same : goal.returns-in-Some-clause-same
+returns-in-Some-clause-same c =
     let list = c.args.self.now.list.items in
     let i = c.from.result in
-    let within : i < length list = subst (λ n. i < n) (sym c.args.self.now.each_group) (subst (λ n. n < (standings_plan c.args.self.now).groups) (sym c.from.ensures) c.requires.group) in
-    changed-err c.keep.result list i c.index_mut.result.now c.keep.new.self within c.index_mut.ensures.value c.keep.ensures.same
+    let within : i < length list = c.in-Some.ensures.item.3.0 in
+    changed-err c.keep.result list i c.in-Some.standing.now c.keep.new.self within c.in-Some.ensures.value c.keep.ensures.same

@@ -1,17 +1,16 @@
-use Rattle.std.proofs.Common.{◌≡◌, ℕ, ◌<◌, ◌≤◌, List, length, sym, ap, ◌∙◌, subst, arith}
-use Rattle.std.proofs.lemmas.List.{length-map}
+use Rattle.std.proofs.Common.{◌≡◌, ℕ, ◌≤◌, true, List, sym, ap, ◌∙◌, subst, arith}
 use Rattle.redo_record.specs.declared.packet.Packet.{Packet}
-use Rattle.volume_model.specs.Client.{ClientGroup, group_point_of}
+use Rattle.volume_model.specs.Client.{ClientGroup, group_of, group_point_of}
 use Rattle.volume_model.specs.ClientPoints.{raised}
 use Rattle.wire.specs.Message.{label_of}
-use Rattle.writer_core.specs.Standings.{group_at, counted_in}
-use Rattle.writer_core.specs.Raised.{AreRaised, raised_in}
+use Rattle.writer_core.specs.Standings.{counted_in}
+use Rattle.writer_core.specs.Raised.{AreRaised, HaveJoined, raised_in}
 use Rattle.writer_core.specs.Groups.{groups_in, standings_plan}
 use Rattle.writer_core.specs.Covered.{CoversFront, CoversLog}
 use Rattle.writer_core.specs.Writers.{client_of}
-use Rattle.writer_core.proofs.Acknowledging.{of_group, ack_counted}
+use Rattle.writer_core.proofs.Acknowledging.{ack_counted}
 use Rattle.writer_core.proofs.Covering.{covers-raised, covers-same}
-use Rattle.writer_core.proofs.Raising.{raised-same, raised-counted, raised_all, counted_raised, group_point_of-counted_in}
+use Rattle.writer_core.proofs.Raising.{raised-same, raised-counted, raised_all, joined_all, counted_raised, counted_joined, group_point_of-counted_in, joined-counted_in}
 use Rattle.writer_core.proofs.Rising.{group_point_of-counted}
 use Rattle.writer_core.proofs.writer.Writer.take_ack.Goals as goal
 
@@ -28,32 +27,37 @@ invariant_of-self-in-Break-branch-2 c =
       within = self.within;
       growing = self.growing;
       raised = subst (λ p. AreRaised p (groups_in c.count.new.self)) (sym c.in_err-count.ensures.plan) (subst (AreRaised plan) (sym same) self.raised);
+      joined = subst (λ p. HaveJoined p (groups_in c.count.new.self)) (sym c.in_err-count.ensures.plan) (subst (HaveJoined plan) (sym same) self.joined);
       front = self.front;
       covers = subst (λ (gs : List ClientGroup). CoversLog self.covered (group_point_of gs) self.log.items) (sym same) self.covers;
     }
 
--- ---- its complete point isn't above its group's point
+-- ---- its complete point isn't above its group's point, and the group has joined
 
-pub invariant_of-self-then-ack-point-clause-raised : goal.invariant_of-self-then-ack-point-clause-raised
-invariant_of-self-then-ack-point-clause-raised c =
+pub invariant_of-self-then-has_joined : goal.invariant_of-self-then-has_joined
+invariant_of-self-then-has_joined c =
     let self = c.args.self.now in
     let ack = c.args.ack.now in
+    let plan = standings_plan self.standings in
     let old = groups_in self.standings in
     let counted = c.in_ok-count.ensures.counted in
     let low : ack.scl ≤ group_point_of old ack.group = omega (arith, c.if-ack-point.true, c.point.ensures ∙ ap (λ gs. group_point_of gs ack.group) counted ∙ group_point_of-counted_in old ack.group ack.from ack.scl ack.group) in
-    subst (λ p. AreRaised p (groups_in c.count.new.self)) (sym c.in_ok-count.ensures.plan)
-    (subst (AreRaised (standings_plan self.standings)) (sym counted) (counted_raised (standings_plan self.standings) old ack.group ack.from ack.scl self.raised low))
+    let there : (group_of old ack.group).joined ≡ true = sym (joined-counted_in old ack.group ack.from ack.scl ack.group) ∙ sym (c.has_joined.ensures ∙ ap (λ gs. (group_of gs ack.group).joined) counted) ∙ c.if-has_joined.true in
+    record {
+      assigned = self.assigned;
+      within = self.within;
+      growing = self.growing;
+      raised = subst (λ p. AreRaised p (groups_in c.count.new.self)) (sym c.in_ok-count.ensures.plan)
+          (subst (AreRaised plan) (sym counted) (counted_raised plan old ack.group ack.from ack.scl self.raised low));
+      joined = subst (λ p. HaveJoined p (groups_in c.count.new.self)) (sym c.in_ok-count.ensures.plan)
+          (subst (HaveJoined plan) (sym counted) (counted_joined plan old ack.group ack.from ack.scl self.joined there));
+      front = self.front;
+      covers = covers-same self.covered (group_point_of old) (group_point_of (groups_in c.count.new.self)) self.log.items
+          (λ k. sym (ap (λ gs. group_point_of gs k) counted ∙ group_point_of-counted_in old ack.group ack.from ack.scl k)) self.covers;
+    }
 
-pub invariant_of-self-then-ack-point-clause-covers : goal.invariant_of-self-then-ack-point-clause-covers
-invariant_of-self-then-ack-point-clause-covers c =
-    let self = c.args.self.now in
-    let ack = c.args.ack.now in
-    let old = groups_in self.standings in
-    covers-same self.covered (group_point_of old) (group_point_of (groups_in c.count.new.self)) self.log.items
-    (λ k. sym (ap (λ gs. group_point_of gs k) c.in_ok-count.ensures.counted ∙ group_point_of-counted_in old ack.group ack.from ack.scl k)) self.covers
-
-pub returns-then-ack-point-clause-answers : goal.returns-then-ack-point-clause-answers
-returns-then-ack-point-clause-answers c =
+pub returns-then-has_joined-clause-answers : goal.returns-then-has_joined-clause-answers
+returns-then-has_joined-clause-answers c =
     let self = c.args.self.now in
     let ack = c.args.ack.now in
     let plan = standings_plan self.standings in
@@ -61,12 +65,13 @@ returns-then-ack-point-clause-answers c =
     let client = client_of self in
     let counted = c.in_ok-count.ensures.counted in
     let low : ack.scl ≤ group_point_of old ack.group = omega (arith, c.if-ack-point.true, c.point.ensures ∙ ap (λ gs. group_point_of gs ack.group) counted ∙ group_point_of-counted_in old ack.group ack.from ack.scl ack.group) in
+    let there : (group_of old ack.group).joined ≡ true = sym (joined-counted_in old ack.group ack.from ack.scl ack.group) ∙ sym (c.has_joined.ensures ∙ ap (λ gs. (group_of gs ack.group).joined) counted) ∙ c.if-has_joined.true in
     let all : groups_in c.count.new.self ≡ raised plan (counted_in old ack.group ack.from ack.scl) =
-    counted ∙ sym (raised-same plan (counted_in old ack.group ack.from ack.scl) (counted_raised plan old ack.group ack.from ack.scl self.raised low)) in
+    counted ∙ sym (raised-same plan (counted_in old ack.group ack.from ack.scl) (counted_raised plan old ack.group ack.from ack.scl self.raised low) (counted_joined plan old ack.group ack.from ack.scl self.joined there)) in
     ack_counted plan self.volume old (groups_in c.count.new.self) client.lineage client.found client.log ack.group ack.from ack.scl (label_of ack.label) c.in_ok-admits_ack.ensures.can
     (omega (arith, c.if-ack-epoch.false, c.epoch.ensures)) all
 
--- ---- it is above
+-- ---- it is above, or the group hasn't joined
 
 pub follow-requires-clause-front : goal.follow-requires-clause-front
 follow-requires-clause-front c =
@@ -74,9 +79,8 @@ follow-requires-clause-front c =
     let ack = c.args.ack.now in
     let plan = standings_plan self.standings in
     let old = groups_in self.standings in
-    let within : ack.group < length old = subst (λ n. ack.group < n) (sym (length-map self.standings.list.items group_at ∙ self.standings.each_group)) (of_group self.volume plan.groups ack.group ack.from ack.scl (label_of ack.label) c.in_ok-admits_ack.ensures.can) in
     let now : groups_in c.raise_group.new.self ≡ raised plan (counted_in old ack.group ack.from ack.scl) =
-    raised-counted plan old (groups_in c.count.new.self) (groups_in c.raise_group.new.self) ack.group ack.from ack.scl self.raised within c.in_ok-count.ensures.counted
+    raised-counted plan old (groups_in c.count.new.self) (groups_in c.raise_group.new.self) ack.group ack.from ack.scl self.raised self.joined c.in_ok-count.ensures.counted
     (c.raise_group.ensures.groups ∙ ap (λ p. raised_in p (groups_in c.count.new.self) ack.group) c.in_ok-count.ensures.plan) in
     let rises : (k : ℕ) → group_point_of old k ≤ group_point_of (groups_in c.raise_group.new.self) k =
     λ k. subst (λ (groups : List ClientGroup). group_point_of old k ≤ group_point_of groups k) (sym now) (group_point_of-counted plan old ack.group ack.from ack.scl k) in
@@ -89,9 +93,18 @@ invariant_of-self-2-clause-raised c =
     let ack = c.args.ack.now in
     let plan = standings_plan self.standings in
     let old = groups_in self.standings in
-    let within : ack.group < length old = subst (λ n. ack.group < n) (sym (length-map self.standings.list.items group_at ∙ self.standings.each_group)) (of_group self.volume plan.groups ack.group ack.from ack.scl (label_of ack.label) c.in_ok-admits_ack.ensures.can) in
     raised_all plan _ (counted_in old ack.group ack.from ack.scl) _ (c.raise_group.ensures.plan ∙ c.in_ok-count.ensures.plan)
-    (raised-counted plan old (groups_in c.count.new.self) (groups_in c.raise_group.new.self) ack.group ack.from ack.scl self.raised within c.in_ok-count.ensures.counted
+    (raised-counted plan old (groups_in c.count.new.self) (groups_in c.raise_group.new.self) ack.group ack.from ack.scl self.raised self.joined c.in_ok-count.ensures.counted
+    (c.raise_group.ensures.groups ∙ ap (λ p. raised_in p (groups_in c.count.new.self) ack.group) c.in_ok-count.ensures.plan))
+
+pub invariant_of-self-2-clause-joined : goal.invariant_of-self-2-clause-joined
+invariant_of-self-2-clause-joined c =
+    let self = c.args.self.now in
+    let ack = c.args.ack.now in
+    let plan = standings_plan self.standings in
+    let old = groups_in self.standings in
+    joined_all plan _ (counted_in old ack.group ack.from ack.scl) _ (c.raise_group.ensures.plan ∙ c.in_ok-count.ensures.plan)
+    (raised-counted plan old (groups_in c.count.new.self) (groups_in c.raise_group.new.self) ack.group ack.from ack.scl self.raised self.joined c.in_ok-count.ensures.counted
     (c.raise_group.ensures.groups ∙ ap (λ p. raised_in p (groups_in c.count.new.self) ack.group) c.in_ok-count.ensures.plan))
 
 pub returns-clause-answers : goal.returns-clause-answers
@@ -101,8 +114,7 @@ returns-clause-answers c =
     let plan = standings_plan self.standings in
     let old = groups_in self.standings in
     let client = client_of self in
-    let within : ack.group < length old = subst (λ n. ack.group < n) (sym (length-map self.standings.list.items group_at ∙ self.standings.each_group)) (of_group self.volume plan.groups ack.group ack.from ack.scl (label_of ack.label) c.in_ok-admits_ack.ensures.can) in
     ack_counted plan self.volume old (groups_in c.raise_group.new.self) client.lineage client.found client.log ack.group ack.from ack.scl (label_of ack.label) c.in_ok-admits_ack.ensures.can
     (omega (arith, c.if-ack-epoch.false, c.epoch.ensures))
-    (raised-counted plan old (groups_in c.count.new.self) (groups_in c.raise_group.new.self) ack.group ack.from ack.scl self.raised within c.in_ok-count.ensures.counted
+    (raised-counted plan old (groups_in c.count.new.self) (groups_in c.raise_group.new.self) ack.group ack.from ack.scl self.raised self.joined c.in_ok-count.ensures.counted
     (c.raise_group.ensures.groups ∙ ap (λ p. raised_in p (groups_in c.count.new.self) ack.group) c.in_ok-count.ensures.plan))

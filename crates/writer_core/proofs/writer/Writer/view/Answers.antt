@@ -1,28 +1,71 @@
 use Rattle.std.proofs.Common.{◌≡◌, ℕ, ◌≤◌, List, map, sym, ap, ◌∙◌, subst}
 use Rattle.redo_record.specs.declared.packet.Packet.{Packet}
+use Rattle.volume_model.specs.Plan.{Plan}
 use Rattle.volume_model.specs.Client.{ClientGroup, group_point_of}
 use Rattle.volume_model.specs.ClientPoints.{raised}
 use Rattle.volume_model.specs.ClientMessages.{with_places, later_group}
-use Rattle.wire.specs.Message.{place_of}
+use Rattle.wire.specs.declared.label.Place.{Place}
+use Rattle.wire.specs.Message.{place_of, messages_of}
 use Rattle.writer_core.specs.Groups.{groups_in, standings_plan}
-use Rattle.writer_core.specs.Covered.{CoversFront}
+use Rattle.writer_core.specs.Covered.{CoversFront, CoversLog}
+use Rattle.writer_core.specs.Raised.{AreRaised, HaveJoined}
+use Rattle.writer_core.specs.Writers.{client_of}
 use Rattle.writer_core.proofs.Covering.{covers-raised}
-use Rattle.writer_core.proofs.Raising.{raised_all}
+use Rattle.writer_core.proofs.Raising.{raised_all, joined_all}
 use Rattle.writer_core.proofs.Rising.{group_point_of-with_places}
+use Rattle.writer_core.proofs.Views.{installs-listed, view-writing}
 use Rattle.writer_core.proofs.writer.Writer.view.Goals as goal
+
+-- ---- memory ran out
+
+pub invariant_of-self-in-Break-branch-3 : goal.invariant_of-self-in-Break-branch-3
+invariant_of-self-in-Break-branch-3 c =
+    let self = c.args.self.now in
+    let plan = standings_plan self.standings in
+    let same : groups_in c.follow.new.self ≡ groups_in self.standings = c.in_err-follow.ensures.same in
+    record {
+      assigned = self.assigned;
+      within = self.within;
+      growing = self.growing;
+      raised = subst (λ p. AreRaised p (groups_in c.follow.new.self)) (sym c.in_err-follow.ensures.plan) (subst (AreRaised plan) (sym same) self.raised);
+      joined = subst (λ p. HaveJoined p (groups_in c.follow.new.self)) (sym c.in_err-follow.ensures.plan) (subst (HaveJoined plan) (sym same) self.joined);
+      front = self.front;
+      covers = subst (λ (gs : List ClientGroup). CoversLog self.covered (group_point_of gs) self.log.items) (sym same) self.covers;
+    }
+
+-- ---- the groups are moved and raised
 
 pub follow-requires-2-clause-front : goal.follow-requires-2-clause-front
 follow-requires-2-clause-front c =
     let self = c.args.self.now in
-    let places = map place_of c.as_slice.result.now in
+    let places = map place_of c.as_slice-places.result.now in
     let plan = standings_plan c.follow.new.self in
     let old = groups_in self.standings in
-    let now : groups_in c.raise.new.self ≡ raised plan (with_places later_group old places) = c.raise.ensures.groups ∙ ap (raised plan) c.follow.ensures.groups in
+    let now : groups_in c.raise.new.self ≡ raised plan (with_places later_group old places) = c.raise.ensures.groups ∙ ap (raised plan) c.in_ok-follow.ensures.groups in
     let rises : (k : ℕ) → group_point_of old k ≤ group_point_of (groups_in c.raise.new.self) k =
     λ k. subst (λ (groups : List ClientGroup). group_point_of old k ≤ group_point_of groups k) (sym now) (group_point_of-with_places plan old places k) in
-    subst (λ (log : List Packet). CoversFront self.covered (group_point_of (groups_in c.raise.new.self)) log) (sym c.as_slice-2.ensures.value)
+    subst (λ (log : List Packet). CoversFront self.covered (group_point_of (groups_in c.raise.new.self)) log) (sym c.as_slice.ensures.value)
     (covers-raised self.covered (group_point_of old) (group_point_of (groups_in c.raise.new.self)) self.log.items rises self.covers.front)
 
-pub invariant_of-self-clause-raised : goal.invariant_of-self-clause-raised
-invariant_of-self-clause-raised c =
+pub invariant_of-self-2-clause-raised : goal.invariant_of-self-2-clause-raised
+invariant_of-self-2-clause-raised c =
     raised_all (standings_plan c.follow.new.self) _ (groups_in c.follow.new.self) _ c.raise.ensures.plan c.raise.ensures.groups
+
+pub invariant_of-self-2-clause-joined : goal.invariant_of-self-2-clause-joined
+invariant_of-self-2-clause-joined c =
+    joined_all (standings_plan c.follow.new.self) _ (groups_in c.follow.new.self) _ c.raise.ensures.plan c.raise.ensures.groups
+
+pub returns-clause-answers : goal.returns-clause-answers
+returns-clause-answers c =
+    let self = c.args.self.now in
+    let view = c.args.view.now in
+    let plan = standings_plan self.standings in
+    let old = groups_in self.standings in
+    let client = client_of self in
+    let same = c.as_slice-places.ensures.value in
+    let new : groups_in c.raise.new.self ≡ raised plan (with_places later_group old (map place_of view.places.items)) =
+    c.raise.ensures.groups ∙ ap (λ (p : Plan). raised p (groups_in c.follow.new.self)) c.in_ok-follow.ensures.plan
+    ∙ ap (raised plan) (c.in_ok-follow.ensures.groups ∙ ap (λ (ps : List Place). with_places later_group old (map place_of ps)) same) in
+    view-writing plan self.volume view.volume old (groups_in c.raise.new.self) client.lineage client.found client.log (map place_of view.places.items) (messages_of c.in_ok-messages.messages.items)
+    c.in_ok-admits_view.ensures.epoch c.in_ok-admits_view.ensures.places new
+    (installs-listed self.volume old client.lineage c.as_slice-places.result.now view.places.items _ same c.in_ok-messages.ensures)

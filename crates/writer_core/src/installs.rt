@@ -1,0 +1,106 @@
+//! What a client installs in groups.
+
+ghost use Rattle.std.specs.Prelude.{◌≡◌, ◌≤◌, [], length, map, IfOk};
+ghost use Rattle.volume_model.specs.Message as model;
+ghost use Rattle.volume_model.specs.Message.{place_in};
+ghost use Rattle.volume_model.specs.Pieces.{in_pieces, pieces_of};
+ghost use Rattle.volume_model.specs.Redo.{of_group};
+ghost use Rattle.volume_model.specs.ClientRecovery.{installs, to_install};
+ghost use Rattle.volume_model.specs.ClientMessages.{later_unjoined};
+ghost use Rattle.lineage.specs.Lineage.{lineage_of};
+ghost use Rattle.redo_record.specs.RecordSet.{records_of};
+ghost use Rattle.wire.specs.Contents.{contents_of};
+ghost use Rattle.wire.specs.Message as wire;
+ghost use Rattle.wire.specs.Message.{messages_of};
+ghost use Rattle.writer_core.specs.Logs.{log_of};
+ghost use Rattle.writer_core.specs.Groups.{groups_in};
+
+use crate::standings::Standings;
+use lineage::Lineage;
+use redo_record::{Packet, RecordSet};
+use std::alloc::{AllocError, Global};
+use wire::{Contents, Install, Label, Message, Place};
+
+/// The label under which a client of this volume epoch speaks to a group that stands at a place.
+pub fn label_at(volume: u32, place: Place) -> Label
+    ensures { wire.label_of result ≡ record { volume = volume; member = place.epoch } }
+{
+    Label {
+        volume,
+        member: place.epoch,
+    }
+}
+
+/// The records of a group, as a set.
+fn of_group(alloc: Global, group: u8, log: &[Packet]) -> Result<RecordSet, AllocError>
+    ensures { IfOk result (λ set. records_of set ≡ of_group group (log_of log.now)) }
+{
+    let mut set = RecordSet::new(alloc);
+    for packet in log {
+        if packet.group() == group {
+            set.insert(packet.clone()?)?;
+        }
+    }
+    Ok(set)
+}
+
+/// How many pieces the contents make. More than a message can number are as if memory ran out.
+fn pieces_in(contents: &Contents) -> Result<u16, AllocError>
+    ensures { IfOk result (λ of. of ≡ pieces_of (length (contents_of contents.now).records)) }
+{
+    match u16::try_from(contents.pieces()) {
+        Ok(of) => Ok(of),
+        Err(_) => Err(AllocError),
+    }
+}
+
+/// The Installs of a log found, under a lineage, for the nodes of a group: one a piece, in growing order.
+pub fn group_installs(
+    alloc: Global,
+    group: u8,
+    label: Label,
+    lineage: &Lineage,
+    log: &[Packet],
+) -> Result<Vec<Message>, AllocError>
+    ensures { IfOk result (λ messages. messages_of messages.items ≡ in_pieces (to_install (lineage_of lineage.now) (log_of log.now) group) (model.Message.Install group (wire.label_of label))) }
+{
+    let whole = Contents {
+        lineage: lineage.clone()?,
+        records: of_group(alloc, group, log)?,
+    };
+    let of = pieces_in(&whole)?;
+    let mut messages = Vec::new(alloc);
+    for piece in 0..of {
+        messages.push(Message::Install(Install {
+            group,
+            label,
+            piece,
+            of,
+            contents: whole.piece(usize::from(piece))?,
+        }))?;
+    }
+    Ok(messages)
+}
+
+/// The Installs, with no records, of each group that these places raise and that hasn't joined, in order of group.
+pub(crate) fn unjoined_installs(
+    alloc: Global,
+    volume: u32,
+    standings: &Standings,
+    lineage: &Lineage,
+    places: &[Place],
+) -> Result<Vec<Message>, AllocError>
+    requires { length places.now ≤ 16 }
+    ensures { IfOk result (λ messages. messages_of messages.items ≡ installs (length places.now) volume (place_in (map wire.place_of places.now)) (lineage_of lineage.now) [] (later_unjoined (groups_in standings.now) (place_in (map wire.place_of places.now)))) }
+{
+    let mut messages = Vec::new(alloc);
+    for group in 0..places.len() as u8 {
+        let place = places[usize::from(group)];
+        if standings.epoch(group) < place.epoch && !standings.has_joined(group) {
+            let label = label_at(volume, place);
+            let mut pieces = group_installs(alloc, group, label, lineage, &[])?;
+            messages.append(&mut pieces)?;
+        }
+    }
+    Ok(messages)
+}
