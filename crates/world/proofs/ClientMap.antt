@@ -59,3 +59,6 @@ none_kept clients e plan w client found = let h : None ≡ Some client = sym (no
 -- clients that stay the same
 pub same_clients : (plan : Plan) (old new : BTreeMap ℕ Client) → new.entries ≡ old.entries → AreClients plan old → AreClients plan new
 same_clients plan old new e all w client found = all w client (ap (lookup (is_at (nat_cmp w))) (sym e) ∙ found)
+
+pub kept_clients : (old new : BTreeMap ℕ Client) → new.entries ≡ old.entries → clients_of new ≡ clients_of old
+kept_clients old new e = λ j w. client_or_unborn (lookup (is_at (nat_cmp w)) (e j))

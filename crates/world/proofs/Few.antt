@@ -19,15 +19,15 @@ pub few-named : (plan : Plan) (most volume : ℕ) (now : Client) → ((m : Messa
 few-named plan most volume now few None = tt
 few-named plan most volume now few (Some m) = few m
 
-installs-within : (plan : Plan) (groups many : ℕ) (found : List Redo) → groups ≡ plan.groups → length found ≤ many → most_installs plan found ≤ groups + many / 256
-installs-within plan groups many found same within = omega (arith, same, within)
+installs-within : (least groups many : ℕ) (found : List Redo) → least ≤ groups → length found ≤ many → most_installs least found ≤ groups + many / 256
+installs-within least groups many found few within = omega (arith, few, within)
 
 -- a client takes a message: so many groups, and so many records of the log that it found
 pub few-taken : (plan : Plan) (volume : ℕ) (now : Client) (groups many : ℕ) → StepsAreFew → groups ≡ plan.groups → length now.found ≤ many → (m : Message) → Few (groups + many / 256) (taken plan volume now m)
 few-taken plan volume now groups many law same within m =
-    few-more (most_installs plan now.found) (groups + many / 256) (taken plan volume now m) (installs-within plan groups many now.found same within) (law.take plan volume now m)
+    few-more (most_installs plan.groups now.found) (groups + many / 256) (taken plan volume now m) (installs-within plan.groups groups many now.found (omega (arith, same)) within) (law.take plan volume now m)
 
--- a client cuts: so many groups, and so many records that are found at most
-pub few-cut : (plan : Plan) (volume : ℕ) (now : Client) (groups many : ℕ) → StepsAreFew → groups ≡ plan.groups → length (log_reported plan now) ≤ many → Few (groups + many / 256) (cut_client plan volume now)
+-- a client cuts: so many groups of its view, and so many records that are found at most
+pub few-cut : (plan : Plan) (volume : ℕ) (now : Client) (groups many : ℕ) → StepsAreFew → length now.groups ≤ groups → length (log_reported now) ≤ many → Few (groups + many / 256) (cut_client plan volume now)
 few-cut plan volume now groups many law same within =
-    few-more (most_installs plan (log_reported plan now)) (groups + many / 256) (cut_client plan volume now) (installs-within plan groups many (log_reported plan now) same within) (law.cut plan volume now)
+    few-more (most_installs (length now.groups) (log_reported now)) (groups + many / 256) (cut_client plan volume now) (installs-within (length now.groups) groups many (log_reported now) same within) (law.cut plan volume now)

@@ -5,7 +5,7 @@ use Rattle.std.proofs.lemmas.Bool.Decides.{nat_tests}
 use Rattle.volume_model.specs.declared.fault.Fault.{Fault}
 use Rattle.volume_model.specs.Plan.{Plan}
 use Rattle.volume_model.specs.World.{World, Event, AuthorityStep, step, after, after_step, told, of_authority, of_client, of_node}
-use Rattle.volume_model.specs.World.Event.{Assign, Advance, Refresh, Issue, Take, Cut, Open, Resend, Read, Deliver, Hydrate, Restart, Offer}
+use Rattle.volume_model.specs.World.Event.{Assign, Advance, Refresh, Grow, Issue, Take, Cut, Open, Resend, Read, Deliver, Hydrate, Restart, Offer}
 use Rattle.volume_model.specs.Node.{NodeAnswer}
 use Rattle.volume_model.specs.Client.{ClientAnswer}
 use Rattle.world.specs.Events.{made_by, total_made, firsts_of, number_from}
@@ -42,7 +42,7 @@ total_made-push (s ∷ later) r = omega (arith, total_made-push later r)
 
 -- the messages of a world grow by those that are told of
 authority_grows : (w : World) (answer : Result AuthorityStep Fault) → length (after_step w (of_authority w answer)).messages ≡ length w.messages + made_by (told (of_authority w answer))
-authority_grows w (Ok s) = omega arith
+authority_grows w (Ok s) = length-added s.made w.messages ∙ omega arith
 authority_grows w (Err fault) = omega arith
 
 client_grows : (w : World) (volume : ℕ) (answer : ClientAnswer) → length (after_step w (of_client w volume answer)).messages ≡ length w.messages + made_by (told (of_client w volume answer))
@@ -57,6 +57,7 @@ pub grows : (plan : Plan) (w : World) (event : Event) → length (after plan w e
 grows plan w Assign = authority_grows w _
 grows plan w (Advance group c) = authority_grows w _
 grows plan w (Refresh volume) = authority_grows w _
+grows plan w Grow = authority_grows w _
 grows plan w (Issue volume changes) = client_grows w volume _
 grows plan w (Take volume number) = client_grows w volume _
 grows plan w (Cut volume) = client_grows w volume _

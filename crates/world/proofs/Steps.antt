@@ -1,5 +1,5 @@
 -- The step of one actor, in the world.
-use Rattle.std.proofs.Common.{◌≡◌, ℕ, ◌*◌, ◌/◌, ◌%◌, ◌<◌, ◌≤◌, Bool, true, false, not, ◌&&◌, nat_lt, nat_le, if◌then◌else◌, List, [], ◌∷◌, Option, Some, None, Result, Ok, Err, length, option_map, set, refl, sym, ap, ◌∙◌, subst, inl, inr, arith}
+use Rattle.std.proofs.Common.{◌≡◌, ℕ, ◌*◌, ◌/◌, ◌%◌, ◌<◌, ◌≤◌, Bool, true, false, not, ◌&&◌, nat_lt, nat_le, if◌then◌else◌, List, [], ◌∷◌, Option, Some, None, Result, Ok, Err, length, option_map, set, refl, sym, ap, ap₂, ◌∙◌, subst, inl, inr, arith}
 use Rattle.std.specs.Prelude.{slice_get}
 use Rattle.std.proofs.Common.{get_or, length-set}
 use Rattle.std.proofs.lemmas.List.{length-map}
@@ -15,7 +15,7 @@ use Rattle.volume_model.specs.Answer.{never_late, AnswersLate}
 use Rattle.volume_model.specs.Refusal.{refuse_if}
 use Rattle.volume_model.specs.Node.{Node, NodeAnswer, NodeStep, born_node}
 use Rattle.volume_model.specs.Client.{Client, ClientAnswer, ClientStep}
-use Rattle.volume_model.specs.World.{Authority, AuthorityStep, Step, World, of_authority, of_node, of_client, if_named}
+use Rattle.volume_model.specs.World.{Authority, AuthorityStep, Step, World, of_authority, groups_joined, of_node, of_client, if_there}
 use Rattle.segment_core.specs.declared.segment.Segment.{Segment}
 use Rattle.segment_core.specs.Segment.{node_of, segment_plan, segment_group, segment_member, IsSegmentOf, IsSameActor}
 use Rattle.world.specs.Slots.{members, slot_of, in_slot, node_or, node_at, FindsSlot}
@@ -58,11 +58,23 @@ node_in_slot plan slots g m low s e =
     ap (λ (b : Bool). if b then node_or (born_node plan g m) (in_slot (slice_get (nodes_of slots) (slot_of g m))) else born_node plan g m) l
     ∙ ap (λ (o : Option (Option Node)). node_or (born_node plan g m) (in_slot o)) (slice_get-map (option_map node_of) slots (slot_of g m) ∙ ap (option_map (option_map node_of)) e)
 
--- a node that the plan doesn't name is refused
-pub unnamed_steps : (late : Fault → Bool) (plan : Plan) (world : World) (g m : ℕ) (defined : NodeAnswer) → is_named plan g m ≡ false → Steps late (of_node world g m (if_named plan g m defined)) world (Err NoActor) world
-unnamed_steps late plan world g m defined e =
-    let refused : of_node world g m (if_named plan g m defined) ≡ Err NoActor = ap (λ (b : Bool). of_node world g m (refuse_if (not b) NoActor defined)) e in
+and-false : (b : Bool) → (b && false) ≡ false
+and-false true = refl
+and-false false = refl
+
+-- a node is refused that isn't there
+absent_steps : (late : Fault → Bool) (plan : Plan) (world : World) (joined g m : ℕ) (defined : NodeAnswer) → (nat_lt g joined && is_named plan g m) ≡ false → Steps late (of_node world g m (if_there plan joined g m defined)) world (Err NoActor) world
+absent_steps late plan world joined g m defined e =
+    let refused : of_node world g m (if_there plan joined g m defined) ≡ Err NoActor = ap (λ (b : Bool). of_node world g m (refuse_if (not b) NoActor defined)) e in
     (ap moved_of refused, refl)
+
+-- that is one that the plan doesn't name
+pub unnamed_steps : (late : Fault → Bool) (plan : Plan) (world : World) (joined g m : ℕ) (defined : NodeAnswer) → is_named plan g m ≡ false → Steps late (of_node world g m (if_there plan joined g m defined)) world (Err NoActor) world
+unnamed_steps late plan world joined g m defined e = absent_steps late plan world joined g m defined (ap (λ (b : Bool). nat_lt g joined && b) e ∙ and-false (nat_lt g joined))
+
+-- and one whose group hasn't joined
+pub unjoined_steps : (late : Fault → Bool) (plan : Plan) (world : World) (joined g m : ℕ) (defined : NodeAnswer) → joined ≤ g → Steps late (of_node world g m (if_there plan joined g m defined)) world (Err NoActor) world
+unjoined_steps late plan world joined g m defined h = absent_steps late plan world joined g m defined (ap (λ (b : Bool). b && is_named plan g m) (le-ltb g joined h))
 
 -- what the step of an actor leaves in the world, where the world in which the actor is this and these are all messages is placed so
 module _ {S T : Type 0} (made : T → List Message) (actor : T → S) (placed : Held S → World) where
@@ -82,15 +94,15 @@ module _ {S T : Type 0} (made : T → List Message) (actor : T → S) (placed : 
       (answers_along late counted moved onward placed (λ r h. refl) told was result will_be moves)))
 
 -- what a node's step leaves in the world
-module _ (plan : Plan) (authority : Authority) (slots : List (Option Node)) (clients : ℕ → Client) (kept : List Message) (g m : ℕ) (low : m < 64) (within : slot_of g m < length slots) (old new : Node) (there : node_at plan slots g m ≡ old) (named : is_named plan g m ≡ true) (defined : NodeAnswer) where
+module _ (plan : Plan) (authority : Authority) (slots : List (Option Node)) (clients : ℕ → Client) (kept : List Message) (g m : ℕ) (low : m < 64) (within : slot_of g m < length slots) (old new : Node) (there : node_at plan slots g m ≡ old) (joined : nat_lt g (groups_joined authority) ≡ true) (named : is_named plan g m ≡ true) (defined : NodeAnswer) where
   abbrev pub before : World
   before = world_with authority (node_at plan slots) clients kept
 
   abbrev pub after : List Message → World
   after now = world_with authority (node_at plan (set slots (slot_of g m) (Some new))) clients now
 
-  asked : of_node before g m (if_named plan g m defined) ≡ of_node before g m defined
-  asked = ap (λ (b : Bool). of_node before g m (refuse_if (not b) NoActor defined)) named
+  asked : of_node before g m (if_there plan (groups_joined authority) g m defined) ≡ of_node before g m defined
+  asked = ap₂ (λ (b c : Bool). of_node before g m (refuse_if (not (b && c)) NoActor defined)) joined named
 
   -- the world in which the node is this, and these are all messages
   abbrev placed : Held Node → World
@@ -106,29 +118,29 @@ module _ (plan : Plan) (authority : Authority) (slots : List (Option Node)) (cli
   there_now : (now : List Message) → placed (record { actor = new; messages = now }) ≡ after now
   there_now now = ap (λ (f : ℕ → ℕ → Node). world_with authority f clients now) (sym (node_at-set plan slots g m new low within))
 
-  pub node_steps : (late : Fault → Bool) (result : Result ℕ Fault) (now : List Message) → NodeMoves late defined old kept result new now → Steps late (of_node before g m (if_named plan g m defined)) before result (after now)
+  pub node_steps : (late : Fault → Bool) (result : Result ℕ Fault) (now : List Message) → NodeMoves late defined old kept result new now → Steps late (of_node before g m (if_there plan (groups_joined authority) g m defined)) before result (after now)
   node_steps late result now moves =
-      placed_steps (λ (s : NodeStep). s.made) (λ (s : NodeStep). s.node) placed late defined (of_node before g m (if_named plan g m defined)) kept now old new before (after now) (moved_on defined ∙ ap moved_of (sym asked)) here (there_now now) result moves
+      placed_steps (λ (s : NodeStep). s.made) (λ (s : NodeStep). s.node) placed late defined (of_node before g m (if_there plan (groups_joined authority) g m defined)) kept now old new before (after now) (moved_on defined ∙ ap moved_of (sym asked)) here (there_now now) result moves
 
 -- what stands where a slot was found
 pub found_there : (slots : List (Option Segment)) (slot at : ℕ) (x o : Option Segment) → x ≡ get_or slots slot x → slot ≡ at → slot < length slots → x ≡ o → slice_get slots at ≡ Some o
 found_there slots slot at x o e same within is = ap (slice_get slots) (sym same) ∙ slice_get_read slots (length slots) slot x refl within e ∙ ap Some is
 
 -- a segment that stands in its slot takes a step
-module _ (plan : Plan) (authority : Authority) (slots : List (Option Segment)) (clients : ℕ → Client) (kept : List Message) (homes : AreHomes plan slots) (g m : ℕ) (low : m < 64) (s new : Segment) (there : slice_get slots (slot_of g m) ≡ Some (Some s)) (actor : IsSameActor s new) where
+module _ (plan : Plan) (authority : Authority) (slots : List (Option Segment)) (clients : ℕ → Client) (kept : List Message) (homes : AreHomes plan slots) (g m : ℕ) (low : m < 64) (s new : Segment) (there : slice_get slots (slot_of g m) ≡ Some (Some s)) (actor : IsSameActor s new) (joined : nat_lt g (groups_joined authority) ≡ true) where
   home : (is_named plan g m ≡ true) × IsSegmentOf plan g m s
   home = place_of_member plan slots g m homes low (Some s) there
 
   pub segment_steps : (late : Fault → Bool) (f : Plan → ℕ → ℕ → Node → NodeAnswer) (result : Result ℕ Fault) (now : List Message) → NodeMoves late (f (segment_plan s) (segment_group s) (segment_member s) (node_of s)) (node_of s) kept result (node_of new) now
-      → Steps late (of_node (world_with authority (node_at plan (nodes_of slots)) clients kept) g m (if_named plan g m (f plan g m (node_at plan (nodes_of slots) g m)))) (world_with authority (node_at plan (nodes_of slots)) clients kept) result (world_with authority (node_at plan (nodes_of (set slots (slot_of g m) (Some new)))) clients now)
+      → Steps late (of_node (world_with authority (node_at plan (nodes_of slots)) clients kept) g m (if_there plan (groups_joined authority) g m (f plan g m (node_at plan (nodes_of slots) g m)))) (world_with authority (node_at plan (nodes_of slots)) clients kept) result (world_with authority (node_at plan (nodes_of (set slots (slot_of g m) (Some new)))) clients now)
   segment_steps late f result now moves =
       let at : node_at plan (nodes_of slots) g m ≡ node_of s = node_in_slot plan slots g m low s there in
       let asked : f (segment_plan s) (segment_group s) (segment_member s) (node_of s) ≡ f plan g m (node_at plan (nodes_of slots) g m) = λ i. f (home.1.plan_is i) (home.1.group_is i) (home.1.member_is i) (sym at i) in
       let here : slot_of g m < length slots = slice_get_within slots (slot_of g m) (Some s) there in
       let within : slot_of g m < length (nodes_of slots) = omega (arith, length-map slots (option_map node_of)) in
-      subst (λ (ns : List (Option Node)). Steps late (of_node (world_with authority (node_at plan (nodes_of slots)) clients kept) g m (if_named plan g m (f plan g m (node_at plan (nodes_of slots) g m)))) (world_with authority (node_at plan (nodes_of slots)) clients kept) result (world_with authority (node_at plan ns) clients now))
+      subst (λ (ns : List (Option Node)). Steps late (of_node (world_with authority (node_at plan (nodes_of slots)) clients kept) g m (if_there plan (groups_joined authority) g m (f plan g m (node_at plan (nodes_of slots) g m)))) (world_with authority (node_at plan (nodes_of slots)) clients kept) result (world_with authority (node_at plan ns) clients now))
       (sym (map-set (option_map node_of) slots (slot_of g m) (Some new)))
-      (node_steps plan authority (nodes_of slots) clients kept g m low within (node_of s) (node_of new) at home.0 (f plan g m (node_at plan (nodes_of slots) g m)) late result now
+      (node_steps plan authority (nodes_of slots) clients kept g m low within (node_of s) (node_of new) at joined home.0 (f plan g m (node_at plan (nodes_of slots) g m)) late result now
       (subst (λ (d : NodeAnswer). NodeMoves late d (node_of s) kept result (node_of new) now) asked moves))
 
   pub homes_on : AreHomes plan (set slots (slot_of g m) (Some new))
@@ -167,10 +179,10 @@ module _ (old : Authority) (nodes : ℕ → ℕ → Node) (clients : ℕ → Cli
   abbrev authority_placed : Held Authority → World
   authority_placed held = world_with held.actor nodes clients held.messages
 
-  authority_moved_on : (answer : Result AuthorityStep Fault) → map_ok (onward (λ (s : AuthorityStep). s.made ∷ []) (λ (s : AuthorityStep). s.authority) authority_placed) (told_of (λ (s : AuthorityStep). s.made ∷ []) (λ (s : AuthorityStep). s.authority) kept answer) ≡ moved_of (of_authority asked_of answer)
+  authority_moved_on : (answer : Result AuthorityStep Fault) → map_ok (onward (λ (s : AuthorityStep). s.made) (λ (s : AuthorityStep). s.authority) authority_placed) (told_of (λ (s : AuthorityStep). s.made) (λ (s : AuthorityStep). s.authority) kept answer) ≡ moved_of (of_authority asked_of answer)
   authority_moved_on (Err fault) = refl
   authority_moved_on (Ok step) = refl
 
   pub authority_steps : (defined : Result AuthorityStep Fault) (new : Authority) (result : Result ℕ Fault) (now : List Message) → AuthorityMoves defined old kept result new now → Steps never_late (of_authority asked_of defined) asked_of result (world_with new nodes clients now)
   authority_steps defined new result now moves =
-      placed_steps (λ (s : AuthorityStep). s.made ∷ []) (λ (s : AuthorityStep). s.authority) authority_placed never_late defined (of_authority asked_of defined) kept now old new asked_of (world_with new nodes clients now) (authority_moved_on defined) refl refl result moves
+      placed_steps (λ (s : AuthorityStep). s.made) (λ (s : AuthorityStep). s.authority) authority_placed never_late defined (of_authority asked_of defined) kept now old new asked_of (world_with new nodes clients now) (authority_moved_on defined) refl refl result moves

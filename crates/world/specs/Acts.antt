@@ -1,5 +1,5 @@
 -- What the model's actors do.
-use Rattle.std.specs.Prelude.{◌≡◌, ℕ, Bool, [], List, Err, Ok, Result}
+use Rattle.std.specs.Prelude.{◌≡◌, ℕ, Bool, [], List, Option, None, Some, Err, Ok, Result}
 use Rattle.volume_model.specs.declared.fault.Fault.{Fault}
 use Rattle.volume_model.specs.Answer.{never_late}
 use Rattle.volume_model.specs.Lists.{numbered}
@@ -12,7 +12,9 @@ use Rattle.volume_model.specs.ClientWriter.{issued, page_asked, resent}
 use Rattle.volume_model.specs.ClientRecovery.{cut_client}
 use Rattle.volume_model.specs.ClientMessages.{taken}
 use Rattle.wire.specs.Message.{message_of}
-use Rattle.volume_model.specs.World.{Authority, AuthorityStep, assigned, advanced, refreshed, deliver, take}
+use Rattle.volume_model.specs.World.{Authority, AuthorityStep, assigned, advanced, refreshed, grown, deliver, take}
+use Rattle.wire.specs.declared.message.Message.{Message}
+use Rattle.epochs.specs.Authority.{grew, told}
 use Rattle.segment_core.specs.Segment.{is_full}
 use Rattle.recovery.specs.Finds.{is_spent}
 use Rattle.volume_model.specs.Few.{Few}
@@ -31,12 +33,19 @@ abbrev pub authority_acted : Plan → Authority → AuthorityAct → Result Auth
 authority_acted plan now authority.Assign = assigned plan now
 authority_acted plan now (authority.Advance group configuration) = advanced plan now group configuration
 authority_acted plan now (authority.Refresh volume) = refreshed plan now volume
+authority_acted plan now authority.Grow = grown plan now
 
 -- what is said of the authority's act that leads a group on, which makes no growth
 abbrev pub OfAdvance : AuthorityAct → Type 0 → Type 0
 OfAdvance authority.Assign P = Unit {0}
 OfAdvance (authority.Advance group configuration) P = P
 OfAdvance (authority.Refresh volume) P = Unit {0}
+OfAdvance authority.Grow P = Unit {0}
+
+-- the step of the authority that makes this message, if there is one, and is then this
+abbrev pub spoken : Option Message → Authority → AuthorityStep
+spoken None now = grew tt now
+spoken (Some message) now = told message now
 
 -- what the node of a member of a group does, where these messages were made
 abbrev pub node_acted : List model.Message → NodeAct → Plan → ℕ → ℕ → Node → NodeAnswer
@@ -51,7 +60,7 @@ client_acted (client.Issue changes) plan volume now = issued plan volume now (ch
 client_acted (client.Take message) plan volume now = taken plan volume now (message_of message.now)
 client_acted client.Cut plan volume now = cut_client plan volume now
 client_acted (client.Resend lsn) plan volume now = resent volume now lsn
-client_acted (client.Read group block) plan volume now = page_asked plan volume now group block
+client_acted (client.Read group block) plan volume now = page_asked volume now group block
 
 -- the same, where these messages were made and it may name one
 abbrev pub client_ordered : List model.Message → ClientOrder → Plan → ℕ → Client → ClientAnswer

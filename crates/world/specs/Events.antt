@@ -15,6 +15,7 @@ abbrev pub event_of : Event → model.Event
 event_of events.Assign = model.Event.Assign
 event_of (events.Advance group configuration) = model.Event.Advance group configuration
 event_of (events.Refresh volume) = model.Event.Refresh volume
+event_of events.Grow = model.Event.Grow
 event_of (events.Issue volume changes) = model.Event.Issue volume (changes_of changes.items)
 event_of (events.Take volume message) = model.Event.Take volume message
 event_of (events.Cut volume) = model.Event.Cut volume

@@ -1,5 +1,5 @@
 -- What the step of one actor leaves, and what is told of it.
-use Rattle.std.specs.Prelude.{ℕ, Bool, [], ◌∷◌, List, length, Result, Ok, Err}
+use Rattle.std.specs.Prelude.{ℕ, Bool, List, length, Result, Ok, Err}
 use Rattle.volume_model.specs.declared.fault.Fault.{Fault}
 use Rattle.volume_model.specs.Answer.{never_late, AnswersLate}
 use Rattle.volume_model.specs.Lists.{added}
@@ -42,6 +42,6 @@ NodeMoves late defined old kept result new now = Moves (λ (s : NodeStep). s.mad
 abbrev pub ClientMoves : (Fault → Bool) → ClientAnswer → Client → List Message → Result ℕ Fault → Client → List Message → Type 0
 ClientMoves late defined old kept result new now = Moves (λ (s : ClientStep). s.made) (λ (s : ClientStep). s.client) late defined old kept result new now
 
--- the same of the authority, whose steps make one message each
+-- the same of the authority
 abbrev pub AuthorityMoves : Result AuthorityStep Fault → Authority → List Message → Result ℕ Fault → Authority → List Message → Type 0
-AuthorityMoves defined old kept result new now = Moves (λ (s : AuthorityStep). s.made ∷ []) (λ (s : AuthorityStep). s.authority) never_late defined old kept result new now
+AuthorityMoves defined old kept result new now = Moves (λ (s : AuthorityStep). s.made) (λ (s : AuthorityStep). s.authority) never_late defined old kept result new now

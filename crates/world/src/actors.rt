@@ -35,7 +35,7 @@ impl Actors {
     ghost use Rattle.std.specs.BTreeMap.{get};
     ghost use Rattle.volume_model.specs.Client.{unborn};
     ghost use Rattle.volume_model.specs.ClientRecovery.{opened};
-    ghost use Rattle.volume_model.specs.World.{if_named, of_authority, of_client, of_node, opening, step};
+    ghost use Rattle.volume_model.specs.World.{groups_joined, if_there, of_authority, of_client, of_node, opening, step};
     ghost use Rattle.plan.specs.CheckedModel.{checked_model};
     ghost use Rattle.volume_model.specs.Answer.{never_late};
     ghost use Rattle.world.specs.Actors.{event_late, plan_of, world_of, messages_in, AreActors, Steps};
@@ -71,7 +71,7 @@ impl Actors {
         authority_step::act(alloc, &mut self.authority, &mut self.messages, act)
     }
 
-    /// A node acts. `NoActor` where the plan doesn't name it.
+    /// A node acts. `NoActor` where its group hasn't joined, or the plan doesn't name it.
     fn node_step(
         &mut self,
         alloc: Global,
@@ -80,10 +80,13 @@ impl Actors {
         act: NodeAct,
     ) -> Result<u64, Fault>
         requires { AreActors self.old }
-        ensures steps { Steps (node_late act) (of_node (world_of self.old) group member (if_named (plan_of self.old) group member (node_acted (messages_in self.old) act (plan_of self.old) group member ((world_of self.old).nodes group member)))) (world_of self.old) result (world_of self.new) }
+        ensures steps { Steps (node_late act) (of_node (world_of self.old) group member (if_there (plan_of self.old) (groups_joined (world_of self.old).authority) group member (node_acted (messages_in self.old) act (plan_of self.old) group member ((world_of self.old).nodes group member)))) (world_of self.old) result (world_of self.new) }
         ensures good { AreActors self.new }
         ensures plan { plan_of self.new ≡ plan_of self.old }
     {
+        if group >= self.authority.joined() {
+            return Err(Fault::NoActor);
+        }
         let Some(slot) = slot(self.nodes.len(), group, member) else {
             return Err(Fault::NoActor);
         };
@@ -174,6 +177,7 @@ impl Actors {
             Event::Refresh { volume } => {
                 self.authority_step(alloc, AuthorityAct::Refresh { volume: *volume })
             }
+            Event::Grow => self.authority_step(alloc, AuthorityAct::Grow),
             Event::Issue { volume, changes } => {
                 self.client_step(alloc, *volume, ClientOrder::Act(ClientAct::Issue(changes)))
             }

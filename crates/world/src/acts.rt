@@ -12,6 +12,8 @@ pub enum AuthorityAct {
     Advance { group: u8, configuration: u32 },
     /// It tells the client of the last volume epoch where the groups stand; `volume` is that of the client that asks.
     Refresh { volume: u32 },
+    /// It lets the next group join.
+    Grow,
 }
 
 /// What a node does.

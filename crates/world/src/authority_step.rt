@@ -4,8 +4,8 @@ ghost use Rattle.std.specs.Prelude.{◌≡◌, []};
 ghost use Rattle.volume_model.specs.Answer.{refusal_of, Answers, AnswersAlways};
 ghost use Rattle.volume_model.specs.Lists.{added};
 ghost use Rattle.wire.specs.Message.{messages_of};
-ghost use Rattle.epochs.specs.Authority.{authority_of, authority_plan, told};
-ghost use Rattle.world.specs.Acts.{authority_acted, OfAdvance};
+ghost use Rattle.epochs.specs.Authority.{authority_of, authority_plan};
+ghost use Rattle.world.specs.Acts.{authority_acted, spoken, OfAdvance};
 ghost use Rattle.world.specs.Moves.{AuthorityMoves};
 
 use crate::acts::AuthorityAct;
@@ -19,7 +19,8 @@ impl AuthorityAct {
     ///
     /// # Errors
     /// `EpochsSpent` where no volume epoch is left to assign; `NoGroup` where there is no such group, and `NotInPlan` where the
-    /// configuration isn't a child of the group's own; `Superseded` where the client's volume epoch isn't the last one assigned.
+    /// configuration isn't a child of the group's own; `Superseded` where the client's volume epoch isn't the last one assigned;
+    /// `AllGrown` where every group has joined.
     pub fn admitted_by(self, authority: &Authority) -> Result<(), Fault>
         ensures { result ≡ refusal_of (authority_acted (authority_plan authority.now) (authority_of authority.now) self) }
     {
@@ -30,30 +31,35 @@ impl AuthorityAct {
                 configuration,
             } => authority.admits_advance(group, configuration),
             AuthorityAct::Refresh { volume } => authority.admits_refresh(volume),
+            AuthorityAct::Grow => authority.admits_grow(),
         }
     }
 
-    /// Lets the authority do it, and answers the message that it makes. Where it refuses, or memory runs out, it is what it was.
+    /// Lets the authority do it, and answers the message that it makes, if it makes one. Where it refuses, or memory runs out, it is what it was.
     ///
     /// # Errors
     /// As [`AuthorityAct::admitted_by`] says, and `NoMemory` where a growth was refused; to lead a group on takes no memory.
-    pub fn done_by(self, alloc: Global, authority: &mut Authority) -> Result<Message, Fault>
-        ensures answers { Answers told (authority_acted (authority_plan authority.old) (authority_of authority.old) self) (authority_of authority.old) result (authority_of authority.new) }
-        ensures always { OfAdvance self (AnswersAlways told (authority_acted (authority_plan authority.old) (authority_of authority.old) self) (authority_of authority.old) result (authority_of authority.new)) }
+    pub fn done_by(self, alloc: Global, authority: &mut Authority) -> Result<Option<Message>, Fault>
+        ensures answers { Answers spoken (authority_acted (authority_plan authority.old) (authority_of authority.old) self) (authority_of authority.old) result (authority_of authority.new) }
+        ensures always { OfAdvance self (AnswersAlways spoken (authority_acted (authority_plan authority.old) (authority_of authority.old) self) (authority_of authority.old) result (authority_of authority.new)) }
         ensures plan { authority_plan authority.new ≡ authority_plan authority.old }
     {
         match self {
-            AuthorityAct::Assign => authority.assign(alloc),
+            AuthorityAct::Assign => Ok(Some(authority.assign(alloc)?)),
             AuthorityAct::Advance {
                 group,
                 configuration,
-            } => authority.advance(group, configuration),
-            AuthorityAct::Refresh { volume } => authority.refresh(alloc, volume),
+            } => Ok(Some(authority.advance(group, configuration)?)),
+            AuthorityAct::Refresh { volume } => Ok(Some(authority.refresh(alloc, volume)?)),
+            AuthorityAct::Grow => {
+                authority.grow()?;
+                Ok(None)
+            }
         }
     }
 }
 
-/// Lets the authority act, and adds the message that it makes to the others, for which it makes room before the authority changes. Where
+/// Lets the authority act, and adds the message that it makes, if it makes one, to the others, for which it makes room before the authority changes. Where
 /// memory runs out nothing has changed.
 pub fn act(
     alloc: Global,
@@ -68,7 +74,11 @@ pub fn act(
         return Err(fault);
     }
     messages.reserve(1)?;
-    let message = act.done_by(alloc, authority)?;
-    messages.push(message).unwrap();
-    Ok(1)
+    match act.done_by(alloc, authority)? {
+        Some(message) => {
+            messages.push(message).unwrap();
+            Ok(1)
+        }
+        None => Ok(0),
+    }
 }

@@ -13,6 +13,8 @@ pub enum Event {
     Advance { group: u8, configuration: u32 },
     /// The authority tells the client of the last volume epoch where the groups stand.
     Refresh { volume: u32 },
+    /// The authority lets the next group join.
+    Grow,
     /// A writer gives a transaction's changes their records.
     Issue { volume: u32, changes: Vec<Change> },
     /// A client takes the message with this number.
@@ -72,6 +74,7 @@ impl Clone for Event {
                 configuration: *configuration,
             }),
             Event::Refresh { volume } => Ok(Event::Refresh { volume: *volume }),
+            Event::Grow => Ok(Event::Grow),
             Event::Issue { volume, changes } => Ok(Event::Issue {
                 volume: *volume,
                 changes: changes.clone()?,

@@ -4,7 +4,7 @@ ghost use Rattle.std.specs.Prelude.{◌≡◌};
 ghost use Rattle.volume_model.specs.Answer.{refusal_of, Answers, AnswersLate};
 ghost use Rattle.volume_model.specs.ClientMessages.{taken};
 ghost use Rattle.wire.specs.Message.{message_of};
-ghost use Rattle.writer_core.specs.Writers.{acted, client_of, silent, writer_plan, writer_volume};
+ghost use Rattle.writer_core.specs.Writers.{acted, client_of, writer_plan, writer_volume};
 ghost use Rattle.recovery.specs.Recoveries.{admitted};
 ghost use Rattle.world.specs.Acts.{client_acted, client_late, ButForCut};
 
@@ -45,17 +45,18 @@ pub fn admits(writer: &Writer, act: ClientAct<'_>) -> Result<(), Fault>
     }
 }
 
-/// A writer takes a message. It makes none.
-fn take(writer: &mut Writer, message: &Message) -> Result<(), Fault>
-    ensures answers { Answers silent (taken (writer_plan writer.old) (writer_volume writer.old) (client_of writer.old) (message_of message.now)) (client_of writer.old) result (client_of writer.new) }
+/// A writer takes a message, and answers those that it makes.
+fn take(alloc: Global, writer: &mut Writer, message: &Message) -> Result<Vec<Message>, Fault>
+    ensures answers { Answers acted (taken (writer_plan writer.old) (writer_volume writer.old) (client_of writer.old) (message_of message.now)) (client_of writer.old) result (client_of writer.new) }
     ensures plan { writer_plan writer.new ≡ writer_plan writer.old }
     ensures volume { writer_volume writer.new ≡ writer_volume writer.old }
 {
     match message {
-        Message::View(view) => writer.view(view),
-        Message::Ack(ack) => writer.take_ack(ack),
-        _ => addressed(writer.volume(), writer.groups(), message),
+        Message::View(view) => return writer.view(alloc, view),
+        Message::Ack(ack) => writer.take_ack(ack)?,
+        _ => addressed(writer.volume(), writer.groups(), message)?,
     }
+    Ok(Vec::new(alloc))
 }
 
 /// A writer acts. `AlreadyDone` where it is to cut.
@@ -66,10 +67,7 @@ pub fn act(alloc: Global, writer: &mut Writer, act: ClientAct<'_>) -> Result<Vec
 {
     match act {
         ClientAct::Issue(changes) => writer.issue(alloc, changes),
-        ClientAct::Take(message) => {
-            take(writer, message)?;
-            Ok(Vec::new(alloc))
-        }
+        ClientAct::Take(message) => take(alloc, writer, message),
         ClientAct::Cut => Err(Fault::AlreadyDone),
         ClientAct::Resend { lsn } => Ok(only(alloc, writer.resend(lsn)?.write()?)?),
         ClientAct::Read { group, block } => Ok(only(alloc, writer.read(group, block)?)?),

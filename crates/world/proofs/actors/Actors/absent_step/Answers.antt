@@ -1,8 +1,13 @@
-use Rattle.std.proofs.Common.{◌≡◌, ◌++◌, [], List, Ok, refl, sym, ap, ◌∙◌, subst, rules}
+use Rattle.std.proofs.Common.{◌≡◌, ◌++◌, ℕ, true, [], List, Result, Ok, Err, refl, sym, ap, ap₂, ◌∙◌, subst, rules}
 use Rattle.std.specs.Arc.{arc_value}
 use Rattle.plan.specs.CheckedModel.{checked_model}
 use Rattle.volume_model.specs.Lists.{added}
+use Rattle.volume_model.specs.Answer.{may_want_memory}
+use Rattle.volume_model.specs.declared.fault.Fault.{Fault}
+use Rattle.volume_model.specs.declared.fault.Fault.TheVariants.{NoMemory}
+use Rattle.volume_model.specs.Client as model
 use Rattle.volume_model.specs.Client.{ClientAnswer, ClientStep, unborn}
+use Rattle.volume_model.specs.World.{of_client}
 use Rattle.wire.specs.declared.message.Message.{Message}
 use Rattle.wire.specs.Message.{messages_of}
 use Rattle.epochs.specs.Authority.{authority_of}
@@ -12,8 +17,9 @@ use Rattle.world.specs.Slots.{node_at}
 use Rattle.world.specs.Homes.{nodes_of}
 use Rattle.world.specs.Clients.{client_plan, client_volume, seen_client, client_or_unborn, clients_of, IsClientOf}
 use Rattle.world.specs.Acts.{client_acted, client_ordered, order_late, IsOrderOf}
-use Rattle.world.specs.Actors.{plan_of, messages_in}
-use Rattle.world.proofs.ClientMap.{IsPut, client_put, clients_on, same_client, same_clients}
+use Rattle.world.specs.Actors.{moved_of, plan_of, messages_in, world_of, Steps}
+use Rattle.world.specs.Worlds.{world_with}
+use Rattle.world.proofs.ClientMap.{IsPut, client_put, clients_on, kept_clients, same_client, same_clients}
 use Rattle.world.proofs.Moving.{told_made}
 use Rattle.world.proofs.Steps.{client_steps}
 use Rattle.world.proofs.actors.Actors.absent_step.Goals as goal
@@ -61,3 +67,22 @@ returns-in_err-insert-clause-good c =
       low = c.requires.actors.low;
       clients = same_clients (plan_of self) self.clients c.insert.new.self (search rules) c.requires.actors.clients;
     }
+
+pub returns-in_err-insert-clause-steps : goal.returns-in_err-insert-clause-steps
+returns-in_err-insert-clause-steps c =
+    let self = c.args.self.now in
+    let born : Client = c.act.new.self in
+    let ordered : IsOrderOf (messages_in self) c.args.order c.in_ok-act.act = subst (λ (ms : List Message). IsOrderOf (added (messages_of ms) []) c.args.order c.in_ok-act.act) c.as_slice.ensures.value c.in_ok-act.ensures in
+    let defined : ClientAnswer = client_ordered (messages_in self) c.args.order (plan_of self) c.args.volume unborn in
+    let new : Client = c.unborn-client.result in
+    let cloned : checked_model (arc_value c.in_ok-clone.field-0) ≡ checked_model (arc_value self.plan) = search rules in
+    let asked : client_acted c.in_ok-act.act (plan_of self) c.args.volume unborn ≡ client_acted c.in_ok-act.act (client_plan new) (client_volume new) (seen_client new) =
+    λ i. client_acted c.in_ok-act.act (sym (c.unborn-client.ensures.own.plan_is ∙ cloned ∙ c.requires.actors.plan) i) (sym c.unborn-client.ensures.own.volume_is i) (sym c.unborn-client.ensures.client i) in
+    let steps : defined ≡ Ok (acted c.in_ok-made.made (seen_client born)) = ordered.does (plan_of self) c.args.volume unborn ∙ asked ∙ c.in_ok-made.ensures.answers in
+    let late = order_late c.args.order in
+    let wants : may_want_memory late (moved_of (of_client (world_of self) c.args.volume defined)) ≡ true = ap (λ (a : ClientAnswer). may_want_memory late (moved_of (of_client (world_of self) c.args.volume a))) steps in
+    let failed : c.from_residual-in_err-insert.result ≡ Err NoMemory = search rules in
+    let clients : clients_of c.insert.new.self ≡ clients_of self.clients = kept_clients self.clients c.insert.new.self (search rules) in
+    let messages : c.reserve.new.self.items ≡ self.messages.items = c.in_ok-reserve.ensures.items in
+    subst (λ (r : Result ℕ Fault). Steps late (of_client (world_of self) c.args.volume defined) (world_of self) r (world_with (authority_of self.authority) (node_at (plan_of self) (nodes_of self.nodes.items)) (clients_of c.insert.new.self) (added (messages_of c.reserve.new.self.items) []))) (sym failed)
+    (wants, ap₂ (λ (cl : ℕ → model.Client) (ms : List Message). world_with (authority_of self.authority) (node_at (plan_of self) (nodes_of self.nodes.items)) cl (added (messages_of ms) [])) clients messages)

@@ -20,3 +20,6 @@ returns-in-Take-clause-steps c = rw c.in-Take.is c.client_step-in-Take.ensures.s
 
 pub returns-in-Resend-clause-steps : goal.returns-in-Resend-clause-steps
 returns-in-Resend-clause-steps c = rw c.in-Resend.is c.client_step-in-Resend.ensures.steps
+
+pub returns-in-Read-clause-steps : goal.returns-in-Read-clause-steps
+returns-in-Read-clause-steps c = rw c.in-Read.is c.client_step-in-Read.ensures.steps

@@ -1,4 +1,4 @@
-use Rattle.std.proofs.Common.{ℕ, ◌+◌, ◌/◌, sym, subst, ◌∙◌}
+use Rattle.std.proofs.Common.{ℕ, ◌+◌, ◌/◌, sym, subst, arith}
 use Rattle.std.specs.Arc.{arc_value}
 use Rattle.plan.specs.CheckedModel.{checked_model}
 use Rattle.volume_model.specs.Few.{Few}
@@ -17,4 +17,4 @@ returns-in-Recovery c =
     let most : ℕ = c.from.result + c.reported.result / 256 in
     subst (λ (state : ClientState). Few most (cut_client (plan_or plan state) (volume_or self.volume state) (seen_state state))) (sym c.in-Recovery.is)
     (few-cut (recoveries.recovery_plan recovery) (recoveries.recovery_volume recovery) (recoveries.client_of recovery) c.from.result c.reported.result c.steps_are_few.ensures
-    (c.from.ensures ∙ c.groups.ensures) c.reported.ensures)
+    (omega (arith, c.from.ensures, c.groups.ensures.view)) c.reported.ensures)

@@ -32,7 +32,7 @@ returns-in-Recovery c =
     let within : length (recoveries.client_of recovery).found ≤ c.found_len.result = omega (arith, c.found_len.ensures) in
     subst (λ (state : ClientState). (m : Message) → Few most (taken (plan_or plan state) (volume_or self.volume state) (seen_state state) m)) (sym c.in-Recovery.is)
     (few-taken (recoveries.recovery_plan recovery) (recoveries.recovery_volume recovery) (recoveries.client_of recovery) c.from-in-Recovery.result c.found_len.result c.steps_are_few.ensures
-    (c.from-in-Recovery.ensures ∙ c.groups-in-Recovery.ensures) within)
+    (c.from-in-Recovery.ensures ∙ c.groups-in-Recovery.ensures.all) within)
 
 pub returns-in-Writer : goal.returns-in-Writer
 returns-in-Writer c =
