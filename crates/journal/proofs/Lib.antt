@@ -6,3 +6,4 @@ pub mod Steps
 pub mod Entered
 pub mod Noting
 pub mod Plans
+pub mod Joining

@@ -1,25 +1,32 @@
 -- What a note adds to a pass.
-use Rattle.std.proofs.Common.{◌≡◌, ℕ, ◌<◌, true, List, length, map, All, get_or, arith}
+use Rattle.std.proofs.Common.{◌≡◌, ℕ, ◌<◌, true, List, length, map, take, All, get_or, ap, arith}
+use Rattle.std.proofs.lemmas.List.{take_all}
+use Rattle.volume_model.specs.declared.fault.Fault.{Fault}
+use Rattle.volume_model.specs.World.{Event, groups_joined}
 use Rattle.volume_model.specs.Plan.{Plan}
-use Rattle.volume_model.specs.Actor.{Actor, actor_of, same_actor}
-use Rattle.volume_model.specs.Journal.{Entry, last_of}
+use Rattle.volume_model.specs.Actor.{Actor, actor_of, is_joined, same_actor}
+use Rattle.volume_model.specs.Journal.{Entry, world_at}
+use Rattle.volume_model.specs.Judging.{Exact, IsNoted, IsRefused}
+use Rattle.volume_model.proofs.Judges.{noted_at_last}
+use Rattle.volume_model.proofs.Worlds.{last_at_most}
 use Rattle.volume_model.proofs.ListFacts.{get_within}
 use Rattle.journal.specs.declared.pass.Held.{Held}
 use Rattle.journal.specs.Entries.{entry_of}
 use Rattle.journal.specs.Standing.{Made, made, Stands}
 use Rattle.journal.specs.Passes.{made_of, AtMost}
 use Rattle.journal.proofs.Each.{all_map}
-use Rattle.journal.proofs.Steps.{stands_below}
 
 module _ {X : Type 0} (plan : Plan) where
-  -- the steps of an actor that stand in the journal are not after its last one
-  pub at_most : (es : List Entry) (hs : List (Held X)) (actor : Actor) (number : ℕ) → All (λ h. Stands plan es (made h.entry.now.cell (entry_of h.entry.now) h.entry.now.durable)) hs → number ≡ last_of actor es → AtMost actor number (map made_of hs)
-  at_most es hs actor number stand last =
-      all_map (λ (h : Held X). made_of h) (λ (s : Made). same_actor (actor_of s.entry.event) actor ≡ true → s.at < number) hs
-      (λ k d lt same. let h = get_or hs k d in let c = stands_below plan es actor (made h.entry.now.cell (entry_of h.entry.now) h.entry.now.durable) (stand k d lt) same in omega (arith, c, last))
-
-  -- and not after the journal's end
+  -- the steps of an actor that stand in the journal are not after its end
   pub at_most_all : (es : List Entry) (hs : List (Held X)) (actor : Actor) (number : ℕ) → All (λ h. Stands plan es (made h.entry.now.cell (entry_of h.entry.now) h.entry.now.durable)) hs → number ≡ length es → AtMost actor number (map made_of hs)
   at_most_all es hs actor number stand last =
       all_map (λ (h : Held X). made_of h) (λ (s : Made). same_actor (actor_of s.entry.event) actor ≡ true → s.at < number) hs
       (λ k d lt same. let h = get_or hs k d in let s = stand k d lt in let c = get_within es (entry_of h.entry.now) h.entry.now.cell s.stands in omega (arith, c, last))
+
+-- what the model refuses now may be noted by the length of the journal
+pub noted_now : (plan : Plan) (slots cells number : ℕ) (es : List Entry) (event : Event) (fault : Fault) → IsNoted fault → number ≡ length es → Exact plan slots cells es event fault → IsRefused plan slots cells es (record { event = event; fault = fault; number = number })
+noted_now plan slots cells number es event fault is long exact =
+    let whole : take number es ≡ es = take_all number es (omega (arith, long)) in
+    let most = last_at_most (actor_of event) 0 0 es (omega arith) in
+    noted_at_last plan slots cells number es event fault is (omega (arith, long)) (omega (arith, most, long))
+    (ap (λ (l : List Entry). is_joined (groups_joined (world_at plan l).authority) (actor_of event)) whole) exact

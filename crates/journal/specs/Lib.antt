@@ -6,4 +6,5 @@ pub mod History
 pub mod Named
 pub mod Tokens
 pub mod Lasts
+pub mod Joined
 pub mod Passes

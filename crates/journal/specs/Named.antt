@@ -18,6 +18,7 @@ abbrev pub no_plan : Plan
 no_plan =
     record {
       lal = 0;
+      born = 0;
       groups = 0;
       configurations = λ group. 0;
       configuration = λ group number. record { parent = 0; epoch = 0; members = []; full = []; read = member 0; write = member 0 };

@@ -19,15 +19,15 @@ pub struct Entry {
     pub durable: u64,
 }
 
-/// A refusal: of which event, and the number of the actor's last entry then.
+/// A refusal: of which event, why, and how long the journal was then.
 #[derive(Drop)]
 pub struct Note {
     /// What was refused.
     pub event: Event,
     /// Why it was refused.
     pub fault: Fault,
-    /// The number of the last entry of its actor, 0 where it had none; of an actor that the journal keeps no place for,
-    /// how many entries there were.
+    /// How many entries the journal had: the actor, which had made no step since its last one among them, refuses the event with
+    /// this fault after so many.
     pub number: usize,
 }
 

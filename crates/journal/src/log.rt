@@ -6,7 +6,10 @@ ghost use Rattle.std.specs.Coded.{Coded-set};
 ghost use Rattle.height.specs.Seats.{top_table, height_of};
 ghost use Rattle.atomic_table.specs.Seated.{table_id_coded};
 ghost use Rattle.volume_model.specs.Actor.{Actor};
+ghost use Rattle.volume_model.specs.World.{groups_joined};
 ghost use Rattle.volume_model.specs.Journal.{world_at, last_of, IsRun};
+ghost use Rattle.world.specs.Events.{event_of};
+ghost use Rattle.journal.specs.Joined.{joined_after};
 ghost use Rattle.journal.specs.Entries.{entries_of};
 ghost use Rattle.journal.specs.Lasts.{last_in, last_known};
 ghost use Rattle.journal.specs.Tokens.{ids_of, shown};
@@ -29,8 +32,8 @@ use volume_model::Fault;
 use wire::Message;
 use world::Event;
 
-/// The cells that aren't written, the entries so far, how many messages were made before each, and the last entry of each
-/// actor.
+/// The cells that aren't written, the entries so far, how many messages were made before each, the last entry of each actor, and how many
+/// groups have joined.
 #[derive(Drop)]
 pub struct Log<'a, L: Site> {
     rest: &'a mut [Option<Entry>],
@@ -38,6 +41,7 @@ pub struct Log<'a, L: Site> {
     firsts: Vec<u64>,
     messages: u64,
     lasts: Lasts,
+    joined: u64,
     book: Book<L>,
     top: Top,
     history: History<L>,
@@ -49,6 +53,7 @@ pub struct Log<'a, L: Site> {
     ghost firsts_are: { firsts.items ≡ map (λ e. e.first) (shown entries.items) },
     ghost messages_are: { messages ≡ length (world_at L.plan (entries_of (shown entries.items))).messages },
     ghost newest: { (actor : Actor) → last_known lasts actor ≡ last_of actor (entries_of (shown entries.items)) } by { Prim.hlevel props },
+    ghost joined_are: { joined ≡ groups_joined (world_at L.plan (entries_of (shown entries.items))).authority },
     ghost counted: { book.total ≡ vec_len entries },
 }
 
@@ -82,6 +87,16 @@ fn total<R: Wait>(rt: &R, messages: u64, more: usize) -> u64
     }
 }
 
+// How many groups have joined after an event, of those that had before it. Past 2^64 it waits for good.
+fn joined_after<R: Wait>(rt: &R, joined: u64, event: &Event) -> u64
+    ensures { result ≡ joined_after joined (event_of event.now) }
+{
+    match event {
+        Event::Grow => total(rt, joined, 1),
+        _ => joined,
+    }
+}
+
 // A place between two others, so many steps behind the first or before the second.
 fn probe(low: usize, high: usize, step: usize, ahead: bool) -> usize
     requires { (0 < step) × (low + step < high) }
@@ -101,7 +116,7 @@ impl<'a, L: Site> Log<'a, L> {
     ghost use Rattle.volume_model.specs.Journal.{before, events};
     ghost use Rattle.volume_model.specs.Judging.{Exact, IsNoted, IsRefused};
     ghost use Rattle.wire.specs.Message.{messages_of};
-    ghost use Rattle.world.specs.Events.{event_of, events_of};
+    ghost use Rattle.world.specs.Events.{events_of};
     ghost use Rattle.world.specs.Slots.{members};
     ghost use Rattle.journal.specs.Actors.{seen_who};
     ghost use Rattle.journal.specs.Entries.{entry_of};
@@ -110,7 +125,7 @@ impl<'a, L: Site> Log<'a, L> {
     ghost use Rattle.journal.specs.Passes.{journal_of, kept_in, letter_message, letter_number, letter_step, mark_number, marked, notes_of, seat_of, seen_at, steps_of, world_of, AddsRefusal, AddsStep, HasNoteRoom, HasPlace, HasRoom, HasStepRoom, SeesAll};
 
     /// An empty journal over a row of cells that nobody has written, for the clients of the volume epochs up to that of
-    /// the last slot and the nodes of so many groups.
+    /// the last slot and the nodes of so many groups, of which so many are there when the volume is born.
     ///
     /// # Errors
     /// Where a growth was refused.
@@ -119,6 +134,7 @@ impl<'a, L: Site> Log<'a, L> {
         row: &'a mut Row,
         slots: u32,
         groups: u8,
+        born: u64,
         book: Book<L>,
         top: Top,
         history: History<L>,
@@ -127,6 +143,7 @@ impl<'a, L: Site> Log<'a, L> {
         requires top { (top_table top ≡ L.table) × (height_of top ≡ 0) }
         requires history { history.seen.log ≡ [] }
         requires book { book.total ≡ 0 }
+        requires born { born ≡ L.plan.born }
         ensures empty { IfOk result (λ log. journal_of log ≡ []) }
         ensures clients { IfOk result (λ log. (volume : ℕ) → volume ≤ slots → HasPlace log (Client volume)) }
         ensures nodes { IfOk result (λ log. (group member : ℕ) → group < groups → member < members → HasPlace log (Node group member)) }
@@ -138,6 +155,7 @@ impl<'a, L: Site> Log<'a, L> {
             rest: row.cells.as_mut_slice(),
             messages: 0,
             lasts,
+            joined: born,
             book,
             top,
             history,
@@ -205,6 +223,13 @@ impl<'a, L: Site> Log<'a, L> {
         self.entries.len()
     }
 
+    /// How many groups have joined.
+    pub fn joined(&self) -> u64
+        ensures { result ≡ groups_joined (world_of self.now).authority }
+    {
+        self.joined
+    }
+
     // The history has one entry more.
     fn add<R: Wait>(rt: &R, history: &mut History<L>, entry: &Entry, entries: usize)
         requires { (length history.old.seen.log ≡ entries) × (entries + 1 < 2 ^ 64) }
@@ -237,6 +262,7 @@ impl<'a, L: Site> Log<'a, L> {
             firsts,
             messages,
             lasts,
+            joined,
             book,
             top,
             history,
@@ -262,6 +288,7 @@ impl<'a, L: Site> Log<'a, L> {
             site: PhantomData,
         });
         lasts.set(Who::of(&entry.event), cell + 1);
+        *joined = joined_after(rt, *joined, &entry.event);
         firsts.push_reserved(*messages);
         *messages = total(rt, *messages, entry.made.len());
         entries.push_reserved(entry);
@@ -450,22 +477,8 @@ impl<'a, L: Site> Log<'a, L> {
         found
     }
 
-    /// Notes a refusal of an actor, whose lock the caller holds: it is the model's.
-    pub fn refuse(&self, mark: &Mark<L>, pass: &mut Pass<'a, L>, event: Event, fault: Fault)
-        requires settled { SeesAll pass.old self.now }
-        requires who { actor_of (event_of event) ≡ marked mark.now }
-        requires last { mark_number mark.now ≡ last_of (marked mark.now) (journal_of self.now) }
-        requires noted { IsNoted fault }
-        requires exact { Exact L.plan L.slots (length L.cells) (journal_of self.now) (event_of event) fault }
-        requires room { HasNoteRoom pass.old }
-        ensures same { (steps_of pass.new ≡ steps_of pass.old) × (seat_of pass.new ≡ seat_of pass.old) }
-        ensures note { AddsRefusal (event_of event) fault (steps_of pass.old) (notes_of pass.old) (notes_of pass.new) }
-    {
-        pass.note(event, fault, mark.number);
-    }
-
-    /// Notes a refusal for which no actor is kept, as of a node that the plan doesn't name: it is the model's.
-    pub fn refuse_absent(&self, pass: &mut Pass<'a, L>, event: Event, fault: Fault)
+    /// Notes a refusal, after as many entries as the journal has: it is the model's.
+    pub fn refuse(&self, pass: &mut Pass<'a, L>, event: Event, fault: Fault)
         requires settled { SeesAll pass.old self.now }
         requires noted { IsNoted fault }
         requires exact { Exact L.plan L.slots (length L.cells) (journal_of self.now) (event_of event) fault }

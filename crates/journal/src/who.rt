@@ -24,7 +24,9 @@ impl Who {
         ensures { seen_who result ≡ actor_of (event_of event.now) }
     {
         match event {
-            Event::Assign | Event::Advance { .. } | Event::Refresh { .. } => Who::TheAuthority,
+            Event::Assign | Event::Advance { .. } | Event::Refresh { .. } | Event::Grow => {
+                Who::TheAuthority
+            }
             Event::Issue { volume, .. }
             | Event::Take { volume, .. }
             | Event::Cut { volume }

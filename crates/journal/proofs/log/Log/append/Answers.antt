@@ -14,7 +14,10 @@ use Rattle.journal.specs.Listed.{listed}
 use Rattle.journal.specs.Standing.{made, Stands}
 use Rattle.journal.specs.Tokens.{shown}
 use Rattle.world.specs.Events.{event_of}
-use Rattle.journal.proofs.Entered.{entries_begin, entries_messages, entries_push, entries_run, firsts_push, length-entries}
+use Rattle.volume_model.specs.World.{World, groups_joined}
+use Rattle.journal.specs.Joined.{joined_after}
+use Rattle.journal.proofs.Joining.{joined_step}
+use Rattle.journal.proofs.Entered.{entries_begin, entries_messages, entries_world, entries_push, entries_run, firsts_push, length-entries}
 use Rattle.journal.proofs.Each.{all_push}
 use Rattle.journal.proofs.Steps.{stands_longer, stands_new, newest_push}
 use Rattle.journal.proofs.Tokens.{length-shown, shown_push}
@@ -86,6 +89,8 @@ invariant_of-self g c =
       run = entries_run plan es (shown ts) x longer log.run goes;
       firsts_are = c.push_reserved-2.ensures.items ∙ (λ i. log.firsts_are i ++ sym c.requires.first i ∷ []) ∙ sym (firsts_push es x) ∙ ap (map (λ (y : Entry). y.first)) (sym longer);
       messages_are = omega (arith, c.total.ensures, c.requires.first, more, entries_messages plan es (shown ts) x longer goes);
+      joined_are = c.joined_after.ensures ∙ (λ i. joined_after (log.joined_are i) (event_of (c.write-entry.ensures.value i).event))
+          ∙ sym (joined_step plan (world_at plan (entries_of es)) (event_of x.event) _ c.requires.goes) ∙ ap (λ (w : World). groups_joined w.authority) (sym (entries_world plan es (shown ts) x longer));
       newest = λ other. newest_push (seen_who c.of.result) other (entries_of es) (entries_of (shown ts)) (entry_of x) (last_known c.set.new.self other) c.len-cell.result (entries_push es (shown ts) x longer) actor at (same_actor (seen_who c.of.result) other) refl
           (on_both (same_actor (seen_who c.of.result) other) (λ q. ap or_zero q) (λ q. ap or_zero q ∙ log.newest other) (c.set.ensures other));
       counted = omega (arith, c.add-2.ensures.total, log.counted, n);

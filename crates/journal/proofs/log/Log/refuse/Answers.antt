@@ -1,38 +1,34 @@
-use Rattle.std.proofs.Common.{List, length, All, sym, ap, ◌∙◌, subst, arith}
+use Rattle.std.proofs.Common.{◌≡◌, List, length, All, sym, ◌∙◌, subst, rules}
 use Rattle.volume_model.specs.Actor.{actor_of}
-use Rattle.volume_model.specs.Journal.{last_of}
 use Rattle.volume_model.specs.Judging.{IsRefused}
-use Rattle.volume_model.proofs.Judges.{noted_at_last}
-use Rattle.volume_model.proofs.Worlds.{last_at_most}
 use Rattle.world.specs.Events.{event_of}
 use Rattle.journal.specs.declared.entry.Entry.{Entry}
 use Rattle.journal.specs.declared.pass.Held.{Held}
 use Rattle.journal.specs.Entries.{entry_of, entries_of}
 use Rattle.journal.specs.Standing.{made, Stands}
 use Rattle.journal.specs.Tokens.{shown}
-use Rattle.journal.proofs.Noting.{at_most}
+use Rattle.journal.proofs.Entered.{length-entries}
+use Rattle.journal.proofs.Noting.{at_most_all, noted_now}
+use Rattle.journal.proofs.Tokens.{length-shown}
 use Rattle.journal.proofs.log.Log.refuse.Goals as goal
 
 pub note-requires-clause-refused : goal.note-requires-clause-refused
 note-requires-clause-refused g c =
     let log = c.args.self.now in
-    let mark = c.args.mark.now in
     let plan = g.L.Site.plan in
     let es = shown log.entries.items in
     let event = event_of c.args.event in
-    let last = c.requires.last ∙ ap (λ a. last_of a (entries_of es)) (sym c.requires.who) in
-    let most = last_at_most (actor_of event) 0 0 (entries_of es) (omega arith) in
-    subst (λ (l : List Entry). IsRefused plan g.L.Site.slots (length g.L.Site.cells) (entries_of l) (record { event = event; fault = c.args.fault; number = mark.number })) (sym c.requires.settled)
-    (noted_at_last plan g.L.Site.slots (length g.L.Site.cells) mark.number (entries_of es) event c.args.fault c.requires.noted (omega (arith, most, last)) (omega (arith, last)) c.requires.exact)
+    let long : c.len.result ≡ length (entries_of es) = c.len.ensures ∙ search rules ∙ sym (length-shown log.entries.items) ∙ sym (length-entries es) in
+    subst (λ (l : List Entry). IsRefused plan g.L.Site.slots (length g.L.Site.cells) (entries_of l) (record { event = event; fault = c.args.fault; number = c.len.result })) (sym c.requires.settled)
+    (noted_now plan g.L.Site.slots (length g.L.Site.cells) c.len.result (entries_of es) event c.args.fault c.requires.noted long c.requires.exact)
 
 pub returns-clause-note : goal.returns-clause-note
 returns-clause-note g c =
     let log = c.args.self.now in
-    let mark = c.args.mark.now in
     let pass = c.args.pass.now in
     let plan = g.L.Site.plan in
     let es = shown log.entries.items in
     let event = event_of c.args.event in
-    let last = c.requires.last ∙ ap (λ a. last_of a (entries_of es)) (sym c.requires.who) in
+    let long : c.len.result ≡ length (entries_of es) = c.len.ensures ∙ search rules ∙ sym (length-shown log.entries.items) ∙ sym (length-entries es) in
     let stand = subst (λ (l : List Entry). All (λ (h : Held g.row.L.Denot). Stands plan (entries_of l) (made h.entry.now.cell (entry_of h.entry.now) h.entry.now.durable)) pass.steps.items) c.requires.settled pass.stand in
-    (mark.number, c.note.ensures.note, at_most plan (entries_of es) pass.steps.items (actor_of event) mark.number stand last)
+    (c.len.result, c.note.ensures.note, at_most_all plan (entries_of es) pass.steps.items (actor_of event) c.len.result stand long)

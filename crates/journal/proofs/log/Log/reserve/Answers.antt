@@ -1,6 +1,7 @@
 use Rattle.std.proofs.Common.{◌≡◌, ◌+◌, length, vec_len, map, List, sym, ap, ◌∙◌, subst}
 use Rattle.std.specs.Borrow.{Bor}
 use Rattle.volume_model.specs.Journal.{IsRun, world_at, last_of}
+use Rattle.volume_model.specs.World.{groups_joined}
 use Rattle.journal.specs.declared.entry.Entry.{Entry}
 use Rattle.journal.specs.Entries.{entries_of}
 use Rattle.journal.specs.Tokens.{shown}
@@ -21,6 +22,7 @@ invariant_of-self g c =
       firsts_are = log.firsts_are ∙ ap (λ (ts : List (Bor Entry)). map (λ x. x.first) (shown ts)) (sym e);
       messages_are = log.messages_are ∙ ap (λ (ts : List (Bor Entry)). length (world_at plan (entries_of (shown ts))).messages) (sym e);
       newest = λ actor. log.newest actor ∙ ap (λ (ts : List (Bor Entry)). last_of actor (entries_of (shown ts))) (sym e);
+      joined_are = log.joined_are ∙ ap (λ (ts : List (Bor Entry)). groups_joined (world_at plan (entries_of (shown ts))).authority) (sym e);
       counted = log.counted ∙ sym n;
     }
 
@@ -39,5 +41,6 @@ invariant_of-self-2 g c =
       firsts_are = c.reserve-2.ensures.items ∙ log.firsts_are ∙ ap (λ (ts : List (Bor Entry)). map (λ x. x.first) (shown ts)) (sym e);
       messages_are = log.messages_are ∙ ap (λ (ts : List (Bor Entry)). length (world_at plan (entries_of (shown ts))).messages) (sym e);
       newest = λ actor. log.newest actor ∙ ap (λ (ts : List (Bor Entry)). last_of actor (entries_of (shown ts))) (sym e);
+      joined_are = log.joined_are ∙ ap (λ (ts : List (Bor Entry)). groups_joined (world_at plan (entries_of (shown ts))).authority) (sym e);
       counted = log.counted ∙ sym n;
     }
