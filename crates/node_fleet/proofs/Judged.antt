@@ -23,7 +23,7 @@ deed_own (deed.Take message) (Some m) plan volume now has = taken_own plan volum
 deed_own deed.Cut found plan volume now has = cut_own plan volume now
 deed_own deed.Open found plan volume now has = opened_own plan now
 deed_own (deed.Resend lsn) found plan volume now has = resent_own volume now lsn
-deed_own (deed.Read group block) found plan volume now has = page_asked_own plan volume now group block
+deed_own (deed.Read group block) found plan volume now has = page_asked_own volume now group block
 
 module _ {T : Type 0} (full : Bool) (defined : Result T Fault) (own : Refuses IsOwnOfClient defined) where
   is_own : (fault : Fault) → defined ≡ Err fault → IsOwnOfClient fault

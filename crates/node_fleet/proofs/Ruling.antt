@@ -19,6 +19,7 @@ act_step : (plan : Plan) (w : World) (asked : AuthorityAct) → step plan w (eve
 act_step plan w act.Assign = refl
 act_step plan w (act.Advance group configuration) = refl
 act_step plan w (act.Refresh volume) = refl
+act_step plan w act.Grow = refl
 
 -- the authority of both worlds, as its actor's mark says
 pub authority_here : (actor : Actor) (w v : World) (now : Authority) → actor ≡ Actor.TheAuthority → Agree actor w v → now ≡ w.authority → v.authority ≡ now
@@ -34,3 +35,4 @@ pub slots_spent : (w : World) (asked : AuthorityAct) (old : Authority) (event : 
 slots_spent w act.Assign old event given slots here is same spent = (is, ap (λ (a : Authority). a.last_volume) here ∙ spent ∙ same)
 slots_spent w (act.Advance group configuration) old event given slots here is same spent = absurd spent
 slots_spent w (act.Refresh volume) old event given slots here is same spent = absurd spent
+slots_spent w act.Grow old event given slots here is same spent = absurd spent

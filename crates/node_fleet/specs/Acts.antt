@@ -9,6 +9,7 @@ abbrev pub event_by : AuthorityAct → Event
 event_by act.Assign = Event.Assign
 event_by (act.Advance group configuration) = Event.Advance group configuration
 event_by (act.Refresh volume) = Event.Refresh volume
+event_by act.Grow = Event.Grow
 
 -- a volume epoch is to be assigned, and that of the last slot was
 abbrev pub IsSpent : AuthorityAct → Authority → ℕ → Type 0

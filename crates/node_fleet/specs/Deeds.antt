@@ -31,7 +31,7 @@ deed_acted found (deed.Take message) plan volume now = take plan volume now foun
 deed_acted found deed.Cut plan volume now = cut_client plan volume now
 deed_acted found deed.Open plan volume now = opened plan now
 deed_acted found (deed.Resend lsn) plan volume now = resent volume now lsn
-deed_acted found (deed.Read group block) plan volume now = page_asked plan volume now group block
+deed_acted found (deed.Read group block) plan volume now = page_asked volume now group block
 
 -- the refusals that may come after want of memory
 abbrev pub deed_late : ClientDeed → Fault → Bool

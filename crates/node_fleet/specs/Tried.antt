@@ -1,5 +1,5 @@
 -- What trying the act of an actor shows.
-use Rattle.std.specs.Prelude.{◌≡◌, Bool, true, [], ◌∷◌, List, Result, Ok, Err}
+use Rattle.std.specs.Prelude.{◌≡◌, Bool, true, List, Result, Ok, Err}
 use Rattle.volume_model.specs.declared.fault.Fault.{Fault}
 use Rattle.volume_model.specs.declared.fault.Fault.TheVariants.{NoMemory, NoMessage, NoSlot, JournalFull}
 use Rattle.volume_model.specs.Answer.{refusal_of}
@@ -23,5 +23,5 @@ JudgedOf full defined fault = Judged ⊥ full defined fault
 pub record IsDone (defined : Result AuthorityStep Fault) (made : List Message) (now : Authority) : Type 0 where
   pub step : AuthorityStep
   pub is : defined ≡ Ok step
-  pub makes : made ≡ step.made ∷ []
+  pub makes : made ≡ step.made
   pub leaves : now ≡ step.authority

@@ -29,6 +29,7 @@ pub(crate) fn event(act: AuthorityAct) -> Event
             configuration,
         },
         AuthorityAct::Refresh { volume } => Event::Refresh { volume },
+        AuthorityAct::Grow => Event::Grow,
     }
 }
 
@@ -40,6 +41,7 @@ fn is_spent(authority: &Authority, act: AuthorityAct, slots: u32) -> bool
         AuthorityAct::Assign => authority.last_volume() == slots,
         AuthorityAct::Advance { .. } => false,
         AuthorityAct::Refresh { .. } => false,
+        AuthorityAct::Grow => false,
     }
 }
 
@@ -73,6 +75,8 @@ pub(crate) fn tried(
     let Ok(message) = act.done_by(alloc, authority) else {
         return Err(Fault::NoMemory);
     };
-    made.push_reserved(message);
+    if let Some(message) = message {
+        made.push_reserved(message);
+    }
     Ok(made)
 }

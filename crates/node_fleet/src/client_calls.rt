@@ -12,7 +12,7 @@ use crate::client_deed::ClientDeed;
 use crate::client_tried::tried;
 use crate::fleet::Fleet;
 use crate::halt::Halt;
-use crate::step::refused_absent;
+use crate::step::refused;
 use journal::{Log, Pass, Receipt, Site, Who};
 use std::sync::{Mutex, Wait};
 use volume_model::Fault;
@@ -65,7 +65,7 @@ impl<'a, L: Site> Fleet<'a, L> {
         };
         match tried(self.alloc, &mut client, log.is_full(), &deed, found) {
             Ok(_) => Halt::Again,
-            Err(fault) => refused_absent(log, pass, deed.event(volume), fault),
+            Err(fault) => refused(log, pass, deed.event(volume), fault),
         }
     }
 

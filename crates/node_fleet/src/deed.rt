@@ -65,12 +65,15 @@ impl<L: Site> NodeActor<L> {
             group: *group,
             member: *member,
         };
+        if u64::from(*group) >= log.joined() {
+            return Err(refused(log, pass, event, Fault::NoActor));
+        }
         let prepared = match segment.prepare_hydration(alloc) {
             Ok(prepared) => prepared,
-            Err(fault) => return Err(refused(log, mark, pass, event, fault)),
+            Err(fault) => return Err(refused(log, pass, event, fault)),
         };
         if log.is_full() {
-            return Err(refused(log, mark, pass, event, Fault::JournalFull));
+            return Err(refused(log, pass, event, Fault::JournalFull));
         }
         let made = segment.apply(prepared);
         Ok(log.enter(rt, height, mark, pass, event, made, 0))
@@ -107,8 +110,11 @@ impl<L: Site> NodeActor<L> {
             group: *group,
             member: *member,
         };
+        if u64::from(*group) >= log.joined() {
+            return Err(refused(log, pass, event, Fault::NoActor));
+        }
         if log.is_full() {
-            return Err(refused(log, mark, pass, event, Fault::JournalFull));
+            return Err(refused(log, pass, event, Fault::JournalFull));
         }
         segment.restart();
         Ok(log.enter(rt, height, mark, pass, event, Vec::new(alloc), 0))
@@ -148,12 +154,15 @@ impl<L: Site> NodeActor<L> {
             member: *member,
             lsn,
         };
+        if u64::from(*group) >= log.joined() {
+            return Err(refused(log, pass, event, Fault::NoActor));
+        }
         let carried = match segment.offer(lsn) {
             Ok(carried) => carried,
-            Err(fault) => return Err(refused(log, mark, pass, event, fault)),
+            Err(fault) => return Err(refused(log, pass, event, fault)),
         };
         if log.is_full() {
-            return Err(refused(log, mark, pass, event, Fault::JournalFull));
+            return Err(refused(log, pass, event, Fault::JournalFull));
         }
         made.push_reserved(carried.gossip()?);
         Ok(log.enter(rt, height, mark, pass, event, made, 0))
@@ -163,8 +172,8 @@ impl<L: Site> NodeActor<L> {
     /// journal's.
     ///
     /// # Errors
-    /// [`Again`](Halt::Again) where the journal doesn't have the node as it stands here. Else, and these are noted, the
-    /// node's own refusal, of [`NodeDeed::Hydrate`] `AlreadyWhole`, `NotEnough` or `Full`, of [`NodeDeed::Offer`]
+    /// [`Again`](Halt::Again) where the journal doesn't have the node as it stands here. Else, and these are noted, `NoActor` where
+    /// the node's group hasn't joined, the node's own refusal, of [`NodeDeed::Hydrate`] `AlreadyWhole`, `NotEnough` or `Full`, of [`NodeDeed::Offer`]
     /// `NotWhole`, `NotInstalled` or `NoRecord`, and `JournalFull` where no cell is left; and `NoMemory`, which isn't
     /// noted. The node is then what it was.
     pub fn act<'a, R: Wait>(

@@ -1,8 +1,10 @@
 //! What nodes do in a fleet.
 
 ghost use Rattle.std.specs.Prelude.{◌≡◌, IfErr};
+ghost use Rattle.volume_model.specs.Told.{refusal};
+ghost use Rattle.volume_model.specs.World.{step};
 ghost use Rattle.volume_model.specs.World.Event.{Deliver};
-ghost use Rattle.journal.specs.Passes.{letter_number, notes_of, seat_of, steps_of};
+ghost use Rattle.journal.specs.Passes.{journal_of, letter_number, notes_of, seat_of, steps_of, world_of};
 ghost use Rattle.world.specs.Events.{event_of};
 ghost use Rattle.node_fleet.specs.Calls.{IsOfNone, Tells, Unmade};
 ghost use Rattle.node_fleet.specs.Halts.{AddsNote, Halts};
@@ -13,7 +15,7 @@ use crate::fleet::Fleet;
 use crate::gate::StepGate;
 use crate::halt::Halt;
 use crate::node::NodeActor;
-use journal::{Letter, Pass, Receipt, Site};
+use journal::{Letter, Log, Pass, Receipt, Site};
 use std::sync::{Mutex, Wait};
 use volume_model::Fault;
 use world::{Event, slot};
@@ -30,10 +32,9 @@ fn event(group: u8, member: u8, deed: NodeDeed) -> Event
 }
 
 impl<'a, L: Site> Fleet<'a, L> {
-    ghost use Rattle.std.specs.Prelude.{◌≢◌, false, All, IfNone, IfSome};
+    ghost use Rattle.std.specs.Prelude.{◌≢◌, false, IfOk, OnOk};
     ghost use Rattle.volume_model.specs.Plan.{is_named};
     ghost use Rattle.volume_model.specs.declared.fault.Fault.TheVariants.{NoMessage};
-    ghost use Rattle.journal.specs.Standing.{IsElse};
     ghost use Rattle.node_fleet.specs.declared.halt.Halt.TheVariants.{Refused};
 
     // The node of a member of a group, if there is one.
@@ -55,7 +56,7 @@ impl<'a, L: Site> Fleet<'a, L> {
         }
         let mut log = self.journal.lock(rt);
         log.settle(&self.height, pass);
-        log.refuse_absent(pass, event, Fault::NoActor);
+        log.refuse(pass, event, Fault::NoActor);
         Fault::NoActor
     }
 
@@ -82,14 +83,52 @@ impl<'a, L: Site> Fleet<'a, L> {
         self.refuse_unnamed(rt, pass, event)
     }
 
-    // Looks a message up, and lets the journal go. None where no step has made it; then no step of the pass did.
-    fn find<R: Wait>(&self, rt: &R, pass: &mut Pass<'a, L>, message: u64) -> Option<Letter<'a, L>>
-        ensures pass { (steps_of pass.new ≡ steps_of pass.old) × (notes_of pass.new ≡ notes_of pass.old) × (seat_of pass.new ≡ seat_of pass.old) }
-        ensures found { IfSome result (λ letter. letter_number letter ≡ message) }
-        ensures own { IfNone result (All (IsElse message) (steps_of pass.old)) }
+    // Refuses a node's event, since the node's group hasn't joined. Want of memory is told, and not noted.
+    fn refuse_unjoined(&self, log: &mut Log<'a, L>, pass: &mut Pass<'a, L>, event: Event) -> Fault
+        requires unjoined { refusal (step L.plan (world_of log.old) (event_of event)) ≡ 82 }
+        ensures log { journal_of log.new ≡ journal_of log.old }
+        ensures steps { steps_of pass.new ≡ steps_of pass.old }
+        ensures seat { seat_of pass.new ≡ seat_of pass.old }
+        ensures note { AddsNote (event_of event) result (steps_of pass.old) (notes_of pass.old) (notes_of pass.new) }
+        ensures found { result ≢ NoMessage }
+    {
+        if pass.reserve().is_err() {
+            return Fault::NoMemory;
+        }
+        log.settle(&self.height, pass);
+        log.refuse(pass, event, Fault::NoActor);
+        Fault::NoActor
+    }
+
+    // Looks a message up for a node, and lets the journal go. `NoActor`, which is noted, where the node's group hasn't joined;
+    // `NoMessage` where no step has made the message: then no step of the pass did.
+    fn find<R: Wait>(
+        &self,
+        rt: &R,
+        pass: &mut Pass<'a, L>,
+        group: u8,
+        member: u8,
+        message: u64,
+    ) -> Result<Letter<'a, L>, Fault>
+        ensures steps { (steps_of pass.new ≡ steps_of pass.old) × (seat_of pass.new ≡ seat_of pass.old) }
+        ensures notes { OnOk result (notes_of pass.new ≡ notes_of pass.old) }
+        ensures note { IfErr result (λ fault. AddsNote (Deliver group member message) fault (steps_of pass.old) (notes_of pass.old) (notes_of pass.new)) }
+        ensures found { IfOk result (λ letter. letter_number letter ≡ message) }
+        ensures own { IfErr result (λ fault. Unmade message (steps_of pass.old) fault) }
     {
         let mut log = self.journal.lock(rt);
-        log.seek(&self.height, pass, message)
+        if u64::from(group) >= log.joined() {
+            let event = Event::Deliver {
+                group,
+                member,
+                message,
+            };
+            return Err(self.refuse_unjoined(&mut log, pass, event));
+        }
+        match log.seek(&self.height, pass, message) {
+            Some(letter) => Ok(letter),
+            None => Err(Fault::NoMessage),
+        }
     }
 
     // One try of a delivery.
@@ -126,7 +165,7 @@ impl<'a, L: Site> Fleet<'a, L> {
     /// gate while the journal is free, and then makes and enters the step.
     ///
     /// # Errors
-    /// `NoActor` where the plan names no such node, `NoMessage` where no step has made the message, which isn't noted,
+    /// `NoActor` where the plan names no such node or its group hasn't joined, `NoMessage` where no step has made the message, which isn't noted,
     /// then the node's own refusal, as `Segment::deliver` gives it, and `JournalFull` where no cell is left.
     /// `NoMemory`, which isn't noted, where a growth was refused.
     pub fn deliver<R: Wait, G: StepGate>(
@@ -150,8 +189,9 @@ impl<'a, L: Site> Fleet<'a, L> {
             };
             return Err(self.refuse_absent(rt, pass, group, member, event));
         };
-        let Some(letter) = self.find(rt, pass, message) else {
-            return Err(Fault::NoMessage);
+        let letter = match self.find(rt, pass, group, member, message) {
+            Ok(letter) => letter,
+            Err(fault) => return Err(fault),
         };
         for _ in rt.forever() {
             match self.try_deliver(rt, pass, node, group, member, &letter, gate) {
@@ -188,7 +228,7 @@ impl<'a, L: Site> Fleet<'a, L> {
     /// A node does what it does of itself.
     ///
     /// # Errors
-    /// `NoActor` where the plan names no such node, then the node's own refusal, as [`NodeActor::act`] gives it, and
+    /// `NoActor` where the plan names no such node or its group hasn't joined, then the node's own refusal, as [`NodeActor::act`] gives it, and
     /// `JournalFull` where no cell is left. `NoMemory`, which isn't noted, where a growth was refused.
     pub fn node_step<R: Wait>(
         &self,

@@ -165,7 +165,8 @@ impl<'a, L: Site> Fleet<'a, L> {
         let clients = clients(alloc, &plan, volumes, &history)?;
         let authority = Authority::new(alloc, plan.clone()?)?;
         let authority = AuthorityActor::new(Mark::new(Who::TheAuthority, &history), authority);
-        let log = Log::new(alloc, row, volumes, plan.groups(), book, top, history)?;
+        let born = u64::from(plan.born());
+        let log = Log::new(alloc, row, volumes, plan.groups(), born, book, top, history)?;
         let fleet = Fleet {
             alloc,
             plan,

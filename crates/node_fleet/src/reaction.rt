@@ -75,8 +75,11 @@ impl<L: Site> NodeActor<L> {
             member: *member,
             message: letter.number(),
         };
+        if u64::from(*group) >= log.joined() {
+            return Err(refused(log, pass, event, Fault::NoActor));
+        }
         if log.is_full() {
-            return Err(refused(log, mark, pass, event, Fault::JournalFull));
+            return Err(refused(log, pass, event, Fault::JournalFull));
         }
         let made = segment.apply(prepared);
         Ok(log.enter(rt, height, mark, pass, event, made, 0))
@@ -108,7 +111,10 @@ impl<L: Site> NodeActor<L> {
             member: self.member,
             message: letter.number(),
         };
-        Err(refused(log, &self.mark, pass, event, fault))
+        if u64::from(self.group) >= log.joined() {
+            return Err(refused(log, pass, event, Fault::NoActor));
+        }
+        Err(refused(log, pass, event, fault))
     }
 
     /// Delivers a letter to the node, whose lock the caller holds: makes ready, lends the answers to the gate while the
@@ -116,7 +122,7 @@ impl<L: Site> NodeActor<L> {
     ///
     /// # Errors
     /// [`Again`](Halt::Again) where the journal doesn't have the node as it stands here, or not the letter. Else the
-    /// first that applies of `NotAddressed`, `StaleMember`, `AheadMember`, `NotWhole`, `AlreadyWhole`, `StaleVolume`,
+    /// first that applies of `NoActor` (where the node's group hasn't joined), `NotAddressed`, `StaleMember`, `AheadMember`, `NotWhole`, `AlreadyWhole`, `StaleVolume`,
     /// `Full`, `NotInstalled`, `NotInPlan`, `TailSegment` and `PointAhead`, and `JournalFull` where no cell is left,
     /// which are noted; and `NoMemory`, which isn't noted. The node is then what it was. It is never `NoMessage`.
     pub fn react<'a, R: Wait, G: StepGate>(

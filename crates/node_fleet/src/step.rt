@@ -51,14 +51,11 @@ pub(crate) fn ready<'a, L: Site>(
 /// Notes a refusal, unless it is want of memory or of a message.
 pub(crate) fn refused<'a, L: Site>(
     log: &Log<'a, L>,
-    mark: &Mark<L>,
     pass: &mut Pass<'a, L>,
     event: Event,
     fault: Fault,
 ) -> Halt
     requires settled { SeesAll pass.old log.now }
-    requires who { actor_of (event_of event) ≡ marked mark.now }
-    requires last { mark_number mark.now ≡ last_of (marked mark.now) (journal_of log.now) }
     requires exact { Exact L.plan L.slots (length L.cells) (journal_of log.now) (event_of event) fault }
     requires room { HasNoteRoom pass.old }
     ensures halt { result ≡ Refused fault }
@@ -68,29 +65,7 @@ pub(crate) fn refused<'a, L: Site>(
 {
     match fault {
         Fault::NoMemory | Fault::NoMessage => {}
-        _ => log.refuse(mark, pass, event, fault),
-    }
-    Halt::Refused(fault)
-}
-
-/// Notes a refusal for which no actor is kept, unless it is want of memory or of a message.
-pub(crate) fn refused_absent<'a, L: Site>(
-    log: &Log<'a, L>,
-    pass: &mut Pass<'a, L>,
-    event: Event,
-    fault: Fault,
-) -> Halt
-    requires settled { SeesAll pass.old log.now }
-    requires exact { Exact L.plan L.slots (length L.cells) (journal_of log.now) (event_of event) fault }
-    requires room { HasNoteRoom pass.old }
-    ensures halt { result ≡ Refused fault }
-    ensures steps { steps_of pass.new ≡ steps_of pass.old }
-    ensures note { AddsNote (event_of event) fault (steps_of pass.old) (notes_of pass.old) (notes_of pass.new) }
-    ensures seat { seat_of pass.new ≡ seat_of pass.old }
-{
-    match fault {
-        Fault::NoMessage | Fault::NoMemory => {}
-        _ => log.refuse_absent(pass, event, fault),
+        _ => log.refuse(pass, event, fault),
     }
     Halt::Refused(fault)
 }
@@ -123,6 +98,6 @@ pub(crate) fn conclude<'a, L: Site, R: Wait>(
 {
     match tried {
         Ok(made) => Ok(log.enter(rt, height, mark, pass, event, made, durable)),
-        Err(fault) => Err(refused(log, mark, pass, event, fault)),
+        Err(fault) => Err(refused(log, pass, event, fault)),
     }
 }

@@ -11,8 +11,8 @@ use Rattle.node_fleet.proofs.Acting.{refuses_alike}
 use Rattle.node_fleet.proofs.Exactly.{exact_of}
 use Rattle.node_fleet.proofs.fleet.Fleet.refuse_unborn.Goals as goal
 
-pub refused_absent-requires-clause-exact : goal.refused_absent-requires-clause-exact
-refused_absent-requires-clause-exact g c =
+pub refused-requires-clause-exact : goal.refused-requires-clause-exact
+refused-requires-clause-exact g c =
     let plan = g.L.Site.plan in
     let client = c.unborn-client.result in
     let volume = client_volume client in

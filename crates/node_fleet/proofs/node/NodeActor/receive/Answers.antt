@@ -5,15 +5,21 @@ use Rattle.wire.specs.Message.{messages_of}
 use Rattle.segment_core.specs.Prepared.{step_of}
 use Rattle.segment_core.specs.Segment.{node_of}
 use Rattle.journal.specs.Passes.{journal_of, letter_message, letter_number, marked, seen_at}
-use Rattle.node_fleet.proofs.NodeSteps.{answers, becomes, same_of}
+use Rattle.node_fleet.proofs.NodeSteps.{answers, becomes, not_joined, same_of, there_joined, unjoined_delivery}
 use Rattle.node_fleet.proofs.node.NodeActor.receive.Goals as goal
+
+pub refused-requires-clause-exact : goal.refused-requires-clause-exact
+refused-requires-clause-exact g c =
+    let node = c.args.self.now in
+    let now = world_at g.L.Site.plan (journal_of c.ready.new.log) in
+    unjoined_delivery g.L.Site.plan now node.group node.member c.number.result (not_joined now node.group c.from.result c.joined.result c.joined.ensures c.from.ensures c.if-from-joined.true)
 
 pub enter-requires-clause-goes : goal.enter-requires-clause-goes
 enter-requires-clause-goes g c =
     let plan = g.L.Site.plan in
     let node = c.args.self.now in
     let letter = c.args.letter.now in
-    answers plan g.L.Site.slots 0 (journal_of c.ready.new.log) (world_at plan (seen_at node.mark)) (marked node.mark) node.group node.member (node_of node.segment) node.who node.named node.state c.in_ok-ready.ensures.ready.agree
+    answers plan g.L.Site.slots 0 (journal_of c.ready.new.log) (world_at plan (seen_at node.mark)) (marked node.mark) node.group node.member (node_of node.segment) node.who node.named node.state c.in_ok-ready.ensures.ready.agree (there_joined (world_at plan (journal_of c.ready.new.log)) node.group c.from.result c.joined.result c.joined.ensures c.from.ensures c.if-from-joined.false)
     (letter_number letter) c.number.result (letter_message letter) c.number.ensures c.if-not-has.ensures (step_of c.args.prepared (node_of node.segment)) c.requires.step
     (messages_of c.apply-made.result.items) (ap messages_of c.apply-made.ensures.answers)
 
@@ -23,7 +29,7 @@ invariant_of-self-2 g c =
     let node = c.args.self.now in
     let letter = c.args.letter.now in
     let now =
-    becomes plan g.L.Site.slots 0 (journal_of c.ready.new.log) (world_at plan (seen_at node.mark)) (marked node.mark) node.group node.member (node_of node.segment) node.who node.named node.state c.in_ok-ready.ensures.ready.agree
+    becomes plan g.L.Site.slots 0 (journal_of c.ready.new.log) (world_at plan (seen_at node.mark)) (marked node.mark) node.group node.member (node_of node.segment) node.who node.named node.state c.in_ok-ready.ensures.ready.agree (there_joined (world_at plan (journal_of c.ready.new.log)) node.group c.from.result c.joined.result c.joined.ensures c.from.ensures c.if-from-joined.false)
     (letter_number letter) c.number.result (letter_message letter) c.number.ensures c.if-not-has.ensures (step_of c.args.prepared (node_of node.segment)) c.requires.step in
     record {
       who = c.enter.ensures.mark.0 ∙ node.who;
