@@ -19,6 +19,7 @@ fn authority_act(event: &Event) -> Option<AuthorityAct> {
             configuration: *configuration,
         }),
         Event::Refresh { volume } => Some(AuthorityAct::Refresh { volume: *volume }),
+        Event::Grow => Some(AuthorityAct::Grow),
         _ => None,
     }
 }

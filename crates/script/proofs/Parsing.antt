@@ -101,6 +101,7 @@ found_nowhere p fails (x ∷ xs) = rw (fails x) (found_nowhere p fails xs)
 text_name : (v : Verb) → IsUtf8 (name_of v)
 unfolding encode
 text_name verb.Assign = (name_of verb.Assign, (refl, refl))
+text_name verb.Grow = (name_of verb.Grow, (refl, refl))
 text_name v = (name_of v, (refl, refl))
 
 -- what is no text is no verb

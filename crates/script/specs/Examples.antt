@@ -19,6 +19,7 @@ pub record SayTheirLines : Type 0 where
   pub assigns : deed_of 3 (codes "assign") ≡ Some (Makes Event.Assign)
   pub advances : deed_of 3 (codes "advance 0 1") ≡ Some (Makes (Event.Advance 0 1))
   pub refreshes : deed_of 3 (codes "refresh 2") ≡ Some (Makes (Event.Refresh 2))
+  pub grows : deed_of 3 (codes "grow") ≡ Some (Makes Event.Grow)
   pub takes : deed_of 3 (codes "take 2 1.3") ≡ Some (Takes 2 1 3)
   pub cuts : deed_of 3 (codes "cut 2") ≡ Some (Makes (Event.Cut 2))
   pub opens : deed_of 3 (codes "open 2") ≡ Some (Makes (Event.Open 2))

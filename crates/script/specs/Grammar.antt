@@ -22,6 +22,7 @@ abbrev pub name_of : Verb → List ℕ
 name_of verb.Assign = codes "assign"
 name_of verb.Advance = codes "advance"
 name_of verb.Refresh = codes "refresh"
+name_of verb.Grow = codes "grow"
 name_of verb.Issue = codes "issue"
 name_of verb.Take = codes "take"
 name_of verb.Cut = codes "cut"
@@ -36,7 +37,7 @@ name_of verb.Wait = codes "wait"
 
 -- all verbs
 abbrev pub verbs : List Verb
-verbs = verb.Assign ∷ verb.Advance ∷ verb.Refresh ∷ verb.Issue ∷ verb.Take ∷ verb.Cut ∷ verb.Open ∷ verb.Resend ∷ verb.Read ∷ verb.Deliver ∷ verb.Hydrate ∷ verb.Restart ∷ verb.Offer ∷ verb.Wait ∷ []
+verbs = verb.Assign ∷ verb.Advance ∷ verb.Refresh ∷ verb.Grow ∷ verb.Issue ∷ verb.Take ∷ verb.Cut ∷ verb.Open ∷ verb.Resend ∷ verb.Read ∷ verb.Deliver ∷ verb.Hydrate ∷ verb.Restart ∷ verb.Offer ∷ verb.Wait ∷ []
 
 -- the verb that a word is
 abbrev pub verb_in : List ℕ → Option Verb
@@ -87,6 +88,11 @@ advance_in _ = None
 abbrev pub refresh_in : List (List ℕ) → Option Event
 refresh_in (volume ∷ []) = option_map (λ v. Event.Refresh v) (number_in most_blocks volume)
 refresh_in _ = None
+
+-- `grow`
+abbrev pub grow_in : List (List ℕ) → Option Event
+grow_in [] = Some Event.Grow
+grow_in _ = None
 
 -- `cut V`
 abbrev pub cut_in : List (List ℕ) → Option Event
@@ -151,6 +157,7 @@ abbrev pub said_by : ℕ → Verb → List (List ℕ) → Option Deed
 said_by earlier verb.Assign words = option_map Makes (assign_in words)
 said_by earlier verb.Advance words = option_map Makes (advance_in words)
 said_by earlier verb.Refresh words = option_map Makes (refresh_in words)
+said_by earlier verb.Grow words = option_map Makes (grow_in words)
 said_by earlier verb.Issue words = option_map Makes (issue_in words)
 said_by earlier verb.Take words = take_in earlier words
 said_by earlier verb.Cut words = option_map Makes (cut_in words)

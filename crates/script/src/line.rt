@@ -9,7 +9,9 @@ ghost use Rattle.script.specs.Seen.{Asked, Seen, seen, seen_deed};
 
 use crate::changes::issue;
 use crate::names::{deliver, take};
-use crate::numbers::{advance, assign, cut, hydrate, offer, open, read, refresh, resend, restart};
+use crate::numbers::{
+    advance, assign, cut, grow, hydrate, offer, open, read, refresh, resend, restart,
+};
 use crate::parts::Parts;
 use std::alloc::Global;
 use volume_model::Fault;
@@ -21,6 +23,7 @@ pub enum Verb {
     Assign,
     Advance,
     Refresh,
+    Grow,
     Issue,
     Take,
     Cut,
@@ -52,6 +55,7 @@ fn verb_of(word: &str) -> Option<Verb>
         "assign" => Some(Verb::Assign),
         "advance" => Some(Verb::Advance),
         "refresh" => Some(Verb::Refresh),
+        "grow" => Some(Verb::Grow),
         "issue" => Some(Verb::Issue),
         "take" => Some(Verb::Take),
         "cut" => Some(Verb::Cut),
@@ -109,6 +113,7 @@ fn said_by(alloc: Global, verb: Verb, words: Parts, events: &[Option<usize>]) ->
         Verb::Assign => Ok(line_by(assign(words)?)),
         Verb::Advance => Ok(line_by(advance(words)?)),
         Verb::Refresh => Ok(line_by(refresh(words)?)),
+        Verb::Grow => Ok(line_by(grow(words)?)),
         Verb::Issue => Ok(line_by(issue(alloc, words)?)),
         Verb::Take => Ok(Line::Order(take(words, events)?)),
         Verb::Cut => Ok(line_by(cut(words)?)),

@@ -1,7 +1,7 @@
 //! Events that numbers alone say.
 
 ghost use Rattle.world.specs.Events.{event_of};
-ghost use Rattle.script.specs.Grammar.{advance_in, assign_in, cut_in, hydrate_in, offer_in, open_in, read_in, refresh_in, resend_in, restart_in};
+ghost use Rattle.script.specs.Grammar.{advance_in, assign_in, cut_in, grow_in, hydrate_in, offer_in, open_in, read_in, refresh_in, resend_in, restart_in};
 ghost use Rattle.script.specs.Reads.{ReadsBy};
 ghost use Rattle.script.specs.Parts.{parts_left};
 
@@ -47,6 +47,17 @@ pub fn refresh(words: Parts) -> Result<Event, Fault>
     };
     let volume = volume_of(volume)?;
     Ok(Event::Refresh { volume })
+}
+
+/// `grow`
+pub fn grow(words: Parts) -> Result<Event, Fault>
+    ensures { ReadsBy event_of (grow_in (parts_left words.entry)) result }
+{
+    if words.is_empty() {
+        Ok(Event::Grow)
+    } else {
+        Err(Fault::Malformed)
+    }
 }
 
 /// `cut V`

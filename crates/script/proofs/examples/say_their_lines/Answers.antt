@@ -10,6 +10,7 @@ returns c = record {
   assigns = refl;
   advances = refl;
   refreshes = refl;
+  grows = refl;
   takes = refl;
   cuts = refl;
   opens = refl;

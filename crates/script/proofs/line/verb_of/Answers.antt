@@ -12,6 +12,7 @@ returns-in_default c =
       other_word (name_of verb.Assign) w d.not-assign,
       other_word (name_of verb.Advance) w d.not-advance,
       other_word (name_of verb.Refresh) w d.not-refresh,
+      other_word (name_of verb.Grow) w d.not-grow,
       other_word (name_of verb.Issue) w d.not-issue,
       other_word (name_of verb.Take) w d.not-take,
       other_word (name_of verb.Cut) w d.not-cut,
