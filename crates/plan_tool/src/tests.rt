@@ -9,6 +9,7 @@ mod fleet_lines;
 mod fleet_runs;
 mod fleets;
 mod gates;
+mod growing;
 mod hands;
 mod pieces;
 mod plans;

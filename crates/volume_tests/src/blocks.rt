@@ -1,9 +1,7 @@
-ghost use Rattle.std.specs.Prelude.{◌≡◌, All, IfOk};
-ghost use Rattle.redo_record.specs.Packet.{packet_redo};
-
+use crate::picked::of_block;
 use pages::{BLOCK, page_of};
 use redo_record::{Packet, Payload, Record};
-use std::alloc::{AllocError, Global};
+use std::alloc::Global;
 use std::test::Fail;
 
 /// A chained record that writes one byte at its own place.
@@ -27,20 +25,6 @@ fn packet(alloc: Global, lsn: u64, byte: u8) -> Result<Packet, Fail> {
         point: lsn == 3,
     };
     Ok(Packet::pack(alloc, record)?)
-}
-
-/// Those of the packets that are of the block.
-fn of_block(alloc: Global, packets: &[Packet], block: u32) -> Result<Vec<Packet>, AllocError>
-    ensures { IfOk result (λ found. All (λ packet. (packet_redo packet).block ≡ block) found.items) }
-{
-    let mut found = Vec::new(alloc);
-    for packet in packets {
-        let packet = packet.clone()?;
-        if packet.record().block == block {
-            found.push(packet)?;
-        }
-    }
-    Ok(found)
 }
 
 /// The page of a block at a point, from those of the packets that are of the block.

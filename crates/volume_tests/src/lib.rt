@@ -8,9 +8,12 @@ mod blocks;
 #[cfg(test)]
 mod clients;
 #[cfg(test)]
+mod growing;
+#[cfg(test)]
 mod hydrations;
 #[cfg(test)]
 mod lineages;
+mod picked;
 #[cfg(test)]
 mod records;
 #[cfg(test)]

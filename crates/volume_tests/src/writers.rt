@@ -209,7 +209,7 @@ fn durable(alloc: Global, before: &[u8], after: &[u8], epoch: u32) -> Result<u64
     for from in before {
         writer.take_ack(&ack_at(epoch, *from, 1))?;
     }
-    writer.view(&child(alloc)?)?;
+    writer.view(alloc, &child(alloc)?)?;
     for from in after {
         writer.take_ack(&ack(*from, 1))?;
     }
@@ -230,10 +230,13 @@ fn acknowledgements_of_an_earlier_epoch(rt: HostRuntime) -> Result<(), Fail> {
 fn views_of_others(rt: HostRuntime) -> Result<(), Fail> {
     let alloc = rt.alloc();
     let mut six = writer(alloc, SIX)?;
-    assert_eq!(rt; six.view(&child(alloc)?), Err(Fault::NotInPlan));
+    assert_eq!(rt;
+        six.view(alloc, &child(alloc)?).err(),
+        Some(Fault::NotInPlan)
+    );
     let mut other = child(alloc)?;
     other.volume = 2;
-    assert_eq!(rt; six.view(&other), Err(Fault::NotAddressed));
+    assert_eq!(rt; six.view(alloc, &other).err(), Some(Fault::NotAddressed));
     Ok(())
 }
 

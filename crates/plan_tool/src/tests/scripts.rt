@@ -74,7 +74,7 @@ fn lines_outside_the_grammar(rt: HostRuntime) -> Result<(), AllocError> {
         b"read 1 0",
         b"hydrate 0",
         b"offer 0 0",
-        b"grow",
+        b"grow 1",
         b" ",
         b"wait ",
         b" wait",

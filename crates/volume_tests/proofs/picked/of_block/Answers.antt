@@ -3,8 +3,8 @@ use Rattle.std.proofs.lemmas.List.Elements.{All-push}
 use Rattle.volume_model.specs.Redo.{Redo}
 use Rattle.redo_record.specs.declared.packet.Packet.{Packet}
 use Rattle.redo_record.specs.Packet.{packet_redo}
-use Rattle.volume_tests.proofs.blocks.of_block.Goals as goal
-use Rattle.volume_tests.proofs.blocks.of_block.Goals.{then-record-block+in_ok-push, else-record-block}
+use Rattle.volume_tests.proofs.picked.of_block.Goals as goal
+use Rattle.volume_tests.proofs.picked.of_block.Goals.{then-record-block+in_ok-push, else-record-block}
 
 pub loop-packet-preserved : goal.loop-packet-preserved
 loop-packet-preserved c =

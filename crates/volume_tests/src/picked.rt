@@ -1,0 +1,21 @@
+//! The packets of one block, which a page is made of.
+
+ghost use Rattle.std.specs.Prelude.{◌≡◌, All, IfOk};
+ghost use Rattle.redo_record.specs.Packet.{packet_redo};
+
+use redo_record::Packet;
+use std::alloc::{AllocError, Global};
+
+/// Those of the packets that are of the block.
+pub fn of_block(alloc: Global, packets: &[Packet], block: u32) -> Result<Vec<Packet>, AllocError>
+    ensures { IfOk result (λ found. All (λ packet. (packet_redo packet).block ≡ block) found.items) }
+{
+    let mut found = Vec::new(alloc);
+    for packet in packets {
+        let packet = packet.clone()?;
+        if packet.record().block == block {
+            found.push(packet)?;
+        }
+    }
+    Ok(found)
+}
