@@ -155,6 +155,8 @@ impl Family {
 pub struct Plan {
     pub family: Family,
     pub groups: u8,
+    /// How many of them are there when the volume is born.
+    pub born: u8,
     allowance: usize,
 }
 
@@ -168,9 +170,11 @@ impl Plan {
             4 => Family::LargeAndSmall,
             _ => Family::SixCopies,
         };
+        let groups = if dice.chance(25) { 2 } else { 1 };
         Plan {
             family,
-            groups: if dice.chance(25) { 2 } else { 1 },
+            groups,
+            born: if dice.chance(50) { 1 } else { groups },
             allowance: if dice.chance(8) {
                 LONG
             } else {
@@ -189,6 +193,11 @@ impl Plan {
         let allowance = self.allowance;
         let format = self.family.format();
         let group = self.family.text();
+        if self.born < self.groups {
+            return format!(in alloc;
+                "{{\"format\":3,\"lal\":{allowance},\"born\":1,\"groups\":[{group},{group}]}}"
+            );
+        }
         if self.groups == 2 {
             return format!(in alloc;
                 "{{\"format\":{format},\"lal\":{allowance},\"groups\":[{group},{group}]}}"

@@ -24,6 +24,10 @@ pub struct Schedule {
     pub open: Vec<u32>,
     /// The configuration of each group.
     pub places: [u8; 2],
+    /// How many groups have joined.
+    pub joined: u8,
+    /// How many the newest client was told of.
+    pub told: u8,
     /// Members in the order in which writes prefer them.
     favourites: Vec<u8>,
     /// Messages that weren't delivered in their time.
@@ -49,6 +53,8 @@ impl Schedule {
             clients: 1,
             open,
             places: [0; 2],
+            joined: plan.born,
+            told: plan.born,
             favourites,
             late: Vec::new(alloc),
             tasks: Vec::new(alloc),
@@ -157,8 +163,8 @@ impl Schedule {
         task: &mut Task,
         line: u64,
     ) -> Result<(), AllocError> {
-        self.written.note_each(line, self.plan.groups)?;
-        for group in 0..self.plan.groups {
+        self.written.note_each(line, self.joined)?;
+        for group in 0..self.joined {
             let members = self.read_reach(alloc, group)?;
             let place = u64::from(group).saturating_add(1);
             self.send(task, (line, place), group, members.as_slice())?;
@@ -174,7 +180,7 @@ impl Schedule {
         line: u64,
     ) -> Result<(), AllocError> {
         let mut place = 0u64;
-        for group in 0..self.plan.groups {
+        for group in 0..self.joined {
             let members = self.write_reach(alloc, group)?;
             for _ in 0..self.pieces_of(group) {
                 place = place.saturating_add(1);
@@ -193,7 +199,7 @@ impl Schedule {
         line: u64,
         groups: &[u8],
     ) -> Result<(), AllocError> {
-        for group in 0..self.plan.groups {
+        for group in 0..self.joined {
             let members = self.write_reach(alloc, group)?;
             let mut place = 0u64;
             for other in groups.iter() {
@@ -286,6 +292,7 @@ impl Schedule {
             0..=3 if self.clients < MOST_CLIENTS => self.begin_recovery(alloc),
             4..=5 => self.begin_step(alloc),
             6..=7 => self.begin_late(alloc),
+            8..=9 if self.joined < self.plan.groups => self.begin_growth(alloc),
             _ => self.begin_write(alloc),
         }
     }

@@ -24,7 +24,7 @@ impl Schedule {
         let mut groups = Vec::new(alloc);
         let changes = self.dice.from(1, 4);
         for _ in 0..changes {
-            let is_second = self.plan.groups == 2 && self.dice.chance(50);
+            let is_second = self.told == 2 && self.dice.chance(50);
             groups.push(u8::from(is_second))?;
         }
         Ok(groups)
@@ -62,7 +62,7 @@ impl Schedule {
 
     /// A group steps to a child of its configuration.
     pub fn begin_step(&mut self, alloc: Global) -> Result<(), AllocError> {
-        let group = if self.plan.groups == 2 && self.dice.chance(50) {
+        let group = if self.joined == 2 && self.dice.chance(50) {
             1
         } else {
             0
@@ -97,6 +97,8 @@ impl Schedule {
             Stage::Hydrate => self.hydrate(alloc, task),
             Stage::Refresh => self.refresh(alloc, task),
             Stage::Learn(line) => self.learn(alloc, task, line),
+            Stage::Tell => self.announce(alloc, task),
+            Stage::Join(line) => self.join(alloc, task, line),
             Stage::Finished => Ok(()),
         }
     }
@@ -184,6 +186,35 @@ impl Schedule {
     fn learn(&mut self, alloc: Global, task: &mut Task, view: u64) -> Result<(), AllocError> {
         let line = self.written.take(alloc, task.client, view, 1)?;
         task.stage = Stage::Finished;
-        self.written.note_each(line, self.plan.groups)
+        self.written.note_each(line, self.joined)
+    }
+
+    /// The next group joins.
+    pub fn begin_growth(&mut self, alloc: Global) -> Result<(), AllocError> {
+        self.written.put("grow")?;
+        let mut task = Task::new(alloc, Stage::Tell, self.clients);
+        task.group = self.joined;
+        self.joined = self.joined.saturating_add(1);
+        self.keep(task)
+    }
+
+    /// The newest client is told of a group that has joined.
+    fn announce(&mut self, alloc: Global, task: &mut Task) -> Result<(), AllocError> {
+        self.refresh(alloc, task)?;
+        if let Stage::Learn(line) = task.stage {
+            task.stage = Stage::Join(line);
+        }
+        Ok(())
+    }
+
+    /// It takes what it is told, and what it makes of it goes to members of the group.
+    fn join(&mut self, alloc: Global, task: &mut Task, view: u64) -> Result<(), AllocError> {
+        let line = self.written.take(alloc, task.client, view, 1)?;
+        let group = task.group;
+        self.told = self.joined;
+        self.written.note(line, 1, Receiver::Nodes(group))?;
+        task.stage = Stage::Finished;
+        let members = self.members(group);
+        self.send(task, (line, 1), group, members)
     }
 }

@@ -172,8 +172,8 @@ impl Schedule {
         self.written.note(line, 1, Receiver::Client(client))?;
         let fences = self.written.take(alloc, client, line, 1)?;
         let mut task = Task::new(alloc, Stage::Cut, client);
-        self.written.note_each(fences, self.plan.groups)?;
-        for group in 0..self.plan.groups {
+        self.written.note_each(fences, self.joined)?;
+        for group in 0..self.joined {
             let place = u64::from(group).saturating_add(1);
             if group == parties.group {
                 for member in parties.stepped.iter().skip(1) {
@@ -190,7 +190,7 @@ impl Schedule {
 
     /// Begins a script by such a write, where the plan has a step.
     pub fn straggle(&mut self, alloc: Global) -> Result<(), AllocError> {
-        let group = u8::from(self.plan.groups == 2 && self.dice.chance(50));
+        let group = u8::from(self.joined == 2 && self.dice.chance(50));
         let Some(parties) = self.parties(alloc, group)? else {
             return Ok(());
         };

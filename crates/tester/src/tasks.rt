@@ -22,6 +22,10 @@ pub enum Stage {
     Refresh,
     /// It takes the View that this line made.
     Learn(u64),
+    /// The newest client is told of a group that has joined.
+    Tell,
+    /// It takes the View that this line made, and what it makes of it is sent to the group.
+    Join(u64),
     /// Nothing is left to do.
     Finished,
 }
