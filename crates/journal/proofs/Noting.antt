@@ -1,10 +1,10 @@
 -- What a note adds to a pass.
-use Rattle.std.proofs.Common.{◌≡◌, ℕ, ◌<◌, true, List, length, map, take, All, get_or, ap, arith}
+use Rattle.std.proofs.Common.{◌≡◌, ℕ, ◌<◌, List, length, map, take, All, get_or, ap, arith}
 use Rattle.std.proofs.lemmas.List.{take_all}
 use Rattle.volume_model.specs.declared.fault.Fault.{Fault}
 use Rattle.volume_model.specs.World.{Event, groups_joined}
 use Rattle.volume_model.specs.Plan.{Plan}
-use Rattle.volume_model.specs.Actor.{Actor, actor_of, is_joined, same_actor}
+use Rattle.volume_model.specs.Actor.{actor_of, is_joined}
 use Rattle.volume_model.specs.Journal.{Entry, world_at}
 use Rattle.volume_model.specs.Judging.{Exact, IsNoted, IsRefused}
 use Rattle.volume_model.proofs.Judges.{noted_at_last}
@@ -17,11 +17,11 @@ use Rattle.journal.specs.Passes.{made_of, AtMost}
 use Rattle.journal.proofs.Each.{all_map}
 
 module _ {X : Type 0} (plan : Plan) where
-  -- the steps of an actor that stand in the journal are not after its end
-  pub at_most_all : (es : List Entry) (hs : List (Held X)) (actor : Actor) (number : ℕ) → All (λ h. Stands plan es (made h.entry.now.cell (entry_of h.entry.now) h.entry.now.durable)) hs → number ≡ length es → AtMost actor number (map made_of hs)
-  at_most_all es hs actor number stand last =
-      all_map (λ (h : Held X). made_of h) (λ (s : Made). same_actor (actor_of s.entry.event) actor ≡ true → s.at < number) hs
-      (λ k d lt same. let h = get_or hs k d in let s = stand k d lt in let c = get_within es (entry_of h.entry.now) h.entry.now.cell s.stands in omega (arith, c, last))
+  -- steps that stand in the journal are not after its end
+  pub at_most_all : (es : List Entry) (hs : List (Held X)) (number : ℕ) → All (λ h. Stands plan es (made h.entry.now.cell (entry_of h.entry.now) h.entry.now.durable)) hs → number ≡ length es → AtMost number (map made_of hs)
+  at_most_all es hs number stand last =
+      all_map (λ (h : Held X). made_of h) (λ (s : Made). s.at < number) hs
+      (λ k d lt. let h = get_or hs k d in let s = stand k d lt in let c = get_within es (entry_of h.entry.now) h.entry.now.cell s.stands in omega (arith, c, last))
 
 -- what the model refuses now may be noted by the length of the journal
 pub noted_now : (plan : Plan) (slots cells number : ℕ) (es : List Entry) (event : Event) (fault : Fault) → IsNoted fault → number ≡ length es → Exact plan slots cells es event fault → IsRefused plan slots cells es (record { event = event; fault = fault; number = number })

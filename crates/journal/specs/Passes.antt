@@ -1,10 +1,10 @@
 -- What contracts see of a journal, of a pass, of an actor's mark and of a letter.
-use Rattle.std.specs.Prelude.{◌≡◌, ℕ, ◌+◌, ◌<◌, true, List, [], ◌∷◌, ◌++◌, length, map, Option, option_map, slice_get, All, IsSome, vec_capacity, vec_len}
+use Rattle.std.specs.Prelude.{◌≡◌, ℕ, ◌+◌, ◌<◌, List, [], ◌∷◌, ◌++◌, length, map, Option, option_map, slice_get, All, IsSome, vec_capacity, vec_len}
 use Rattle.std.specs.declared.sync.ledger.Ledger.{Ghosts as LedgerGhosts}
 use Rattle.volume_model.specs.declared.fault.Fault.{Fault}
 use Rattle.volume_model.specs.Message.{Message}
 use Rattle.volume_model.specs.World.{World, Event}
-use Rattle.volume_model.specs.Actor.{Actor, actor_of, same_actor}
+use Rattle.volume_model.specs.Actor.{Actor}
 use Rattle.volume_model.specs.Journal as model
 use Rattle.volume_model.specs.Journal.{world_at}
 use Rattle.volume_model.specs.Judging.{Refusal}
@@ -100,9 +100,9 @@ module _ {X : Type 0} {s : SiteGhosts X} {l : LedgerGhosts X} where
   abbrev pub letter_message : Letter X s l → Option Message
   letter_message letter = option_map message_of (slice_get (listed letter.entry.now.made) letter.index)
 
--- each of these steps of an actor has at most this number
-abbrev pub AtMost : Actor → ℕ → List Made → Type 0
-AtMost actor number = All (λ s. same_actor (actor_of s.entry.event) actor ≡ true → s.at < number)
+-- each of these steps has at most this number
+abbrev pub AtMost : ℕ → List Made → Type 0
+AtMost number = All (λ s. s.at < number)
 
 -- the pass has one step more, as its receipt says, and its number is above all others
 abbrev pub AddsStep : Event → Receipt → List Made → List Made → Type 0
@@ -110,7 +110,7 @@ AddsStep event r before after =
     (s : Made) × (after ≡ before ++ s ∷ []) × (s.at + 1 ≡ r.number) × (s.entry.event ≡ event) × (length s.entry.made ≡ r.made) × (s.entry.first + 1 ≡ r.first_message) × (s.durable ≡ r.durable)
     × All (λ t. t.at + 1 < r.number) before
 
--- the pass has one note more, whose number is not below the pass's own last step of the actor
+-- the pass has one note more, whose number is not below that of any of its own steps
 abbrev pub AddsRefusal : Event → Fault → List Made → List Refusal → List Refusal → Type 0
 AddsRefusal event fault steps before after =
-    (number : ℕ) × (after ≡ before ++ record { event = event; fault = fault; number = number } ∷ []) × AtMost (actor_of event) number steps
+    (number : ℕ) × (after ≡ before ++ record { event = event; fault = fault; number = number } ∷ []) × AtMost number steps

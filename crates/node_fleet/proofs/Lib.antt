@@ -4,5 +4,6 @@ pub mod Calling
 pub mod Exactly
 pub mod Judged
 pub mod Mails
+pub mod Missing
 pub mod Ruling
 pub mod Seats

@@ -43,9 +43,11 @@ impl<'a, L: Site> Fleet<'a, L> {
         self.nodes[slot].as_ref()
     }
 
-    // Refuses what is asked of a node that the plan doesn't name. Want of memory is told, and not noted.
-    fn refuse_unnamed<R: Wait>(&self, rt: &R, pass: &mut Pass<'a, L>, event: Event) -> Fault
-        requires unnamed { IsOfNone L.plan (event_of event) }
+    // Refuses the event of a node that isn't there: the plan doesn't name it, or its group hasn't joined. Want of memory is
+    // told, and not noted.
+    fn refuse_missing(&self, log: &mut Log<'a, L>, pass: &mut Pass<'a, L>, event: Event) -> Fault
+        requires missing { refusal (step L.plan (world_of log.old) (event_of event)) ≡ 82 }
+        ensures log { journal_of log.new ≡ journal_of log.old }
         ensures steps { steps_of pass.new ≡ steps_of pass.old }
         ensures seat { seat_of pass.new ≡ seat_of pass.old }
         ensures note { AddsNote (event_of event) result (steps_of pass.old) (notes_of pass.old) (notes_of pass.new) }
@@ -54,7 +56,6 @@ impl<'a, L: Site> Fleet<'a, L> {
         if pass.reserve().is_err() {
             return Fault::NoMemory;
         }
-        let mut log = self.journal.lock(rt);
         log.settle(&self.height, pass);
         log.refuse(pass, event, Fault::NoActor);
         Fault::NoActor
@@ -80,24 +81,8 @@ impl<'a, L: Site> Fleet<'a, L> {
             for _ in rt.forever() {}
             unreachable!()
         }
-        self.refuse_unnamed(rt, pass, event)
-    }
-
-    // Refuses a node's event, since the node's group hasn't joined. Want of memory is told, and not noted.
-    fn refuse_unjoined(&self, log: &mut Log<'a, L>, pass: &mut Pass<'a, L>, event: Event) -> Fault
-        requires unjoined { refusal (step L.plan (world_of log.old) (event_of event)) ≡ 82 }
-        ensures log { journal_of log.new ≡ journal_of log.old }
-        ensures steps { steps_of pass.new ≡ steps_of pass.old }
-        ensures seat { seat_of pass.new ≡ seat_of pass.old }
-        ensures note { AddsNote (event_of event) result (steps_of pass.old) (notes_of pass.old) (notes_of pass.new) }
-        ensures found { result ≢ NoMessage }
-    {
-        if pass.reserve().is_err() {
-            return Fault::NoMemory;
-        }
-        log.settle(&self.height, pass);
-        log.refuse(pass, event, Fault::NoActor);
-        Fault::NoActor
+        let mut log = self.journal.lock(rt);
+        self.refuse_missing(&mut log, pass, event)
     }
 
     // Looks a message up for a node, and lets the journal go. `NoActor`, which is noted, where the node's group hasn't joined;
@@ -123,7 +108,7 @@ impl<'a, L: Site> Fleet<'a, L> {
                 member,
                 message,
             };
-            return Err(self.refuse_unjoined(&mut log, pass, event));
+            return Err(self.refuse_missing(&mut log, pass, event));
         }
         match log.seek(&self.height, pass, message) {
             Some(letter) => Ok(letter),

@@ -1,5 +1,4 @@
 use Rattle.std.proofs.Common.{◌≡◌, List, length, All, sym, ◌∙◌, subst, rules}
-use Rattle.volume_model.specs.Actor.{actor_of}
 use Rattle.volume_model.specs.Judging.{IsRefused}
 use Rattle.world.specs.Events.{event_of}
 use Rattle.journal.specs.declared.entry.Entry.{Entry}
@@ -28,7 +27,6 @@ returns-clause-note g c =
     let pass = c.args.pass.now in
     let plan = g.L.Site.plan in
     let es = shown log.entries.items in
-    let event = event_of c.args.event in
     let long : c.len.result ≡ length (entries_of es) = c.len.ensures ∙ search rules ∙ sym (length-shown log.entries.items) ∙ sym (length-entries es) in
     let stand = subst (λ (l : List Entry). All (λ (h : Held g.row.L.Denot). Stands plan (entries_of l) (made h.entry.now.cell (entry_of h.entry.now) h.entry.now.durable)) pass.steps.items) c.requires.settled pass.stand in
-    (c.len.result, c.note.ensures.note, at_most_all plan (entries_of es) pass.steps.items (actor_of event) c.len.result stand long)
+    (c.len.result, c.note.ensures.note, at_most_all plan (entries_of es) pass.steps.items c.len.result stand long)

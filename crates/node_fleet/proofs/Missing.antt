@@ -1,0 +1,36 @@
+-- A node that the plan doesn't name refuses each event.
+use Rattle.std.proofs.Common.{◌≡◌, ℕ, Bool, true, false, not, ◌&&◌, nat_lt, refl, ap, ◌∙◌}
+use Rattle.volume_model.specs.declared.fault.Fault.TheVariants.{NoActor}
+use Rattle.volume_model.specs.Node.{NodeAnswer}
+use Rattle.volume_model.specs.Plan.{Plan, is_named}
+use Rattle.volume_model.specs.Refusal.{refuse_if}
+use Rattle.volume_model.specs.Told.{refusal}
+use Rattle.volume_model.specs.World.{World, Event, groups_joined, if_there, of_node, step}
+use Rattle.volume_model.specs.World.Event.{Assign, Advance, Refresh, Grow, Issue, Take, Cut, Open, Resend, Read, Deliver, Hydrate, Restart, Offer}
+use Rattle.node_fleet.specs.Calls.{IsOfNone}
+
+and-false : (b : Bool) → (b && false) ≡ false
+and-false true = refl
+and-false false = refl
+
+-- where the node isn't there, whatever it would do
+not_there : (plan : Plan) (w : World) (joined g m : ℕ) (rest : NodeAnswer) → is_named plan g m ≡ false → refusal (of_node w g m (if_there plan joined g m rest)) ≡ 82
+not_there plan w joined g m rest none =
+    let here : (nat_lt g joined && is_named plan g m) ≡ false = ap (λ (b : Bool). nat_lt g joined && b) none ∙ and-false (nat_lt g joined) in
+    ap (λ (b : Bool). refusal (of_node w g m (refuse_if (not b) NoActor rest))) here
+
+pub unnamed_refuses : (plan : Plan) (w : World) (event : Event) → IsOfNone plan event → refusal (step plan w event) ≡ 82
+unnamed_refuses plan w (Deliver g m number) none = not_there plan w (groups_joined w.authority) g m _ none
+unnamed_refuses plan w (Hydrate g m) none = not_there plan w (groups_joined w.authority) g m _ none
+unnamed_refuses plan w (Restart g m) none = not_there plan w (groups_joined w.authority) g m _ none
+unnamed_refuses plan w (Offer g m lsn) none = not_there plan w (groups_joined w.authority) g m _ none
+unnamed_refuses plan w Assign none = absurd none
+unnamed_refuses plan w (Advance group configuration) none = absurd none
+unnamed_refuses plan w (Refresh volume) none = absurd none
+unnamed_refuses plan w Grow none = absurd none
+unnamed_refuses plan w (Issue volume changes) none = absurd none
+unnamed_refuses plan w (Take volume number) none = absurd none
+unnamed_refuses plan w (Cut volume) none = absurd none
+unnamed_refuses plan w (Open volume) none = absurd none
+unnamed_refuses plan w (Resend volume lsn) none = absurd none
+unnamed_refuses plan w (Read volume group block) none = absurd none
