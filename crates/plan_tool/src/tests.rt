@@ -1,9 +1,5 @@
-mod certificates;
-mod configurations;
 mod deals;
 mod expressions;
-mod families;
-mod faults;
 mod files;
 mod fleet_lines;
 mod fleet_runs;
@@ -15,7 +11,6 @@ mod pieces;
 mod plans;
 mod refutations;
 mod said;
-mod samples;
 mod scripts;
 mod searches;
 mod stops;

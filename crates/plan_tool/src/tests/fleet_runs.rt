@@ -2,9 +2,8 @@
 
 ghost use Rattle.std.specs.Prelude.{◌≤◌};
 
-use super::certificates::DEAD;
-use super::configurations::{plan, two};
 use super::said::{Outputs, SIX_COPIES, done};
+use super::texts::REPLACED;
 use super::volumes::{EARLY_ACKNOWLEDGEMENT, MADE_WHOLE, RECOVERED, WRITTEN};
 use command_line::{Action, Job};
 use jobs::Source;
@@ -77,58 +76,15 @@ fn agree<H: Threads + Wait + Sync>(rt: &H, alloc: Global, plan: &str, script: &s
 }
 
 #[test]
-fn three_bytes(rt: HostRuntime) {
-    let alloc = rt.alloc();
-    let told = "steps 17\nrefused 0\nwriter 1 durable 3 next 4\njournal yes\n";
-    for job in [job(1), job(3), job(16)] {
-        let end = fleet(&rt, alloc, &job, SIX_COPIES, WRITTEN);
-        assert!(rt; end.is(0, told));
-    }
-}
-
-#[test]
-fn nothing_asked(rt: HostRuntime) {
-    let alloc = rt.alloc();
-    let told = "steps 0\nrefused 0\nwriter 1 durable 0 next 1\njournal yes\n";
-    for script in ["", "# nothing\n", "wait\nwait\n"] {
-        let end = fleet(&rt, alloc, &job(4), SIX_COPIES, script);
-        assert!(rt; end.is(0, told), "{script}");
-    }
-}
-
-#[test]
-fn refusals(rt: HostRuntime) -> Result<(), AllocError> {
-    let alloc = rt.alloc();
-    let plan = plan(alloc, &two(alloc, DEAD)?)?;
-    let end = fleet(&rt, alloc, &job(1), plan.as_str(), MADE_WHOLE);
-    let told = "steps 17\nrefused 3\nwriter 1 durable 0 next 1\njournal yes\n";
-    assert!(rt; end.is(1, told));
-    Ok(())
-}
-
-#[test]
-fn no_run(rt: HostRuntime) {
-    let alloc = rt.alloc();
-    for (plan, script, status, told) in [
-        ("{}", "issue", 2, "input: 13 Malformed\n"),
-        (SIX_COPIES, "wait\nissue", 2, "input: line 2\n"),
-    ] {
-        let end = fleet(&rt, alloc, &job(4), plan, script);
-        assert!(rt; end.is(status, told), "{told}");
-    }
-}
-
-#[test]
 fn journals_of_the_examples(rt: HostRuntime) -> Result<(), AllocError> {
     let alloc = rt.alloc();
-    let replaced = plan(alloc, &two(alloc, DEAD)?)?;
     let recovery = format!(in alloc; "{WRITTEN}{RECOVERED}")?;
     for (plan, script) in [
         (SIX_COPIES, "issue 1 0:0:0:61\ndeliver 0 0 1.1\n"),
         (SIX_COPIES, WRITTEN),
         (SIX_COPIES, recovery.as_str()),
-        (replaced.as_str(), EARLY_ACKNOWLEDGEMENT),
-        (replaced.as_str(), MADE_WHOLE),
+        (REPLACED, EARLY_ACKNOWLEDGEMENT),
+        (REPLACED, MADE_WHOLE),
         (FIVE_MEMBERS, FAILED_WRITER),
     ] {
         assert!(rt; agree(&rt, alloc, plan, script), "{script}");

@@ -1,6 +1,6 @@
 //! Searches whose workers wait for one another.
 
-use super::samples::Sample;
+use super::texts::WIDE;
 use cert_search::{Gate, search_all, search_one};
 use plan::{Plan, claims, read_plan};
 use quorum_checker::check;
@@ -93,7 +93,7 @@ impl Gate for Later {
 
 /// A plan of five claims.
 fn steps(alloc: Global) -> Result<Plan, Fail> {
-    Ok(read_plan(alloc, Sample::Wide.text(alloc)?.as_bytes())?)
+    Ok(read_plan(alloc, WIDE.as_bytes())?)
 }
 
 #[test]
@@ -123,8 +123,7 @@ fn a_held_claim_keeps_no_other(rt: HostRuntime) -> Result<(), Fail> {
 
 /// Whether the certificate that is found for the first claim refutes it.
 fn alone(alloc: Global) -> Option<bool> {
-    let text = Sample::Wide.text(alloc).ok()?;
-    let plan = read_plan(alloc, text.as_bytes()).ok()?;
+    let plan = read_plan(alloc, WIDE.as_bytes()).ok()?;
     let list = claims(alloc, &plan).ok()?;
     let first = list.first()?;
     let certificate = search_one(alloc, &first.claim, 100).ok()??;

@@ -1,194 +1,98 @@
-use super::certificates::{DEAD, Meets, PAIRS};
-use super::configurations::{DEEP, READ, WRITE, largest, root};
+//! The largest plan and the largest certificate.
+
 use super::said::checked;
-use super::samples::Sample;
-use std::alloc::AllocError;
+use std::alloc::{AllocError, Global};
 
-/// A certificate of the claim of six copies.
-const GOOD: Meets = Meets::Match(PAIRS, 6);
+const CLASH: &str = r#"{"rule":"clash","left":0,"right":0}"#;
 
-const BAD_COUNT: &str = "no: 10 BadCount group 0 configuration 0 read\n";
+/// Shows that three of six members meet four of them.
+const EQUAL: &str =
+    r#"{"rule":"match","left":0,"right":0,"pairs":[[0,0],[1,1],[2,2],[3,3],[4,4],[5,5]],"then":[
+{"rule":"clash","left":0,"right":0},{"rule":"clash","left":0,"right":0},{"rule":"clash","left":0,"right":0},
+{"rule":"clash","left":0,"right":0},{"rule":"clash","left":0,"right":0},{"rule":"clash","left":0,"right":0}]}"#;
 
-const SMALL: &str = "no: 33 group 0 configuration 0 meets: 26 CountTooSmall at root\n";
+/// This text so many times, with a comma between each two.
+fn times(alloc: Global, text: &str, count: usize) -> Result<String, AllocError> {
+    let mut all = String::new(alloc);
+    for k in 0..count {
+        if k > 0 {
+            all.push(',')?;
+        }
+        all.push_str(text)?;
+    }
+    Ok(all)
+}
 
-/// Roots by their two quorums and their certificate, and what is said of each.
-const ROOTS: [(&str, &str, Meets, u8, &str); 22] = [
-    (
-        READ,
-        WRITE,
-        GOOD,
-        0,
-        "yes: 1 groups, 1 configurations, 1 certificates\n",
-    ),
-    (READ, READ, GOOD, 1, SMALL),
-    ("{\"k\":0,\"of\":\"all\"}", WRITE, GOOD, 1, BAD_COUNT),
-    ("{\"k\":7,\"of\":\"all\"}", WRITE, GOOD, 1, BAD_COUNT),
-    ("{\"k\":1,\"of\":[]}", WRITE, GOOD, 1, BAD_COUNT),
-    (READ, WRITE, Meets::Chain(40), 1, SMALL),
-    (READ, WRITE, Meets::Chain(41), 1, "no: 34 OverLimit\n"),
-    (READ, WRITE, Meets::Chain(60), 1, "no: 34 OverLimit\n"),
-    (READ, WRITE, Meets::Chain(70), 2, "input: 13 Malformed\n"),
-    (READ, WRITE, Meets::Broad(109), 1, SMALL),
-    (READ, WRITE, Meets::Broad(110), 1, "no: 34 OverLimit\n"),
-    (READ, WRITE, Meets::Pairs(256), 1, "no: 34 OverLimit\n"),
-    (
-        DEEP,
-        WRITE,
-        GOOD,
-        1,
-        "no: 11 TooDeep group 0 configuration 0 read\n",
-    ),
-    (
-        "{\"k\":3,\"of\":[0,1,2,3,4,7]}",
-        WRITE,
-        GOOD,
-        1,
-        "no: 12 NotAMember group 0 configuration 0 read\n",
-    ),
-    (
-        READ,
-        WRITE,
-        Meets::Text("{\"rule\":\"dead\",\"side\":\"left\",\"item\":1}"),
-        1,
-        "no: 33 group 0 configuration 0 meets: 20 NoSuchItem at root\n",
-    ),
-    (
-        READ,
-        WRITE,
-        Meets::Text(DEAD),
-        1,
-        "no: 33 group 0 configuration 0 meets: 21 NotDead at root\n",
-    ),
-    (
-        READ,
-        WRITE,
-        Meets::Text("{\"rule\":\"dead\",\"side\":\"left\",\"item\":65536}"),
-        2,
-        "input: 13 Malformed\n",
-    ),
-    (
-        READ,
-        WRITE,
-        Meets::Match("[0,0],[0,1],[2,2],[3,3],[4,4],[5,5]", 6),
-        1,
-        "no: 33 group 0 configuration 0 meets: 25 BadPair at root\n",
-    ),
-    (
-        READ,
-        WRITE,
-        Meets::Match(PAIRS, 5),
-        1,
-        "no: 33 group 0 configuration 0 meets: 27 BranchCount at root\n",
-    ),
-    (
-        READ,
-        WRITE,
-        Meets::Text("null"),
-        1,
-        "no: 32 NoCertificate group 0 configuration 0 meets\n",
-    ),
-    (READ, WRITE, Meets::Text("1"), 2, "input: 13 Malformed\n"),
-    (
-        READ,
-        "{\"k\":7,\"of\":\"all\"}",
-        GOOD,
-        1,
-        "no: 10 BadCount group 0 configuration 0 write\n",
-    ),
-];
+/// A match of no pairs, with these branches.
+fn matched(alloc: Global, then: &str) -> Result<String, AllocError> {
+    format!(in alloc;
+        "{{\"rule\":\"match\",\"left\":0,\"right\":0,\"pairs\":[],\"then\":[{then}]}}"
+    )
+}
 
+/// A match of no pairs, with the same branch so many times.
+fn repeated(alloc: Global, each: &str, count: usize) -> Result<String, AllocError> {
+    matched(alloc, &times(alloc, each, count)?)
+}
+
+/// A match of no pairs, with the same branch so many times and then another.
+fn ended(alloc: Global, each: &str, count: usize, last: &str) -> Result<String, AllocError> {
+    let then = times(alloc, each, count)?;
+    matched(alloc, &format!(in alloc; "{then},{last}")?)
+}
+
+/// A certificate of depth 5: a root of 10 branches, each of 9, each of 10 but for its last, each of 110 leaves.
+fn broad(alloc: Global, last: usize) -> Result<String, AllocError> {
+    let fourth = repeated(alloc, CLASH, 110)?;
+    let third = repeated(alloc, &fourth, 10)?;
+    let second = repeated(alloc, &third, 9)?;
+    let end = ended(alloc, &fourth, 9, &repeated(alloc, CLASH, last)?)?;
+    let tenth = ended(alloc, &third, 8, &end)?;
+    ended(alloc, &second, 9, &tenth)
+}
+
+/// A configuration of six members with this parent, certificate and step.
+fn six(alloc: Global, parent: &str, meets: &str, step: &str) -> Result<String, AllocError> {
+    format!(in alloc;
+        "{{\"parent\":{parent},\"members\":[0,1,2,3,4,5],\"full\":[0,1,2,3,4,5],\"read\":{{\"k\":3,\"of\":\"all\"}},\
+\"write\":{{\"k\":4,\"of\":\"all\"}},\"meets\":{meets},\"step\":{step}}}"
+    )
+}
+
+/// So many groups of these configurations.
+fn plan(alloc: Global, configurations: &str, groups: usize) -> Result<String, AllocError> {
+    let group = format!(in alloc; "{{\"configurations\":[{configurations}]}}")?;
+    let groups = times(alloc, &group, groups)?;
+    format!(in alloc; "{{\"format\":1,\"lal\":10,\"groups\":[{groups}]}}")
+}
+
+/// A hundred thousand nodes are read, and refused by their count; one more is over the limit.
 #[test]
-fn plans_of_one_configuration(rt: HostRuntime) -> Result<(), AllocError> {
+fn the_largest_certificate(rt: HostRuntime) -> Result<(), AllocError> {
     let alloc = rt.alloc();
-    for (read, write, meets, status, line) in ROOTS {
-        let text = root(alloc, read, write, &meets.text(alloc)?)?;
-        let said = checked(&rt, alloc, &text);
-        assert!(rt; said.is(status, line), "{line}");
+    for (last, line) in [
+        (
+            109,
+            "no: 33 group 0 configuration 0 meets: 26 CountTooSmall at root\n",
+        ),
+        (110, "no: 34 OverLimit\n"),
+    ] {
+        let root = six(alloc, "null", &broad(alloc, last)?, "null")?;
+        let said = checked(&rt, alloc, &plan(alloc, &root, 1)?);
+        assert!(rt; said.is(1, line), "{line}");
     }
     Ok(())
 }
 
+/// 16 groups of a root and its 63 equal children.
 #[test]
-fn plans_of_steps(rt: HostRuntime) -> Result<(), AllocError> {
+fn the_largest_plan(rt: HostRuntime) -> Result<(), AllocError> {
     let alloc = rt.alloc();
-    let rows = [
-        (
-            Sample::Tails,
-            0,
-            "yes: 1 groups, 1 configurations, 1 certificates\n",
-        ),
-        (
-            Sample::Single,
-            0,
-            "yes: 1 groups, 1 configurations, 1 certificates\n",
-        ),
-        (
-            Sample::Two,
-            0,
-            "yes: 1 groups, 2 configurations, 3 certificates\n",
-        ),
-        (
-            Sample::Clashing,
-            1,
-            "no: 33 group 0 configuration 1 step: 22 NoClash at 1.5\n",
-        ),
-        (
-            Sample::Back,
-            0,
-            "yes: 1 groups, 4 configurations, 7 certificates\n",
-        ),
-        (
-            Sample::Wide,
-            0,
-            "yes: 1 groups, 3 configurations, 5 certificates\n",
-        ),
-        (
-            Sample::AfterTails,
-            1,
-            "no: 33 group 0 configuration 1 step: 26 CountTooSmall at 1\n",
-        ),
-        (
-            Sample::Bold,
-            1,
-            "no: 33 group 0 configuration 1 step: 26 CountTooSmall at root\n",
-        ),
-        (
-            Sample::Reused,
-            1,
-            "no: 31 MemberReused group 0 configuration 3 member 6\n",
-        ),
-        (
-            Sample::NoStep,
-            1,
-            "no: 32 NoCertificate group 0 configuration 1 step\n",
-        ),
-        (
-            Sample::OwnParent,
-            1,
-            "no: 30 BadParent group 0 configuration 1\n",
-        ),
-        (
-            Sample::Resumed,
-            0,
-            "yes: 1 groups, 3 configurations, 5 certificates\n",
-        ),
-        (
-            Sample::TwoRoots,
-            1,
-            "no: 30 BadParent group 0 configuration 1\n",
-        ),
-    ];
-    for (sample, status, line) in rows {
-        let text = sample.text(alloc)?;
-        let said = checked(&rt, alloc, &text);
-        assert!(rt; said.is(status, line), "{line}");
-    }
-    let said = checked(&rt, alloc, &largest(alloc)?);
-    assert!(rt;
-        said.is(
-            0,
-            "yes: 16 groups, 1024 configurations, 2032 certificates\n"
-        )
-    );
+    let root = six(alloc, "null", EQUAL, "null")?;
+    let children = times(alloc, &six(alloc, "0", EQUAL, EQUAL)?, 63)?;
+    let text = plan(alloc, &format!(in alloc; "{root},{children}")?, 16)?;
+    let said = checked(&rt, alloc, &text);
+    let line = "yes: 16 groups, 1024 configurations, 2032 certificates\n";
+    assert!(rt; said.is(0, line));
     Ok(())
 }

@@ -1,9 +1,8 @@
 //! Scripts that end early, and restarts between their lines.
 
-use super::certificates::DEAD;
-use super::configurations::{plan, two};
 use super::fleet_runs::{fleet, job};
 use super::said::said;
+use super::texts::REPLACED;
 use super::volumes::{EARLY_ACKNOWLEDGEMENT, MADE_WHOLE};
 use command_line::Action;
 use std::alloc::{AllocError, Global};
@@ -60,10 +59,9 @@ pub fn fleet_tells<H: Threads + Wait + Sync>(
 #[test]
 fn a_fleet_that_stops_behind_each_line(rt: HostRuntime) -> Result<(), AllocError> {
     let alloc = rt.alloc();
-    let replaced = plan(alloc, &two(alloc, DEAD)?)?;
     for lines in 0..33 {
         let script = beginning(alloc, EARLY_ACKNOWLEDGEMENT, lines)?;
-        let is_told = fleet_tells(&rt, alloc, &replaced, script.as_str(), lines, 0)?;
+        let is_told = fleet_tells(&rt, alloc, REPLACED, script.as_str(), lines, 0)?;
         assert!(rt; is_told, "{lines}");
     }
     Ok(())
@@ -106,7 +104,6 @@ pub fn restarted(alloc: Global, script: &str, at: usize, member: u8) -> Result<S
 #[test]
 fn copies_before_a_restart_never_count(rt: HostRuntime) -> Result<(), AllocError> {
     let alloc = rt.alloc();
-    let replaced = plan(alloc, &two(alloc, DEAD)?)?;
     for at in 10..19 {
         let script = restarted(alloc, MADE_WHOLE, at, 6)?;
         // Lines 15 and 16 take two copies, and 18 the third: after a restart behind these the member isn't whole at the end.
@@ -116,9 +113,9 @@ fn copies_before_a_restart_never_count(rt: HostRuntime) -> Result<(), AllocError
         } else {
             (16, 5, "21 refused 54 NotWhole\n")
         };
-        let run = told(&rt, alloc, &replaced, script.as_str())?;
+        let run = told(&rt, alloc, REPLACED, script.as_str())?;
         assert!(rt; run.contains(last), "{at}");
-        let is_told = fleet_tells(&rt, alloc, &replaced, script.as_str(), steps, refused)?;
+        let is_told = fleet_tells(&rt, alloc, REPLACED, script.as_str(), steps, refused)?;
         assert!(rt; is_told, "{at}");
     }
     Ok(())

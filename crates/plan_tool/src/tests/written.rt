@@ -1,5 +1,5 @@
-use super::certificates::{CLASH, DEAD, equal};
-use super::configurations::{ALL, READ, WRITE, plan, root, two};
+use super::said::SIX_COPIES;
+use super::texts::REPLACED;
 use plan::{CheckedPlan, Plan, PlanFault, check_plan, claims, read_plan, write_plan};
 use refutation::{Certificate, read_certificate, write_certificate};
 use std::alloc::{AllocError, Global};
@@ -52,9 +52,7 @@ fn claims_and_first(alloc: Global, text: &str) -> Result<(usize, String), PlanFa
 #[test]
 fn claims_and_certificates(rt: HostRuntime) -> Result<(), Fail> {
     let alloc = rt.alloc();
-    let meets = equal(alloc, 0, 0, CLASH)?;
-    let text = root(alloc, READ, WRITE, &meets)?;
-    let Ok((claims, written)) = claims_and_first(alloc, text.as_str()) else {
+    let Ok((claims, written)) = claims_and_first(alloc, SIX_COPIES) else {
         return Err(Fail::from("the plan of six copies"));
     };
     assert_eq!(rt; claims, 1);
@@ -118,7 +116,7 @@ fn told(alloc: Global, text: &[u8]) -> Result<(Vec<u8>, String, Vec<u8>, String)
 /// The first example's plan as it is written, with this certificate.
 fn six_written(alloc: Global, meets: &str) -> Result<String, AllocError> {
     format!(in alloc;
-        "{{\"format\":1,\"groups\":[{{\"configurations\":[{{\"full\":{ALL},\"meets\":{meets},\"members\":{ALL},\"parent\":null,\"read\":{{\"k\":3,\"of\":\"all\"}},\"step\":null,\"write\":{{\"k\":4,\"of\":\"all\"}}}}]}}],\"lal\":10}}"
+        "{{\"format\":1,\"groups\":[{{\"configurations\":[{{\"full\":[0,1,2,3,4,5],\"meets\":{meets},\"members\":[0,1,2,3,4,5],\"parent\":null,\"read\":{{\"k\":3,\"of\":\"all\"}},\"step\":null,\"write\":{{\"k\":4,\"of\":\"all\"}}}}]}}],\"lal\":10}}"
     )
 }
 
@@ -128,9 +126,7 @@ const MATCH_WRITTEN: &str =
 #[test]
 fn plans_are_written(rt: HostRuntime) -> Result<(), Fail> {
     let alloc = rt.alloc();
-    let meets = equal(alloc, 0, 0, CLASH)?;
-    let text = root(alloc, READ, WRITE, &meets)?;
-    let Ok((bare, said_of_bare, whole, said_of_whole)) = told(alloc, text.as_bytes()) else {
+    let Ok((bare, said_of_bare, whole, said_of_whole)) = told(alloc, SIX_COPIES.as_bytes()) else {
         return Err(Fail::from("the plan of six copies"));
     };
     assert_eq!(rt; bare.as_slice(), six_written(alloc, "null")?.as_bytes());
@@ -149,8 +145,7 @@ fn plans_are_written(rt: HostRuntime) -> Result<(), Fail> {
 #[test]
 fn steps_are_written(rt: HostRuntime) -> Result<(), Fail> {
     let alloc = rt.alloc();
-    let text = plan(alloc, &two(alloc, DEAD)?)?;
-    let Ok((bare, said_of_bare, whole, said_of_whole)) = told(alloc, text.as_bytes()) else {
+    let Ok((bare, said_of_bare, whole, said_of_whole)) = told(alloc, REPLACED.as_bytes()) else {
         return Err(Fail::from("the plan of two configurations"));
     };
     assert_eq!(rt;

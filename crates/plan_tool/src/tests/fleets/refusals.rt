@@ -1,7 +1,6 @@
 //! What fleets refuse.
 
-use super::super::texts::SIX;
-use super::super::volumes::two_groups;
+use super::super::texts::{SIX, TWO_GROUPS};
 use super::calls::{Call, Step};
 use super::drive::run_table;
 use super::looks::Look;
@@ -72,9 +71,17 @@ fn a_full_journal(rt: HostRuntime) -> Result<(), Fail> {
 #[test]
 fn beyond_the_members_of_a_group(rt: HostRuntime) -> Result<(), Fail> {
     let alloc = rt.alloc();
-    let text = two_groups(alloc)?;
     let steps = BEYOND.as_slice();
-    let ending = run_table(&rt, alloc, text.as_bytes(), 1, 1, 3, steps, &Look::new())?;
+    let ending = run_table(
+        &rt,
+        alloc,
+        TWO_GROUPS.as_bytes(),
+        1,
+        1,
+        3,
+        steps,
+        &Look::new(),
+    )?;
     assert_eq!(rt; ending.wrong, None);
     assert_eq!(rt; (ending.steps, ending.refused), (1, 0));
     Ok(())

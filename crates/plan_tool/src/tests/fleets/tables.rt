@@ -1,8 +1,6 @@
 //! Whole scripts, as calls of a fleet.
 
-use super::super::certificates::DEAD;
-use super::super::configurations::{plan, two};
-use super::super::texts::SIX;
+use super::super::texts::{REPLACED, SIX};
 use super::calls::{Call, Step};
 use super::drive::run_table;
 use super::looks::Look;
@@ -110,9 +108,17 @@ fn three_bytes_by_three_passes(rt: HostRuntime) -> Result<(), Fail> {
 #[test]
 fn a_member_made_whole(rt: HostRuntime) -> Result<(), Fail> {
     let alloc = rt.alloc();
-    let text = plan(alloc, &two(alloc, DEAD)?)?;
     let steps = MADE_WHOLE.as_slice();
-    let ending = run_table(&rt, alloc, text.as_bytes(), 1, 2, 20, steps, &Look::new())?;
+    let ending = run_table(
+        &rt,
+        alloc,
+        REPLACED.as_bytes(),
+        1,
+        2,
+        20,
+        steps,
+        &Look::new(),
+    )?;
     assert_eq!(rt; ending.wrong, None);
     assert_eq!(rt; (ending.steps, ending.refused), (17, 0));
     assert_eq!(rt; ending.outcome.writers.len(), 1);

@@ -1,0 +1,99 @@
+//! What a book asks for, and what is due.
+
+use crate::said::Said;
+use std::alloc::{AllocError, Global};
+
+/// A text of the plan, and what stands in its place.
+#[derive(Drop)]
+pub struct Edit<'b> {
+    pub old: &'b str,
+    pub new: &'b str,
+}
+
+/// Jobs to each of which the same answer is due.
+#[derive(Drop)]
+pub struct Question<'b> {
+    /// The words of each job, without the program's name.
+    pub commands: Vec<&'b str>,
+    /// Whether something of the answer is known.
+    pub is_answered: bool,
+    /// The exit status that is due.
+    pub status: u8,
+    /// What is to be printed; where `checked` is known that is asked of a check of what is printed.
+    pub printed: String,
+    /// What is to be written to standard error.
+    pub told: String,
+    /// What a check says of the plan that is printed, which is the same for all jobs.
+    pub checked: Option<&'b str>,
+}
+
+impl<'b> Question<'b> {
+    ghost use Rattle.std.specs.Prelude.{◌≡◌, ◌↔◌, IsTrue, string_bytes};
+
+    /// A question that asks for nothing yet, and to which nothing is due.
+    pub fn new(alloc: Global) -> Question<'b> {
+        Question {
+            commands: Vec::new(alloc),
+            is_answered: false,
+            status: 0,
+            printed: String::new(alloc),
+            told: String::new(alloc),
+            checked: None,
+        }
+    }
+
+    /// Whether the exit status and the text on standard error are those that are due.
+    pub fn is_told(&self, said: &Said) -> bool
+        ensures { IsTrue result ↔ ((said.now.status ≡ self.now.status) × (string_bytes said.now.told ≡ string_bytes self.now.told)) }
+    {
+        said.status == self.status && said.told == self.told
+    }
+}
+
+/// Questions over a plan and a script.
+#[derive(Drop)]
+pub struct Case<'b> {
+    /// What it is about.
+    pub title: &'b str,
+    /// What is put into the plan of a job's file.
+    pub edits: Vec<Edit<'b>>,
+    /// The script.
+    pub script: String,
+    /// The ends of scripts that each begin with the script; none where there is the script alone.
+    pub ends: Vec<&'b str>,
+    pub questions: Vec<Question<'b>>,
+}
+
+impl<'b> Case<'b> {
+    /// A case of which only the title is known.
+    pub fn new(alloc: Global, title: &'b str) -> Case<'b> {
+        Case {
+            title,
+            edits: Vec::new(alloc),
+            script: String::new(alloc),
+            ends: Vec::new(alloc),
+            questions: Vec::new(alloc),
+        }
+    }
+
+    /// What its script ends with: each of these, or nothing.
+    pub fn ends(&self) -> &[&'b str] {
+        if self.ends.is_empty() {
+            &[""]
+        } else {
+            self.ends.as_slice()
+        }
+    }
+
+    /// The text of a plan with this case's edits, `None` where one of them finds no place.
+    pub fn edited(&self, alloc: Global, plan: &str) -> Result<Option<String>, AllocError> {
+        let mut text = String::from_str(alloc, plan)?;
+        for edit in &self.edits {
+            if !text.contains(edit.old) {
+                return Ok(None);
+            }
+            text = text.replace(alloc, edit.old, edit.new)?;
+        }
+        Ok(Some(text))
+    }
+}

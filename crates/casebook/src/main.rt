@@ -1,0 +1,71 @@
+//! Tries the cases of books: jobs of the program, each with the answer that is due.
+#![tactic(auto)]
+
+mod book;
+mod case;
+mod said;
+mod trial;
+mod wrong;
+
+use book::cases;
+use case::Case;
+use std::process::ExitCode;
+use std::sync::Wait;
+use std::thread::Threads;
+use std::{env, fs, io};
+use trial::try_case;
+
+/// Tries the cases of a book, and prints of each what is wrong with it, if anything, or at last that nothing is.
+fn try_cases<H: Threads + Wait + Sync>(
+    rt: &HostRuntime,
+    threads: &H,
+    name: &str,
+    cases: &[Case<'_>],
+) -> io::Result<bool> {
+    let mut is_right = true;
+    for case in cases {
+        if let Err(wrong) = try_case(rt, threads, case) {
+            println!(rt; "{name}: {}: {wrong}", case.title)?;
+            is_right = false;
+        }
+    }
+    if is_right {
+        println!(rt; "{name}: {} cases are answered as is due", cases.len())?;
+    }
+    Ok(is_right)
+}
+
+/// Tries the book of a file. False where something is wrong with it, which is printed.
+fn try_book<H: Threads + Wait + Sync>(
+    rt: &HostRuntime,
+    threads: &H,
+    name: &str,
+) -> io::Result<bool> {
+    let Ok(book) = fs::read_to_string(rt, name) else {
+        println!(rt; "{name}: it can't be read")?;
+        return Ok(false);
+    };
+    match cases(rt.alloc(), book.as_str()) {
+        Ok(cases) => try_cases(rt, threads, name, cases.as_slice()),
+        Err(wrong) => {
+            println!(rt; "{name}: {wrong}")?;
+            Ok(false)
+        }
+    }
+}
+
+/// Tries the books that the words of the command line name; the exit status is 1 where something is wrong with one.
+fn try_all<H: Threads + Wait + Sync>(rt: &HostRuntime, threads: &H) -> io::Result<u8> {
+    let words: Vec<String> = env::args(rt)?.collect(rt.alloc())?;
+    let mut status = 0;
+    for name in words.iter().skip(1) {
+        if !try_book(rt, threads, name.as_str())? {
+            status = 1;
+        }
+    }
+    Ok(status)
+}
+
+fn main(rt: HostRuntime) -> ExitCode {
+    ExitCode::from(try_all(&rt, &rt).unwrap_or(2))
+}

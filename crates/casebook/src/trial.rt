@@ -1,0 +1,126 @@
+//! Cases that are tried.
+
+use crate::case::{Case, Question};
+use crate::said::{PlanText, Said, checked, say};
+use crate::wrong::Wrong;
+use command_line::{Job, job};
+use std::alloc::{AllocError, Global};
+use std::fs;
+use std::sync::Wait;
+use std::thread::Threads;
+
+/// A plan's text, and a script over it.
+#[derive(Clone, Copy)]
+struct Texts<'t> {
+    plan: &'t PlanText,
+    script: &'t str,
+}
+
+/// Whether what is printed is what is due: the text, or a plan of which a check says what is due.
+fn prints<H: Threads + Wait + Sync>(
+    threads: &H,
+    alloc: Global,
+    question: &Question<'_>,
+    printed: &str,
+) -> Result<bool, AllocError> {
+    match question.checked {
+        None => Ok(printed == question.printed.as_str()),
+        Some(due) => {
+            let plan = String::from_str(alloc, printed)?;
+            Ok(checked(threads, alloc, plan)?.as_str().trim_end() == due)
+        }
+    }
+}
+
+/// Tries one job of a question.
+fn try_job<H: Threads + Wait + Sync>(
+    threads: &H,
+    alloc: Global,
+    question: &Question<'_>,
+    job: &Job<'_>,
+    texts: &Texts<'_>,
+) -> Result<Said, Wrong> {
+    let said = say(threads, alloc, job, texts.plan, texts.script)?;
+    if question.is_told(&said) && prints(threads, alloc, question, said.printed.as_str())? {
+        Ok(said)
+    } else {
+        Err(Wrong::Answer {
+            status: said.status,
+            printed: said.printed,
+            told: said.told,
+        })
+    }
+}
+
+/// The plan of a file, with the edits of a case.
+fn plan_of(rt: &HostRuntime, case: &Case<'_>, name: &str) -> Result<PlanText, Wrong> {
+    let text = match fs::read_to_string(rt, name) {
+        Ok(text) => text,
+        Err(error) => return Ok(Err(error)),
+    };
+    match case.edited(rt.alloc(), text.as_str())? {
+        Some(text) => Ok(Ok(text)),
+        None => Err(Wrong::Edit),
+    }
+}
+
+/// Tries a command of a question, with each end of the case's script; what it prints at the last.
+fn try_command<H: Threads + Wait + Sync>(
+    rt: &HostRuntime,
+    threads: &H,
+    case: &Case<'_>,
+    question: &Question<'_>,
+    command: &str,
+) -> Result<String, Wrong> {
+    let alloc = rt.alloc();
+    let mut words = vec![in alloc; "plan_tool"]?;
+    for word in command.split(' ') {
+        words.push(word)?;
+    }
+    let job = job(alloc, words.as_slice()).map_err(|_| Wrong::Words)?;
+    let plan = plan_of(rt, case, job.plan)?;
+    let mut printed = String::new(alloc);
+    for end in case.ends() {
+        let script = format!(in alloc; "{}{end}", case.script)?;
+        let texts = Texts {
+            plan: &plan,
+            script: script.as_str(),
+        };
+        printed = try_job(threads, alloc, question, &job, &texts)?.printed;
+    }
+    Ok(printed)
+}
+
+/// Tries each command of a question, all of which print the same.
+fn try_question<H: Threads + Wait + Sync>(
+    rt: &HostRuntime,
+    threads: &H,
+    case: &Case<'_>,
+    question: &Question<'_>,
+) -> Result<(), Wrong> {
+    let mut first = None;
+    for command in &question.commands {
+        let printed = try_command(rt, threads, case, question, command)?;
+        match &first {
+            None => first = Some(printed),
+            Some(first) if *first == printed => {}
+            Some(_) => return Err(Wrong::Differs),
+        }
+    }
+    Ok(())
+}
+
+/// Tries each question of a case.
+///
+/// # Errors
+/// The first answer that isn't what is due; or what is wrong with the case.
+pub fn try_case<H: Threads + Wait + Sync>(
+    rt: &HostRuntime,
+    threads: &H,
+    case: &Case<'_>,
+) -> Result<(), Wrong> {
+    for question in &case.questions {
+        try_question(rt, threads, case, question)?;
+    }
+    Ok(())
+}
