@@ -1,0 +1,4 @@
+mod Branches
+mod Converted
+mod Digits
+mod Spelled

@@ -1,0 +1,20 @@
+-- What the branches of a rule are as JSON.
+use Rattle.std.specs.Prelude.{List, map}
+use Rattle.serde_json.specs.Data.{Data, array}
+use Rattle.refutation.specs.declared.Refutation.{Refutation}
+use Rattle.refutation.specs.Rule.{branches_of}
+use Rattle.refutation.specs.Refutation.{rule_of}
+use Rattle.refutation.specs.Ranges.{EachHasRanges}
+use Rattle.refutation.specs.Writing.{certificate_data, branches_data}
+
+-- the JSON of a refutation
+abbrev pub rule_data : {A : Type 0} → Refutation A → Data
+rule_data r = certificate_data (rule_of r)
+
+-- that of branches, in order
+abbrev pub rules_data : {A : Type 0} → List (Refutation A) → Data
+rules_data rs = array (branches_data (branches_of (map rule_of rs)))
+
+-- each of them has its numbers in their ranges
+abbrev pub EachInRange : {A : Type 0} → List (Refutation A) → Type 0
+EachInRange rs = EachHasRanges (branches_of (map rule_of rs))
