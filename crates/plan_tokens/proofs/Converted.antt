@@ -29,10 +29,10 @@ converted-object (Some p) = object-of (of_members p.0 Members.no_members) p.1
 -- ---- what was converted was read
 
 -- a value that was read, and what it is converted to
-record Found (r : Option (Json × List Token)) (d : Data) (after : List Token) : Type 0 where
-  found : Json
-  read : r ≡ Some (found, after)
-  is : of_json found ≡ Some d
+pub record Found (r : Option (Json × List Token)) (d : Data) (after : List Token) : Type 0 where
+  pub found : Json
+  pub read : r ≡ Some (found, after)
+  pub is : of_json found ≡ Some d
 
 parts : (o : Option Data) (ts after : List Token) (d : Data) → option_map {U = Data × List Token} (λ b. (b, ts)) o ≡ Some (d, after) → (o ≡ Some d) × (ts ≡ after)
 parts None ts after d h = absurd (cc)
@@ -40,7 +40,7 @@ parts (Some e) ts after d h =
     let same : ◌≡◌ {A = Data × List Token} (e, ts) (d, after) = cc in
     (ap (λ p. Some p.0) same, ap (λ p. p.1) same)
 
-found : (r : Option (Json × List Token)) (d : Data) (after : List Token) → converted of_json r ≡ Some (d, after) → Found r d after
+pub found : (r : Option (Json × List Token)) (d : Data) (after : List Token) → converted of_json r ≡ Some (d, after) → Found r d after
 found None d after h = absurd (cc)
 found (Some p) d after h =
     let both = parts (of_json p.0) p.1 after d h in

@@ -157,3 +157,6 @@ list_read levels before start now after ds all opens so_far are closed =
 pub with_keys : (levels : ℕ) (found : Members) (key other : List ℕ) (before at next there after : List Token) (d e : Data) → read_key before ≡ Some (Some key, at) → Spells levels at next d → read_key next ≡ Some (Some other, there) → Spells levels there after e
     → Goes levels found before after (put other e (put key d found))
 with_keys levels found key other before at next there after d e is s also t = follows levels found (put key d found) (put other e (put key d found)) before next after (with_key levels found key before at next d is s) (with_key levels (put key d found) other next there after e also t)
+
+pub completes_up : (levels more : ℕ) (found all : Members) (before after : List Token) → levels ≤ more → Completes levels found before after all → Completes more found before after all
+completes_up levels more found all before after h c = record { read = λ depth k n long. c.read depth (omega arith) n long; shorter = c.shorter }

@@ -15,7 +15,7 @@ use std::alloc::Global;
 
 /// The name of a rule.
 #[derive(Clone, Copy)]
-pub enum RuleName {
+pub(crate) enum RuleName {
     Dead,
     Clash,
     Open,
@@ -26,7 +26,7 @@ pub enum RuleName {
 
 /// A rule without its branches.
 #[derive(Drop)]
-pub enum Head {
+pub(crate) enum Head {
     Dead {
         side: Side,
         item: u16,
@@ -56,7 +56,7 @@ pub enum Head {
 
 /// How a rule begins.
 #[derive(Drop)]
-pub enum Opening {
+pub(crate) enum Opening {
     /// With its head.
     Head(Head),
     /// With the key `left` and the brace of a branch: a split whose left branch comes first.
@@ -360,7 +360,7 @@ fn by_key(alloc: Global, reader: &mut Reader<'_>, first: &str) -> Option<Head>
 }
 
 /// How a rule begins, after its brace.
-pub fn read_opening(alloc: Global, reader: &mut Reader<'_>) -> Option<Opening>
+pub(crate) fn read_opening(alloc: Global, reader: &mut Reader<'_>) -> Option<Opening>
     ensures read { IfSome result (IsOpening reader.old reader.new) }
     ensures small { IfSome result OpeningInRange }
 {

@@ -1,6 +1,14 @@
 //! Plans read off the tokens of their text, with no JSON value in between.
 #![tactic(auto)]
 
-pub mod heads;
-pub mod rules;
-pub mod tokens;
+mod configurations;
+mod expressions;
+mod groups;
+mod heads;
+mod reading;
+mod rules;
+#[cfg(test)]
+mod tests;
+mod tokens;
+
+pub use reading::read_plan;

@@ -39,7 +39,7 @@ fn room(alloc: Global, branches: usize) -> Option<Vec<Refutation<Global>>>
 
 /// A rule of at most so many levels.
 #[cycle(rule)]
-pub fn rule(alloc: Global, reader: &mut Reader<'_>, levels: u8) -> Option<Refutation<Global>>
+fn rule(alloc: Global, reader: &mut Reader<'_>, levels: u8) -> Option<Refutation<Global>>
     ensures read { IfSome result (λ r. Spells (2 * levels + 1) reader.old reader.new (rule_data r)) }
     ensures ranges { IfSome result (λ r. HasRanges (rule_of r)) }
 {
@@ -49,7 +49,7 @@ pub fn rule(alloc: Global, reader: &mut Reader<'_>, levels: u8) -> Option<Refuta
 
 /// A rule of at most so many levels, after its brace.
 #[cycle(rule)]
-fn begun(alloc: Global, reader: &mut Reader<'_>, levels: u8) -> Option<Refutation<Global>>
+pub(crate) fn begun(alloc: Global, reader: &mut Reader<'_>, levels: u8) -> Option<Refutation<Global>>
     ensures read { IfSome result (λ r. Spells (2 * levels + 1) (token.begin_object ∷ reader.old) reader.new (rule_data r)) }
     ensures ranges { IfSome result (λ r. HasRanges (rule_of r)) }
 {

@@ -3,7 +3,7 @@
 ghost use Rattle.std.specs.Prelude.{◌≡◌, ◌≤◌, ◌∷◌, ◌++◌, [], Some, None, Ok, IfSome, OnSome, All, length};
 ghost use Rattle.json.specs.Json.{read_key};
 ghost use Rattle.json.specs.Token as token;
-ghost use Rattle.serde_json.specs.Data.{array, string, unsigned};
+ghost use Rattle.serde_json.specs.Data.{array, null, string, unsigned};
 ghost use Rattle.serde_json.specs.Read.{number_of};
 ghost use Rattle.refutation.specs.Ranges.{IsPairInRange};
 ghost use Rattle.refutation.specs.Writing.{number_data, numbers_data, pair_data, pairs_data};
@@ -13,7 +13,7 @@ use json::{Reader, Token};
 use std::alloc::Global;
 
 /// The number that a text writes in digits alone.
-pub fn digits(text: &str) -> Option<u64>
+pub(crate) fn digits(text: &str) -> Option<u64>
     ensures { IfSome result (λ n. number_of text.now ≡ Some (unsigned n)) }
 {
     let bytes = text.as_bytes();
@@ -27,7 +27,7 @@ pub fn digits(text: &str) -> Option<u64>
 }
 
 /// A whole number.
-pub fn number(reader: &mut Reader<'_>) -> Option<u64>
+pub(crate) fn number(reader: &mut Reader<'_>) -> Option<u64>
     ensures { IfSome result (λ n. Spells 0 reader.old reader.new (number_data n)) }
 {
     match reader.next() {
@@ -40,7 +40,7 @@ pub fn number(reader: &mut Reader<'_>) -> Option<u64>
 }
 
 /// A whole number up to a limit.
-pub fn number_to(reader: &mut Reader<'_>, most: u64) -> Option<u64>
+pub(crate) fn number_to(reader: &mut Reader<'_>, most: u64) -> Option<u64>
     ensures read { IfSome result (λ n. Spells 0 reader.old reader.new (number_data n)) }
     ensures small { IfSome result (λ n. n ≤ most) }
 {
@@ -49,7 +49,7 @@ pub fn number_to(reader: &mut Reader<'_>, most: u64) -> Option<u64>
 }
 
 /// A text.
-pub fn word<'a>(reader: &mut Reader<'a>) -> Option<&'a str>
+pub(crate) fn word<'a>(reader: &mut Reader<'a>) -> Option<&'a str>
     ensures { IfSome result (λ s. Spells 0 reader.old reader.new (string s.now)) }
 {
     match reader.next() {
@@ -59,7 +59,7 @@ pub fn word<'a>(reader: &mut Reader<'a>) -> Option<&'a str>
 }
 
 /// This text.
-pub fn text(reader: &mut Reader<'_>, wanted: &str) -> Option<()>
+pub(crate) fn text(reader: &mut Reader<'_>, wanted: &str) -> Option<()>
     ensures { OnSome result (Spells 0 reader.old reader.new (string wanted.now)) }
 {
     let found = word(reader)?;
@@ -67,7 +67,7 @@ pub fn text(reader: &mut Reader<'_>, wanted: &str) -> Option<()>
 }
 
 /// This key.
-pub fn key(reader: &mut Reader<'_>, name: &str) -> Option<()>
+pub(crate) fn key(reader: &mut Reader<'_>, name: &str) -> Option<()>
     ensures { OnSome result (read_key reader.old ≡ Some (Some name.now, reader.new)) }
 {
     match reader.next_key() {
@@ -77,7 +77,7 @@ pub fn key(reader: &mut Reader<'_>, name: &str) -> Option<()>
 }
 
 /// Whichever key is next.
-pub fn any_key<'a>(reader: &mut Reader<'a>) -> Option<&'a str>
+pub(crate) fn any_key<'a>(reader: &mut Reader<'a>) -> Option<&'a str>
     ensures { IfSome result (λ k. read_key reader.old ≡ Some (Some k.now, reader.new)) }
 {
     match reader.next_key() {
@@ -87,7 +87,7 @@ pub fn any_key<'a>(reader: &mut Reader<'a>) -> Option<&'a str>
 }
 
 /// The end of an object.
-pub fn end(reader: &mut Reader<'_>) -> Option<()>
+pub(crate) fn end(reader: &mut Reader<'_>) -> Option<()>
     ensures { OnSome result (read_key reader.old ≡ Some (None, reader.new)) }
 {
     match reader.next_key() {
@@ -96,8 +96,18 @@ pub fn end(reader: &mut Reader<'_>) -> Option<()>
     }
 }
 
+/// A null.
+pub(crate) fn null(reader: &mut Reader<'_>) -> Option<()>
+    ensures { OnSome result (Spells 0 reader.old reader.new null) }
+{
+    match reader.next() {
+        Some(Token::Null) => Some(()),
+        _ => None,
+    }
+}
+
 /// The beginning of an object.
-pub fn begin_object(reader: &mut Reader<'_>) -> Option<()>
+pub(crate) fn begin_object(reader: &mut Reader<'_>) -> Option<()>
     ensures { OnSome result (reader.old ≡ token.begin_object ∷ reader.new) }
 {
     match reader.next() {
@@ -107,7 +117,7 @@ pub fn begin_object(reader: &mut Reader<'_>) -> Option<()>
 }
 
 /// The beginning of an array.
-pub fn begin_array(reader: &mut Reader<'_>) -> Option<()>
+pub(crate) fn begin_array(reader: &mut Reader<'_>) -> Option<()>
     ensures { OnSome result (reader.old ≡ token.begin_array ∷ reader.new) }
 {
     match reader.next() {
@@ -117,7 +127,7 @@ pub fn begin_array(reader: &mut Reader<'_>) -> Option<()>
 }
 
 /// One more value behind the others.
-pub fn push<T: Drop>(list: &mut Vec<T>, value: T) -> Option<()>
+pub(crate) fn push<T: Drop>(list: &mut Vec<T>, value: T) -> Option<()>
     ensures { OnSome result (list.new.items ≡ list.old.items ++ value ∷ []) }
 {
     match list.push(value) {
@@ -127,7 +137,7 @@ pub fn push<T: Drop>(list: &mut Vec<T>, value: T) -> Option<()>
 }
 
 /// A list of whole numbers up to 255.
-pub fn small_numbers(alloc: Global, reader: &mut Reader<'_>) -> Option<Vec<u8>>
+pub(crate) fn small_numbers(alloc: Global, reader: &mut Reader<'_>) -> Option<Vec<u8>>
     ensures read { IfSome result (λ v. Spells 1 reader.old reader.new (array (numbers_data v.items))) }
     ensures small { IfSome result (λ v. All (λ n. n ≤ 255) v.items) }
 {
@@ -156,7 +166,7 @@ fn pair(reader: &mut Reader<'_>) -> Option<(u8, u8)>
 }
 
 /// A list of pairs of whole numbers up to 255.
-pub fn small_number_pairs(
+pub(crate) fn small_number_pairs(
     alloc: Global,
     reader: &mut Reader<'_>,
 ) -> Option<Vec<(u8, u8)>>
