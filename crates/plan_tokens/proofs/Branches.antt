@@ -1,5 +1,5 @@
 -- Rules and their branches, put together.
-use Rattle.std.proofs.Common.{◌≡◌, ℕ, suc, ◌+◌, ◌*◌, ◌≤◌, List, [], ◌∷◌, ◌++◌, map, Some, None, codes, refl, ap, sym, subst, ◌∙◌, arith}
+use Rattle.std.proofs.Common.{◌≡◌, ℕ, suc, ◌+◌, ◌*◌, List, [], ◌∷◌, ◌++◌, map, Some, None, refl, ap, sym, subst, arith}
 use Rattle.json.specs.Token.{Token}
 use Rattle.json.specs.Json.{read_key}
 use Rattle.serde_json.specs.Data.{Data, Members, no_members, no_items, item, object, put}
@@ -8,7 +8,7 @@ use Rattle.refutation.specs.Rule.{branches_of}
 use Rattle.refutation.specs.Refutation.{rule_of}
 use Rattle.refutation.specs.Ranges.{HasRanges}
 use Rattle.refutation.specs.Writing.{branches_data}
-use Rattle.plan_tokens.specs.Rules.{rule_data, rules_data, EachInRange}
+use Rattle.plan_tokens.specs.Rules.{rule_data, EachInRange}
 use Rattle.plan_tokens.specs.Spelled.{Spells, Goes, Completes}
 use Rattle.plan_tokens.proofs.Spelled.{up, with_key, ended, braced, joined}
 

@@ -1,15 +1,13 @@
 -- Configurations, groups and plans, put together from their values.
-use Rattle.std.proofs.Common.{◌≡◌, ◌≢◌, ℕ, zero, suc, ◌+◌, ◌-◌, ◌*◌, ◌<◌, ◌≤◌, List, [], ◌∷◌, ◌++◌, length, map, codes, refl, ap, sym, subst, ◌∙◌, arith, Option, Some, None, Result, Ok, Err}
+use Rattle.std.proofs.Common.{◌≡◌, ◌≢◌, ℕ, ◌+◌, ◌<◌, ◌≤◌, List, [], ◌∷◌, ◌++◌, codes, refl, ap, sym, subst, ◌∙◌, arith, Option, Some, None, Ok, Err}
 use Rattle.std.specs.Prelude.{◌==◌, Bool, true, false, nat_le, option_map, if◌then◌else◌}
 use Rattle.std.specs.Ordering.{nat_cmp}
-use Rattle.std.specs.FinSet.{FinSet, empty, insert, is_subset}
+use Rattle.std.specs.FinSet.{FinSet, empty, insert}
 use Rattle.std.proofs.lemmas.Bool.Decides.{nat_tests}
-use Rattle.std.proofs.lemmas.List.{map-append}
 use Rattle.json.specs.Token.{Token}
 use Rattle.json.specs.Json.{after_end_array, read_key}
 use Rattle.serde_json.specs.Data.{Data, null, boolean, number, string, array, object, Items, no_items, item, Members, member, no_members, put}
 use Rattle.serde_json.specs.Events.{items_len}
-use Rattle.volume_model.specs.declared.fault.Fault.{Fault}
 use Rattle.volume_model.specs.declared.fault.Fault.TheVariants.{Malformed}
 use Rattle.volume_model.specs.Answer.{◌>>=◌}
 use Rattle.volume_model.specs.Formula.{Formula}
@@ -24,13 +22,9 @@ use Rattle.refutation.specs.Reading.{number_to, certificate_in}
 use Rattle.refutation.specs.Writing.{number_data, certificate_data}
 use Rattle.refutation.proofs.ReadBack.{certificate_in-written}
 use Rattle.plan.specs.declared.configurations.Configuration.{Configuration}
-use Rattle.plan.specs.declared.configurations.Group.{Group}
-use Rattle.plan.specs.declared.fault.PlanFault.{PlanFault}
-use Rattle.plan.specs.PlanData.{ConfigurationData}
-use Rattle.plan.specs.Plan.{configuration_data, group_data}
-use Rattle.plan.specs.PlanText.{◌>=>◌, in_text, fields_of, parent_of, members_from, members_of, some_members_of, lists_of, certificate_or_null, is_null, step_of, configuration_in, configurations_in, group_in, groups_in}
+use Rattle.plan.specs.PlanText.{fields_of, parent_of, members_from, members_of, some_members_of, lists_of, certificate_or_null, is_null, step_of, configuration_in}
 use Rattle.plan_tokens.specs.Spelled.{Spells, SpellsSome}
-use Rattle.plan_tokens.specs.Configurations.{IsListed, IsConfiguration, AreConfigurations, IsGroup, AreGroups}
+use Rattle.plan_tokens.specs.Configurations.{IsListed, IsConfiguration}
 use Rattle.plan_tokens.proofs.Spelled.{Passes, none_passed, one_passed, joined, joined-one, list_read, up, with_key, with_keys, ended, braced}
 
 -- ---- certificates

@@ -1,20 +1,17 @@
 -- Groups and lists of configurations and groups.
-use Rattle.std.proofs.Common.{◌≡◌, ◌≢◌, ℕ, zero, suc, ◌+◌, ◌-◌, ◌*◌, ◌<◌, ◌≤◌, List, [], ◌∷◌, ◌++◌, length, map, codes, refl, ap, sym, subst, ◌∙◌, arith, Option, Some, None, Result, Ok, Err}
-use Rattle.std.specs.Prelude.{Bool, true, false, nat_le, ◌&&◌, if◌then◌else◌}
+use Rattle.std.proofs.Common.{◌≡◌, ℕ, suc, ◌+◌, ◌≤◌, List, [], ◌∷◌, ◌++◌, length, map, codes, refl, ap, sym, subst, ◌∙◌, arith, Some, None, Ok}
+use Rattle.std.specs.Prelude.{Bool, true}
 use Rattle.std.proofs.lemmas.Bool.Decides.{nat_tests}
 use Rattle.std.proofs.lemmas.List.{map-append}
 use Rattle.json.specs.Token.{Token}
 use Rattle.json.specs.Json.{after_end_array}
-use Rattle.serde_json.specs.Data.{Data, array, object, Items, no_items, item, member, no_members}
+use Rattle.serde_json.specs.Data.{Data, array, object, no_items, member, no_members}
 use Rattle.serde_json.specs.Events.{items_len}
-use Rattle.volume_model.specs.declared.fault.Fault.{Fault}
-use Rattle.volume_model.specs.declared.fault.Fault.TheVariants.{OverLimit}
 use Rattle.plan.specs.declared.configurations.Configuration.{Configuration}
 use Rattle.plan.specs.declared.configurations.Group.{Group}
-use Rattle.plan.specs.declared.fault.PlanFault.{PlanFault}
 use Rattle.plan.specs.PlanData.{ConfigurationData}
 use Rattle.plan.specs.Plan.{configuration_data, group_data}
-use Rattle.plan.specs.PlanText.{◌>=>◌, in_text, is_from_1, group_items, configuration_in, configurations_in, group_in, groups_in}
+use Rattle.plan.specs.PlanText.{◌>=>◌, is_from_1, group_items, configuration_in, configurations_in, group_in, groups_in}
 use Rattle.plan.proofs.Reread.{then_ok, ok_is}
 use Rattle.plan_tokens.specs.Spelled.{Spells, SpellsSome}
 use Rattle.plan_tokens.specs.Configurations.{IsConfiguration, AreConfigurations, IsGroup, AreGroups}

@@ -1,6 +1,6 @@
 -- Plans, put together from their values, and texts.
-use Rattle.std.proofs.Common.{◌≡◌, ℕ, ◌+◌, ◌≤◌, List, [], ◌∷◌, length, map, codes, refl, ap, sym, subst, ◌∙◌, arith, Option, Some, None, Result, Ok, Err}
-use Rattle.std.specs.Prelude.{Bool, true, false, nat_le, ◌&&◌, option_and_then, if◌then◌else◌}
+use Rattle.std.proofs.Common.{◌≡◌, ℕ, ◌≤◌, List, [], ◌∷◌, length, refl, ap, sym, subst, ◌∙◌, arith, Option, Some, None, Ok}
+use Rattle.std.specs.Prelude.{true, nat_le, option_and_then}
 use Rattle.std.specs.Str.{IsUtf8}
 use Rattle.std.proofs.lemmas.Bool.Decides.{nat_tests}
 use Rattle.json.specs.Token.{Token}
@@ -9,20 +9,18 @@ use Rattle.json.specs.Json as json
 use Rattle.json.specs.Json.{Json, read_key}
 use Rattle.serde_json.specs.Data.{Data, object, Members, no_members, put}
 use Rattle.serde_json.specs.Events.{items_len}
-use Rattle.serde_json.specs.Read.{of_json, converted, read}
+use Rattle.serde_json.specs.Read.{of_json, read}
 use Rattle.refutation.specs.Writing.{number_data}
 use Rattle.plan.specs.declared.configurations.Group.{Group}
-use Rattle.plan.specs.declared.fault.PlanFault.{PlanFault}
 use Rattle.plan.specs.declared.formats.Format.{Format}
 use Rattle.plan.specs.declared.formats.Format.TheVariants.{Plain, Weighted, Growing}
 use Rattle.plan.specs.Formats.{is_weighted}
 use Rattle.plan.specs.PlanData.{PlanData}
-use Rattle.plan.specs.Plan.{group_data}
-use Rattle.plan.specs.PlanText.{◌>=>◌, in_text, is_from_1, lal_of, group_list, format_of, top_fields_of, header_of, groups_in, plan_in, json_of, value_of, plan_of}
+use Rattle.plan.specs.PlanText.{is_from_1, lal_of, group_list, format_of, top_fields_of, header_of, plan_in, json_of, value_of, plan_of}
 use Rattle.plan.proofs.Text.{is_json}
 use Rattle.plan_tokens.specs.Spelled.{Spells, SpellsSome}
 use Rattle.plan_tokens.specs.Configurations.{AreGroups}
-use Rattle.plan_tokens.specs.Plans.{IsBorn, IsWhole, EndsPlan, plan_members}
+use Rattle.plan_tokens.specs.Plans.{IsWhole, EndsPlan, plan_members}
 use Rattle.plan_tokens.proofs.Converted.{Found, found}
 use Rattle.plan_tokens.proofs.Spelled.{up, with_key, with_keys, ended, braced}
 

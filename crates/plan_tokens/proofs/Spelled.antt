@@ -5,7 +5,7 @@ use Rattle.json.specs.Json as json
 use Rattle.json.specs.Json.{parse_map, after_end_array, read_key}
 use Rattle.json.proofs.Grammar.{value_is, value-begin_array, value-begin_object, read_key-shorter, after_end_array-shorter}
 use Rattle.serde_json.specs.Data.{Data, unsigned, null, number, string, array, object, Items, no_items, item, Members, no_members, put}
-use Rattle.serde_json.specs.Read.{of_json, of_items, of_members, number_of, converted}
+use Rattle.serde_json.specs.Read.{of_json, of_items, number_of, converted}
 use Rattle.std.proofs.lemmas.List.{map-append}
 use Rattle.refutation.specs.Writing.{number_data, numbers_data, pair_data, pairs_data}
 use Rattle.plan_tokens.specs.Spelled.{Spells, Completes, Goes}

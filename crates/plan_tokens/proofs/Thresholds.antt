@@ -1,14 +1,14 @@
 -- Thresholds and their children, put together.
-use Rattle.std.proofs.Common.{◌≡◌, ◌≢◌, ℕ, zero, suc, ◌+◌, ◌-◌, ◌*◌, ◌<◌, ◌≤◌, List, [], ◌∷◌, ◌++◌, length, map, take, set, get_or, codes, refl, ap, sym, subst, ◌∙◌, arith, add-one, Option, Some, None, Result, Ok, Err}
-use Rattle.std.specs.Prelude.{Bool, true, false, ◌&&◌, ◌==◌, nat_lt, nat_le, if◌then◌else◌}
+use Rattle.std.proofs.Common.{◌≡◌, ℕ, zero, suc, ◌+◌, ◌-◌, ◌*◌, ◌<◌, ◌≤◌, List, [], ◌∷◌, ◌++◌, length, map, take, set, get_or, codes, refl, ap, sym, subst, ◌∙◌, arith, Option, Some, None, Result, Ok, Err}
+use Rattle.std.specs.Prelude.{Bool, true, false, ◌==◌, nat_lt, nat_le, if◌then◌else◌}
 use Rattle.std.specs.Ordering.{nat_cmp}
 use Rattle.std.specs.FinSet.{FinSet, contains}
 use Rattle.std.proofs.lemmas.List.{length-map}
 use Rattle.volume_model.specs.Sets.{listed}
 use Rattle.std.proofs.lemmas.Bool.Decides.{nat_tests}
 use Rattle.json.specs.Token.{Token}
-use Rattle.json.specs.Json.{after_end_array, read_key}
-use Rattle.serde_json.specs.Data.{Data, string, array, object, Items, no_items, item, Members, member}
+use Rattle.json.specs.Json.{after_end_array}
+use Rattle.serde_json.specs.Data.{Data, string, array, object, no_items, Members, member}
 use Rattle.serde_json.specs.Events.{items_len}
 use Rattle.refutation.specs.Writing.{number_data, numbers_data}
 use Rattle.volume_model.specs.declared.fault.Fault.{Fault}
@@ -20,7 +20,7 @@ use Rattle.quorum_expr.specs.declared.expression.Expr.{Expr}
 use Rattle.quorum_expr.specs.declared.form.Lists.{Lists}
 use Rattle.quorum_expr.specs.Expr.{formula_of}
 use Rattle.quorum_expr.specs.Forms.{formulas_of, HaveWeights}
-use Rattle.quorum_expr.specs.Reading.{ChildList, each, named, named_or_malformed, Weights, choice, weight_of, weighing, small, good_row, child_list_of, child_count, whole_list_of, wholes_of, weights_of, choice_of, form_of, each_of, children_at, formula_from, formula_at, expression_in}
+use Rattle.quorum_expr.specs.Reading.{ChildList, each, named, named_or_malformed, Weights, choice, weight_of, weighing, small, good_row, child_list_of, child_count, wholes_of, weights_of, choice_of, form_of, each_of, children_at, formula_from, formula_at, expression_in}
 use Rattle.quorum_expr.specs.Valid.{or_then, good_choice, shape_fault, row_fault, nodes, expression_fault}
 use Rattle.quorum_expr.proofs.Rows.{row-read}
 use Rattle.plan_tokens.specs.Spelled.{Spells, SpellsSome}
@@ -112,7 +112,7 @@ threshold_read lists left k list ws fs d is count read good =
     let some : (suc left == 0) ≡ false = grind (arith, nat_tests) in
     let below : suc left - 1 ≡ left = omega arith in
     let here : (if good_choice k (weighing ws 0 fs) then row_fault (weighing ws 0 fs) (suc left - 1) else Some BadCount) ≡ None =
-        sym (ap (λ (b : Bool). if b then Some TooDeep else (if good_choice k (weighing ws 0 fs) then row_fault (weighing ws 0 fs) (suc left - 1) else Some BadCount)) some) ∙ good in
+    sym (ap (λ (b : Bool). if b then Some TooDeep else (if good_choice k (weighing ws 0 fs) then row_fault (weighing ws 0 fs) (suc left - 1) else Some BadCount)) some) ∙ good in
     let parts = none_if (good_choice k (weighing ws 0 fs)) (row_fault (weighing ws 0 fs) (suc left - 1)) BadCount here in
     let row : row_fault (each_once fs) left ≡ None = sym (row_weighing ws 0 fs left) ∙ sym (ap (row_fault (weighing ws 0 fs)) below) ∙ parts.1 in
     let counted : good_row k (child_count lists list) ws ≡ true = ap (λ n. good_row k n ws) count ∙ sym (row-read k ws fs) ∙ parts.0 in

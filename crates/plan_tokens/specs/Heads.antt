@@ -2,7 +2,7 @@
 use Rattle.std.specs.Prelude.{◌≡◌, ◌≤◌, ℕ, List, ◌∷◌, Some, All, codes}
 use Rattle.json.specs.Token.{Token, begin_object}
 use Rattle.json.specs.Json.{read_key}
-use Rattle.serde_json.specs.Data.{Data, string, array, Members, no_members, member}
+use Rattle.serde_json.specs.Data.{string, array, Members, no_members, member}
 use Rattle.refutation.specs.declared.Side.{Side}
 use Rattle.refutation.specs.Ranges.{IsPairInRange}
 use Rattle.refutation.specs.Writing.{side_text, number_data, numbers_data, pairs_data}

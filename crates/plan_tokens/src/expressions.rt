@@ -117,12 +117,7 @@ fn weights(
 
 /// An expression of at most so many levels.
 #[cycle(expression)]
-fn tree(
-    alloc: Global,
-    reader: &mut Reader<'_>,
-    lists: &Lists,
-    levels: u8,
-) -> Option<Expr<Global>>
+fn tree(alloc: Global, reader: &mut Reader<'_>, lists: &Lists, levels: u8) -> Option<Expr<Global>>
     ensures { IfSome result (λ e. SpellsSome (2 * levels) reader.old reader.new (SpellsFormula lists.now levels (formula_of e))) }
 {
     if levels == 0 {

@@ -49,7 +49,11 @@ fn group(alloc: Global, reader: &mut Reader<'_>, is_weighted: bool) -> Option<Gr
 }
 
 /// The groups of a plan, in order.
-pub(crate) fn groups(alloc: Global, reader: &mut Reader<'_>, is_weighted: bool) -> Option<Vec<Group>>
+pub(crate) fn groups(
+    alloc: Global,
+    reader: &mut Reader<'_>,
+    is_weighted: bool,
+) -> Option<Vec<Group>>
     ensures { IfSome result (λ v. SpellsSome 85 reader.old reader.new (AreGroups is_weighted v.items)) }
 {
     begin_array(reader)?;

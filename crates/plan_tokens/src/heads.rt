@@ -8,7 +8,9 @@ ghost use Rattle.refutation.specs.Writing.{side_text, number_data};
 ghost use Rattle.plan_tokens.specs.Spelled.{Spells, Goes};
 ghost use Rattle.plan_tokens.specs.Heads.{rule_text, rule_first, side_members, item_members, head_members, HeadInRange, HeadAfter, IsOpening, OpeningInRange};
 
-use crate::tokens::{any_key, digits, key, number_to, small_number_pairs, small_numbers, text, word};
+use crate::tokens::{
+    any_key, digits, key, number_to, small_number_pairs, small_numbers, text, word,
+};
 use json::{Reader, Token};
 use refutation::Side;
 use std::alloc::Global;

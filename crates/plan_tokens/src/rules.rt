@@ -49,7 +49,11 @@ fn rule(alloc: Global, reader: &mut Reader<'_>, levels: u8) -> Option<Refutation
 
 /// A rule of at most so many levels, after its brace.
 #[cycle(rule)]
-pub(crate) fn begun(alloc: Global, reader: &mut Reader<'_>, levels: u8) -> Option<Refutation<Global>>
+pub(crate) fn begun(
+    alloc: Global,
+    reader: &mut Reader<'_>,
+    levels: u8,
+) -> Option<Refutation<Global>>
     ensures read { IfSome result (λ r. Spells (2 * levels + 1) (token.begin_object ∷ reader.old) reader.new (rule_data r)) }
     ensures ranges { IfSome result (λ r. HasRanges (rule_of r)) }
 {

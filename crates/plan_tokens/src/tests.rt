@@ -4,7 +4,8 @@ use crate::reading::quick;
 use std::test::*;
 
 /// A plan of format 1 with each rule, its keys in the order of the format.
-const IN_ORDER: &str = r#"{"format":1,"lal":10,"groups":[{"configurations":[{"parent":null,"members":[0,1],"full":[0,1],
+const IN_ORDER: &str =
+    r#"{"format":1,"lal":10,"groups":[{"configurations":[{"parent":null,"members":[0,1],"full":[0,1],
  "read":{"k":2,"of":"all"},"write":{"k":1,"of":[0,1]},
  "meets":{"rule":"split","member":0,"left":{"rule":"dead","side":"left","item":0},"right":{"rule":"open","side":"left","item":0,
   "then":{"rule":"pick","side":"right","item":0,"children":[0,1],"then":[{"rule":"dead","side":"right","item":0},{"rule":"clash","left":1,"right":0}]}}},
@@ -17,13 +18,15 @@ const BY_LETTERS: &str = r#"{"format":1,"groups":[{"configurations":[{"full":[0,
  "members":[0,1],"parent":null,"read":{"k":2,"of":"all"},"step":null,"write":{"k":1,"of":[0,1]}}]}],"lal":10}"#;
 
 /// A plan of format 3 with weights and a match, its keys in the order of the format.
-const GROWING: &str = r#"{"format":3,"lal":10,"born":1,"groups":[{"configurations":[{"parent":null,"members":[0,1,2],"full":[0,1],
+const GROWING: &str =
+    r#"{"format":3,"lal":10,"born":1,"groups":[{"configurations":[{"parent":null,"members":[0,1,2],"full":[0,1],
  "read":{"k":2,"of":"full"},"write":{"k":2,"of":"all","weights":[2,1,1]},
  "meets":{"rule":"match","left":0,"right":0,"pairs":[[0,0],[1,1]],"then":[{"rule":"clash","left":0,"right":0},{"rule":"clash","left":0,"right":0}]},"step":null},
  {"parent":0,"members":[0,1,2],"full":[0,1],"read":0,"write":{"k":1,"of":"tail"},"meets":null,"step":null}]}]}"#;
 
 /// Another of format 3, its keys in the order of the alphabet.
-const GROWING_BY_LETTERS: &str = r#"{"born":1,"format":3,"groups":[{"configurations":[{"full":[0],"meets":{"left":0,"pairs":[[0,0]],"right":0,"rule":"match","then":[{"left":0,"right":0,"rule":"clash"}]},
+const GROWING_BY_LETTERS: &str =
+    r#"{"born":1,"format":3,"groups":[{"configurations":[{"full":[0],"meets":{"left":0,"pairs":[[0,0]],"right":0,"rule":"match","then":[{"left":0,"right":0,"rule":"clash"}]},
  "members":[0,1],"parent":null,"read":0,"step":null,"write":1}]}],"lal":1}"#;
 
 #[test]

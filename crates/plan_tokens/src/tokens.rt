@@ -166,10 +166,7 @@ fn pair(reader: &mut Reader<'_>) -> Option<(u8, u8)>
 }
 
 /// A list of pairs of whole numbers up to 255.
-pub(crate) fn small_number_pairs(
-    alloc: Global,
-    reader: &mut Reader<'_>,
-) -> Option<Vec<(u8, u8)>>
+pub(crate) fn small_number_pairs(alloc: Global, reader: &mut Reader<'_>) -> Option<Vec<(u8, u8)>>
     ensures read { IfSome result (λ v. Spells 2 reader.old reader.new (array (pairs_data v.items))) }
     ensures small { IfSome result (λ v. All IsPairInRange v.items) }
 {

@@ -1,4 +1,4 @@
-use Rattle.std.proofs.Common.{◌≡◌, ◌<◌, ◌∙◌, ap, sym, subst, arith, refl, Ok, None}
+use Rattle.std.proofs.Common.{◌≡◌, ◌<◌, ◌∙◌, ap, arith}
 use Rattle.serde_json.specs.Data.{null}
 use Rattle.plan.specs.PlanText.{step_of}
 use Rattle.plan_tokens.proofs.Spelled.{up}

@@ -1,4 +1,4 @@
-use Rattle.std.proofs.Common.{◌≡◌, ◌<◌, ◌+◌, ◌*◌, ◌∷◌, ◌∙◌, [], length, codes, ap, sym, subst, refl, arith, None, Some}
+use Rattle.std.proofs.Common.{◌≡◌, ◌<◌, ◌+◌, ◌*◌, ◌∷◌, ◌∙◌, length, codes, ap, sym, subst, refl, arith, None}
 use Rattle.std.proofs.lemmas.List.{length-map, map-append, with_items_is}
 use Rattle.std.specs.Vec.{with_items}
 use Rattle.json.specs.Json.{after_end_array}

@@ -1,4 +1,4 @@
-use Rattle.std.proofs.Common.{◌≡◌, ◌<◌, ◌∙◌, ap, sym, arith, Ok, true}
+use Rattle.std.proofs.Common.{◌≡◌, ◌<◌, ◌∙◌, ap, sym, Ok, true}
 use Rattle.std.specs.FinSet.{contains}
 use Rattle.std.specs.declared.alloc.Global.{Global}
 use Rattle.quorum_expr.proofs.ExprLaws.{formula_of-Member}

@@ -1,4 +1,4 @@
-use Rattle.std.proofs.Common.{◌≡◌, ◌+◌, ◌≤◌, ◌<◌, ◌∙◌, Some, add-one, ap, arith, get_or, length, refl, set, subst, sym, take}
+use Rattle.std.proofs.Common.{◌≡◌, ◌+◌, ◌≤◌, ◌<◌, ◌∙◌, Some, add-one, ap, arith, get_or, length, set, subst, sym, take}
 use Rattle.std.proofs.lemmas.List.{take_all}
 use Rattle.quorum_expr.specs.Forms.{HaveWeights}
 use Rattle.quorum_expr.specs.Reading.{weight_of}

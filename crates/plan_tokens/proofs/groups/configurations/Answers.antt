@@ -1,8 +1,8 @@
-use Rattle.std.proofs.Common.{◌≡◌, ◌≤◌, ◌+◌, length, arith, refl, None, subst, ap, rules}
+use Rattle.std.proofs.Common.{◌≡◌, ◌+◌, length, arith, None, subst, rules}
 use Rattle.json.specs.Json.{after_end_array}
 use Rattle.plan_tokens.specs.Configurations.{IsConfiguration}
 use Rattle.plan_tokens.specs.Spelled.{SpellsSome}
-use Rattle.plan_tokens.proofs.GroupLaws.{no_configuration, configuration_more, configurations_read, length-more}
+use Rattle.plan_tokens.proofs.GroupLaws.{configuration_more, configurations_read, length-more}
 use Rattle.plan_tokens.proofs.groups.configurations.Goals as goal
 
 pub all-preserved : goal.all-preserved

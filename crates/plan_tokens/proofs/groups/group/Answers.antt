@@ -1,5 +1,4 @@
-use Rattle.std.proofs.Common.{◌≡◌, ◌≤◌, ◌∷◌, length, codes, subst, sym, arith, rules}
-use Rattle.json.specs.Token.{Token}
+use Rattle.std.proofs.Common.{◌≤◌, length, codes, subst, sym, arith}
 use Rattle.serde_json.specs.Data.{member, no_members, object}
 use Rattle.plan_tokens.specs.Spelled.{Spells}
 use Rattle.plan_tokens.proofs.Spelled.{up, braced}

@@ -1,6 +1,6 @@
 use Rattle.std.proofs.Common.{◌≡◌, arith, None}
 use Rattle.json.specs.Json.{after_end_array}
-use Rattle.plan_tokens.proofs.GroupLaws.{no_group, group_more, groups_read}
+use Rattle.plan_tokens.proofs.GroupLaws.{group_more, groups_read}
 use Rattle.plan_tokens.proofs.groups.groups.Goals as goal
 
 pub all-preserved : goal.all-preserved

@@ -14,5 +14,5 @@ returns-in_ok-head-in-Some-Number-clause-read c = λ before first.
     let left = c.in_ok-left-in-Some-Number.left in
     follows 2 no_members _ _ before c.next.new.self c.left_item.new.reader
     (with_key 2 no_members (codes "left") before c.args.reader.now c.next.new.self (number_data left) first
-      (up 0 2 (omega arith) (subst (λ ts. Spells 0 ts c.next.new.self (number_data left)) (sym is) (number_read c.in-Some-Number.text.now left c.next.new.self c.in_ok-left-in-Some-Number.ensures))))
+    (up 0 2 (omega arith) (subst (λ ts. Spells 0 ts c.next.new.self (number_data left)) (sym is) (number_read c.in-Some-Number.text.now left c.next.new.self c.in_ok-left-in-Some-Number.ensures))))
     c.in_ok-head-in-Some-Number.ensures.read

@@ -1,5 +1,4 @@
-use Rattle.std.proofs.Common.{codes, arith, subst, sym, ap}
-use Rattle.serde_json.specs.Data.{no_members}
+use Rattle.std.proofs.Common.{codes, arith}
 use Rattle.plan_tokens.proofs.Spelled.{up, follows, with_key, with_keys}
 use Rattle.plan_tokens.proofs.heads.match_pairs.Goals as goal
 

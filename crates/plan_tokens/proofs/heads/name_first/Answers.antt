@@ -1,4 +1,4 @@
-use Rattle.std.proofs.Common.{codes, arith, subst, sym, ap}
+use Rattle.std.proofs.Common.{codes, arith}
 use Rattle.serde_json.specs.Data.{no_members}
 use Rattle.plan_tokens.proofs.Spelled.{up, follows, with_key}
 use Rattle.plan_tokens.proofs.heads.name_first.Goals as goal

@@ -1,6 +1,5 @@
-use Rattle.std.proofs.Common.{◌≡◌, ap, arith, refl, Ok}
+use Rattle.std.proofs.Common.{arith}
 use Rattle.refutation.specs.Writing.{number_data}
-use Rattle.plan.specs.PlanText.{format_of}
 use Rattle.plan_tokens.proofs.Plans.{format-1, format-2, format-3}
 use Rattle.plan_tokens.proofs.reading.format.Goals as goal
 

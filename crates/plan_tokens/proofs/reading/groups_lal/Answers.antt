@@ -1,7 +1,7 @@
 use Rattle.std.proofs.Common.{codes, arith}
 use Rattle.serde_json.specs.Data.{no_members}
 use Rattle.plan_tokens.proofs.Spelled.{up}
-use Rattle.std.proofs.Common.{None, sym, subst}
+use Rattle.std.proofs.Common.{None, subst}
 use Rattle.plan_tokens.specs.Configurations.{AreGroups}
 use Rattle.plan_tokens.specs.Plans.{with_format}
 use Rattle.plan_tokens.proofs.Plans.{planned, two_last}

@@ -1,7 +1,7 @@
 use Rattle.std.proofs.Common.{codes, arith}
 use Rattle.serde_json.specs.Data.{no_members}
 use Rattle.plan_tokens.proofs.Spelled.{up}
-use Rattle.std.proofs.Common.{Some, sym, subst}
+use Rattle.std.proofs.Common.{Some, subst}
 use Rattle.serde_json.specs.Data.{put}
 use Rattle.refutation.specs.Writing.{number_data}
 use Rattle.plan_tokens.specs.Configurations.{AreGroups}

@@ -1,6 +1,4 @@
-use Rattle.std.proofs.Common.{◌≡◌, ◌≤◌, refl, arith, true, length, rules, subst}
-use Rattle.std.proofs.lemmas.Bool.Decides.{nat_tests}
-use Rattle.plan.specs.PlanText.{is_from_1}
+use Rattle.std.proofs.Common.{◌≡◌, refl, arith, length, rules, subst}
 use Rattle.plan_tokens.specs.Plans.{IsBorn}
 use Rattle.plan_tokens.proofs.Plans.{from_1}
 use Rattle.plan_tokens.proofs.reading.whole.Goals as goal

@@ -1,4 +1,4 @@
-use Rattle.std.proofs.Common.{◌≡◌, ◌+◌, ◌*◌, ◌∷◌, Some, None, codes, ap, arith, subst, sym}
+use Rattle.std.proofs.Common.{◌≡◌, ◌+◌, ◌*◌, ◌∷◌, None, codes, ap, arith, subst, sym}
 use Rattle.std.specs.declared.alloc.Global.{Global}
 use Rattle.json.specs.Json.{after_end_array}
 use Rattle.json.specs.Token.{Token}
@@ -7,7 +7,7 @@ use Rattle.refutation.specs.Writing.{certificate_data, number_data}
 use Rattle.refutation.proofs.Rules.{rule_of-Dead, rule_of-Clash, rule_of-Open, rule_of-Pick, rule_of-Match, rule_of-Split}
 use Rattle.plan_tokens.specs.Heads.{head_members}
 use Rattle.plan_tokens.specs.Rules.{rule_data, rules_data}
-use Rattle.plan_tokens.specs.Spelled.{Spells, Goes, Completes}
+use Rattle.plan_tokens.specs.Spelled.{Spells, Goes}
 use Rattle.plan_tokens.proofs.Spelled.{up, with_key, ended, passed, list_read}
 use Rattle.plan_tokens.proofs.Branches.{whole, last_key, object_read, joined-rules, in_range-more}
 use Rattle.plan_tokens.proofs.rules.+rule.Goals as goal

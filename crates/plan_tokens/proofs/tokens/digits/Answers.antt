@@ -1,4 +1,4 @@
-use Rattle.std.proofs.Common.{◌≡◌, get_or, Some, sym, ap, ◌∙◌, ne_eqb}
+use Rattle.std.proofs.Common.{get_or, Some, sym, ap, ◌∙◌, ne_eqb}
 use Rattle.serde_json.specs.Data.{unsigned}
 use Rattle.serde_json.specs.Read.{number_of}
 use Rattle.plan_tokens.proofs.Digits.{number_of-parsed}

@@ -1,5 +1,4 @@
-use Rattle.std.proofs.Common.{◌≡◌, ◌∷◌, Some, None, sym, subst, arith}
-use Rattle.json.specs.Json.{after_end_array}
+use Rattle.std.proofs.Common.{sym, subst, arith}
 use Rattle.refutation.specs.Writing.{pair_data}
 use Rattle.plan_tokens.specs.Spelled.{Spells}
 use Rattle.plan_tokens.proofs.Spelled.{pair_read}

@@ -1,4 +1,4 @@
-use Rattle.std.proofs.Common.{◌≡◌, ◌≤◌, All, Some, None, sym, subst, arith}
+use Rattle.std.proofs.Common.{◌≡◌, All, None, sym, subst, arith}
 use Rattle.std.proofs.lemmas.List.Elements.{All-push}
 use Rattle.json.specs.Json.{after_end_array}
 use Rattle.refutation.specs.Ranges.{IsPairInRange}

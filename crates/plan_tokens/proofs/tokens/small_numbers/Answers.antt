@@ -1,7 +1,6 @@
-use Rattle.std.proofs.Common.{◌≡◌, ◌≤◌, All, Some, None, sym, subst, arith}
+use Rattle.std.proofs.Common.{◌≡◌, ◌≤◌, All, None, sym, subst, arith}
 use Rattle.std.proofs.lemmas.List.Elements.{All-push}
 use Rattle.json.specs.Json.{after_end_array}
-use Rattle.refutation.specs.Ranges.{IsPairInRange}
 use Rattle.refutation.specs.Writing.{number_data}
 use Rattle.plan_tokens.proofs.Spelled.{passed, list_read, joined-numbers}
 use Rattle.plan_tokens.proofs.tokens.small_numbers.Goals as goal
