@@ -1,6 +1,7 @@
 //! Tokens one by one: keys, ends, whole numbers and lists of them.
 
-ghost use Rattle.std.specs.Prelude.{◌≡◌, ◌≤◌, ◌∷◌, ◌++◌, [], Some, None, Ok, IfSome, OnSome, All, length};
+ghost use Rattle.std.specs.Prelude.{◌≡◌, ◌-◌, ◌<◌, ◌≤◌, ◌∷◌, ◌++◌, [], Some, None, Ok, IfSome, OnSome, All, length};
+ghost use Rattle.std.specs.Char.{digit_value};
 ghost use Rattle.json.specs.Json.{read_key};
 ghost use Rattle.json.specs.Token as token;
 ghost use Rattle.serde_json.specs.Data.{array, null, string, unsigned};
@@ -12,11 +13,27 @@ ghost use Rattle.plan_tokens.specs.Spelled.{Spells};
 use json::{Reader, Token};
 use std::alloc::Global;
 
+/// The number that one digit writes.
+fn digit(byte: u8) -> Option<u64>
+    ensures small { IfSome result (λ n. digit_value byte < 10) }
+    ensures is { IfSome result (λ n. n ≡ byte - 48) }
+{
+    if byte.is_ascii_digit() {
+        Some(u64::from(byte - b'0'))
+    } else {
+        None
+    }
+}
+
 /// The number that a text writes in digits alone.
 pub(crate) fn digits(text: &str) -> Option<u64>
     ensures { IfSome result (λ n. number_of text.now ≡ Some (unsigned n)) }
 {
     let bytes = text.as_bytes();
+    if bytes.len() == 1 {
+        let number = digit(bytes[0])?;
+        return Some(number);
+    }
     if bytes.is_empty() || bytes[0] == b'+' {
         return None;
     }
