@@ -3,3 +3,7 @@ pub mod Numerals
 pub mod Lines
 pub mod Parsing
 pub mod Splits
+pub mod Heads
+pub mod Turns
+pub mod Places
+pub mod LastWords

@@ -1,6 +1,10 @@
 -- The first line of a text, and the rest.
-use Rattle.std.proofs.Common.{◌≡◌, ◌≢◌, ◌∙◌, ap, sym, ℕ, ◌+◌, ◌-◌, ◌<◌, ◌≤◌, suc, List, [], ◌∷◌, Bool, true, false, Some, None, length, drop, take, arith, refl, cond, ltb, eqb}
+use Rattle.std.proofs.Common.{◌≡◌, ◌≢◌, ◌∙◌, ap, sym, ℕ, ◌+◌, ◌-◌, ◌<◌, ◌≤◌, suc, List, [], ◌∷◌, Bool, true, false, Some, None, length, drop, take, get_or, arith, refl, cond, ltb, eqb}
 use Rattle.std.specs.List.{position, position_or_len}
+use Rattle.std.specs.Str.{IsUtf8}
+use Rattle.std.proofs.lemmas.Bool.{eqb-true}
+use Rattle.std.proofs.lemmas.List.Quantifiers.{position-Some}
+use Rattle.std.proofs.lemmas.Str.{IsCharBoundary-after_ascii, IsCharBoundary-before_ascii, IsUtf8-drop, IsUtf8-take}
 use Rattle.std.proofs.lemmas.Bool.Decides.{nat_tests}
 use Rattle.std.proofs.lemmas.Grind.{common_steps}
 use Rattle.script.specs.Pieces.{pieces, before_newline}
@@ -8,11 +12,19 @@ use Rattle.script.specs.Pieces.{pieces, before_newline}
 abbrev pub newline_at : List ℕ → ℕ
 newline_at text = position_or_len (λ b. eqb b 10) text
 
+-- a text is UTF-8 before a newline, and behind it
+pub utf8_around : (text : List ℕ) (n : ℕ) → Some n ≡ position (λ b. eqb b 10) text → IsUtf8 text → IsUtf8 (take n text) × IsUtf8 (drop (n + 1) text)
+utf8_around text n e utf8 =
+    let found = position-Some (λ b. eqb b 10) text n 0 (sym e) in
+    let newline : get_or text n 0 ≡ 10 = eqb-true (get_or text n 0) 10 found.1 in
+    let inside : n < length text = found.0 in
+    (IsUtf8-take text n utf8 (IsCharBoundary-before_ascii text n inside (omega (arith, newline))), IsUtf8-drop text (n + 1) utf8 (IsCharBoundary-after_ascii text n utf8 inside (omega (arith, newline))))
+
 -- a place that was found is one
 found : (n m e : ℕ) → cond (ltb n m) (Some n) None ≡ Some e → (n < m) × (n ≡ e)
 found n m e h = grind (arith, nat_tests)
 
-none_found : (n m : ℕ) → cond (ltb n m) (Some n) None ≡ None → m ≤ n
+pub none_found : (n m : ℕ) → cond (ltb n m) (Some n) None ≡ None → m ≤ n
 none_found n m h = grind (arith, nat_tests)
 
 newline_here : (b : ℕ) (text : List ℕ) → eqb b 10 ≡ true → newline_at (b ∷ text) ≡ 0

@@ -1,9 +1,9 @@
 -- What numerals and digits spell.
-use Rattle.std.proofs.Common.{◌≡◌, ◌∙◌, ap, sym, ℕ, ◌+◌, ◌-◌, ◌*◌, List, [], ◌∷◌, ◌++◌, ◌&&◌, ◌||◌, not, ◌<◌, ◌≤◌, Bool, true, false, Option, Some, None, length, drop, take, take_all, get_or, arith, refl, option_map, leb, eqb, lit≤}
+use Rattle.std.proofs.Common.{◌≡◌, ◌∙◌, ap, sym, ℕ, ◌+◌, ◌-◌, ◌*◌, List, [], ◌∷◌, ◌++◌, ◌&&◌, ◌||◌, not, ◌<◌, ◌≤◌, Bool, true, false, Option, Some, None, length, drop, take, get_or, arith, refl, option_map, leb, eqb, lit≤}
 use Rattle.std.specs.Char.{digit_value, is_ascii_digit}
 use Rattle.std.specs.List.{list_all}
 use Rattle.std.specs.Str.Parse.{digits_value}
-use Rattle.std.proofs.lemmas.Bool.{le-leb, lt-leb}
+use Rattle.std.proofs.lemmas.Bool.{lt-leb}
 use Rattle.std.proofs.lemmas.Bool.Decides.{nat_tests}
 use Rattle.std.proofs.lemmas.Grind.{common_steps}
 use Rattle.std.proofs.lemmas.Int.Digits.{digits_value_more}
@@ -12,7 +12,7 @@ use Rattle.std.proofs.lemmas.List.Folds.{list_all_at, list_all_more}
 use Rattle.std.proofs.lemmas.Str.Parse.{digits_value-take-le}
 use Rattle.script.specs.Words.{is_numeral, number_in, byte_in, all_bytes_in}
 
-and_false : (a : Bool) → (a && false) ≡ false
+pub and_false : (a : Bool) → (a && false) ≡ false
 and_false true = refl
 and_false false = refl
 
@@ -20,7 +20,7 @@ and_false false = refl
 abbrev pub begins : List ℕ → Bool
 begins word = leb 1 (length word) && (leb (length word) 1 || not (eqb (get_or word 0 0) 48))
 
-none_by : (most : ℕ) (word : List ℕ) → is_numeral word ≡ false → number_in most word ≡ None
+pub none_by : (most : ℕ) (word : List ℕ) → is_numeral word ≡ false → number_in most word ≡ None
 none_by most word e = rw e refl
 
 -- a text that doesn't begin as a numeral is none
@@ -45,16 +45,6 @@ pub too_large : (most : ℕ) (word : List ℕ) (i longer : ℕ) → longer ≡ d
 too_large most word i longer is more =
     let over : leb (digits_value 10 word) most ≡ false = lt-leb (digits_value 10 word) most (omega (arith, is, more, digits_value-take-le 10 word i (lit≤ tt))) in
     rw (over, and_false (is_numeral word)) refl
-
--- digits that are all read spell what was read
-pub all_read : (most : ℕ) (word : List ℕ) (i value : ℕ) → length word ≤ i → begins word ≡ true → list_all is_ascii_digit (take i word) ≡ true → value ≡ digits_value 10 (take i word) → value ≤ most → number_in most word ≡ Some value
-all_read most word i value over begun digits is within =
-    let whole = take_all i word over in
-    let all : list_all is_ascii_digit word ≡ true = ap (list_all is_ascii_digit) (sym whole) ∙ digits in
-    let worth : digits_value 10 word ≡ value = ap (digits_value 10) (sym whole) ∙ sym is in
-    let numeral : is_numeral word ≡ true = ap (λ b. b && list_all is_ascii_digit word) begun ∙ all in
-    let fits : leb value most ≡ true = le-leb value most within in
-    rw (numeral, worth, fits) refl
 
 all_after : (bytes : List ℕ) (b : ℕ) (there : Option (List ℕ)) → option_map (λ more. bytes ++ more) (option_map (λ more. b ∷ more) there) ≡ option_map (λ more. (bytes ++ b ∷ []) ++ more) there
 all_after bytes b None = refl

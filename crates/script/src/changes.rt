@@ -9,7 +9,7 @@ ghost use Rattle.script.specs.Reads.{ReadsBy};
 ghost use Rattle.script.specs.Words.{fields_in};
 
 use crate::parts::Parts;
-use crate::word::{block_of, bytes_of, group_of, number, volume_of};
+use crate::payload::bytes_of;
 use std::alloc::Global;
 use volume_model::Fault;
 use world::Event;
@@ -19,13 +19,10 @@ use writer_core::Change;
 pub fn issue(alloc: Global, mut words: Parts) -> Result<Event, Fault>
     ensures { ReadsBy event_of (issue_in (parts_left words.entry)) result }
 {
-    let Some(volume) = words.take_first() else {
-        return Err(Fault::Malformed);
-    };
+    let volume = words.take_block()?;
     if words.is_empty() {
         return Err(Fault::Malformed);
     }
-    let volume = volume_of(volume)?;
     let changes = all_changes(alloc, words)?;
     Ok(Event::Issue { volume, changes })
 }
@@ -42,16 +39,16 @@ fn all_changes(alloc: Global, mut words: Parts) -> Result<Vec<Change>, Fault>
 }
 
 /// `G:B:O:HEX`
-#[tactic(auto, using(crate::proofs::Parsing::no_change))]
 fn change(alloc: Global, word: &[u8]) -> Result<Change, Fault>
     ensures { ReadsBy change_of (change_by (fields_in word.now)) result }
 {
-    let Some((group, block, offset, bytes)) = Parts::new(word, b':').four() else {
+    let mut fields = Parts::new(word, b':');
+    let group = fields.take_id()?;
+    let block = fields.take_block()?;
+    let offset = fields.take_offset()?;
+    let Some(bytes) = fields.one() else {
         return Err(Fault::Malformed);
     };
-    let group = group_of(group)?;
-    let block = block_of(block)?;
-    let offset = number(offset, u64::from(u16::MAX))? as u16;
     let bytes = bytes_of(alloc, bytes)?;
     Ok(Change {
         group,

@@ -6,10 +6,12 @@ mod examples;
 mod line;
 mod names;
 mod numbers;
+mod numeral;
 mod parts;
+mod payload;
 mod pieces;
 mod reading;
-mod word;
+mod seeking;
 
 pub use examples::say_their_lines;
 pub use reading::{Script, ScriptFault, Step, read_script};

@@ -1,6 +1,6 @@
 //! What one line of a script says.
 
-ghost use Rattle.std.specs.Prelude.{◌≡◌, [], length, option_map};
+ghost use Rattle.std.specs.Prelude.{◌≡◌, ◌++◌, [], IfSome, codes, length, option_map};
 ghost use Rattle.world.specs.Events.{event_of};
 ghost use Rattle.script.specs.Grammar.{deed_of, is_silent, said_by, verb_in, wait_in};
 ghost use Rattle.script.specs.Reads.{ReadsBy};
@@ -81,6 +81,26 @@ fn verb_by(word: &[u8]) -> Option<Verb>
     }
 }
 
+/// What a line that begins as a delivery says of it.
+fn after_deliver(line: &[u8]) -> Option<&[u8]>
+    ensures { IfSome result (λ words. line.now ≡ codes "deliver " ++ words.now) }
+{
+    match line {
+        [b'd', b'e', b'l', b'i', b'v', b'e', b'r', b' ', words @ ..] => Some(words),
+        _ => None,
+    }
+}
+
+/// What a line that begins as a taking says of it.
+fn after_take(line: &[u8]) -> Option<&[u8]>
+    ensures { IfSome result (λ words. line.now ≡ codes "take " ++ words.now) }
+{
+    match line {
+        [b't', b'a', b'k', b'e', b' ', words @ ..] => Some(words),
+        _ => None,
+    }
+}
+
 /// Whether a line does nothing.
 fn is_silent(line: &[u8]) -> bool
     ensures { result ≡ is_silent line.now }
@@ -95,6 +115,12 @@ pub fn line_of(alloc: Global, text: &[u8], events: &[Option<usize>]) -> Result<L
     if is_silent(text) {
         return Ok(Line::Empty);
     }
+    if let Some(words) = after_deliver(text) {
+        return Ok(Line::Order(deliver(Parts::new(words, b' '), events)?));
+    }
+    if let Some(words) = after_take(text) {
+        return Ok(Line::Order(take(Parts::new(words, b' '), events)?));
+    }
     let mut words = Parts::new(text, b' ');
     let Some(verb) = words.take_first() else {
         return Err(Fault::Malformed);
@@ -107,6 +133,7 @@ pub fn line_of(alloc: Global, text: &[u8], events: &[Option<usize>]) -> Result<L
 
 /// What a verb says with the words after it.
 fn said_by(alloc: Global, verb: Verb, words: Parts, events: &[Option<usize>]) -> Result<Line, Fault>
+    requires { words.separator ≡ 32 }
     ensures { ReadsBy seen (option_map (seen_deed events.now) (said_by (length events.now) verb (parts_left words.entry))) result }
 {
     match verb {

@@ -2,7 +2,12 @@
 
 ghost use Rattle.std.specs.Prelude.{◌≡◌, ◌≢◌, ◌+◌, ◌^◌, ◌<◌, ◌==◌, ◌↔◌, ◌∷◌, [], IsTrue, MatchOption, count_by, length};
 ghost use Rattle.std.specs.List.{slice_split};
-ghost use Rattle.script.specs.Parts.{left_of, parts_left};
+ghost use Rattle.script.specs.Parts.{ended, first_number, left_of, parts_left};
+ghost use Rattle.script.specs.Reads.{Reads, ReadsBy};
+
+use crate::numeral::split_number;
+use crate::seeking::first_place;
+use volume_model::Fault;
 
 /// What is left of a text that is taken part by part.
 #[derive(Clone, Copy)]
@@ -17,12 +22,10 @@ pub struct Parts<'a> {
 fn split_first(text: &[u8], separator: u8) -> (&[u8], Option<&[u8]>)
     ensures { slice_split (λ b. b == separator) text.now ≡ result.0.now ∷ left_of separator result.1 }
 {
-    for (at, byte) in text.iter().enumerate() {
-        if *byte == separator {
-            return (&text[..at], Some(&text[at + 1..]));
-        }
+    match first_place(text, separator) {
+        Some(at) => (&text[..at], Some(&text[at + 1..])),
+        None => (text, None),
     }
-    (text, None)
 }
 
 /// How many separators a text has.
@@ -30,13 +33,20 @@ fn separators_in(text: &[u8], separator: u8) -> usize
     ensures counted { result ≡ count_by (λ b. b == separator) text.now }
     ensures within { result + 1 < 2 ^ 64 }
 {
-    text.iter().filter(|byte| **byte == separator).count()
+    let mut count = 0;
+    for byte in text {
+        if *byte == separator {
+            count += 1;
+        }
+    }
+    count
 }
 
 impl<'a> Parts<'a> {
     /// All parts of a text.
     pub fn new(text: &'a [u8], separator: u8) -> Self
-        ensures { parts_left result ≡ slice_split (λ b. b == separator) text.now }
+        ensures parts { parts_left result ≡ slice_split (λ b. b == separator) text.now }
+        ensures between { result.separator ≡ separator }
     {
         Parts {
             separator,
@@ -63,11 +73,73 @@ impl<'a> Parts<'a> {
 
     /// Takes the first that is left.
     pub fn take_first(&mut self) -> Option<&'a [u8]>
-        ensures { MatchOption result (parts_left self.old ≡ []) (λ part. parts_left self.old ≡ part.now ∷ parts_left self.new) }
+        ensures part { MatchOption result (parts_left self.old ≡ []) (λ part. parts_left self.old ≡ part.now ∷ parts_left self.new) }
+        ensures between { self.new.separator ≡ self.old.separator }
     {
         let (first, left) = split_first(self.left?, self.separator);
         self.left = left;
         Some(first)
+    }
+
+    /// Takes the first that is left, a number of at most `most`.
+    pub fn take_number(&mut self, most: u64) -> Result<u64, Fault>
+        ensures number { ReadsBy (λ number. (number, parts_left self.new)) (first_number most (parts_left self.old)) result }
+        ensures between { self.new.separator ≡ self.old.separator }
+    {
+        let Some(text) = self.left else {
+            return Err(Fault::Malformed);
+        };
+        let (number, left) = split_number(text, self.separator, most)?;
+        self.left = left;
+        Ok(number)
+    }
+
+    /// Takes the first that is left, the number of a group or a member, at most 255.
+    pub fn take_id(&mut self) -> Result<u8, Fault>
+        ensures number { ReadsBy (λ number. (number, parts_left self.new)) (first_number 255 (parts_left self.old)) result }
+        ensures between { self.new.separator ≡ self.old.separator }
+    {
+        Ok(self.take_number(u64::from(u8::MAX))? as u8)
+    }
+
+    /// Takes the first that is left, the number of a volume epoch or a block, below 2^32.
+    pub fn take_block(&mut self) -> Result<u32, Fault>
+        ensures number { ReadsBy (λ number. (number, parts_left self.new)) (first_number 4294967295 (parts_left self.old)) result }
+        ensures between { self.new.separator ≡ self.old.separator }
+    {
+        Ok(self.take_number(u64::from(u32::MAX))? as u32)
+    }
+
+    /// Takes the first that is left, an offset in a block, below 2^16.
+    pub fn take_offset(&mut self) -> Result<u16, Fault>
+        ensures { ReadsBy (λ number. (number, parts_left self.new)) (first_number 65535 (parts_left self.old)) result }
+    {
+        Ok(self.take_number(u64::from(u16::MAX))? as u16)
+    }
+
+    /// Takes the first that is left, an LSN, below 2^64.
+    pub fn take_lsn(&mut self) -> Result<u64, Fault>
+        ensures { ReadsBy (λ number. (number, parts_left self.new)) (first_number 18446744073709551615 (parts_left self.old)) result }
+    {
+        self.take_number(u64::MAX)
+    }
+
+    /// Nothing more may be left.
+    pub fn end(self) -> Result<(), Fault>
+        ensures { Reads (ended (parts_left self.entry)) result }
+    {
+        if self.is_empty() {
+            Ok(())
+        } else {
+            Err(Fault::Malformed)
+        }
+    }
+
+    /// All that are left, with the separators between them.
+    pub fn rest(self) -> Option<&'a [u8]>
+        ensures { left_of self.entry.separator result ≡ parts_left self.entry }
+    {
+        self.left
     }
 
     /// The one that is left, if it is the only one.
@@ -76,32 +148,5 @@ impl<'a> Parts<'a> {
     {
         let first = self.take_first()?;
         if self.is_empty() { Some(first) } else { None }
-    }
-
-    /// The two that are left, if there are two.
-    pub fn two(mut self) -> Option<(&'a [u8], &'a [u8])>
-        ensures { MatchOption result (length (parts_left self.entry) ≢ 2) (λ parts. parts_left self.entry ≡ parts.0.now ∷ parts.1.now ∷ []) }
-    {
-        let first = self.take_first()?;
-        let second = self.one()?;
-        Some((first, second))
-    }
-
-    /// The three that are left, if there are three.
-    pub fn three(mut self) -> Option<(&'a [u8], &'a [u8], &'a [u8])>
-        ensures { MatchOption result (length (parts_left self.entry) ≢ 3) (λ parts. parts_left self.entry ≡ parts.0.now ∷ parts.1.now ∷ parts.2.now ∷ []) }
-    {
-        let first = self.take_first()?;
-        let (second, third) = self.two()?;
-        Some((first, second, third))
-    }
-
-    /// The four that are left, if there are four.
-    pub fn four(mut self) -> Option<(&'a [u8], &'a [u8], &'a [u8], &'a [u8])>
-        ensures { MatchOption result (length (parts_left self.entry) ≢ 4) (λ parts. parts_left self.entry ≡ parts.0.now ∷ parts.1.now ∷ parts.2.now ∷ parts.3.now ∷ []) }
-    {
-        let first = self.take_first()?;
-        let (second, third, fourth) = self.three()?;
-        Some((first, second, third, fourth))
     }
 }

@@ -81,23 +81,25 @@ fn keep(script: &mut Script, events: &mut Vec<Option<usize>>, line: Line) -> Res
     Ok(())
 }
 
-/// Whether a line is UTF-8.
-fn is_utf8(line: &[u8]) -> bool
-    ensures { IsTrue result ↔ IsUtf8 line.now }
+/// Whether bytes are UTF-8.
+fn is_utf8(bytes: &[u8]) -> bool
+    ensures { IsTrue result ↔ IsUtf8 bytes.now }
 {
-    str::from_utf8(line).is_ok()
+    str::from_utf8(bytes).is_ok()
 }
 
-/// Adds what a line says.
+/// Adds what a line says, which is UTF-8 where all of its script is.
 fn add_line(
     alloc: Global,
     script: &mut Script,
     events: &mut Vec<Option<usize>>,
     line: &[u8],
+    is_text: bool,
 ) -> Result<(), Fault>
+    requires { IsTrue is_text → IsUtf8 line.now }
     ensures { AddsLine line.now (kept_in script.old events.old.items) result (kept_in script.new events.new.items) }
 {
-    if !is_utf8(line) {
+    if !is_text && !is_utf8(line) {
         return Err(Fault::Malformed);
     }
     match line_of(alloc, line, events.as_slice()) {
@@ -119,12 +121,12 @@ fn stop_at(fault: Fault, line: usize) -> ScriptFault
     }
 }
 
-/// For how many lines of a text room is made: as many as it has, but no more than a script may have.
-fn lines_in(text: &[u8]) -> usize
+/// For how many lines of a text room is made: it has no more than bytes, and a script no more than it may have. Room that no line
+/// takes is never touched.
+fn lines_at_most(text: &[u8]) -> usize
     ensures { result ≤ SCRIPT_LINES }
 {
-    let newlines = text.iter().filter(|byte| **byte == b'\n').count();
-    newlines.saturating_add(1).min(SCRIPT_LINES)
+    text.len().min(SCRIPT_LINES)
 }
 
 /// What a text does as a script, or its first line that isn't one of a script: at most 100,000 lines in 16,777,216 bytes,
@@ -132,12 +134,13 @@ fn lines_in(text: &[u8]) -> usize
 pub fn read_script(alloc: Global, text: &[u8]) -> Result<Script, ScriptFault>
     ensures { ReadsScript text.now result }
 {
-    let lines = lines_in(text);
+    let lines = lines_at_most(text);
     let mut script = Script {
         steps: Vec::with_capacity(alloc, lines)?,
         orders: Vec::with_capacity(alloc, lines)?,
     };
     let mut events = Vec::with_capacity(alloc, lines)?;
+    let is_text = is_utf8(text);
     let mut room = SCRIPT_BYTES;
     let mut rest = text;
     while !rest.is_empty() {
@@ -147,7 +150,7 @@ pub fn read_script(alloc: Global, text: &[u8]) -> Result<Script, ScriptFault>
         if bytes > room || number > SCRIPT_LINES {
             return Err(ScriptFault::Line(number));
         }
-        match add_line(alloc, &mut script, &mut events, line) {
+        match add_line(alloc, &mut script, &mut events, line, is_text) {
             Ok(()) => {}
             Err(fault) => return Err(stop_at(fault, number)),
         }

@@ -1,6 +1,6 @@
 use Rattle.std.proofs.Common.{arith, length, take, drop, ◌-◌}
 use Rattle.script.proofs.Numerals.{after_two, bytes_more}
-use Rattle.script.proofs.word.bytes_of.Goals as goal
+use Rattle.script.proofs.payload.bytes_of.Goals as goal
 
 pub loop-digits-preserved : goal.loop-digits-preserved
 loop-digits-preserved c =

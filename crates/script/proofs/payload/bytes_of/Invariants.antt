@@ -1,6 +1,6 @@
 use Rattle.std.proofs.Common.{◌≡◌, ◌++◌, length, option_map}
 use Rattle.script.specs.Words.{all_bytes_in}
-use Rattle.script.proofs.word.bytes_of.Given as goal
+use Rattle.script.proofs.payload.bytes_of.Given as goal
 
 abbrev pub invariant-loop-digits : goal.invariant-loop-digits
 invariant-loop-digits l = all_bytes_in l.word ≡ option_map (λ more. l.bytes.items ++ more) (all_bytes_in l.digits)

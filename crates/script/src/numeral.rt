@@ -1,0 +1,50 @@
+//! Numbers at the head of a text.
+
+ghost use Rattle.std.specs.Prelude.{◌≡◌, ◌==◌, ◌&&◌, ◌||◌, length, nat_le, not, slice_index};
+ghost use Rattle.std.specs.List.{slice_split};
+ghost use Rattle.script.specs.Parts.{first_number, left_of};
+ghost use Rattle.script.specs.Reads.{ReadsBy};
+
+use volume_model::Fault;
+
+/// Whether there is a first digit, which is 0 only where it is alone.
+fn begins_numeral(digits: &[u8]) -> bool
+    ensures { result ≡ (nat_le 1 (length digits.now) && (nat_le (length digits.now) 1 || not (slice_index digits.now 0 == 48))) }
+{
+    !digits.is_empty() && (digits.len() <= 1 || digits[0] != b'0')
+}
+
+/// Whether digits of this value are a numeral, and it is at most `most`.
+fn is_number(digits: &[u8], value: u64, most: u64) -> bool
+    ensures { result ≡ (nat_le 1 (length digits.now) && (nat_le (length digits.now) 1 || not (slice_index digits.now 0 == 48)) && nat_le value most) }
+{
+    begins_numeral(digits) && value <= most
+}
+
+/// The number that the first part of a text spells in decimal without leading zeros, if it is at most `most`, and the text behind the
+/// separator after it, if there is one.
+pub fn split_number(text: &[u8], separator: u8, most: u64) -> Result<(u64, Option<&[u8]>), Fault>
+    ensures { ReadsBy (λ found. (found.0, left_of separator found.1)) (first_number most (slice_split (λ b. b == separator) text.now)) result }
+{
+    let mut value = 0;
+    for (at, byte) in text.iter().enumerate() {
+        if *byte == separator {
+            if !is_number(&text[..at], value, most) {
+                return Err(Fault::Malformed);
+            }
+            return Ok((value, Some(&text[at + 1..])));
+        }
+        if !byte.is_ascii_digit() {
+            return Err(Fault::Malformed);
+        }
+        let longer = u128::from(value) * 10 + u128::from(*byte - b'0');
+        if longer > u128::from(u64::MAX) {
+            return Err(Fault::Malformed);
+        }
+        value = longer as u64;
+    }
+    if !is_number(text, value, most) {
+        return Err(Fault::Malformed);
+    }
+    Ok((value, None))
+}
