@@ -1,11 +1,14 @@
 //! Numbers at the head of a text.
 
-ghost use Rattle.std.specs.Prelude.{◌≡◌, ◌==◌, ◌&&◌, ◌||◌, length, nat_le, not, slice_index};
+ghost use Rattle.std.specs.Prelude.{◌≡◌, ◌==◌, ◌&&◌, ◌||◌, ◌+◌, ◌*◌, ◌^◌, ◌≤◌, MatchOption, length, nat_le, not, slice_index};
 ghost use Rattle.std.specs.List.{slice_split};
 ghost use Rattle.script.specs.Parts.{first_number, left_of};
 ghost use Rattle.script.specs.Reads.{ReadsBy};
 
 use volume_model::Fault;
+
+/// With a number up to this one any digit more makes a number below 2^64.
+const TAKES_ANY_DIGIT: u64 = 1_844_674_407_370_955_160;
 
 /// Whether there is a first digit, which is 0 only where it is alone.
 fn begins_numeral(digits: &[u8]) -> bool
@@ -19,6 +22,17 @@ fn is_number(digits: &[u8], value: u64, most: u64) -> bool
     ensures { result ≡ (nat_le 1 (length digits.now) && (nat_le (length digits.now) 1 || not (slice_index digits.now 0 == 48)) && nat_le value most) }
 {
     begins_numeral(digits) && value <= most
+}
+
+/// The number with one decimal digit more, if it is below 2^64.
+fn with_digit(value: u64, digit: u8) -> Option<u64>
+    requires { digit ≤ 9 }
+    ensures { MatchOption result (2 ^ 64 ≤ value * 10 + digit) (λ longer. longer ≡ value * 10 + digit) }
+{
+    if value <= TAKES_ANY_DIGIT {
+        return Some(value * 10 + u64::from(digit));
+    }
+    value.checked_mul(10)?.checked_add(u64::from(digit))
 }
 
 /// The number that the first part of a text spells in decimal without leading zeros, if it is at most `most`, and the text behind the
@@ -37,11 +51,10 @@ pub fn split_number(text: &[u8], separator: u8, most: u64) -> Result<(u64, Optio
         if !byte.is_ascii_digit() {
             return Err(Fault::Malformed);
         }
-        let longer = u128::from(value) * 10 + u128::from(*byte - b'0');
-        if longer > u128::from(u64::MAX) {
+        let Some(longer) = with_digit(value, *byte - b'0') else {
             return Err(Fault::Malformed);
-        }
-        value = longer as u64;
+        };
+        value = longer;
     }
     if !is_number(text, value, most) {
         return Err(Fault::Malformed);

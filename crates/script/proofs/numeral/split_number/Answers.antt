@@ -21,8 +21,8 @@ returns-then-not-is_ascii_digit c =
     no_digit_here c.args.separator c.args.most c.args.text.now c.loop-at.at c.loop-at-test.true (ne_eqb _ c.args.separator c.if-byte-separator.false) c.loop-at.invariant.before
     (sym c.is_ascii_digit.ensures.value ∙ c.if-not-is_ascii_digit.true)
 
-pub returns-then-longer-from : goal.returns-then-longer-from
-returns-then-longer-from c =
+pub returns-in_default : goal.returns-in_default
+returns-in_default c =
     let text = c.args.text.now in
     let i = c.loop-at.at in
     let next = digit_more text i c.loop-at.value c.loop-at-test.true (sym c.is_ascii_digit.ensures.value ∙ c.if-not-is_ascii_digit.false) c.loop-at.invariant.value_is in
