@@ -81,7 +81,7 @@ fn verb_by(word: &[u8]) -> Option<Verb>
     }
 }
 
-/// What a line that begins as a delivery says of it.
+/// The words after `deliver`, where a line begins with it.
 fn after_deliver(line: &[u8]) -> Option<&[u8]>
     ensures { IfSome result (λ words. line.now ≡ codes "deliver " ++ words.now) }
 {
@@ -91,7 +91,7 @@ fn after_deliver(line: &[u8]) -> Option<&[u8]>
     }
 }
 
-/// What a line that begins as a taking says of it.
+/// The words after `take`, where a line begins with it.
 fn after_take(line: &[u8]) -> Option<&[u8]>
     ensures { IfSome result (λ words. line.now ≡ codes "take " ++ words.now) }
 {
@@ -115,6 +115,7 @@ pub fn line_of(alloc: Global, text: &[u8], events: &[Option<usize>]) -> Result<L
     if is_silent(text) {
         return Ok(Line::Empty);
     }
+    // Most lines deliver or take, so these two are told by their first bytes.
     if let Some(words) = after_deliver(text) {
         return Ok(Line::Order(deliver(Parts::new(words, b' '), events)?));
     }

@@ -12,7 +12,6 @@ use volume_model::Fault;
 use world::{Event, Order};
 
 /// `L.K`, where L is one of so many earlier lines: the line and the place.
-
 fn name_of(name: &[u8], earlier: usize) -> Result<(u64, u64), Fault>
     ensures { ReadsBy (λ n. (n.0, n.1)) (name_in earlier (sides_in name.now)) result }
 {

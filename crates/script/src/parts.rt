@@ -102,7 +102,7 @@ impl<'a> Parts<'a> {
         Ok(self.take_number(u64::from(u8::MAX))? as u8)
     }
 
-    /// Takes the first that is left, the number of a volume epoch or a block, below 2^32.
+    /// Takes the first that is left, the number of a volume epoch, a configuration or a block, below 2^32.
     pub fn take_block(&mut self) -> Result<u32, Fault>
         ensures number { ReadsBy (λ number. (number, parts_left self.new)) (first_number 4294967295 (parts_left self.old)) result }
         ensures between { self.new.separator ≡ self.old.separator }
