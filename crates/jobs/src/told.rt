@@ -103,14 +103,28 @@ fn add_number(text: &mut String, number: u64) -> Result<(), AllocError>
     text.push_str(digits.format(number))
 }
 
+/// Adds how many messages an event made.
+fn add_count(text: &mut String, made: u64) -> Result<(), AllocError>
+    ensures { OnOk result (string_bytes text.new ≡ string_bytes text.old ++ (codes " ok " ++ decimal made ++ codes "\n")) }
+{
+    match made {
+        // Most events make one message or none.
+        0 => text.push_str(" ok 0\n"),
+        1 => text.push_str(" ok 1\n"),
+        _ => {
+            text.push_str(" ok ")?;
+            add_number(text, made)?;
+            text.push_str("\n")
+        }
+    }
+}
+
 /// Adds the line of a step whose event made so many messages.
 fn add_made(text: &mut String, line: usize, made: u64) -> Result<(), AllocError>
     ensures { OnOk result (string_bytes text.new ≡ string_bytes text.old ++ (decimal line ++ codes " ok " ++ decimal made ++ codes "\n")) }
 {
     add_number(text, line as u64)?;
-    text.push_str(" ok ")?;
-    add_number(text, made)?;
-    text.push_str("\n")
+    add_count(text, made)
 }
 
 /// Adds the line of a step that has no event.
