@@ -24,8 +24,8 @@ def below(crates, stands_on):
     return wanted
 
 
-def built(folder, name, program, crates, words, proofs=None):
-    """The program of this name, with these texts in its proofs/, built and run once with these words. It takes some minutes where the
+def built(folder, name, program, crates, words, proofs=None, modules=None):
+    """The program of this name, with these texts in its proofs/ and these modules, built and run once with these words. It takes some minutes where the
     crates weren't proved before."""
     stands_on = lines()
     wanted = below(crates, stands_on)
@@ -35,6 +35,8 @@ def built(folder, name, program, crates, words, proofs=None):
     work = folder / "crates" / name
     (work / "src").mkdir(parents=True)
     (work / "src" / "main.rt").write_text(program)
+    for module, text in (modules or {}).items():
+        (work / "src" / f"{module}.rt").write_text(text)
     for file, text in (proofs or {}).items():
         (work / "proofs" / file).parent.mkdir(parents=True, exist_ok=True)
         (work / "proofs" / file).write_text(text)
