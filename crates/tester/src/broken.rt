@@ -22,6 +22,27 @@ pub enum Broken {
         answers: u64,
         lines: u64,
     },
+    #[error("line {line} was refused, and {due} messages were due")]
+    Refused {
+        line: u64,
+        due: u64,
+    },
+    #[error("line {line} made {made} messages, and {due} were due")]
+    Made {
+        line: u64,
+        due: u64,
+        made: u64,
+    },
+    #[error("line {line} made {made} messages, and a refusal was due")]
+    Admitted {
+        line: u64,
+        made: u64,
+    },
+    #[error("writer 1 durable {durable}, and all up to {acknowledged} was acknowledged to it")]
+    Behind {
+        durable: u64,
+        acknowledged: u64,
+    },
     #[error("line {line} issued {changes} changes and made {made} messages")]
     Records {
         line: u64,

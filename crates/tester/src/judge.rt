@@ -3,8 +3,8 @@
 ghost use Rattle.std.specs.Prelude.{◌↔◌, ◌≤◌, ◌<◌, IsTrue};
 
 use crate::broken::Broken;
-use crate::outcome::{Find, Outcome, Writer};
-use crate::written::Issue;
+use crate::outcome::{Answer, Find, Outcome, Writer};
+use crate::written::{Issue, Written};
 use std::alloc::{AllocError, Global};
 
 /// The last record of a transaction that was issued.
@@ -52,6 +52,51 @@ fn check_answers(outcome: &Outcome, lines: u64) -> Result<(), Broken> {
             answers: place,
             lines,
         });
+    }
+    Ok(())
+}
+
+/// Whether a line was answered as it is due.
+fn check_answer(due: Answer, answer: Answer) -> Result<(), Broken> {
+    let line = due.line;
+    match (due.made, answer.made) {
+        (None, None) => Ok(()),
+        (Some(due), Some(made)) if due == made => Ok(()),
+        (Some(due), Some(made)) => Err(Broken::Made { line, due, made }),
+        (Some(due), None) => Err(Broken::Refused { line, due }),
+        (None, Some(made)) => Err(Broken::Admitted { line, made }),
+    }
+}
+
+/// Whether the lines of which it is known what is due to them, given in their order, were answered so.
+fn check_due(outcome: &Outcome, due: &[Answer]) -> Result<(), Broken> {
+    let mut left = due.iter();
+    let mut next = left.next();
+    for answer in outcome.answers.iter() {
+        if let Some(due) = next {
+            if due.line == answer.line {
+                check_answer(*due, *answer)?;
+                next = left.next();
+            }
+        }
+    }
+    Ok(())
+}
+
+/// Whether all that was acknowledged to the first writer up to this number is durable.
+fn check_acknowledged(outcome: &Outcome, acknowledged: u64) -> Result<(), Broken> {
+    for writer in outcome.writers.iter() {
+        let Writer {
+            client,
+            durable,
+            ..
+        } = *writer;
+        if client == 1 && !stands(acknowledged, durable) {
+            return Err(Broken::Behind {
+                durable,
+                acknowledged,
+            });
+        }
     }
     Ok(())
 }
@@ -261,15 +306,12 @@ pub fn check_promises(outcome: &Outcome) -> Result<u64, Broken> {
 }
 
 /// Whether what a run prints of a script is as the volume promises: the answer to each line, and the points of all clients.
-pub fn check_run(
-    alloc: Global,
-    outcome: &Outcome,
-    lines: u64,
-    issues: &[Issue],
-) -> Result<Shown, Broken> {
-    check_answers(outcome, lines)?;
+pub fn check_run(alloc: Global, outcome: &Outcome, script: &Written) -> Result<Shown, Broken> {
+    check_answers(outcome, script.lines)?;
+    check_due(outcome, script.due.as_slice())?;
+    check_acknowledged(outcome, script.acknowledged)?;
     let finds = check_promises(outcome)?;
-    let ends = ends_of(alloc, outcome, issues)?;
+    let ends = ends_of(alloc, outcome, script.issues.as_slice())?;
     let mut acknowledged = 0u64;
     for writer in outcome.writers.iter() {
         check_log(outcome, ends.as_slice(), *writer)?;

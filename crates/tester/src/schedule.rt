@@ -329,14 +329,27 @@ impl Schedule {
         all.get(chosen).copied()
     }
 
-    /// Writes a script: over a plan with a great allowance it begins by a long log, and else one in three by a write that arrives
-    /// late, where the plan has a step; then come its turns, the more of two draws between 30 and 400, each of which is a line at most.
-    pub fn fill(&mut self, alloc: Global) -> Result<(), AllocError> {
+    /// Begins a script: by a long log over a plan with a great allowance, half the time by the group that joins where one can, else
+    /// one in three by a write that arrives late, one in six by a member that becomes whole too soon, where the plan has a step,
+    /// and one in six by a recovery.
+    fn begin_script(&mut self, alloc: Global) -> Result<(), AllocError> {
         if self.plan.is_long() {
-            self.lengthen(alloc)?;
-        } else if self.dice.chance(33) {
-            self.straggle(alloc)?;
+            return self.lengthen(alloc);
         }
+        if self.joined < self.plan.groups && self.dice.chance(50) {
+            return self.join_at_once(alloc);
+        }
+        match self.dice.below(6) {
+            0 | 1 => self.straggle(alloc),
+            2 => self.hasten(alloc),
+            3 => self.reopen(alloc),
+            _ => Ok(()),
+        }
+    }
+
+    /// Writes a script: its beginning, and then its turns, the more of two draws between 30 and 400, each of which is a line at most.
+    pub fn fill(&mut self, alloc: Global) -> Result<(), AllocError> {
+        self.begin_script(alloc)?;
         let turns = self.dice.from(30, 371).max(self.dice.from(30, 371));
         for _ in 0..turns {
             self.turn(alloc)?;

@@ -54,6 +54,7 @@ impl Schedule {
     /// The authority assigns a volume epoch to a recovery.
     pub fn begin_recovery(&mut self, alloc: Global) -> Result<(), AllocError> {
         let line = self.written.put("assign")?;
+        self.written.expect(line, 1)?;
         self.clients = self.clients.saturating_add(1);
         let client = self.clients;
         self.written.note(line, 1, Receiver::Client(client))?;
@@ -72,6 +73,7 @@ impl Schedule {
             return self.begin_write(alloc);
         };
         let line = self.written.of_node(alloc, "advance", group, child)?;
+        self.written.expect(line, 1)?;
         self.written.note(line, 1, Receiver::Nodes(group))?;
         let [first, second] = self.places;
         self.places = if group == 0 {
@@ -176,7 +178,7 @@ impl Schedule {
     /// The newest client is told of the places.
     fn refresh(&mut self, alloc: Global, task: &mut Task) -> Result<(), AllocError> {
         task.client = self.clients;
-        let line = self.written.of_client(alloc, "refresh", task.client)?;
+        let line = self.client_known(alloc, "refresh", task.client, 1)?;
         self.written.note(line, 1, Receiver::Client(task.client))?;
         task.stage = Stage::Learn(line);
         Ok(())
@@ -191,7 +193,8 @@ impl Schedule {
 
     /// The next group joins.
     pub fn begin_growth(&mut self, alloc: Global) -> Result<(), AllocError> {
-        self.written.put("grow")?;
+        let line = self.written.put("grow")?;
+        self.written.expect(line, 0)?;
         let mut task = Task::new(alloc, Stage::Tell, self.clients);
         task.group = self.joined;
         self.joined = self.joined.saturating_add(1);

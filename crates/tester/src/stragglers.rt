@@ -2,7 +2,7 @@
 
 use crate::schedule::Schedule;
 use crate::tasks::{Stage, Task};
-use crate::written::{Delivery, Issue, Receiver};
+use crate::written::Receiver;
 use std::alloc::{AllocError, Global};
 
 /// The members that the first step of a family keeps.
@@ -13,19 +13,19 @@ const LEAVING: u8 = 5;
 
 /// Who hears of a step, and who doesn't.
 #[derive(Drop)]
-struct Parties {
-    group: u8,
+pub struct Parties {
+    pub group: u8,
     /// The member that the step brings.
-    fresh: u8,
+    pub fresh: u8,
     /// Those that hear of it, a read set with the fresh one or without it.
-    stepped: Vec<u8>,
+    pub stepped: Vec<u8>,
     /// Those that don't, the last of which hears of it later.
-    behind: Vec<u8>,
+    pub behind: Vec<u8>,
 }
 
 impl Schedule {
     /// The parties of a step of a group from its first configuration, where there is one.
-    fn parties(&mut self, alloc: Global, group: u8) -> Result<Option<Parties>, AllocError> {
+    pub fn parties(&mut self, alloc: Global, group: u8) -> Result<Option<Parties>, AllocError> {
         let Some(fresh) = self.plan.family.fresh(1) else {
             return Ok(None);
         };
@@ -44,60 +44,6 @@ impl Schedule {
         }))
     }
 
-    /// The first writer issues a record of a group.
-    fn issue_one(&mut self, alloc: Global, group: u8) -> Result<u64, AllocError> {
-        let byte = self.dice.below(256);
-        let text = format!(in alloc; "issue 1 {group}:0:0:{byte:02x}")?;
-        let line = self.written.put(text.as_str())?;
-        self.written.note(line, 1, Receiver::Nodes(group))?;
-        self.written.issues.push(Issue {
-            line,
-            client: 1,
-            changes: 1,
-        })?;
-        Ok(line)
-    }
-
-    /// A line's first message is delivered to members of a group; gives the lines.
-    fn deliver_to(
-        &mut self,
-        alloc: Global,
-        message: (u64, u64),
-        group: u8,
-        members: &[u8],
-        answer: Receiver,
-    ) -> Result<Vec<u64>, AllocError> {
-        let (line, place) = message;
-        let mut lines = Vec::new(alloc);
-        for member in members.iter() {
-            let delivery = Delivery {
-                line,
-                place,
-                group,
-                member: *member,
-            };
-            lines.push(self.written.deliver(alloc, delivery, answer)?)?;
-        }
-        Ok(lines)
-    }
-
-    /// A client takes the first message of each of these lines.
-    fn take_all(&mut self, alloc: Global, client: u32, lines: &[u64]) -> Result<(), AllocError> {
-        for line in lines.iter() {
-            self.written.take(alloc, client, *line, 1)?;
-        }
-        Ok(())
-    }
-
-    /// The first writer commits a record of a group.
-    fn commit_one(&mut self, alloc: Global, group: u8) -> Result<(), AllocError> {
-        let line = self.issue_one(alloc, group)?;
-        let members = self.members(group);
-        let client = Receiver::Client(1);
-        let acks = self.deliver_to(alloc, (line, 1), group, members, client)?;
-        self.take_all(alloc, 1, acks.as_slice())
-    }
-
     /// A group steps on, and the fresh member becomes whole from those that hear of it. Gives the step's line.
     fn step_with(&mut self, alloc: Global, parties: &Parties) -> Result<u64, AllocError> {
         let Parties {
@@ -108,19 +54,18 @@ impl Schedule {
         } = parties;
         let (group, fresh) = (*group, *fresh);
         let nodes = Receiver::Nodes(group);
-        let line = self.written.of_node(alloc, "advance", group, 1)?;
-        self.written.note(line, 1, nodes)?;
-        self.deliver_to(alloc, (line, 1), group, stepped.as_slice(), nodes)?;
-        let asked = self.deliver_to(alloc, (line, 1), group, &[fresh], nodes)?;
+        let stepped = stepped.as_slice();
+        let line = self.step_known(alloc, group)?;
+        self.deliver_known(alloc, (line, 1), group, stepped, nodes, 0)?;
+        let asked = self.deliver_known(alloc, (line, 1), group, &[fresh], nodes, 1)?;
         for ask in asked.iter() {
-            let copies = self.deliver_to(alloc, (*ask, 1), group, stepped.as_slice(), nodes)?;
+            let copies = self.deliver_known(alloc, (*ask, 1), group, stepped, nodes, 1)?;
             for copy in copies.iter() {
-                self.deliver_to(alloc, (*copy, 1), group, &[fresh], nodes)?;
+                self.deliver_known(alloc, (*copy, 1), group, &[fresh], nodes, 0)?;
             }
         }
-        self.written.of_node(alloc, "hydrate", group, fresh)?;
-        let [first, second] = self.places;
-        self.places = if group == 0 { [1, second] } else { [first, 1] };
+        let hydrated = self.written.of_node(alloc, "hydrate", group, fresh)?;
+        self.written.expect(hydrated, 0)?;
         Ok(line)
     }
 
@@ -139,11 +84,12 @@ impl Schedule {
             return Ok(Vec::new(alloc));
         };
         let (from, to) = (*from, *to);
-        self.deliver_to(alloc, (step, 1), group, &[from], nodes)?;
+        self.deliver_known(alloc, (step, 1), group, &[from], nodes, 0)?;
         let text = format!(in alloc; "offer {group} {from} {record}")?;
         let offer = self.written.put(text.as_str())?;
         self.written.note(offer, 1, nodes)?;
-        self.deliver_to(alloc, (offer, 1), group, &[to], Receiver::Client(1))
+        self.written.expect(offer, 1)?;
+        self.deliver_known(alloc, (offer, 1), group, &[to], Receiver::Client(1), 1)
     }
 
     /// A record reaches those that are behind, and by one of them another; all their acknowledgements reach the writer,
@@ -158,21 +104,16 @@ impl Schedule {
     ) -> Result<(), AllocError> {
         let client = Receiver::Client(1);
         let behind = parties.behind.as_slice();
-        let acks = self.deliver_to(alloc, (issue, 1), parties.group, behind, client)?;
+        let acks = self.deliver_known(alloc, (issue, 1), parties.group, behind, client, 1)?;
         let early = self.pass_on(alloc, parties, step, record)?;
-        self.take_all(alloc, 1, acks.as_slice())?;
-        self.take_all(alloc, 1, early.as_slice())
+        self.take_known(alloc, 1, acks.as_slice())?;
+        self.take_known(alloc, 1, early.as_slice())
     }
 
     /// A recovery reads members that the late record hasn't reached, and any others of another group.
     fn recover_without(&mut self, alloc: Global, parties: &Parties) -> Result<(), AllocError> {
-        let line = self.written.put("assign")?;
-        self.clients = self.clients.saturating_add(1);
-        let client = self.clients;
-        self.written.note(line, 1, Receiver::Client(client))?;
-        let fences = self.written.take(alloc, client, line, 1)?;
+        let (client, fences) = self.recover_known(alloc)?;
         let mut task = Task::new(alloc, Stage::Cut, client);
-        self.written.note_each(fences, self.joined)?;
         for group in 0..self.joined {
             let place = u64::from(group).saturating_add(1);
             if group == parties.group {
@@ -195,10 +136,11 @@ impl Schedule {
             return Ok(());
         };
         let before = self.dice.below(3);
+        let members = self.members(group);
         for _ in 0..before {
-            self.commit_one(alloc, group)?;
+            self.commit_known(alloc, group, members)?;
         }
-        let line = self.issue_one(alloc, group)?;
+        let line = self.issue_known(alloc, 1, group, true)?;
         let step = self.step_with(alloc, &parties)?;
         self.arrive_late(alloc, &parties, line, step, before.saturating_add(1))?;
         self.recover_without(alloc, &parties)

@@ -107,11 +107,11 @@ impl Schedule {
     /// A client is told where the groups stand.
     fn tell(&mut self, alloc: Global) -> Result<(), AllocError> {
         let client = self.clients;
-        let line = self.written.of_client(alloc, "refresh", client)?;
+        let line = self.client_known(alloc, "refresh", client, 1)?;
         self.keep(Task::new(alloc, Stage::Learn(line), client))
     }
 
-    /// A line that is wrong on purpose.
+    /// A line that is wrong on purpose, and mostly refused whatever has happened before.
     fn mistake(&mut self, alloc: Global) -> Result<(), AllocError> {
         let client = self.writer();
         let line: &str = match self.dice.below(8) {
@@ -121,10 +121,10 @@ impl Schedule {
             3 => "advance 9 1",
             4 => "restart 3 1",
             5 => "hydrate 0 1",
-            6 => "read 1 0 4294967295",
+            6 => return self.written.put("read 1 0 4294967295").map(|_| ()),
             _ => return self.written.of_client(alloc, "open", client).map(|_| ()),
         };
-        self.written.put(line)?;
-        Ok(())
+        let line = self.written.put(line)?;
+        self.written.expect_refusal(line)
     }
 }

@@ -100,12 +100,7 @@ impl Trial {
         let plan = self.plan.as_str();
         let said = say(rt, alloc, &run(), plan, self.script.text.as_str());
         let outcome = said.outcome(alloc, "run")?;
-        let shown = check_run(
-            alloc,
-            &outcome,
-            self.script.lines,
-            self.script.issues.as_slice(),
-        )?;
+        let shown = check_run(alloc, &outcome, &self.script)?;
         if (said.status == 0) != (outcome.refusals() == 0) {
             return Err(Broken::Strange("run"));
         }

@@ -1,5 +1,6 @@
 //! The text of a script as it grows, and what may be named in it.
 
+use crate::outcome::Answer;
 use std::alloc::{AllocError, Global};
 
 /// Who takes a message.
@@ -47,6 +48,10 @@ pub struct Written {
     pub waits: u64,
     pub issues: Vec<Issue>,
     pub messages: Vec<Message>,
+    /// What is due to some of the lines, in their order.
+    pub due: Vec<Answer>,
+    /// All up to this number is acknowledged to the first writer.
+    pub acknowledged: u64,
 }
 
 impl Written {
@@ -58,6 +63,8 @@ impl Written {
             waits: 0,
             issues: Vec::new(alloc),
             messages: Vec::new(alloc),
+            due: Vec::new(alloc),
+            acknowledged: 0,
         }
     }
 
@@ -67,6 +74,19 @@ impl Written {
         self.text.push('\n')?;
         self.lines = self.lines.saturating_add(1);
         Ok(self.lines)
+    }
+
+    /// Has a line make so many messages, whatever comes behind it.
+    pub fn expect(&mut self, line: u64, made: u64) -> Result<(), AllocError> {
+        let made = Some(made);
+        self.due.push(Answer { line, made })?;
+        Ok(())
+    }
+
+    /// Has a line be refused, whatever comes behind it.
+    pub fn expect_refusal(&mut self, line: u64) -> Result<(), AllocError> {
+        self.due.push(Answer { line, made: None })?;
+        Ok(())
     }
 
     /// Notes a message.
