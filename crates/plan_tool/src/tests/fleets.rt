@@ -2,7 +2,6 @@
 
 mod calls;
 mod drive;
-mod letters;
 mod looks;
 mod refusals;
 mod tables;
