@@ -38,6 +38,12 @@ impl Ending {
         let last = writer.log.last()?;
         Some((writer.volume, writer.durable, last.lsn()))
     }
+
+    /// Of the first recovery that has cut its volume epoch and its cut.
+    pub fn find(&self) -> Option<(u32, u64)> {
+        let find = self.outcome.finds.first()?;
+        Some((find.volume, find.found.cut))
+    }
 }
 
 /// What a fleet leaves that is closed, where this call of a table was the first to be answered otherwise.

@@ -75,6 +75,48 @@ const MADE_WHOLE: [Step; 20] = [
     (Call::Deliver(6, 4), Ok((1, 0))),
 ];
 
+/// A member joins and becomes whole while an old write is still under way; a recovery reads and cuts.
+const JOINED: [Step; 32] = [
+    (Call::Issue(1, "a"), Ok((1, 0))),
+    (
+        Call::Authority(AuthorityAct::Advance {
+            group: 0,
+            configuration: 1,
+        }),
+        Ok((1, 0)),
+    ),
+    (Call::Deliver(0, 2), Ok((0, 0))),
+    (Call::Deliver(1, 2), Ok((0, 0))),
+    (Call::Deliver(2, 2), Ok((0, 0))),
+    (Call::Deliver(6, 2), Ok((1, 0))),
+    (Call::Deliver(0, 3), Ok((1, 0))),
+    (Call::Deliver(1, 3), Ok((1, 0))),
+    (Call::Deliver(2, 3), Ok((1, 0))),
+    (Call::Deliver(6, 4), Ok((0, 0))),
+    (Call::Deliver(6, 5), Ok((0, 0))),
+    (Call::Deliver(6, 6), Ok((0, 0))),
+    (Call::Node(6, NodeDeed::Hydrate), Ok((0, 0))),
+    (Call::Deliver(3, 1), Ok((1, 0))),
+    (Call::Deliver(4, 1), Ok((1, 0))),
+    (Call::Deliver(5, 1), Ok((1, 0))),
+    (Call::Deliver(3, 2), Ok((0, 0))),
+    (Call::Node(3, NodeDeed::Offer { lsn: 1 }), Ok((1, 0))),
+    (Call::Deliver(0, 10), Ok((1, 0))),
+    (Call::Take(1, 7), Ok((0, 0))),
+    (Call::Take(1, 8), Ok((0, 0))),
+    (Call::Take(1, 9), Ok((0, 0))),
+    (Call::Take(1, 11), Ok((0, 0))),
+    (Call::Authority(AuthorityAct::Assign), Ok((1, 0))),
+    (Call::Take(2, 12), Ok((1, 0))),
+    (Call::Deliver(1, 13), Ok((1, 0))),
+    (Call::Deliver(2, 13), Ok((1, 0))),
+    (Call::Deliver(6, 13), Ok((1, 0))),
+    (Call::Take(2, 14), Ok((0, 0))),
+    (Call::Take(2, 15), Ok((0, 0))),
+    (Call::Take(2, 16), Ok((0, 0))),
+    (Call::Cut(2), Ok((1, 0))),
+];
+
 /// What was written, and then the page's reading.
 fn written_and_read(alloc: Global) -> Result<Vec<Step>, AllocError> {
     let mut steps = Vec::new(alloc);
@@ -122,5 +164,24 @@ fn a_member_made_whole(rt: HostRuntime) -> Result<(), Fail> {
     assert_eq!(rt; ending.wrong, None);
     assert_eq!(rt; (ending.steps, ending.refused), (17, 0));
     assert_eq!(rt; ending.outcome.writers.len(), 1);
+    Ok(())
+}
+
+#[test]
+fn a_fleet_closed_behind_each_call(rt: HostRuntime) -> Result<(), Fail> {
+    let alloc = rt.alloc();
+    let text = REPLACED.as_bytes();
+    for passes in [1, 3] {
+        for calls in 0..33 {
+            let steps = &JOINED[..calls];
+            let ending = run_table(&rt, alloc, text, passes, 2, 32, steps, &Look::new())?;
+            assert_eq!(rt; ending.wrong, None);
+            assert_eq!(rt; (ending.steps, ending.refused), (calls, 0));
+            let last = (calls > 0).then_some((1, 0, 1));
+            assert_eq!(rt; ending.writer(), last);
+            let find = (calls == 32).then_some((2, 0));
+            assert_eq!(rt; ending.find(), find);
+        }
+    }
     Ok(())
 }
