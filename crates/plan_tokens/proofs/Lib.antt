@@ -4,5 +4,6 @@ mod Converted
 mod Digits
 mod GroupLaws
 mod Plans
+mod Putting
 mod Spelled
 mod Thresholds

@@ -5,6 +5,7 @@ mod configurations;
 mod expressions;
 mod groups;
 mod heads;
+mod puts;
 mod reading;
 mod rules;
 #[cfg(test)]

@@ -1,0 +1,1 @@
+//! Certificates, put into a text.

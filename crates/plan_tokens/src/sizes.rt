@@ -1,0 +1,1 @@
+//! How long the texts of certificates are.
