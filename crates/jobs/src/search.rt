@@ -7,7 +7,8 @@ ghost use Rattle.plan.specs.LentClaims.{all_lent, lent_placed};
 ghost use Rattle.plan.specs.Plan.{plan_data};
 ghost use Rattle.plan.specs.PlanClaims.{claims_in};
 ghost use Rattle.plan.specs.PlanData.{PlanData};
-ghost use Rattle.plan.specs.Written.{HasPlaces, rewritten};
+ghost use Rattle.plan.specs.Written.{rewritten};
+ghost use Rattle.plan_tokens.specs.Rewritten.{HasClaims};
 ghost use Rattle.cert_search.specs.Answers.{rule_in, AreAnswersOf};
 ghost use Rattle.jobs.specs.Answers.{AnswersOf, file_of};
 ghost use Rattle.jobs.specs.Searched.{IsPlanLine, SearchesTo, TellsSearch, claims_of, found_answer};
@@ -20,7 +21,8 @@ use crate::inputs::{contents, plan_in};
 use crate::reply::{Found, Stop};
 use cert_search::{Gate, search_all};
 use command_line::Job;
-use plan::{LentClaim, Plan, claim_name, lent_claims, shown_claims_certify, write_plan};
+use plan::{LentClaim, Plan, claim_name, lent_claims, shown_claims_certify};
+use plan_tokens::write_plan;
 use refutation::Certificate;
 use std::alloc::{AllocError, Global};
 use std::io::Read;
@@ -73,7 +75,7 @@ fn plan_line(
     text: &[u8],
     certificates: &[Option<Certificate<Global>>],
 ) -> Result<Vec<u8>, Stop<'static>>
-    requires { HasPlaces text.now (length certificates.now) }
+    requires { HasClaims text.now (length certificates.now) }
     ensures line { IfOk result (λ line. (plan : PlanData) × (rewritten text.now (map (option_map certificate_rule) certificates.now) ≡ Ok plan) × IsPlanLine plan line.items) }
     ensures stop { IfErr result (λ stop. stop ≡ NoMemory) }
 {

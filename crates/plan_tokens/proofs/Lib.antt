@@ -5,5 +5,7 @@ mod Digits
 mod GroupLaws
 mod Plans
 mod Putting
+mod RewritingLaws
 mod Spelled
 mod Thresholds
+mod WritingLaws

@@ -1,11 +1,13 @@
 -- Values that were put behind the tokens of a writer, put together from their parts.
-use Rattle.std.proofs.Common.{◌≡◌, ℕ, suc, ◌<◌, ◌≤◌, ◌^◌, List, [], ◌∷◌, ◌++◌, map, Option, Some, None, refl, ap, sym, subst, ◌∙◌, arith, append-nil, append_assoc, decimal, Unit}
-use Rattle.std.specs.Prelude.{max, cond, option_map, option_and_then}
+use Rattle.std.proofs.Common.{◌≡◌, ℕ, suc, ◌<◌, ◌≤◌, ◌^◌, List, [], ◌∷◌, ◌++◌, map, length, take, get_or, ◌+◌, Option, Some, None, refl, ap, sym, subst, ◌∙◌, arith, append-nil, append_assoc, decimal}
+use Rattle.std.specs.Prelude.{max, cond, option_map, option_and_then, Result, Ok, Err, OnSome}
+use Rattle.std.specs.Result.{result_ok}
+use Rattle.std.proofs.lemmas.List.{map-append, take_all, take_more}
 use Rattle.json.specs.Token.{Token, begin_object, end_object, begin_array, end_array}
 use Rattle.json.specs.Json as json
 use Rattle.json.specs.Tree as tree
 use Rattle.json.specs.Tree.{json_tokens, items_tokens, members_tokens}
-use Rattle.json.specs.Written.{Written}
+use Rattle.json.specs.Written.{Written, Writes}
 use Rattle.serde_json.specs.Data.{Data, unsigned, null, number, string, array, object, Items, no_items, item, Members, no_members, member, put, depth, items_depth, members_depth}
 use Rattle.serde_json.specs.Read.{of_json, of_items, of_members, number_of}
 use Rattle.serde_json.specs.Written.{WritesValue, outline, items_outline, members_outline, blank, blank_items, blank_members, unless_float}
@@ -15,7 +17,22 @@ use Rattle.refutation.specs.Writing.{number_data}
 use Rattle.plan_tokens.specs.Puts.{Puts, PutsToken, PutsMember, Opens, open_tokens, all_tokens, IsOf, AreOf, Lists}
 use Rattle.plan_tokens.proofs.Spelled.{joined}
 
+-- what follows where something was put
+pub then_put : {A B : Type 0} (o : Option (Unit {0})) → OnSome o A → (A → B) → OnSome o B
+then_put (Some u) h f = f h
+then_put None h f = tt
+
 -- ---- single tokens
+
+-- a token that the writer took
+pub token_put : {E : Type 0} (r : Result (Unit {0}) E) (old new : Written) (t : Token) → Writes r old new t → OnSome (result_ok r) (PutsToken t old new)
+token_put (Ok u) old new t w = record { tokens = w.ok; before = w.room.0 }
+token_put (Err e) old new t w = tt
+
+-- the same of a value of one token
+pub value_put : {E : Type 0} (r : Result (Unit {0}) E) (old new : Written) (t : Token) (d : Data) → (PutsToken t old new → Puts d old new) → Writes r old new t → OnSome (result_ok r) (Puts d old new)
+value_put (Ok u) old new t d is w = is (record { tokens = w.ok; before = w.room.0 })
+value_put (Err e) old new t d is w = tt
 
 pub null_put : (old new : Written) → PutsToken Token.null old new → Puts null old new
 null_put old new t = record { value = (json.null, t.tokens, refl, omega arith, refl); before = t.before }
@@ -51,26 +68,27 @@ tokens-end : (ms : json.Members) → open_tokens ms ++ end_object ∷ [] ≡ mem
 tokens-end json.no_members = refl
 tokens-end (json.member k j ms) = ap (λ ts. Token.key k ∷ ts) (append_assoc (json_tokens j) (open_tokens ms) (end_object ∷ []) ∙ ap (λ ts. json_tokens j ++ ts) (tokens-end ms))
 
-of-and : (ms : json.Members) (k : List ℕ) (j : json.Json) (d : Data) (found more : Members) → of_members ms found ≡ Some more → of_json j ≡ Some d → of_members (json_and ms k j) found ≡ Some (put k d more)
-of-and json.no_members k j d found more h is =
-    let same : found ≡ more = cc in
+some-then : {A B : Type 0} (o : Option A) (f g : A → Option B) (b c : B) → ((a : A) → f a ≡ Some b → g a ≡ Some c) → option_and_then f o ≡ Some b → option_and_then g o ≡ Some c
+some-then None f g b c more h = absurd (cc)
+some-then (Some a) f g b c more h = more a h
+
+of-and : (ms : json.Members) (k : List ℕ) (j : json.Json) (d : Data) (found most : Members) → of_members ms found ≡ Some most → of_json j ≡ Some d → of_members (json_and ms k j) found ≡ Some (put k d most)
+of-and json.no_members k j d found most h is =
+    let same : found ≡ most = cc in
     ap (option_and_then (λ e. Some (put k e found))) is ∙ ap (λ ms. Some (put k d ms)) same
-of-and (json.member l i ms) k j d found more h is = of-first (of_json i) h
-  where
-    of-first : (o : Option Data) → option_and_then (λ e. of_members ms (put l e found)) o ≡ Some more → option_and_then (λ e. of_members (json_and ms k j) (put l e found)) o ≡ Some (put k d more)
-    of-first None g = absurd (cc)
-    of-first (Some e) g = of-and ms k j d (put l e found) more g is
+of-and (json.member l i ms) k j d found most h is =
+    some-then (of_json i) (λ e. of_members ms (put l e found)) (λ e. of_members (json_and ms k j) (put l e found)) most (put k d most) (λ e g. of-and ms k j d (put l e found) most g is) h
+
+blank-json : (ms : json.Members) (k : List ℕ) (j : json.Json) → blank_members (json_and ms k j) ≡ json_and (blank_members ms) k (blank j)
+blank-json json.no_members k j = refl
+blank-json (json.member l i ms) k j = ap (json.member l (blank i)) (blank-json ms k j)
+
+outline-data : (found : Members) (k : List ℕ) (d : Data) → members_outline (members_and found k d) ≡ json_and (members_outline found) k (outline d)
+outline-data no_members k d = refl
+outline-data (member l e ms) k d = ap (json.member l (outline e)) (outline-data ms k d)
 
 blank-and : (ms : json.Members) (k : List ℕ) (j : json.Json) (found : Members) (d : Data) → blank_members ms ≡ members_outline found → blank j ≡ outline d → blank_members (json_and ms k j) ≡ members_outline (members_and found k d)
 blank-and ms k j found d h is = blank-json ms k j ∙ (λ i. json_and (h i) k (is i)) ∙ sym (outline-data found k d)
-  where
-    blank-json : (ms : json.Members) (k : List ℕ) (j : json.Json) → blank_members (json_and ms k j) ≡ json_and (blank_members ms) k (blank j)
-    blank-json json.no_members k j = refl
-    blank-json (json.member l i ms) k j = ap (json.member l (blank i)) (blank-json ms k j)
-
-    outline-data : (found : Members) (k : List ℕ) (d : Data) → members_outline (members_and found k d) ≡ json_and (members_outline found) k (outline d)
-    outline-data no_members k d = refl
-    outline-data (member l e ms) k d = ap (json.member l (outline e)) (outline-data ms k d)
 
 json-nests : (ms : json.Members) (k : List ℕ) (j : json.Json) (n : ℕ) → tree.members_depth ms ≤ n → tree.depth j ≤ n → tree.members_depth (json_and ms k j) ≤ n
 json-nests json.no_members k j n h is = omega arith
@@ -102,9 +120,13 @@ one_more found k d old between new last so_far m =
 -- an object ends
 pub closed : (found : Members) (old between new : Written) → Opens found old between → PutsToken end_object between new → Puts (object found) old new
 closed found old between new so_far t = record {
-  value = (json.object so_far.members,
+  value = (
+    json.object so_far.members,
     t.tokens ∙ ap (λ ts. ts ++ end_object ∷ []) so_far.tokens ∙ append_assoc old.tokens (begin_object ∷ open_tokens so_far.members) (end_object ∷ []) ∙ ap (λ ts. old.tokens ++ begin_object ∷ ts) (tokens-end so_far.members),
-    ap (option_map object) so_far.is, omega (arith, so_far.nests), ap json.object so_far.same);
+    ap (option_map object) so_far.is,
+    omega (arith, so_far.nests),
+    ap json.object so_far.same,
+  );
   before = t.before ∙ so_far.before;
 }
 
@@ -168,8 +190,24 @@ one_listed ds d old between new so_far p =
 -- a list ends
 pub listed : (ds : List Data) (old between new : Written) → Lists ds old between → PutsToken end_array between new → Puts (array (joined ds no_items)) old new
 listed ds old between new so_far t = record {
-  value = (json.array (items_all so_far.items),
+  value = (
+    json.array (items_all so_far.items),
     t.tokens ∙ ap (λ ts. ts ++ end_array ∷ []) so_far.tokens ∙ append_assoc old.tokens (begin_array ∷ all_tokens so_far.items) (end_array ∷ []) ∙ ap (λ ts. old.tokens ++ begin_array ∷ ts) (all-end so_far.items),
-    ap (option_map array) (are-items so_far.items ds so_far.are), omega (arith, are-nested so_far.items ds so_far.are), ap json.array (are-blank so_far.items ds so_far.are));
+    ap (option_map array) (are-items so_far.items ds so_far.are),
+    omega (arith, are-nested so_far.items ds so_far.are),
+    ap json.array (are-blank so_far.items ds so_far.are),
+  );
   before = t.before ∙ so_far.before;
 }
+
+-- ---- lists of values of one kind
+
+-- one more of them
+pub one_of : {A : Type 0} (f : A → Data) (xs : List A) (i : ℕ) (x : A) (old between new : Written) → i < length xs → Lists (map f (take i xs)) old between → Puts (f (get_or xs i x)) between new → Lists (map f (take (i + 1) xs)) old new
+one_of f xs i x old between new lt so_far p =
+    subst (λ ds. Lists ds old new) (sym (ap (map f) (take_more xs i x lt) ∙ map-append f (take i xs) (get_or xs i x ∷ []))) (one_listed (map f (take i xs)) (f (get_or xs i x)) old between new so_far p)
+
+-- all of them
+pub all_of : {A : Type 0} (f : A → Data) (xs : List A) (i : ℕ) (items : Items) (old between new : Written) → length xs ≤ i → joined (map f xs) no_items ≡ items → Lists (map f (take i xs)) old between → PutsToken end_array between new → Puts (array items) old new
+all_of f xs i items old between new past is so_far t =
+    subst (λ ds. Puts (array ds) old new) (ap (λ ys. joined (map f ys) no_items) (take_all i xs past) ∙ is) (listed (map f (take i xs)) old between new so_far t)

@@ -4,5 +4,6 @@ pub mod Expressions
 pub mod Heads
 pub mod Plans
 pub mod Puts
+pub mod Rewritten
 pub mod Rules
 pub mod Spelled

@@ -1,5 +1,5 @@
 -- What was put behind the tokens of a writer: a token, a value, or an object or a list that is still open.
-use Rattle.std.specs.Prelude.{◌≡◌, ℕ, ◌≤◌, List, [], ◌∷◌, ◌++◌, Some, Unit}
+use Rattle.std.specs.Prelude.{◌≡◌, ℕ, ◌≤◌, List, [], ◌∷◌, ◌++◌, Some}
 use Rattle.json.specs.Token.{Token, begin_object, begin_array}
 use Rattle.json.specs.Json as json
 use Rattle.json.specs.Tree as tree

@@ -9,7 +9,8 @@ ghost use Rattle.refutation.specs.Limits.{is_certificate};
 ghost use Rattle.refutation.specs.Refutation.{rule_of};
 ghost use Rattle.plan.specs.PlanText.{certificate_or_null, members_of, parent_of, step_of};
 ghost use Rattle.plan_tokens.specs.Configurations.{IsConfiguration, IsListed};
-ghost use Rattle.plan_tokens.specs.Spelled.{SpellsSome};
+ghost use Rattle.plan_tokens.specs.Rewritten.{parent_data};
+ghost use Rattle.plan_tokens.specs.Spelled.{Spells, SpellsSome};
 
 use crate::expressions::expression;
 use crate::rules::begun;
@@ -32,7 +33,10 @@ fn checked(tree: Refutation<Global>) -> Option<Certificate<Global>>
 }
 
 /// A certificate, or null.
-fn certificate(alloc: Global, reader: &mut Reader<'_>) -> Option<Option<Certificate<Global>>>
+pub(crate) fn certificate(
+    alloc: Global,
+    reader: &mut Reader<'_>,
+) -> Option<Option<Certificate<Global>>>
     ensures { IfSome result (λ c. SpellsSome 81 reader.old reader.new (λ d. certificate_or_null d ≡ Ok (option_map certificate_rule c))) }
 {
     match reader.next() {
@@ -58,9 +62,9 @@ fn step(alloc: Global, reader: &mut Reader<'_>, number: u8) -> Option<Option<Cer
     Some(step)
 }
 
-/// The number of a parent, or null.
-fn parent(reader: &mut Reader<'_>) -> Option<Option<u64>>
-    ensures { IfSome result (λ p. SpellsSome 0 reader.old reader.new (λ d. parent_of d ≡ Ok p)) }
+/// A number, or null.
+pub(crate) fn number_or_null(reader: &mut Reader<'_>) -> Option<Option<u64>>
+    ensures { IfSome result (λ p. Spells 0 reader.old reader.new (parent_data p)) }
 {
     match reader.next() {
         Some(Token::Null) => Some(None),
@@ -70,6 +74,14 @@ fn parent(reader: &mut Reader<'_>) -> Option<Option<u64>>
         }
         _ => None,
     }
+}
+
+/// The number of a parent, or null.
+fn parent(reader: &mut Reader<'_>) -> Option<Option<u64>>
+    ensures { IfSome result (λ p. SpellsSome 0 reader.old reader.new (λ d. parent_of d ≡ Ok p)) }
+{
+    let parent = number_or_null(reader)?;
+    Some(parent)
 }
 
 /// The members of a list in growing order.

@@ -22,7 +22,7 @@ use quorum_expr::{Expr, Lists, MEMBERS, MemberSet, valid};
 use std::alloc::Global;
 
 /// The most levels of an expression.
-const LEVELS: u8 = 6;
+pub(crate) const LEVELS: u8 = 6;
 
 /// The members that a word stands for.
 fn named(lists: &Lists, word: &str) -> Option<MemberSet>

@@ -11,7 +11,7 @@ use plan::{Configuration, Group};
 use std::alloc::Global;
 
 /// How many configurations a group may have.
-const CONFIGURATIONS: usize = 64;
+pub(crate) const CONFIGURATIONS: usize = 64;
 
 /// The configurations of a group, in order.
 fn configurations(

@@ -1,15 +1,21 @@
-//! Plans read off the tokens of their text, with no JSON value in between.
+//! Plans read off the tokens of their text, and written token by token, with no JSON value in between.
 #![tactic(auto)]
 
+mod certificates;
 mod configurations;
+mod copies;
 mod expressions;
 mod groups;
 mod heads;
 mod puts;
 mod reading;
+mod rewriting;
 mod rules;
+mod sizes;
 #[cfg(test)]
 mod tests;
 mod tokens;
+mod writing;
 
 pub use reading::read_plan;
+pub use writing::write_plan;

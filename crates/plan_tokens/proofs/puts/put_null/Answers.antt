@@ -1,0 +1,11 @@
+use Rattle.std.proofs.Common.{subst, sym, decimal}
+use Rattle.std.specs.Prelude.{OnSome}
+use Rattle.json.specs.Token as token
+use Rattle.serde_json.specs.Data.{null, string}
+use Rattle.refutation.specs.Writing.{number_data}
+use Rattle.plan_tokens.specs.Puts.{Puts}
+use Rattle.plan_tokens.proofs.Putting.{value_put, null_put, string_put, number_put}
+use Rattle.plan_tokens.proofs.puts.put_null.Goals as goal
+
+pub returns : goal.returns
+returns c = subst (λ o. OnSome o (Puts null c.args.writer.now c.null.new.self)) (sym c.ok.ensures.value) (value_put c.null.result c.args.writer.now c.null.new.self token.null null (null_put c.args.writer.now c.null.new.self) c.null.ensures)
