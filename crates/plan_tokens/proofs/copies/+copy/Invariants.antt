@@ -16,7 +16,7 @@ decreases-copy_threshold l = 4 * l.levels + 3
 
 abbrev pub invariant-copy_row-children : goal.invariant-copy_row-children
 invariant-copy_row-children l = record {
-  read : RowSoFar (2 * l.levels) l.initial.reader l.reader l.initial.writer l.writer;
+  read : RowSoFar (2 * l.levels) l.initial.reader l.reader l.fn.writer l.writer;
 }
 
 abbrev pub decreases-copy_row-children : goal.decreases-copy_row-children

@@ -8,7 +8,7 @@ use Rattle.plan_tokens.proofs.copies.copy_weights.Goals as goal
 pub returns-in-Ok-None : goal.returns-in-Ok-None
 returns-in-Ok-None c =
     let end : read_key c.args.reader.now ≡ Some (None, c.next_key.new.self) = grind arith in
-    then_put c.close_object-in-Ok-None.result c.close_object-in-Ok-None.ensures (λ t k d start so_far. record {
+    then_put c.close_object.result c.close_object.ensures (λ t k d start so_far. record {
       all = threshold_members k d;
       ends = ended 1 (threshold_members k d) c.args.reader.now c.next_key.new.self end;
       puts = closed (threshold_members k d) start c.args.writer.now c.close_object.new.writer so_far t;
