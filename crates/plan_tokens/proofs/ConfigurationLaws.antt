@@ -23,6 +23,7 @@ use Rattle.refutation.specs.Writing.{number_data, certificate_data}
 use Rattle.refutation.proofs.ReadBack.{certificate_in-written}
 use Rattle.plan.specs.declared.configurations.Configuration.{Configuration}
 use Rattle.plan.specs.PlanText.{fields_of, parent_of, members_from, members_of, some_members_of, lists_of, certificate_or_null, is_null, step_of, configuration_in}
+use Rattle.plan_tokens.specs.Rewritten.{parent_data}
 use Rattle.plan_tokens.specs.Spelled.{Spells, SpellsSome}
 use Rattle.plan_tokens.specs.Configurations.{IsListed, IsConfiguration}
 use Rattle.plan_tokens.proofs.Spelled.{Passes, none_passed, one_passed, joined, joined-one, list_read, up, with_key, with_keys, ended, braced}
@@ -49,6 +50,12 @@ unfolding step_of
 other_step c d some =
     let other : (c == 0) ≡ false = grind (arith, nat_tests) in
     ap (λ (b : Bool). if b then (if is_null d then Ok None else Err Malformed) else certificate_or_null d) other
+
+-- ---- parents
+
+pub parent_read : (p : Option ℕ) → parent_of (parent_data p) ≡ Ok p
+parent_read None = refl
+parent_read (Some n) = refl
 
 -- ---- members
 
