@@ -4,8 +4,10 @@ mod Converted
 mod Digits
 mod GroupLaws
 mod Plans
+mod PutRules
 mod Putting
 mod RewritingLaws
+mod Rooms
 mod Spelled
 mod Thresholds
 mod WritingLaws
