@@ -4,7 +4,7 @@ use Rattle.std.specs.Prelude.{Bool, true, nat_le, option_map}
 use Rattle.std.specs.declared.alloc.Global.{Global}
 use Rattle.std.proofs.lemmas.Bool.Decides.{nat_tests}
 use Rattle.std.proofs.lemmas.List.{drop-map}
-use Rattle.json.specs.Token.{Token, begin_object, end_array}
+use Rattle.json.specs.Token.{Token, end_object, end_array}
 use Rattle.json.specs.Json.{after_end_array, read_key}
 use Rattle.json.specs.Written.{Written}
 use Rattle.serde_json.specs.Data.{Data, array, object, Items, no_items, item, Members, member, no_members, put}
@@ -23,9 +23,10 @@ use Rattle.plan_tokens.specs.Certificates.{certificate_value, certificate_values
 use Rattle.plan_tokens.specs.Puts.{Puts, PutsToken, PutsMember, Opens, Lists}
 use Rattle.plan_tokens.specs.Rewritten.{front_members, parent_data, Copies, CopiesAt, IsConfigurationRewritten, AreConfigurationsRewritten, IsGroupRewritten, AreGroupsRewritten}
 use Rattle.plan_tokens.specs.Spelled.{Spells, SpellsSome}
-use Rattle.plan_tokens.proofs.Spelled.{Passes, none_passed, one_passed, bracketed, joined, joined-one, list_read}
+use Rattle.plan_tokens.proofs.Spelled.{Passes, none_passed, one_passed, up, braced, bracketed, joined, joined-one, list_read}
 use Rattle.plan_tokens.proofs.ConfigurationLaws.{configuration_members}
-use Rattle.plan_tokens.proofs.Putting.{listed, listing, one_listed}
+use Rattle.plan_tokens.proofs.Branches.{last_key}
+use Rattle.plan_tokens.proofs.Putting.{listed, listing, one_listed, members_and, one_more, closed}
 
 joined-items : (ds : List Data) → joined ds no_items ≡ items_of ds
 joined-items [] = refl
@@ -75,6 +76,25 @@ pub configuration_is : (number : ℕ) (parent members fulls reads writes meets s
     ≡ Ok (object (configuration_members parent members fulls reads writes (meets_value number certificates) (step_value number certificates)))
 unfolding configuration_written fields_of
 configuration_is number parent members fulls reads writes meets step certificates = refl
+
+-- what was put of a configuration, from its expressions on
+pub configuration_put : (number : ℕ) (front : Front) (certificates : List Data) (members fulls meets step reads writes : Data) (start a b s t e new : Written) → members ≡ array (numbers_data front.members.items) → fulls ≡ array (numbers_data front.full.items)
+    → Opens (front_members front number certificates) start a → PutsMember (codes "read") reads a b → PutsToken (Token.key (codes "step")) b s → Puts (step_value number certificates) s t → PutsMember (codes "write") writes t e → PutsToken end_object e new
+    → IsConfigurationRewritten number certificates start new (object (configuration_members (parent_data front.parent) members fulls reads writes meets step))
+configuration_put number front certificates members fulls meets step reads writes start a b s t e new ms fs opens read key value write end =
+    let f4 = front_members front number certificates in
+    let f5 = members_and f4 (codes "read") reads in
+    let f6 = members_and f5 (codes "step") (step_value number certificates) in
+    let f7 = members_and f6 (codes "write") writes in
+    let five = one_more f4 (codes "read") reads start a b refl opens read in
+    let six = one_more f5 (codes "step") (step_value number certificates) start b t refl five (record { between = s; key = key; value = value }) in
+    let seven = one_more f6 (codes "write") writes start t e refl six write in
+    record {
+      written = object f7;
+      is = configuration_is number (parent_data front.parent) members fulls reads writes meets step certificates
+          ∙ (λ i. Ok (object (configuration_members (parent_data front.parent) (ms i) (fs i) reads writes (meets_value number certificates) (step_value number certificates))));
+      puts = closed f7 start e new seven end;
+    }
 
 configurations-one : (c : ℕ) (ds : List Data) (d : Data) (certificates xs : List Data) (x : Data) → configurations_written c (joined ds no_items) certificates ≡ Ok xs → configuration_written (c + length ds) d certificates ≡ Ok x
     → configurations_written c (joined (ds ++ d ∷ []) no_items) certificates ≡ Ok (xs ++ x ∷ [])
@@ -140,6 +160,19 @@ unfolding group_items group_written
 group_is certificates count items written is some few all =
     let fits : is_from_1 64 (items_len items) ≡ true = grind (arith, nat_tests, is) in
     (rw fits refl, ap (λ r. r >>= λ xs. Ok (group_object xs)) all)
+
+pub group_spelled : (certificates : List Data) (count : ℕ) (before start at next after : List Token) (old new between last : Written) (s : SpellsSome 83 at next (AreConfigurationsRewritten count certificates between last)) → before ≡ Token.begin_object ∷ start → read_key start ≡ Some (Some (codes "configurations"), at) → read_key next ≡ Some (None, after)
+    → 1 ≤ count → count ≤ 64 → Puts (group_object s.holds.written) old new → SpellsSome 84 before after (IsGroupRewritten count certificates old new)
+group_spelled certificates count before start at next after old new between last s opens key end some few puts =
+    let a = s.holds in
+    let is = group_is certificates count a.items a.written a.length some few a.all in
+    let all = member (codes "configurations") (array a.items) no_members in
+    let value : Spells 83 at next (array a.items) = subst (Spells 83 at next) a.is s.spells in
+    record {
+      value = object all;
+      spells = subst (λ ts. Spells 84 ts after (object all)) (sym opens) (up 84 84 (omega arith) (braced 83 start after all (last_key 83 no_members (codes "configurations") start at next after (array a.items) key value end)));
+      holds = record { items = a.items; is = is.0; length = a.length; written = group_object a.written; all = is.1; puts = puts };
+    }
 
 -- the groups from one place to another, what was put of them, and the certificates that they leave
 pub record GroupsSoFar (certificates rest : List Data) (start now : List Token) (old new : Written) : Type 0 where

@@ -1,19 +1,23 @@
 -- Plans with other certificates, put together from their values, and their texts.
-use Rattle.std.proofs.Common.{◌≡◌, ℕ, zero, suc, ◌≤◌, List, [], ◌∷◌, ◌++◌, length, map, codes, refl, ap, sym, subst, ◌∙◌, arith, Option, Some, None, Result, Ok, Err}
-use Rattle.std.specs.Prelude.{◌==◌, Bool, true, false, All, IsOkAnd, nat_le, option_map, if◌then◌else◌}
+use Rattle.std.proofs.Common.{◌≡◌, ℕ, zero, suc, ◌≤◌, List, [], ◌∷◌, ◌++◌, length, map, codes, refl, ap, sym, subst, ◌∙◌, arith, append-nil, Option, Some, None, Result, Ok, Err}
+use Rattle.std.specs.Prelude.{◌==◌, Bool, true, false, All, IsOkAnd, nat_le, option_and_then, option_map, if◌then◌else◌}
 use Rattle.std.specs.declared.alloc.Global.{Global}
 use Rattle.std.specs.Str.{IsUtf8, is_utf8}
 use Rattle.std.proofs.lemmas.Bool.Decides.{nat_tests}
-use Rattle.json.specs.Token.{Token}
+use Rattle.std.proofs.lemmas.List.Elements.{All-head, All-tail}
+use Rattle.json.specs.Token.{Token, begin_object, end_object}
+use Rattle.json.specs.Json as json
+use Rattle.json.specs.Json.{read_key}
+use Rattle.json.specs.Tree.{json_tokens}
+use Rattle.json.proofs.Printed.Trees.{value-json_tokens}
 use Rattle.json.specs.Lex.{tokens}
 use Rattle.json.specs.Print.{print}
 use Rattle.json.specs.Written.{Written}
-use Rattle.serde_json.specs.Data.{Data, array, object, depth, Items}
+use Rattle.serde_json.specs.Data.{Data, array, object, depth, Items, Members, member, no_members, put}
 use Rattle.serde_json.specs.Events.{items_len}
-use Rattle.serde_json.specs.Read.{read, max_depth}
+use Rattle.serde_json.specs.Read.{of_json, read, max_depth}
 use Rattle.serde_json.specs.View.{items_of}
 use Rattle.serde_json.specs.Written.{WritesValue, has_float, compact_text}
-use Rattle.serde_json.proofs.Writing.{read_back}
 use Rattle.serde_json.proofs.Texts.{tokens_from_order, print-outline}
 use Rattle.volume_model.specs.declared.fault.Fault.{Fault}
 use Rattle.volume_model.specs.declared.fault.Fault.TheVariants.{Malformed, OverLimit}
@@ -36,9 +40,13 @@ use Rattle.plan.proofs.Reread.{bind_ok, found_ok, if_ok, ok_is, then_ok}
 use Rattle.plan.proofs.RereadPlan.{AreRead}
 use Rattle.plan.proofs.Rewrites.{writes, compact}
 use Rattle.plan_tokens.specs.Certificates.{certificate_value, certificate_values, IsReadBack}
-use Rattle.plan_tokens.specs.Plans.{plan_members}
-use Rattle.plan_tokens.specs.Puts.{Puts}
-use Rattle.plan_tokens.specs.Rewritten.{HasClaims, IsRewritten, IsTextOf}
+use Rattle.plan_tokens.specs.Plans.{plan_members, with_format}
+use Rattle.plan_tokens.specs.Puts.{Puts, PutsToken, PutsMember, Opens}
+use Rattle.plan_tokens.specs.Rewritten.{born_members, head_members, number_members, AreGroupsRewritten, IsPlanRewritten, EndsPlanRewritten, HasClaims, IsRewritten, IsTextOf}
+use Rattle.plan_tokens.specs.Spelled.{Spells, SpellsSome, Completes}
+use Rattle.plan_tokens.proofs.Branches.{last_key}
+use Rattle.plan_tokens.proofs.Putting.{one_more, closed}
+use Rattle.plan_tokens.proofs.Spelled.{up, with_key, braced}
 
 -- ---- heads
 
@@ -124,7 +132,96 @@ plan_is n lal born items certificates written all header is =
     ∙ ap (λ r. r >>= λ xs. Ok (plan_object header.format header.lal header.born xs)) (ap (λ ds. groups_written ds certificates) head.groups_are ∙ all)
     ∙ ap Ok (head.object_is written)
 
+-- ---- what was put
+
+-- the format behind what was put of the groups at birth
+pub head_put : (format : ℕ) (born : Option ℕ) (start between new : Written) → Opens (born_members born) start between → PutsMember (codes "format") (number_data format) between new → Opens (head_members format born) start new
+head_put format None start between new so_far m = one_more no_members (codes "format") (number_data format) start between new refl so_far m
+head_put format (Some born) start between new so_far m = one_more (member (codes "born") (number_data born) no_members) (codes "format") (number_data format) start between new refl so_far m
+
+-- a whole plan behind its head
+plan_put : (format lal : ℕ) (born : Option ℕ) (written : Data) (start head key between last new : Written) → Opens (head_members format born) start head → PutsToken (Token.key (codes "groups")) head key → Puts written key between → PutsMember (codes "lal") (number_data lal) between last → PutsToken end_object last new
+    → Puts (object (plan_members (number_data format) lal born written)) start new
+plan_put format lal None written start head key between last new so_far k groups l end =
+    let f1 = with_format (number_data format) no_members in
+    let f2 = with_format (number_data format) (member (codes "groups") written no_members) in
+    let two = one_more f1 (codes "groups") written start head between refl so_far (record { between = key; key = k; value = groups }) in
+    let three = one_more f2 (codes "lal") (number_data lal) start between last refl two l in
+    closed (plan_members (number_data format) lal None written) start last new three end
+plan_put format lal (Some born) written start head key between last new so_far k groups l end =
+    let f1 = member (codes "born") (number_data born) (with_format (number_data format) no_members) in
+    let f2 = member (codes "born") (number_data born) (with_format (number_data format) (member (codes "groups") written no_members)) in
+    let two = one_more f1 (codes "groups") written start head between refl so_far (record { between = key; key = k; value = groups }) in
+    let three = one_more f2 (codes "lal") (number_data lal) start between last refl two l in
+    closed (plan_members (number_data format) lal (Some born) written) start last new three end
+
+-- the plan of a head, of groups that were read, and of how far its numbers may run ahead
+plan_rewritten : (certificates : List Data) (format lal : ℕ) (born : Option ℕ) (d : Data) (start head key between last new : Written) → AreGroupsRewritten certificates key between d → Opens (head_members format born) start head → PutsToken (Token.key (codes "groups")) head key
+    → PutsMember (codes "lal") (number_data lal) between last → PutsToken end_object last new → IsPlanRewritten certificates start new (object (plan_members (number_data format) lal born d))
+plan_rewritten certificates format lal born d start head key between last new g so_far k l end =
+    subst (λ e. IsPlanRewritten certificates start new (object (plan_members (number_data format) lal born e))) (sym g.is) (record {
+      written = object (plan_members (number_data format) lal born (array (items_of g.written)));
+      is = plan_is format lal born g.items certificates g.written g.all;
+      puts = plan_put format lal born (array (items_of g.written)) start head key between last new so_far k g.puts l end;
+    })
+
+-- ---- what was read
+
+last_found : (format lal : ℕ) (born : Option ℕ) (d : Data) → put (codes "groups") d (number_members format born lal) ≡ plan_members (number_data format) lal born d
+last_found format lal None d = refl
+last_found format lal (Some born) d = refl
+
+first_found : (format lal : ℕ) (born : Option ℕ) (d : Data) → put (codes "lal") (number_data lal) (put (codes "groups") d (head_members format born)) ≡ plan_members (number_data format) lal born d
+first_found format lal None d = refl
+first_found format lal (Some born) d = refl
+
+pub groups_last : (certificates : List Data) (format : ℕ) (born : Option ℕ) (lal : ℕ) (before at next after : List Token) (start head key between last new : Written) → SpellsSome 85 at next (AreGroupsRewritten certificates key between) → read_key before ≡ Some (Some (codes "groups"), at) → read_key next ≡ Some (None, after)
+    → Opens (head_members format born) start head → PutsToken (Token.key (codes "groups")) head key → PutsMember (codes "lal") (number_data lal) between last → PutsToken end_object last new
+    → EndsPlanRewritten certificates (number_members format born lal) before after start new
+groups_last certificates format born lal before at next after start head key between last new g is over so_far k l end = record {
+  all = plan_members (number_data format) lal born g.value;
+  ends = subst (λ ms. Completes 85 (number_members format born lal) before after ms) (last_found format lal born g.value) (last_key 85 (number_members format born lal) (codes "groups") before at next after g.value is g.spells over);
+  is = plan_rewritten certificates format lal born g.value start head key between last new g.holds so_far k l end;
+}
+
+pub groups_first : (certificates : List Data) (format : ℕ) (born : Option ℕ) (lal : ℕ) (before at next there rest after : List Token) (start head key between last new : Written) → SpellsSome 85 at next (AreGroupsRewritten certificates key between) → read_key before ≡ Some (Some (codes "groups"), at)
+    → read_key next ≡ Some (Some (codes "lal"), there) → Spells 0 there rest (number_data lal) → read_key rest ≡ Some (None, after)
+    → Opens (head_members format born) start head → PutsToken (Token.key (codes "groups")) head key → PutsMember (codes "lal") (number_data lal) between last → PutsToken end_object last new
+    → EndsPlanRewritten certificates (head_members format born) before after start new
+groups_first certificates format born lal before at next there rest after start head key between last new g is more number over so_far k l end =
+    let found = put (codes "groups") g.value (head_members format born) in
+    record {
+      all = plan_members (number_data format) lal born g.value;
+      ends = subst (λ ms. Completes 85 (head_members format born) before after ms) (first_found format lal born g.value)
+          ((with_key 85 (head_members format born) (codes "groups") before at next g.value is g.spells).ends 85 after (put (codes "lal") (number_data lal) found) (omega arith)
+          (last_key 85 found (codes "lal") next there rest after (number_data lal) more (up 0 85 (omega arith) number) over));
+      is = plan_rewritten certificates format lal born g.value start head key between last new g.holds so_far k l end;
+    }
+
+-- one more number before the rest of a plan
+pub number_before : (certificates : List Data) (found more : Members) (name : List ℕ) (n : ℕ) (before at next after : List Token) (old new : Written) → put name (number_data n) found ≡ more → read_key before ≡ Some (Some name, at) → Spells 0 at next (number_data n)
+    → EndsPlanRewritten certificates more next after old new → EndsPlanRewritten certificates found before after old new
+number_before certificates found more name n before at next after old new is key number rest = record {
+  all = rest.all;
+  ends = (with_key 85 found name before at next (number_data n) key (up 0 85 (omega arith) number)).ends 85 after rest.all (omega arith) (subst (λ ms. Completes 85 ms next after rest.all) (sym is) rest.ends);
+  is = rest.is;
+}
+
+-- a plan in its braces
+pub plan_spelled : (certificates : List Data) (before start after : List Token) (old new : Written) → before ≡ begin_object ∷ start → EndsPlanRewritten certificates no_members start after old new → SpellsSome 86 before after (IsPlanRewritten certificates old new)
+plan_spelled certificates before start after old new opens rest = record {
+  value = object rest.all;
+  spells = subst (λ ts. Spells 86 ts after (object rest.all)) (sym opens) (up 86 86 (omega arith) (braced 85 start after rest.all rest.ends));
+  holds = rest.is;
+}
+
 -- ---- texts
+
+-- what was put for a value is read as that value
+read_back : (d : Data) (ts : List Token) (text : List ℕ) → WritesValue d [] ts → tokens text ≡ ts → depth d ≤ max_depth → read text ≡ Some d
+read_back d ts text put same shallow =
+    let whole : json.value max_depth (tokens text) ≡ Some (put.0, []) = ap (json.value max_depth) (same ∙ put.1 ∙ sym (append-nil (json_tokens put.0))) ∙ value-json_tokens put.0 max_depth [] (omega (arith, put.3)) in
+    ap (λ r. option_and_then of_json (option_and_then (λ p. json.if_last p.0 p.1) r)) whole ∙ put.2
 
 -- the text of a writer that held nothing at first
 pub text_of : (d : Data) (w : Written) (bytes : List ℕ) → WritesValue d [] w.tokens → w.before ≡ [] → bytes ≡ w.before ++ print w.tokens → tokens (print w.tokens) ≡ w.tokens → IsUtf8 (print w.tokens) → IsTextOf d bytes
@@ -141,12 +238,12 @@ text_of d w bytes put none is reads utf8 =
 
 read-back : (cs : List (Option (Certificate Global))) → All (λ c. IsReadBack (option_map certificate_rule c)) cs → map certificate_or_null (certificate_values cs) ≡ map Ok (map (option_map certificate_rule) cs)
 read-back [] h = refl
-read-back (c ∷ cs) h = λ i. h.0.read i ∷ read-back cs h.1 i
+read-back (c ∷ cs) h = λ i. (All-head (λ c. IsReadBack (option_map certificate_rule c)) c cs h).read i ∷ read-back cs (All-tail (λ c. IsReadBack (option_map certificate_rule c)) c cs h) i
 
 nested : (cs : List (Option (Certificate Global))) (i : ℕ) → All (λ c. IsReadBack (option_map certificate_rule c)) cs → depth (value_or_null (certificate_values cs) i) ≤ 81
 nested [] i h = omega arith
-nested (c ∷ cs) zero h = h.0.nests
-nested (c ∷ cs) (suc i) h = nested cs i h.1
+nested (c ∷ cs) zero h = (All-head (λ c. IsReadBack (option_map certificate_rule c)) c cs h).nests
+nested (c ∷ cs) (suc i) h = nested cs i (All-tail (λ c. IsReadBack (option_map certificate_rule c)) c cs h)
 
 are-read : (cs : List (Option (Certificate Global))) → All (λ c. IsReadBack (option_map certificate_rule c)) cs → AreRead (certificate_values cs) (map (option_map certificate_rule) cs)
 are-read cs h = record { read = read-back cs h; nest = λ i. nested cs i h }

@@ -80,6 +80,43 @@ fn copy_groups_first(
     end(reader)
 }
 
+/// A plan after its format, how far its numbers may run ahead, and the key of its number of groups at birth.
+fn copy_born_groups(
+    alloc: Global,
+    reader: &mut Reader<'_>,
+    writer: &mut Writer,
+    certificates: &[Option<Certificate<Global>>],
+    format: u64,
+    lal: u64,
+) -> Option<()>
+    ensures { OnSome result ((before : List SpecToken) → read_key before ≡ Some (Some (codes "born"), reader.old) → EndsPlanRewritten (certificate_values certificates.now) (number_members format None lal) before reader.new writer.old writer.new) }
+{
+    let born = number(reader)?;
+    key(reader, "groups")?;
+    copy_groups_last(alloc, reader, writer, certificates, format, Some(born), lal)
+}
+
+/// A plan after its format, how far its numbers may run ahead, and another key.
+fn copy_after_third(
+    alloc: Global,
+    reader: &mut Reader<'_>,
+    writer: &mut Writer,
+    certificates: &[Option<Certificate<Global>>],
+    format: u64,
+    lal: u64,
+    third: &str,
+) -> Option<()>
+    ensures { OnSome result ((before : List SpecToken) → read_key before ≡ Some (Some third.now, reader.old) → EndsPlanRewritten (certificate_values certificates.now) (number_members format None lal) before reader.new writer.old writer.new) }
+{
+    if third == "groups" {
+        copy_groups_last(alloc, reader, writer, certificates, format, None, lal)
+    } else if third == "born" {
+        copy_born_groups(alloc, reader, writer, certificates, format, lal)
+    } else {
+        None
+    }
+}
+
 /// A plan after its format and the key of how far numbers may run ahead.
 fn copy_after_lal(
     alloc: Global,
@@ -92,15 +129,27 @@ fn copy_after_lal(
 {
     let lal = number(reader)?;
     let third = any_key(reader)?;
-    if third == "groups" {
-        return copy_groups_last(alloc, reader, writer, certificates, format, None, lal);
+    copy_after_third(alloc, reader, writer, certificates, format, lal, third)
+}
+
+/// A plan after its format and another key.
+fn copy_after_second(
+    alloc: Global,
+    reader: &mut Reader<'_>,
+    writer: &mut Writer,
+    certificates: &[Option<Certificate<Global>>],
+    format: u64,
+    second: &str,
+) -> Option<()>
+    ensures { OnSome result ((before : List SpecToken) → read_key before ≡ Some (Some second.now, reader.old) → EndsPlanRewritten (certificate_values certificates.now) (head_members format None) before reader.new writer.old writer.new) }
+{
+    if second == "lal" {
+        copy_after_lal(alloc, reader, writer, certificates, format)
+    } else if second == "groups" {
+        copy_groups_first(alloc, reader, writer, certificates, format, None)
+    } else {
+        None
     }
-    if third != "born" {
-        return None;
-    }
-    let born = number(reader)?;
-    key(reader, "groups")?;
-    copy_groups_last(alloc, reader, writer, certificates, format, Some(born), lal)
 }
 
 /// A plan after the key of its format.
@@ -114,13 +163,7 @@ fn copy_format_first(
 {
     let format = number(reader)?;
     let second = any_key(reader)?;
-    if second == "lal" {
-        copy_after_lal(alloc, reader, writer, certificates, format)
-    } else if second == "groups" {
-        copy_groups_first(alloc, reader, writer, certificates, format, None)
-    } else {
-        None
-    }
+    copy_after_second(alloc, reader, writer, certificates, format, second)
 }
 
 /// A plan after the key of its number of groups at birth.
