@@ -1,6 +1,6 @@
 -- Values that were put behind the tokens of a writer, put together from their parts.
-use Rattle.std.proofs.Common.{◌≡◌, ℕ, suc, ◌<◌, ◌≤◌, ◌^◌, List, [], ◌∷◌, ◌++◌, map, length, take, get_or, ◌+◌, Option, Some, None, refl, ap, sym, subst, ◌∙◌, arith, append-nil, append_assoc, decimal}
-use Rattle.std.specs.Prelude.{max, cond, option_map, option_and_then, Result, Ok, Err, OnSome}
+use Rattle.std.proofs.Common.{◌≡◌, ℕ, ◌<◌, ◌≤◌, ◌^◌, List, [], ◌∷◌, ◌++◌, map, length, take, get_or, ◌+◌, Option, Some, None, refl, ap, sym, subst, ◌∙◌, arith, append-nil, append_assoc, decimal}
+use Rattle.std.specs.Prelude.{option_map, option_and_then, Result, Ok, Err, OnSome}
 use Rattle.std.specs.Result.{result_ok}
 use Rattle.std.proofs.lemmas.List.{map-append, take_all, take_more}
 use Rattle.json.specs.Token.{Token, begin_object, end_object, begin_array, end_array}
@@ -10,7 +10,7 @@ use Rattle.json.specs.Tree.{json_tokens, items_tokens, members_tokens}
 use Rattle.json.specs.Written.{Written, Writes}
 use Rattle.serde_json.specs.Data.{Data, unsigned, null, number, string, array, object, Items, no_items, item, Members, no_members, member, put, depth, items_depth, members_depth}
 use Rattle.serde_json.specs.Read.{of_json, of_items, of_members, number_of}
-use Rattle.serde_json.specs.Written.{WritesValue, outline, items_outline, members_outline, blank, blank_items, blank_members, unless_float}
+use Rattle.serde_json.specs.Written.{outline, items_outline, members_outline, blank, blank_items, blank_members}
 use Rattle.serde_json.proofs.Numbers.{number_of-decimal}
 use Rattle.serde_json.proofs.Texts.{unless_float-number_of}
 use Rattle.refutation.specs.Writing.{number_data}

@@ -1,13 +1,13 @@
 -- Configurations, groups and plans with other certificates, put together from their values.
-use Rattle.std.proofs.Common.{◌≡◌, ℕ, suc, ◌+◌, ◌-◌, ◌*◌, ◌≤◌, List, [], ◌∷◌, ◌++◌, length, map, drop, codes, refl, ap, sym, subst, ◌∙◌, arith, append-nil, append_assoc, Option, Some, None, Result, Ok, Err}
-use Rattle.std.specs.Prelude.{Bool, true, nat_le, option_map}
+use Rattle.std.proofs.Common.{◌≡◌, ℕ, suc, ◌+◌, ◌-◌, ◌*◌, ◌≤◌, List, [], ◌∷◌, ◌++◌, length, drop, codes, refl, ap, sym, subst, ◌∙◌, arith, append-nil, append_assoc, Option, Some, None, Result, Ok, Err}
+use Rattle.std.specs.Prelude.{true, option_map}
 use Rattle.std.specs.declared.alloc.Global.{Global}
 use Rattle.std.proofs.lemmas.Bool.Decides.{nat_tests}
 use Rattle.std.proofs.lemmas.List.{drop-map}
 use Rattle.json.specs.Token.{Token, end_object, end_array}
 use Rattle.json.specs.Json.{after_end_array, read_key}
 use Rattle.json.specs.Written.{Written}
-use Rattle.serde_json.specs.Data.{Data, array, object, Items, no_items, item, Members, member, no_members, put}
+use Rattle.serde_json.specs.Data.{Data, array, object, Items, no_items, item, member, no_members}
 use Rattle.serde_json.specs.Events.{items_len}
 use Rattle.serde_json.specs.View.{items_of}
 use Rattle.volume_model.specs.declared.fault.Fault.{Fault}
@@ -21,7 +21,7 @@ use Rattle.plan.proofs.Reread.{bind_ok, ok_is}
 use Rattle.plan_tokens.specs.declared.rewriting.Front.{Front}
 use Rattle.plan_tokens.specs.Certificates.{certificate_value, certificate_values}
 use Rattle.plan_tokens.specs.Puts.{Puts, PutsToken, PutsMember, Opens, Lists}
-use Rattle.plan_tokens.specs.Rewritten.{front_members, parent_data, Copies, CopiesAt, IsConfigurationRewritten, AreConfigurationsRewritten, IsGroupRewritten, AreGroupsRewritten}
+use Rattle.plan_tokens.specs.Rewritten.{front_members, parent_data, Copies, IsConfigurationRewritten, AreConfigurationsRewritten, IsGroupRewritten, AreGroupsRewritten}
 use Rattle.plan_tokens.specs.Spelled.{Spells, SpellsSome}
 use Rattle.plan_tokens.proofs.Spelled.{Passes, none_passed, one_passed, up, braced, bracketed, joined, joined-one, list_read}
 use Rattle.plan_tokens.proofs.ConfigurationLaws.{configuration_members}

@@ -17,7 +17,7 @@ use Rattle.serde_json.specs.Data.{Data, array, object, depth, Items, Members, me
 use Rattle.serde_json.specs.Events.{items_len}
 use Rattle.serde_json.specs.Read.{of_json, read, max_depth}
 use Rattle.serde_json.specs.View.{items_of}
-use Rattle.serde_json.specs.Written.{WritesValue, has_float, compact_text}
+use Rattle.serde_json.specs.Written.{WritesValue}
 use Rattle.serde_json.proofs.Texts.{tokens_from_order, print-outline}
 use Rattle.volume_model.specs.declared.fault.Fault.{Fault}
 use Rattle.volume_model.specs.declared.fault.Fault.TheVariants.{Malformed, OverLimit}
@@ -26,9 +26,7 @@ use Rattle.quorum_expr.specs.Reading.{at_key, found_or_malformed}
 use Rattle.refutation.specs.declared.certificate.Certificate.{Certificate}
 use Rattle.refutation.specs.Certificate.{certificate_rule}
 use Rattle.refutation.specs.Reading.{has_keys}
-use Rattle.refutation.specs.Rule.{Rule}
 use Rattle.refutation.specs.Writing.{number_data}
-use Rattle.plan.specs.declared.fault.PlanFault.{PlanFault}
 use Rattle.plan.specs.declared.formats.Format.{Format}
 use Rattle.plan.specs.declared.formats.Format.TheVariants.{Plain, Weighted, Growing}
 use Rattle.plan.specs.Formats.{is_weighted, key_count, number_of}
@@ -39,7 +37,7 @@ use Rattle.plan.specs.Written.{spelt, rewritten, IsCompact}
 use Rattle.plan.proofs.Reread.{bind_ok, found_ok, if_ok, ok_is, then_ok}
 use Rattle.plan.proofs.RereadPlan.{AreRead}
 use Rattle.plan.proofs.Rewrites.{writes, compact}
-use Rattle.plan_tokens.specs.Certificates.{certificate_value, certificate_values, IsReadBack}
+use Rattle.plan_tokens.specs.Certificates.{certificate_values, IsReadBack}
 use Rattle.plan_tokens.specs.Plans.{plan_members, with_format}
 use Rattle.plan_tokens.specs.Puts.{Puts, PutsToken, PutsMember, Opens}
 use Rattle.plan_tokens.specs.Rewritten.{born_members, head_members, number_members, AreGroupsRewritten, IsPlanRewritten, EndsPlanRewritten, HasClaims, IsRewritten, IsTextOf}

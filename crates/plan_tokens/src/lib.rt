@@ -12,10 +12,8 @@ mod reading;
 mod rewriting;
 mod rules;
 mod sizes;
-#[cfg(test)]
-mod tests;
 mod tokens;
 mod writing;
 
-pub use reading::read_plan;
+pub use reading::{read_in_order, read_plan};
 pub use writing::write_plan;

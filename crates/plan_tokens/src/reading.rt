@@ -209,9 +209,9 @@ fn parsed(alloc: Global, text: &str) -> Option<Plan>
     }
 }
 
-/// The plan that a text spells, where its keys come in the order of the format or in that of the alphabet; none for another
-/// text, or where memory runs out.
-pub(crate) fn quick(alloc: Global, text: &[u8]) -> Option<Plan>
+/// The plan that a text spells, read off its tokens, where its keys come in the order of the format or in that of the alphabet;
+/// none for another text, for one with a fault, or where memory runs out.
+pub fn read_in_order(alloc: Global, text: &[u8]) -> Option<Plan>
     ensures { IfSome result (λ p. plan_of text.now ≡ Ok (plan_data p)) }
 {
     if text.len() > MAX_TEXT {
@@ -234,7 +234,7 @@ pub(crate) fn quick(alloc: Global, text: &[u8]) -> Option<Plan>
 pub fn read_plan(alloc: Global, text: &[u8]) -> Result<Plan, PlanFault>
     ensures { Reads plan_data result (plan_of text.now) }
 {
-    match quick(alloc, text) {
+    match read_in_order(alloc, text) {
         Some(plan) => Ok(plan),
         None => plan::read_plan(alloc, text),
     }

@@ -1,11 +1,9 @@
-use Rattle.std.proofs.Common.{◌≡◌, ◌<◌, ◌+◌, ◌*◌, ◌∷◌, codes, sym, subst, refl, arith, None}
+use Rattle.std.proofs.Common.{◌≡◌, ◌+◌, ◌*◌, ◌∷◌, codes, sym, subst, refl, arith, None}
 use Rattle.json.specs.Json.{after_end_array}
 use Rattle.json.specs.Reads.{token_of}
 use Rattle.json.specs.Token.{Token}
 use Rattle.serde_json.specs.Data.{no_members, object, put, string, member}
 use Rattle.refutation.specs.Writing.{number_data}
-use Rattle.plan_tokens.specs.Expressions.{threshold_members}
-use Rattle.plan_tokens.specs.Rewritten.{Copies}
 use Rattle.plan_tokens.specs.Spelled.{Spells}
 use Rattle.plan_tokens.proofs.Spelled.{up, completes_up, number_read, string_read, with_key, braced}
 use Rattle.plan_tokens.proofs.Putting.{then_put, opened, one_more}

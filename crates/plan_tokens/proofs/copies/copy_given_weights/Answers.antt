@@ -1,4 +1,4 @@
-use Rattle.std.proofs.Common.{◌≡◌, codes, refl, rules, subst, sym}
+use Rattle.std.proofs.Common.{◌≡◌, codes, refl, rules, subst}
 use Rattle.serde_json.specs.Data.{array}
 use Rattle.refutation.specs.Writing.{numbers_data}
 use Rattle.plan_tokens.specs.Expressions.{threshold_members}

@@ -1,4 +1,4 @@
-use Rattle.std.proofs.Common.{arith, subst, ◌<◌, ◌≤◌, length}
+use Rattle.std.proofs.Common.{arith, subst}
 use Rattle.refutation.specs.Writing.{number_data, numbers_data}
 use Rattle.plan_tokens.specs.Puts.{Puts}
 use Rattle.plan_tokens.proofs.Putting.{then_put, one_of, all_of}

@@ -1,6 +1,5 @@
-use Rattle.std.proofs.Common.{arith, ◌<◌, ◌≤◌, length}
+use Rattle.std.proofs.Common.{arith}
 use Rattle.refutation.specs.Writing.{pair_data, pairs_data}
-use Rattle.plan_tokens.specs.Puts.{Puts}
 use Rattle.plan_tokens.proofs.Putting.{then_put, one_of, all_of}
 use Rattle.plan_tokens.proofs.Spelled.{joined-pairs}
 use Rattle.plan_tokens.proofs.puts.put_pairs.Goals as goal

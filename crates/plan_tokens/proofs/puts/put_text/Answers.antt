@@ -1,10 +1,9 @@
-use Rattle.std.proofs.Common.{subst, sym, decimal}
+use Rattle.std.proofs.Common.{subst, sym}
 use Rattle.std.specs.Prelude.{OnSome}
 use Rattle.json.specs.Token as token
-use Rattle.serde_json.specs.Data.{null, string}
-use Rattle.refutation.specs.Writing.{number_data}
+use Rattle.serde_json.specs.Data.{string}
 use Rattle.plan_tokens.specs.Puts.{Puts}
-use Rattle.plan_tokens.proofs.Putting.{value_put, null_put, string_put, number_put}
+use Rattle.plan_tokens.proofs.Putting.{value_put, string_put}
 use Rattle.plan_tokens.proofs.puts.put_text.Goals as goal
 
 pub returns : goal.returns

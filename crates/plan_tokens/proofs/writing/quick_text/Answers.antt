@@ -1,5 +1,4 @@
 use Rattle.std.proofs.Common.{◌≡◌, ◌∙◌, [], subst, arith}
-use Rattle.json.specs.Lex.{tokens}
 use Rattle.serde_json.specs.Written.{WritesValue}
 use Rattle.plan_tokens.specs.Spelled.{Spells}
 use Rattle.plan_tokens.proofs.Plans.{whole_text}

@@ -4,7 +4,7 @@ use Rattle.plan.specs.Plan.{plan_data}
 use Rattle.plan.specs.PlanText.{plan_in}
 use Rattle.plan_tokens.specs.Spelled.{SpellsSome}
 use Rattle.plan_tokens.proofs.Plans.{plan_read}
-use Rattle.plan_tokens.proofs.reading.quick.Goals as goal
+use Rattle.plan_tokens.proofs.reading.read_in_order.Goals as goal
 
 pub returns : goal.returns
 returns c =

@@ -1,6 +1,6 @@
 //! Which texts are read off their tokens.
 
-use crate::reading::quick;
+use plan_tokens::read_in_order;
 use std::test::*;
 
 /// A plan of format 1 with each rule, its keys in the order of the format.
@@ -42,7 +42,7 @@ fn texts_are_read_off_their_tokens(rt: HostRuntime) {
         (r#"{"format":1,"lal":10,"groups":[]} 1"#, false),
     ];
     for (text, is_quick) in rows {
-        let plan = quick(rt.alloc(), text.as_bytes());
+        let plan = read_in_order(rt.alloc(), text.as_bytes());
         assert_eq!(rt; plan.is_some(), is_quick);
     }
 }
