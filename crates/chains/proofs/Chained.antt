@@ -36,7 +36,7 @@ pub fewer_fall : (r : Redo) (records : List Redo) → GroupLinksFall (with_recor
 fewer_fall r records fall q i = fall q (with_record-keeps r records q i)
 
 -- the greatest of the same numbers is the same
-one_greatest : (P Q : ℕ → Type 0) (a b : ℕ) → ((n : ℕ) → P n → Q n) → ((n : ℕ) → Q n → P n) → IsGreatest P a → IsGreatest Q b → a ≡ b
+pub one_greatest : (P Q : ℕ → Type 0) (a b : ℕ) → ((n : ℕ) → P n → Q n) → ((n : ℕ) → Q n → P n) → IsGreatest P a → IsGreatest Q b → a ≡ b
 one_greatest P Q a b to from p q =
     let l : a ≤ b = elim p.is_one [ inl z ↦ omega arith | inr h ↦ q.at_least_each a (to a h) ] in
     let m : b ≤ a = elim q.is_one [ inl z ↦ omega arith | inr h ↦ p.at_least_each b (from b h) ] in

@@ -4,3 +4,4 @@ pub mod Rise
 pub mod Woken
 pub mod Chained
 pub mod Telling
+pub mod OneChains

@@ -3,3 +3,4 @@ pub mod Listed
 pub mod Waits
 pub mod Rising
 pub mod Chains
+pub mod OneChain

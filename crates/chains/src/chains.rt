@@ -18,6 +18,7 @@ impl Chains {
     ghost use Rattle.volume_model.specs.Grounded.{GroupLinksFall};
     ghost use Rattle.volume_model.specs.Redo.{Redo, scl, with_record};
     ghost use Rattle.chains.specs.Chains.{AreChainsOf};
+    ghost use Rattle.chains.specs.OneChain.{IsOneChain};
     ghost use Rattle.chains.specs.Waiting.{IsReached, IsWaiting};
     ghost use Rattle.chains.specs.Waits.{HasRoomFor, WaitsIn, AreWoken};
 
@@ -28,6 +29,16 @@ impl Chains {
         Chains {
             waits: Waits::new(alloc),
             point: 0,
+        }
+    }
+
+    /// Those of records that are one chain, the last of which has this number, 0 where there is none.
+    pub fn of_one_chain(alloc: Global, last: u64) -> Chains
+        ensures { (records : List Redo) → GroupLinksFall records → IsOneChain 0 records last → AreChainsOf records result }
+    {
+        Chains {
+            waits: Waits::new(alloc),
+            point: last,
         }
     }
 

@@ -1,6 +1,7 @@
 //! Redo records: what a writer gives to storage, how they are spelled, and in what order they stand.
 #![tactic(auto)]
 
+mod comparing;
 mod decoding;
 mod encoding;
 mod group;

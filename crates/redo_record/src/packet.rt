@@ -2,7 +2,7 @@
 
 ghost use Rattle.redo_record.specs.Packet.{packet_redo};
 
-use crate::encoding::spell;
+use crate::comparing::compare;
 use crate::record::Record;
 use std::alloc::{AllocError, Global};
 use std::cmp::Ordering;
@@ -67,12 +67,11 @@ impl Packet {
     }
 
     /// Which of two packets comes first in the order of their records' bytes.
-    fn compare(&self, other: &Packet) -> Ordering
+    pub(crate) fn compare(&self, other: &Packet) -> Ordering
         ensures same { is_eq result ≡ is_same (packet_redo self.now) (packet_redo other.now) }
         ensures before { is_lt result ≡ numbers_before (spelling (packet_redo self.now)) (spelling (packet_redo other.now)) }
     {
-        let (own, others) = (spell(self.record()), spell(other.record()));
-        own.as_slice().cmp(&others.as_slice())
+        compare(self.record(), other.record())
     }
 
     /// Whether both are packets of the same record.

@@ -94,4 +94,13 @@ impl BlockList {
             self.insert(place, packet);
         }
     }
+
+    /// Makes room for a packet and takes it into its place, where it isn't there. Fails for want of memory alone.
+    pub fn push(&mut self, packet: &Packet) -> Result<(), AllocError>
+        ensures { OnOk result (redos_in self.new ≡ with_record (packet_redo packet.now) (redos_in self.old)) }
+    {
+        self.make_room()?;
+        self.add(packet.clone()?);
+        Ok(())
+    }
 }

@@ -1,7 +1,7 @@
 //! The packets of each block.
 
 use crate::block_list::BlockList;
-use redo_record::Packet;
+use redo_record::{Packet, RecordSet};
 use std::alloc::{AllocError, Global};
 use std::collections::BTreeMap;
 
@@ -12,10 +12,11 @@ pub struct Blocks {
 }
 
 impl Blocks {
-    ghost use Rattle.std.specs.Prelude.{◌≡◌, ◌==◌, ℕ, [], map, if◌then◌else◌, OnOk};
+    ghost use Rattle.std.specs.Prelude.{◌≡◌, ◌==◌, ℕ, [], map, if◌then◌else◌, IfOk, OnOk};
     ghost use Rattle.volume_model.specs.Redo.{with_record};
     ghost use Rattle.redo_record.specs.Packet.{packet_redo};
-    ghost use Rattle.segment_core.specs.Blocks.{block_records, HasRoomAt};
+    ghost use Rattle.redo_record.specs.RecordSet.{records_of};
+    ghost use Rattle.segment_core.specs.Blocks.{block_records, AreBlocksOf, HasRoomAt};
 
     /// No packet.
     pub fn new(alloc: Global) -> Blocks
@@ -24,6 +25,17 @@ impl Blocks {
         Blocks {
             lists: BTreeMap::new(alloc),
         }
+    }
+
+    /// The packets of a set. Fails for want of memory alone.
+    pub fn from_set(alloc: Global, set: &RecordSet) -> Result<Blocks, AllocError>
+        ensures { IfOk result (AreBlocksOf (records_of set.now)) }
+    {
+        let mut blocks = Blocks::new(alloc);
+        for packet in set.as_slice() {
+            blocks.push(alloc, packet)?;
+        }
+        Ok(blocks)
     }
 
     /// The packets of a block, in their order.
@@ -62,6 +74,22 @@ impl Blocks {
     {
         if let Some(list) = self.lists.get_mut(&packet.record().block) {
             list.add(packet);
+        }
+    }
+
+    /// Makes room for a packet and takes it into its block, which is looked up once. Fails for want of memory alone.
+    fn push(&mut self, alloc: Global, packet: &Packet) -> Result<(), AllocError>
+        ensures { OnOk result ((b : ℕ) → block_records self.new b ≡ (if b == (packet_redo packet.now).block then with_record (packet_redo packet.now) (block_records self.old b) else block_records self.old b)) }
+    {
+        let block = packet.record().block;
+        match self.lists.get_mut(&block) {
+            Some(list) => list.push(packet),
+            None => {
+                let mut list = BlockList::new(alloc);
+                list.push(packet)?;
+                self.lists.insert(block, list)?;
+                Ok(())
+            }
         }
     }
 }

@@ -5,6 +5,7 @@ mod assembly;
 mod block_list;
 mod blocks;
 mod entrant;
+mod one_chain;
 mod ordered;
 mod prepared;
 mod records;

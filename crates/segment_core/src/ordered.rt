@@ -35,6 +35,16 @@ impl Ordered {
         }
     }
 
+    /// The packets of a set. Fails for want of memory alone.
+    pub fn from_set(alloc: Global, set: &RecordSet) -> Result<Ordered, AllocError>
+        ensures { IfOk result (λ ordered. redos_in ordered ≡ records_of set.now) }
+    {
+        Ok(Ordered {
+            runs: Runs::from_set(alloc, set)?,
+            told: None,
+        })
+    }
+
     /// How many packets there are.
     pub fn len(&self) -> usize
         ensures { result ≡ length (redos_in self.now) }

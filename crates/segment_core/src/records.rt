@@ -7,6 +7,7 @@ ghost use Rattle.segment_core.specs.Blocks.{AreBlocksOf};
 
 use crate::blocks::Blocks;
 use crate::entrant::{Entrant, Link};
+use crate::one_chain::end_of_chain;
 use crate::ordered::Ordered;
 use chains::Chains;
 use pages::{BLOCK, page_of};
@@ -32,6 +33,7 @@ impl Records {
     ghost use Rattle.redo_record.specs.Packet.{packet_redo};
     ghost use Rattle.redo_record.specs.Places.{IsHeldIn};
     ghost use Rattle.redo_record.specs.RecordSet as sets;
+    ghost use Rattle.chains.specs.OneChain.{IsOneChain};
     ghost use Rattle.chains.specs.Waiting.{is_reached};
     ghost use Rattle.segment_core.specs.Link.{CanTie, IsLinkOf};
     ghost use Rattle.segment_core.specs.Ordered.{StandsAt};
@@ -48,8 +50,31 @@ impl Records {
         }
     }
 
-    /// The records of a set. Fails for want of memory alone.
+    /// The records of a set: at once where they are one chain, as those of a log are, else one after the other. Fails for want of memory
+    /// alone.
     pub fn from_set(alloc: Global, set: &RecordSet) -> Result<Records, AllocError>
+        ensures { IfOk result (λ records. records_of records ≡ sets.records_of set.now) }
+    {
+        match end_of_chain(set.as_slice()) {
+            Some(last) => Records::of_one_chain(alloc, set, last),
+            None => Records::of_each(alloc, set),
+        }
+    }
+
+    /// The records of a set that is one chain, the last of which has this number. Fails for want of memory alone.
+    fn of_one_chain(alloc: Global, set: &RecordSet, last: u64) -> Result<Records, AllocError>
+        requires { IsOneChain 0 (sets.records_of set.now) last }
+        ensures { IfOk result (λ records. records_of records ≡ sets.records_of set.now) }
+    {
+        Ok(Records {
+            ordered: Ordered::from_set(alloc, set)?,
+            chains: Chains::of_one_chain(alloc, last),
+            blocks: Blocks::from_set(alloc, set)?,
+        })
+    }
+
+    /// The records of a set, taken up one after the other. Fails for want of memory alone.
+    fn of_each(alloc: Global, set: &RecordSet) -> Result<Records, AllocError>
         ensures { IfOk result (λ records. records_of records ≡ sets.records_of set.now) }
     {
         let mut records = Records::new(alloc);
