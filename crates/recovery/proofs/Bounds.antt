@@ -23,7 +23,7 @@ use Rattle.hydration.specs.Copies.{copies_in}
 use Rattle.wire.specs.Contents as wire
 use Rattle.writer_core.specs.declared.standing.Standing.{Standing}
 use Rattle.writer_core.specs.Logs.{log_of}
-use Rattle.writer_core.specs.Standings.{group_at, groups_of}
+use Rattle.writer_core.specs.Standings.{groups_of}
 use Rattle.recovery.specs.declared.found.Found.{Found}
 use Rattle.recovery.specs.Reported.{reports_in}
 use Rattle.recovery.specs.Finds.{live_records}

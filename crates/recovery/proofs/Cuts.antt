@@ -1,9 +1,7 @@
 -- The cut of the first records of a list.
-use Rattle.std.proofs.Common.{◌≡◌, ℕ, zero, suc, ◌+◌, ◌<◌, Bool, true, false, ◌&&◌, ◌||◌, nat_eq, nat_lt, cond, List, [], ◌∷◌, map, take, length, get_or, inl, inr, if◌then◌else◌, refl, sym, ap, ap₂, ◌∙◌, subst, arith}
+use Rattle.std.proofs.Common.{◌≡◌, ℕ, zero, suc, ◌+◌, ◌<◌, ◌≤◌, Bool, true, false, ◌&&◌, ◌||◌, nat_eq, cond, List, [], ◌∷◌, map, take, length, get_or, inl, inr, if◌then◌else◌, refl, sym, ap, ap₂, ◌∙◌, subst, arith}
 use Rattle.std.specs.Prelude.{◌==◌}
-use Rattle.std.specs.Ordering.{nat_cmp}
-use Rattle.std.specs.BTreeMap.{is_at}
-use Rattle.std.proofs.lemmas.Bool.{cases_Bool, eqb-true, ne_eqb, ltb-true}
+use Rattle.std.proofs.lemmas.Bool.{cases_Bool, cases_lt, or_right, true≢false, eqb-true}
 use Rattle.volume_model.specs.Lists.{added}
 use Rattle.volume_model.specs.Redo.{Redo, last_lsn, cut_of}
 use Rattle.redo_record.specs.declared.packet.Packet.{Packet}
@@ -26,14 +24,6 @@ front-grows (x ∷ records) (suc i) kept h = front-grows records i (packet_redo 
 -- the first records of a growing list grow
 pub front-growing : (records : List Packet) (i : ℕ) → is_growing (log_of records) ≡ true → is_growing (log_of (take i records)) ≡ true
 front-growing records i h = front-grows records i [] h
-
--- a key is at a number exactly where it is the number
-at-is : (k q : ℕ) → is_at (nat_cmp k) q ≡ nat_eq k q
-at-is k q =
-    elim (cases_Bool (nat_lt k q)) [
-      | inl e ↦ (let below : k < q = ltb-true k q e in let other : nat_eq k q ≡ false = ne_eqb k q (λ s. omega (arith, s)) in rw (e, other) refl)
-      | inr e ↦ elim (cases_Bool (nat_eq k q)) [ inl f ↦ rw (e, f) refl | inr f ↦ rw (e, f) refl ]
-    ]
 
 module _ (records : List Packet) (i : ℕ) (p : Packet) (r : Redo) (within : i < length records) (is : p ≡ get_or records i p) (shows : r ≡ packet_redo p) (growing : is_growing (log_of records) ≡ true) where
   abbrev pub front : List Redo
@@ -65,11 +55,21 @@ module _ (records : List Packet) (i : ℕ) (p : Packet) (r : Redo) (within : i <
         | inr h ↦ rw h refl
       ]
 
+  -- the numbers that lead down to 0 are no greater
+  pub led-below : (has : ℕ → Bool) → ((n : ℕ) → (n == 0 || has n) ≡ leads front n) → (n : ℕ) → has n ≡ true → n ≤ r.lsn
+  led-below has before n e =
+      elim (cases_lt r.lsn n) [
+        | inl l ↦ (
+            let (below, rest) = both (last_lsn front) r.lsn (is_growing front) more-grows in
+            absurd (true≢false (sym (or_right (n == 0) (has n) e) ∙ before n ∙ leads-above front rest n (omega (arith, below)))))
+        | inr l ↦ l
+      ]
+
   -- one that leads down to 0 is added
-  pub led-more : (has has' : ℕ → Bool) → ((n : ℕ) → (n == 0 || has n) ≡ leads front n) → ((q : ℕ) → has' q ≡ cond (is_at (nat_cmp r.lsn) q) true (has q)) → leads front r.prev_volume ≡ true
+  pub led-more : (has has' : ℕ → Bool) → ((n : ℕ) → (n == 0 || has n) ≡ leads front n) → ((q : ℕ) → has' q ≡ (if r.lsn == q then true else has q)) → leads front r.prev_volume ≡ true
       → (n : ℕ) → (n == 0 || has' n) ≡ leads (log_of (take (i + 1) records)) n
   led-more has has' before adds led n =
-      let now : has' n ≡ cond (nat_eq r.lsn n) true (has n) = adds n ∙ ap (λ b. cond b true (has n)) (at-is r.lsn n) in
+      let now : has' n ≡ cond (nat_eq r.lsn n) true (has n) = adds n in
       let split : (n == 0 || has' n) ≡ (if r.lsn == n then leads front r.prev_volume else leads front n) =
       elim (cases_Bool (nat_eq r.lsn n)) [
         | inl h ↦ (let e : has' n ≡ true = now ∙ ap (λ b. cond b true (has n)) h in rw (e, h, led) (or_true (n == 0)))

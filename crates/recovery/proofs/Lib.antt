@@ -8,3 +8,4 @@ pub mod Ends
 pub mod Leaves
 pub mod Refusals
 pub mod Bounds
+pub mod Sought

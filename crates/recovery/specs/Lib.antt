@@ -2,3 +2,4 @@ pub mod Cuts
 pub mod Reported
 pub mod Finds
 pub mod Recoveries
+pub mod Led

@@ -5,9 +5,9 @@ ghost use Rattle.volume_model.specs.Answer.{Gives};
 ghost use Rattle.volume_model.specs.Redo.{cut_of};
 ghost use Rattle.writer_core.specs.Logs.{log_of, is_growing};
 
+use crate::led::Led;
 use redo_record::Packet;
 use std::alloc::Global;
-use std::collections::BTreeSet;
 use volume_model::Fault;
 
 /// Whether records stand in growing LSN.
@@ -30,11 +30,11 @@ pub fn cut_of(alloc: Global, records: &[Packet]) -> Result<u64, Fault>
     ensures { Gives (λ cut. cut) result (Ok (cut_of (log_of records.now))) }
 {
     let mut cut = 0;
-    let mut led = BTreeSet::new(alloc);
+    let mut led = Led::new(alloc);
     for packet in records {
         let record = packet.record();
-        if record.prev_volume == 0 || led.contains(&record.prev_volume) {
-            led.insert(record.lsn)?;
+        if record.prev_volume == 0 || led.contains(record.prev_volume) {
+            led.push(record.lsn)?;
             if record.point {
                 cut = record.lsn;
             }

@@ -5,6 +5,7 @@ mod chain;
 mod cutting;
 mod finding;
 mod found;
+mod led;
 mod recovery;
 mod reported;
 mod speaking;

@@ -1,16 +1,15 @@
 use Rattle.std.proofs.Common.{◌≡◌, ℕ, Bool, true, false, ◌||◌, List, take, refl, sym, ap, ◌∙◌}
 use Rattle.std.specs.Prelude.{◌==◌}
-use Rattle.std.specs.Ordering.{nat_cmp}
-use Rattle.std.specs.BTreeSet.{contains}
 use Rattle.std.proofs.lemmas.Bool.{ne_eqb, eq-eqb}
 use Rattle.redo_record.specs.declared.packet.Packet.{Packet}
 use Rattle.redo_record.specs.Record.{redo_of}
 use Rattle.volume_model.specs.Redo.{Redo}
 use Rattle.writer_core.specs.Logs.{log_of}
+use Rattle.recovery.specs.Led.{is_led}
 use Rattle.recovery.proofs.Links.{leads}
-use Rattle.recovery.proofs.Cuts.{led-more, leads-not, cut-led, cut-same}
+use Rattle.recovery.proofs.Cuts.{led-below, led-more, leads-not, cut-led, cut-same}
 use Rattle.recovery.proofs.cutting.cut_of.Goals as goal
-use Rattle.recovery.proofs.cutting.cut_of.Goals.{then-record-eq0+in_ok-insert+then-record, then-record-eq0-via-then-record-eq0, then-record-eq0-via-else-record-eq0+then-contains, then-record-eq0+in_ok-insert+else-record, else-record-eq0+else-contains}
+use Rattle.recovery.proofs.cutting.cut_of.Goals.{then-record-eq0+in_ok-push+then-record, then-record-eq0-via-then-record-eq0, then-record-eq0-via-else-record-eq0+then-contains, then-record-eq0+in_ok-push+else-record, else-record-eq0+else-contains}
 
 or_true : (b : Bool) → (b || true) ≡ true
 or_true true = refl
@@ -36,31 +35,34 @@ loop-packet-preserved c =
     let within = c.loop-packet-test.true in
     let is = c.packet-item.is in
     let front : ℕ → Bool = leads (log_of (take i records)) in
-    let has : ℕ → Bool = contains nat_cmp c.loop-packet.led in
+    let has : ℕ → Bool = is_led c.loop-packet.led in
     let before = c.loop-packet.invariant.led in
     elim c.if-record-eq0.branch [
-      | then-record-eq0+in_ok-insert+then-record w ↦ (
+      | then-record-eq0+in_ok-push+then-record w ↦ (
           let led : front r.prev_volume ≡ true = elim w.then-record-eq0.branch [
             | then-record-eq0-via-then-record-eq0 w' ↦ led-zero front has r.prev_volume before w'.if-record-eq0.true
             | then-record-eq0-via-else-record-eq0+then-contains w' ↦ led-has front has r.prev_volume before (sym w'.contains.ensures ∙ w'.if-contains.true)
           ] in
           record {
-            led = λ n. ap (λ s. n == 0 || contains nat_cmp s n) w.led-is ∙ led-more records i p r within is shows c.requires has (contains nat_cmp w.insert.new.self) before w.in_ok-insert.ensures.updates.0 led n;
+            led = λ n. ap (λ s. n == 0 || is_led s n) w.led-is ∙ led-more records i p r within is shows c.requires has (is_led w.push.new.self) before w.in_ok-push.ensures led n;
             cut = w.cut-is ∙ sym (cut-led records i p r within is shows c.requires true led w.if-record.true);
           })
-      | then-record-eq0+in_ok-insert+else-record w ↦ (
+      | then-record-eq0+in_ok-push+else-record w ↦ (
           let led : front r.prev_volume ≡ true = elim w.then-record-eq0.branch [
             | then-record-eq0-via-then-record-eq0 w' ↦ led-zero front has r.prev_volume before w'.if-record-eq0.true
             | then-record-eq0-via-else-record-eq0+then-contains w' ↦ led-has front has r.prev_volume before (sym w'.contains.ensures ∙ w'.if-contains.true)
           ] in
           record {
-            led = λ n. ap (λ s. n == 0 || contains nat_cmp s n) w.led-is ∙ led-more records i p r within is shows c.requires has (contains nat_cmp w.insert.new.self) before w.in_ok-insert.ensures.updates.0 led n;
+            led = λ n. ap (λ s. n == 0 || is_led s n) w.led-is ∙ led-more records i p r within is shows c.requires has (is_led w.push.new.self) before w.in_ok-push.ensures led n;
             cut = w.cut-is ∙ c.loop-packet.invariant.cut ∙ sym (cut-led records i p r within is shows c.requires false led w.if-record.false);
           })
       | else-record-eq0+else-contains w ↦ (
           let not : front r.prev_volume ≡ false = led-not front has r.prev_volume before w.if-record-eq0.false (sym w.contains.ensures ∙ w.if-contains.false) in
           record {
-            led = λ n. ap (λ s. n == 0 || contains nat_cmp s n) w.led-is ∙ before n ∙ sym (leads-not records i p r within is shows c.requires not n);
+            led = λ n. ap (λ s. n == 0 || is_led s n) w.led-is ∙ before n ∙ sym (leads-not records i p r within is shows c.requires not n);
             cut = w.cut-is ∙ c.loop-packet.invariant.cut ∙ sym (cut-same records i p r within is shows c.requires not);
           })
     ]
+
+pub push-requires : goal.push-requires
+push-requires c = λ n e. led-below c.args.records.now c.loop-packet.packet-index c.packet-item.result (redo_of c.record-record.result.now) c.loop-packet-test.true c.packet-item.is c.record-record.ensures c.requires (is_led c.loop-packet.led) c.loop-packet.invariant.led n e

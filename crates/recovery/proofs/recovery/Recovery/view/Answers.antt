@@ -1,4 +1,4 @@
-use Rattle.std.proofs.Common.{◌≡◌, List, map, length, true, sym, ◌∙◌, subst}
+use Rattle.std.proofs.Common.{◌≡◌, List, map, length, true, subst}
 use Rattle.volume_model.specs.Plan.{Plan}
 use Rattle.volume_model.specs.Message as model
 use Rattle.volume_model.specs.Message.{place_in}
