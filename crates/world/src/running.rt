@@ -51,7 +51,7 @@ fn outcome_of(alloc: Global, plan: &Arc<CheckedPlan>, events: &[Event]) -> Resul
     ensures memory { IfErr result (λ e. e ≡ NoMemory) }
 {
     let mut actors = Actors::open(alloc, plan)?;
-    let mut results = Vec::new(alloc);
+    let mut results = Vec::with_capacity(alloc, events.len())?;
     for event in events {
         let result = told(actors.step(alloc, event))?;
         results.push(result)?;
@@ -75,8 +75,8 @@ fn outcome_of_orders(
     ensures memory { IfErr result (λ e. e ≡ NoMemory) }
 {
     let mut actors = Actors::open(alloc, plan)?;
-    let mut firsts = Vec::new(alloc);
-    let mut results = Vec::new(alloc);
+    let mut firsts = Vec::with_capacity(alloc, orders.len())?;
+    let mut results = Vec::with_capacity(alloc, orders.len())?;
     for order in orders {
         let made = actors.made();
         let step = follow(
