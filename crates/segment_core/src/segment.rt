@@ -238,7 +238,7 @@ impl Segment {
         let effect = Effect::Replace {
             volume: install.label.volume,
             lineage,
-            records,
+            records: Box::new(alloc, records)?,
         };
         self.acknowledged(alloc, install.label, scl, effect)
     }
@@ -635,7 +635,7 @@ impl Segment {
             effect: Effect::Hydrate {
                 volume: self.volume.max(volume),
                 lineage: contents.lineage,
-                records,
+                records: Box::new(alloc, records)?,
             },
         })
     }
@@ -668,7 +668,7 @@ impl Segment {
             } => {
                 self.volume = volume;
                 self.lineage = lineage;
-                self.records = records;
+                self.records = Box::into_inner(records);
                 self.assembly.clear();
             }
             Effect::Keep(keeping) => self.copies.keep(keeping),
@@ -679,7 +679,7 @@ impl Segment {
             } => {
                 self.volume = volume;
                 self.lineage = lineage;
-                self.records = records;
+                self.records = Box::into_inner(records);
                 self.whole = true;
             }
         }
