@@ -172,6 +172,7 @@ fn perform_search<H: Threads + Wait + Sync, P: FallibleRead, O: FallibleWrite, E
     ensures status { result ≤ 2 }
     ensures silent { result ≡ 0 → err.new ≡ err.old }
     ensures ends { Ends O.contents E.contents (AnswersOf (file_of P.remaining job.now.plan.now plan.old plan.new) SearchesTo) result out.old out.new err.old err.new }
+    ensures plan_read { FailsByRead P.answers plan.old plan.new }
     ensures out_written { FailsByWrite O.answers out.old out.new }
     ensures err_written { FailsByWrite E.answers err.old err.new }
 {
@@ -234,7 +235,7 @@ pub fn perform<
 
     // A file is said to be one that can't be read only where it couldn't be opened, or a read of it failed; and an output one that can't be
     // written only where a write to it failed, or took none of its bytes.
-    ensures plan_read { job.now.action ≢ Search → FailsByRead P.answers plan.old plan.new }
+    ensures plan_read { FailsByRead P.answers plan.old plan.new }
     ensures script_read { FailsByRead S.answers script.old script.new }
     ensures out_written { FailsByWrite O.answers out.old out.new }
     ensures err_written { FailsByWrite E.answers err.old err.new }
