@@ -1,4 +1,6 @@
+pub mod Calls
 pub mod Due
+pub mod Failing
 pub mod Findings
 pub mod Given
 pub mod Says

@@ -1,5 +1,6 @@
 pub mod Answer
 pub mod Stops
+pub mod Failures
 pub mod Streams
 pub mod Verdict
 pub mod Told

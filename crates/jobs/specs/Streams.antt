@@ -1,8 +1,9 @@
 -- What is read of files and written to outputs.
-use Rattle.std.specs.Prelude.{◌≡◌, ◌⊎◌, ℕ, List, [], ◌++◌, Bool, true, Option, None, Result, Ok, Err, IfSome, codes, take}
+use Rattle.std.specs.Prelude.{◌≡◌, ◌⊎◌, ℕ, List, [], ◌++◌, Bool, true, Option, None, Result, Ok, Err, IfSome, IsErr, codes, take}
 use Rattle.std.specs.Io.KnownBytes.{Appends}
 use Rattle.std.specs.declared.io.Error.{Error}
 use Rattle.jobs.specs.Answer.{Answer}
+use Rattle.jobs.specs.Failures.{ReadFails, WriteFails}
 use Rattle.jobs.specs.declared.files.Source.{Source}
 use Rattle.jobs.specs.declared.outputs.Output.{Output}
 
@@ -21,6 +22,16 @@ left_of remaining source = left_in remaining source.file
 abbrev pub is_unread : {R : Type 0} → Source R → Bool
 is_unread source = source.failed
 
+-- Why a file can't be read: it couldn't be opened, a read of it had failed before, or one fails now.
+pub data IsUnreadable {R : Type 0} (answers : R → Result ℕ Error → Type 0) (source : Source R) : Type 0 where
+  unopened : IsErr source.file → IsUnreadable answers source
+  had_failed : is_unread source ≡ true → IsUnreadable answers source
+  fails : ReadFails answers → IsUnreadable answers source
+
+-- The file is one of which a read failed only where that is why.
+abbrev pub FailsByRead : {R : Type 0} → (R → Result ℕ Error → Type 0) → Source R → Source R → Type 0
+FailsByRead answers old new = is_unread new ≡ true → IsUnreadable answers old
+
 -- the text that is read where a file has these bytes: one byte more than it may have, at most
 abbrev pub IsTextOf : Option (List ℕ) → List ℕ → Type 0
 IsTextOf known text = IfSome known (λ bytes. text ≡ take 16777217 bytes)
@@ -34,6 +45,14 @@ is_broken output = output.failed
 -- where an output's bytes go
 abbrev pub writer_of : {W : Type 0} → Output W → W
 writer_of output = output.writer
+
+-- Why an output can't be written: a write to it had failed before, or one fails now.
+abbrev pub IsUnwritable : {W : Type 0} → (W → List ℕ → Result ℕ Error → Type 0) → Output W → Type 0
+IsUnwritable answers output = (is_broken output ≡ true) ⊎ WriteFails answers
+
+-- The output is one to which a write failed only where that is why.
+abbrev pub FailsByWrite : {W : Type 0} → (W → List ℕ → Result ℕ Error → Type 0) → Output W → Output W → Type 0
+FailsByWrite answers old new = is_broken new ≡ true → IsUnwritable answers old
 
 -- this and nothing else was written to an output
 pub record Gets {W : Type 0} (contents : W → Option (List ℕ)) (old new : Output W) (text : List ℕ) : Type 0 where

@@ -1,11 +1,19 @@
 //! Files that are read whole.
 
-ghost use Rattle.std.specs.Prelude.{◌≡◌, IfOk, IfSome, take};
+ghost use Rattle.std.specs.Prelude.{◌≡◌, ◌≢◌, ◌⊎◌, ◌<◌, ◌≤◌, ◌++◌, Err, IfErr, IfOk, IfSome, IsErr, IsTrue, OnErr, OnOk, Ok, false, length, take, true, vec_len};
+ghost use Rattle.std.specs.Io.{ReadsAtMost};
+ghost use Rattle.std.specs.Io.KnownBytes.{IsAtEnd, ReadConsumes};
+ghost use Rattle.jobs.specs.Failures.{GrowsBy, ReadFails};
 ghost use Rattle.jobs.specs.Streams.{left_in};
+ghost use Rattle.jobs.specs.declared.files.ReadFault.TheVariants.{Unreadable};
 
-use std::alloc::Global;
+use crate::fallible::{FallibleRead, is_interrupted};
+use std::alloc::{AllocError, Global};
 use std::io;
 use std::io::{ErrorKind, Read};
+
+/// How many bytes are asked of a reader at a time.
+const CHUNK: usize = 16_384;
 
 /// A file to be read, or why it can't be opened; and whether a read of it has failed.
 #[derive(Drop)]
@@ -23,10 +31,26 @@ pub enum ReadFault {
     NoMemory,
 }
 
+impl From<AllocError> for ReadFault {
+    ghost use Rattle.jobs.specs.declared.files.ReadFault.TheVariants.{NoMemory};
+
+    ghost from_gives = { λ _ fault. fault ≡ NoMemory };
+
+    fn from(_error: AllocError) -> ReadFault {
+        ReadFault::NoMemory
+    }
+}
+
+/// Why a file isn't read whose open or read answered this error: want of memory is want of memory, whoever tells it.
+fn fault_of(error: &io::Error) -> ReadFault {
+    if error.kind() == ErrorKind::OutOfMemory {
+        return ReadFault::NoMemory;
+    }
+    ReadFault::Unreadable
+}
+
 impl<R: Read> Source<R> {
-    ghost use Rattle.std.specs.Prelude.{Err, OnOk, false, true};
     ghost use Rattle.jobs.specs.Streams.{is_unread, left_of};
-    ghost use Rattle.jobs.specs.declared.files.ReadFault.TheVariants.{Unreadable};
 
     /// A file as it was opened, of which nothing was read.
     pub fn new(file: io::Result<R>) -> Source<R>
@@ -38,6 +62,10 @@ impl<R: Read> Source<R> {
             failed: false,
         }
     }
+}
+
+impl<R: FallibleRead> Source<R> {
+    ghost use Rattle.jobs.specs.Streams.{is_unread, left_of, FailsByRead};
 
     /// The bytes that the file has left, but no more than `most` of them.
     ///
@@ -48,37 +76,99 @@ impl<R: Read> Source<R> {
         ensures bytes { IfOk result (λ v. IfSome (left_of R.remaining self.old) (λ bytes. v.items ≡ take most bytes)) }
         ensures whole { OnOk result (is_unread self.new ≡ false) }
         ensures failed { result ≡ Err Unreadable → is_unread self.new ≡ true }
+
+        // It is Unreadable only where the file couldn't be opened, or a read of it has failed.
+        ensures reason { FailsByRead R.answers self.old self.new }
     {
         if self.failed {
             return Err(ReadFault::Unreadable);
         }
-        match read_file(alloc, &mut self.file, most) {
-            Ok(bytes) => Ok(bytes),
-            Err(error) if error.kind() == ErrorKind::OutOfMemory => Err(ReadFault::NoMemory),
-            Err(_) => {
-                self.failed = true;
-                Err(ReadFault::Unreadable)
-            }
+        let bytes = read_file(alloc, &mut self.file, most as usize);
+        if let Err(ReadFault::Unreadable) = &bytes {
+            self.failed = true;
+        }
+        bytes
+    }
+}
+
+/// One read, made again where it is interrupted.
+fn read_on<R: FallibleRead>(reader: &mut R, buf: &mut [u8]) -> io::Result<usize>
+    ensures bound { ReadsAtMost result buf.new }
+    ensures bytes { ReadConsumes (R.remaining reader.old) (R.remaining reader.new) result buf.new }
+    ensures failed { OnErr result (ReadFails R.answers) }
+{
+    let mut last = reader.read_some(buf);
+    for _ in 0..u64::MAX {
+        if !is_interrupted(&last) {
+            return last;
+        }
+        last = reader.read_some(buf);
+    }
+    last
+}
+
+/// Reads on into `all`, and says whether there may be more: not where the reader is at its end, nor where so many bytes are
+/// there.
+fn read_more<R: FallibleRead>(
+    reader: &mut R,
+    chunk: &mut [u8],
+    all: &mut Vec<u8>,
+    most: usize,
+) -> Result<bool, ReadFault>
+    requires chunk { 0 < length chunk.old }
+    requires within { vec_len all.old ≤ most }
+    ensures grows { OnOk result (GrowsBy (R.remaining reader.old) (R.remaining reader.new) all.old.items all.new.items) }
+    ensures within { OnOk result (vec_len all.new ≤ most) }
+    ensures more { result ≡ Ok true → vec_len all.old < vec_len all.new }
+    ensures end { result ≡ Ok false → IsAtEnd (R.remaining reader.new) ⊎ (vec_len all.new ≡ most) }
+    ensures failed { result ≡ Err Unreadable → ReadFails R.answers }
+{
+    let room = (most - all.len()).min(chunk.len());
+    if room == 0 {
+        return Ok(false);
+    }
+    let front = &mut chunk[..room];
+    let count = read_on(reader, front).map_err(|error| fault_of(&error))?;
+    all.extend_from_slice(&front[..count])?;
+    Ok(count > 0)
+}
+
+/// So many bytes, for a reader to write.
+fn buffer(alloc: Global, size: usize) -> Result<Vec<u8>, AllocError>
+    ensures { IfOk result (λ v. vec_len v ≡ size) }
+{
+    vec![in alloc; 0; size]
+}
+
+/// The bytes that a reader has left, but no more than `most` of them.
+fn read_front<R: FallibleRead>(
+    alloc: Global,
+    reader: &mut R,
+    most: usize,
+) -> Result<Vec<u8>, ReadFault>
+    ensures bytes { IfOk result (λ v. IfSome (R.remaining reader.old) (λ bytes. v.items ≡ take most bytes)) }
+    ensures failed { result ≡ Err Unreadable → ReadFails R.answers }
+{
+    let mut all = Vec::new(alloc);
+    let mut chunk = buffer(alloc, CHUNK)?;
+    loop {
+        if !read_more(reader, chunk.as_mut_slice(), &mut all, most)? {
+            return Ok(all);
         }
     }
 }
 
-/// The bytes that a reader has left, but no more than `most` of them.
-fn read_front<R: Read>(alloc: Global, reader: &mut R, most: u64) -> io::Result<Vec<u8>>
-    ensures { IfOk result (λ v. IfSome (R.remaining reader.old) (λ bytes. v.items ≡ take most bytes)) }
-{
-    let mut all = Vec::new(alloc);
-    let mut front = Read::take(reader, most);
-    front.read_to_end(&mut all)?;
-    Ok(all)
-}
-
 /// The same of a file, where it was opened.
-fn read_file<R: Read>(alloc: Global, file: &mut io::Result<R>, most: u64) -> io::Result<Vec<u8>>
-    ensures { IfOk result (λ v. IfSome (left_in R.remaining file.old) (λ bytes. v.items ≡ take most bytes)) }
+fn read_file<R: FallibleRead>(
+    alloc: Global,
+    file: &mut io::Result<R>,
+    most: usize,
+) -> Result<Vec<u8>, ReadFault>
+    ensures bytes { IfOk result (λ v. IfSome (left_in R.remaining file.old) (λ bytes. v.items ≡ take most bytes)) }
+    ensures failed { result ≡ Err Unreadable → IsErr file.old ⊎ ReadFails R.answers }
 {
     match file {
         Ok(reader) => read_front(alloc, reader, most),
-        Err(error) => Err(*error),
+        Err(error) => Err(fault_of(error)),
     }
 }

@@ -10,8 +10,10 @@ ghost use Rattle.plan.specs.PlanText.{plan_of};
 ghost use Rattle.jobs.specs.Answers.{AnswersOf, BothAnswer, IsBadScript, PlanAnswers, file_of, script_name};
 ghost use Rattle.jobs.specs.Read.{IsPlanOf, IsRead, IsScriptOf};
 ghost use Rattle.jobs.specs.Stops.{StopsAtLine, StopsBy, stop_answer};
+ghost use Rattle.jobs.specs.Streams.{FailsByRead};
 ghost use Rattle.jobs.specs.Verdict.{text_fault};
 
+use crate::fallible::FallibleRead;
 use crate::files::{ReadFault, Source};
 use crate::reply::Stop;
 use command_line::Job;
@@ -19,20 +21,20 @@ use plan::{CheckedPlan, Plan, check_plan};
 use plan_tokens::read_plan;
 use script::{Script, read_script};
 use std::alloc::Global;
-use std::io::Read;
 use std::sync::Arc;
 
 /// The most bytes that are read of a file: one more than a plan's text or a script may have.
 const FILE_BYTES: u64 = 16_777_217;
 
 /// The text of a file with this name.
-pub fn contents<'a, R: Read>(
+pub fn contents<'a, R: FallibleRead>(
     alloc: Global,
     name: &'a str,
     file: &mut Source<R>,
 ) -> Result<Vec<u8>, Stop<'a>>
     ensures read { IfOk result (λ v. IsRead (file_of R.remaining name.entry.now file.old file.new) (λ text. v.items ≡ text)) }
     ensures stop { IfErr result (λ stop. AnswersOf (file_of R.remaining name.entry.now file.old file.new) (λ _ _. ⊥) (stop_answer stop)) }
+    ensures reason { FailsByRead R.answers file.old file.new }
 {
     match file.read_all(alloc, FILE_BYTES) {
         Ok(bytes) => Ok(bytes),
@@ -78,13 +80,14 @@ fn checked_text(alloc: Global, text: &[u8]) -> Result<CheckedPlan, Stop<'static>
 }
 
 /// The plan of a file, where it is read and has no fault.
-pub fn checked<'a, P: Read>(
+pub fn checked<'a, P: FallibleRead>(
     alloc: Global,
     name: &'a str,
     plan: &mut Source<P>,
 ) -> Result<CheckedPlan, Stop<'a>>
     ensures plan { IfOk result (λ checked. IsRead (file_of P.remaining name.entry.now plan.old plan.new) (λ text. IsPlanOf text checked)) }
     ensures stop { IfErr result (λ stop. AnswersOf (file_of P.remaining name.entry.now plan.old plan.new) (λ text. PlanAnswers text (λ _ _. ⊥)) (stop_answer stop)) }
+    ensures reason { FailsByRead P.answers plan.old plan.new }
 {
     let text = contents(alloc, name, plan)?;
     checked_text(alloc, text.as_slice())
@@ -102,13 +105,14 @@ fn script_in(alloc: Global, text: &[u8]) -> Result<Script, Stop<'static>>
 }
 
 /// The script of a file, where it is read and is one.
-fn script_of<'a, S: Read>(
+fn script_of<'a, S: FallibleRead>(
     alloc: Global,
     name: &'a str,
     script: &mut Source<S>,
 ) -> Result<Script, Stop<'a>>
     ensures script { IfOk result (λ read. IsRead (file_of S.remaining name.entry.now script.old script.new) (λ text. IsScriptOf text read)) }
     ensures stop { IfErr result (λ stop. AnswersOf (file_of S.remaining name.entry.now script.old script.new) IsBadScript (stop_answer stop)) }
+    ensures reason { FailsByRead S.answers script.old script.new }
 {
     let text = contents(alloc, name, script)?;
     script_in(alloc, text.as_slice())
@@ -132,7 +136,7 @@ fn script_name<'a>(job: &Job<'a>) -> &'a str
 }
 
 /// The script of a job's file, where it is read and is one, with its plan.
-fn with_script<'a, S: Read>(
+fn with_script<'a, S: FallibleRead>(
     alloc: Global,
     plan: CheckedPlan,
     job: &Job<'a>,
@@ -141,6 +145,7 @@ fn with_script<'a, S: Read>(
     ensures plan { IfOk result (λ both. arc_value both.plan ≡ plan) }
     ensures script { IfOk result (λ both. IsRead (file_of S.remaining (script_name job.now) script.old script.new) (λ text. IsScriptOf text both.script)) }
     ensures stop { IfErr result (λ stop. AnswersOf (file_of S.remaining (script_name job.now) script.old script.new) IsBadScript (stop_answer stop)) }
+    ensures reason { FailsByRead S.answers script.old script.new }
 {
     let plan = Arc::new(alloc, plan)?;
     let script = script_of(alloc, script_name(job), script)?;
@@ -148,7 +153,7 @@ fn with_script<'a, S: Read>(
 }
 
 /// The plan of a job's file, where it is read and has no fault, and then the script of the other, where it is read and is one.
-pub fn plan_and_script<'a, P: Read, S: Read>(
+pub fn plan_and_script<'a, P: FallibleRead, S: FallibleRead>(
     alloc: Global,
     job: &Job<'a>,
     plan: &mut Source<P>,
@@ -157,6 +162,8 @@ pub fn plan_and_script<'a, P: Read, S: Read>(
     ensures plan { IfOk result (λ both. IsRead (file_of P.remaining job.now.plan.now plan.old plan.new) (λ text. IsPlanOf text (arc_value both.plan))) }
     ensures script { IfOk result (λ both. IsRead (file_of S.remaining (script_name job.now) script.old script.new) (λ text. IsScriptOf text both.script)) }
     ensures stop { IfErr result (λ stop. AnswersOf (file_of P.remaining job.now.plan.now plan.old plan.new) (BothAnswer (λ _ _ _ _. ⊥) (file_of S.remaining (script_name job.now) script.old script.new)) (stop_answer stop)) }
+    ensures plan_read { FailsByRead P.answers plan.old plan.new }
+    ensures script_read { FailsByRead S.answers script.old script.new }
 {
     match checked(alloc, job.plan, plan) {
         Ok(plan) => with_script(alloc, plan, job, script),

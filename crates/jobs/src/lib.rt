@@ -1,6 +1,7 @@
 //! A job, done on the contents of its files: what is answered to it, printed and told.
 #![tactic(auto)]
 
+mod fallible;
 mod files;
 mod inputs;
 mod outputs;
@@ -10,6 +11,7 @@ mod running;
 mod search;
 mod told;
 
+pub use fallible::{FallibleRead, FallibleWrite};
 pub use files::{ReadFault, Source};
 pub use outputs::{Output, WriteFailed, deliver};
 pub use performing::perform;

@@ -1,9 +1,14 @@
 //! What is written.
 
-ghost use Rattle.std.specs.Prelude.{◌≡◌, ◌⊎◌, ◌≤◌, true};
-ghost use Rattle.jobs.specs.Streams.{Delivers, Gets, HasPrinted, is_broken, unwritten_line, writer_of};
+ghost use Rattle.std.specs.Prelude.{◌≡◌, ◌⊎◌, ◌<◌, ◌≤◌, true, IfOk, OnErr, OnOk, length, take};
+ghost use Rattle.std.specs.Io.{WritesAtMost};
+ghost use Rattle.std.specs.Io.KnownBytes.{Appends, WriteAppends};
+ghost use Rattle.jobs.specs.Failures.{WasAnswered, WriteFails};
+ghost use Rattle.jobs.specs.Streams.{Delivers, FailsByWrite, Gets, HasPrinted, is_broken, unwritten_line, writer_of};
 
-use std::io::Write;
+use crate::fallible::{FallibleWrite, is_interrupted};
+use std::io;
+use std::io::ErrorKind;
 
 /// A writer, and whether a write to it has failed.
 #[derive(Drop)]
@@ -39,9 +44,55 @@ impl<W> Output<W> {
     }
 }
 
-impl<W: Write> Output<W> {
-    ghost use Rattle.std.specs.Prelude.{OnErr, OnOk};
+/// One write, made again where it is interrupted.
+fn write_on<W: FallibleWrite>(writer: &mut W, bytes: &[u8]) -> io::Result<usize>
+    ensures bound { WritesAtMost result bytes.now }
+    ensures bytes { WriteAppends (W.contents writer.old) (W.contents writer.new) result bytes.now }
+    ensures answered { WasAnswered W.answers bytes.now result }
+{
+    let mut last = writer.write_some(bytes);
+    for _ in 0..u64::MAX {
+        if !is_interrupted(&last) {
+            return last;
+        }
+        last = writer.write_some(bytes);
+    }
+    last
+}
 
+/// How many of these bytes a writer takes now, one at least.
+///
+/// # Errors
+/// Where the writer fails, or takes none.
+fn write_part<W: FallibleWrite>(writer: &mut W, bytes: &[u8]) -> Result<usize, WriteFailed>
+    requires { 0 < length bytes.now }
+    ensures taken { IfOk result (λ count. (0 < count) × (count ≤ length bytes.now)) }
+    ensures bytes { IfOk result (λ count. Appends (W.contents writer.old) (W.contents writer.new) (take count bytes.now)) }
+    ensures failed { OnErr result (WriteFails W.answers) }
+{
+    let Ok(count) = write_on(writer, bytes) else {
+        return Err(WriteFailed);
+    };
+    if count == 0 {
+        return Err(WriteFailed);
+    }
+    Ok(count)
+}
+
+/// Writes all of these bytes.
+fn write_whole<W: FallibleWrite>(writer: &mut W, bytes: &[u8]) -> Result<(), WriteFailed>
+    ensures written { OnOk result (Appends (W.contents writer.old) (W.contents writer.new) bytes.now) }
+    ensures failed { OnErr result (WriteFails W.answers) }
+{
+    let mut rest = bytes;
+    while !rest.is_empty() {
+        let count = write_part(writer, rest)?;
+        rest = &rest[count..];
+    }
+    Ok(())
+}
+
+impl<W: FallibleWrite> Output<W> {
     /// Writes these bytes at the end.
     ///
     /// # Errors
@@ -49,33 +100,37 @@ impl<W: Write> Output<W> {
     pub fn emit(&mut self, bytes: &[u8]) -> Result<(), WriteFailed>
         ensures written { OnOk result (Gets W.contents self.old self.new bytes.now) }
         ensures failed { OnErr result (is_broken self.new ≡ true) }
+        ensures reason { OnErr result (WriteFails W.answers) }
     {
         if bytes.is_empty() {
             return Ok(());
         }
-        if self.writer.write_all(bytes).is_err() {
+        let written = write_whole(&mut self.writer, bytes);
+        if written.is_err() {
             self.failed = true;
-            return Err(WriteFailed);
         }
-        Ok(())
+        written
     }
 }
 
 /// Says of an output that it can't be written.
-fn complain<E: Write>(err: &mut Output<E>)
-    ensures { Gets E.contents err.old err.new unwritten_line ⊎ (is_broken err.new ≡ true) }
+fn complain<E: FallibleWrite>(err: &mut Output<E>)
+    ensures line { Gets E.contents err.old err.new unwritten_line ⊎ (is_broken err.new ≡ true) }
+    ensures reason { FailsByWrite E.answers err.old err.new }
 {
     let _ = err.emit(b"output: cannot write\n");
 }
 
 /// Writes what is printed, and gives the exit status: 2 where it can't be written.
-fn print<O: Write, E: Write>(
+fn print<O: FallibleWrite, E: FallibleWrite>(
     status: u8,
     printed: &[u8],
     out: &mut Output<O>,
     err: &mut Output<E>,
 ) -> u8
-    ensures { HasPrinted O.contents E.contents status printed.now result out.old out.new err.old err.new }
+    ensures printed { HasPrinted O.contents E.contents status printed.now result out.old out.new err.old err.new }
+    ensures out_written { FailsByWrite O.answers out.old out.new }
+    ensures err_written { FailsByWrite E.answers err.old err.new }
 {
     match out.emit(printed) {
         Ok(()) => status,
@@ -87,7 +142,7 @@ fn print<O: Write, E: Write>(
 }
 
 /// Writes an answer, what is told to `err` and what is printed to `out`, and gives its exit status: 2 where it can't be written.
-pub fn deliver<O: Write, E: Write>(
+pub fn deliver<O: FallibleWrite, E: FallibleWrite>(
     status: u8,
     printed: &[u8],
     told: &[u8],
@@ -97,6 +152,10 @@ pub fn deliver<O: Write, E: Write>(
     requires { status ≤ 2 }
     ensures status { result ≤ 2 }
     ensures delivers { Delivers O.contents E.contents (record { status = status; out = printed.now; err = told.now }) result out.old out.new err.old err.new }
+
+    // An output has failed only where a write to it has.
+    ensures out_written { FailsByWrite O.answers out.old out.new }
+    ensures err_written { FailsByWrite E.answers err.old err.new }
 {
     match err.emit(told) {
         Ok(()) => print(status, printed, out, err),

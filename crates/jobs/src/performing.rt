@@ -7,11 +7,12 @@ ghost use Rattle.jobs.specs.Answer.{IsSaid};
 ghost use Rattle.jobs.specs.Answers.{AnswersOf, ChecksTo, FleetsTo, RunsTo, file_of, script_name};
 ghost use Rattle.jobs.specs.Searched.{SearchesTo};
 ghost use Rattle.jobs.specs.Stops.{answer_of, stop_answer};
-ghost use Rattle.jobs.specs.Streams.{Ends, left_of};
+ghost use Rattle.jobs.specs.Streams.{Ends, FailsByRead, FailsByWrite, left_of};
 ghost use Rattle.jobs.specs.Told.{plan_line};
 ghost use Rattle.jobs.specs.Verdict.{IsCertifiedText, IsFaultyText};
 ghost use Rattle.jobs.specs.declared.reply.Stop.TheVariants.{NoMemory};
 
+use crate::fallible::{FallibleRead, FallibleWrite};
 use crate::files::Source;
 use crate::inputs::checked;
 use crate::outputs::{Output, deliver};
@@ -22,7 +23,6 @@ use crate::told::checked_line;
 use command_line::{Action, Job};
 use plan::CheckedPlan;
 use std::alloc::Global;
-use std::io::{Read, Write};
 use std::sync::Wait;
 use std::thread::Threads;
 
@@ -37,8 +37,13 @@ fn plan_told(alloc: Global, plan: &CheckedPlan) -> Result<Reply, Stop<'static>>
 }
 
 /// What `check` says.
-fn check<'a, P: Read>(alloc: Global, name: &'a str, plan: &mut Source<P>) -> Result<Reply, Stop<'a>>
-    ensures { AnswersOf (file_of P.remaining name.entry.now plan.old plan.new) ChecksTo (answer_of result) }
+fn check<'a, P: FallibleRead>(
+    alloc: Global,
+    name: &'a str,
+    plan: &mut Source<P>,
+) -> Result<Reply, Stop<'a>>
+    ensures answers { AnswersOf (file_of P.remaining name.entry.now plan.old plan.new) ChecksTo (answer_of result) }
+    ensures reason { FailsByRead P.answers plan.old plan.new }
 {
     match checked(alloc, name, plan) {
         Ok(plan) => plan_told(alloc, &plan),
@@ -47,7 +52,7 @@ fn check<'a, P: Read>(alloc: Global, name: &'a str, plan: &mut Source<P>) -> Res
 }
 
 /// Says why a job ends before its own answer.
-fn refuse<O: Write, E: Write>(
+fn refuse<O: FallibleWrite, E: FallibleWrite>(
     alloc: Global,
     stop: &Stop<'_>,
     out: &mut Output<O>,
@@ -55,6 +60,8 @@ fn refuse<O: Write, E: Write>(
 ) -> u8
     ensures status { result ≤ 2 }
     ensures ends { Ends O.contents E.contents (IsSaid (stop_answer stop.now)) result out.old out.new err.old err.new }
+    ensures out_written { FailsByWrite O.answers out.old out.new }
+    ensures err_written { FailsByWrite E.answers err.old err.new }
 {
     match format!(in alloc; "{stop}") {
         Ok(line) if stop.is_input() => deliver(2, b"", line.as_bytes(), out, err),
@@ -64,7 +71,7 @@ fn refuse<O: Write, E: Write>(
 }
 
 /// Says what a job answers, or why it ends before.
-fn finish<O: Write, E: Write>(
+fn finish<O: FallibleWrite, E: FallibleWrite>(
     alloc: Global,
     answer: &Result<Reply, Stop<'_>>,
     out: &mut Output<O>,
@@ -72,6 +79,8 @@ fn finish<O: Write, E: Write>(
 ) -> u8
     ensures status { result ≤ 2 }
     ensures ends { Ends O.contents E.contents (IsSaid (answer_of answer.now)) result out.old out.new err.old err.new }
+    ensures out_written { FailsByWrite O.answers out.old out.new }
+    ensures err_written { FailsByWrite E.answers err.old err.new }
 {
     match answer {
         Ok(reply) => deliver(reply.status, reply.text.as_bytes(), b"", out, err),
@@ -80,7 +89,7 @@ fn finish<O: Write, E: Write>(
 }
 
 /// Does a check, as [`perform`] does.
-fn perform_check<P: Read, O: Write, E: Write>(
+fn perform_check<P: FallibleRead, O: FallibleWrite, E: FallibleWrite>(
     alloc: Global,
     job: &Job<'_>,
     plan: &mut Source<P>,
@@ -92,13 +101,16 @@ fn perform_check<P: Read, O: Write, E: Write>(
     ensures no { result ≡ 1 → IfSome (left_of P.remaining plan.old) (λ bytes. IsFaultyText (take 16777217 bytes)) }
     ensures quiet { result < 2 → err.new ≡ err.old }
     ensures ends { Ends O.contents E.contents (AnswersOf (file_of P.remaining job.now.plan.now plan.old plan.new) ChecksTo) result out.old out.new err.old err.new }
+    ensures plan_read { FailsByRead P.answers plan.old plan.new }
+    ensures out_written { FailsByWrite O.answers out.old out.new }
+    ensures err_written { FailsByWrite E.answers err.old err.new }
 {
     let answer = check(alloc, job.plan, plan);
     finish(alloc, &answer, out, err)
 }
 
 /// Runs a script, as [`perform`] does.
-fn perform_run<P: Read, S: Read, O: Write, E: Write>(
+fn perform_run<P: FallibleRead, S: FallibleRead, O: FallibleWrite, E: FallibleWrite>(
     alloc: Global,
     job: &Job<'_>,
     plan: &mut Source<P>,
@@ -110,13 +122,23 @@ fn perform_run<P: Read, S: Read, O: Write, E: Write>(
     ensures yes { result ≡ 0 → IfSome (left_of P.remaining plan.old) (λ bytes. IsCertifiedText (take 16777217 bytes)) }
     ensures quiet { result < 2 → err.new ≡ err.old }
     ensures ends { Ends O.contents E.contents (AnswersOf (file_of P.remaining job.now.plan.now plan.old plan.new) (RunsTo (file_of S.remaining (script_name job.now) script.old script.new))) result out.old out.new err.old err.new }
+    ensures plan_read { FailsByRead P.answers plan.old plan.new }
+    ensures script_read { FailsByRead S.answers script.old script.new }
+    ensures out_written { FailsByWrite O.answers out.old out.new }
+    ensures err_written { FailsByWrite E.answers err.old err.new }
 {
     let answer = run(alloc, job, plan, script);
     finish(alloc, &answer, out, err)
 }
 
 /// Runs a script on threads, as [`perform`] does.
-fn perform_fleet<H: Threads + Wait + Sync, P: Read, S: Read, O: Write, E: Write>(
+fn perform_fleet<
+    H: Threads + Wait + Sync,
+    P: FallibleRead,
+    S: FallibleRead,
+    O: FallibleWrite,
+    E: FallibleWrite,
+>(
     rt: &H,
     alloc: Global,
     job: &Job<'_>,
@@ -129,13 +151,17 @@ fn perform_fleet<H: Threads + Wait + Sync, P: Read, S: Read, O: Write, E: Write>
     ensures yes { result ≡ 0 → IfSome (left_of P.remaining plan.old) (λ bytes. IsCertifiedText (take 16777217 bytes)) }
     ensures quiet { result < 2 → err.new ≡ err.old }
     ensures ends { Ends O.contents E.contents (AnswersOf (file_of P.remaining job.now.plan.now plan.old plan.new) (FleetsTo (file_of S.remaining (script_name job.now) script.old script.new))) result out.old out.new err.old err.new }
+    ensures plan_read { FailsByRead P.answers plan.old plan.new }
+    ensures script_read { FailsByRead S.answers script.old script.new }
+    ensures out_written { FailsByWrite O.answers out.old out.new }
+    ensures err_written { FailsByWrite E.answers err.old err.new }
 {
     let answer = fleet(rt, alloc, job, plan, script);
     finish(alloc, &answer, out, err)
 }
 
 /// Searches for certificates, as [`perform`] does.
-fn perform_search<H: Threads + Wait + Sync, P: Read, O: Write, E: Write>(
+fn perform_search<H: Threads + Wait + Sync, P: FallibleRead, O: FallibleWrite, E: FallibleWrite>(
     rt: &H,
     alloc: Global,
     job: &Job<'_>,
@@ -146,6 +172,9 @@ fn perform_search<H: Threads + Wait + Sync, P: Read, O: Write, E: Write>(
     ensures status { result ≤ 2 }
     ensures silent { result ≡ 0 → err.new ≡ err.old }
     ensures ends { Ends O.contents E.contents (AnswersOf (file_of P.remaining job.now.plan.now plan.old plan.new) SearchesTo) result out.old out.new err.old err.new }
+    ensures plan_read { FailsByRead P.answers plan.old plan.new }
+    ensures out_written { FailsByWrite O.answers out.old out.new }
+    ensures err_written { FailsByWrite E.answers err.old err.new }
 {
     match search(rt, alloc, job, plan) {
         Ok(found) => deliver(
@@ -162,7 +191,13 @@ fn perform_search<H: Threads + Wait + Sync, P: Read, O: Write, E: Write>(
 /// Does a job on the contents of its files, writes what it says, and gives the exit status: 0 for yes, 1 for a refusal, 2 for
 /// an input that can't be used, which is written to `err` alone, or an output that can't be written. The script is read by `run`
 /// and `fleet` alone, and `fleet` and `search` alone start threads.
-pub fn perform<H: Threads + Wait + Sync, P: Read, S: Read, O: Write, E: Write>(
+pub fn perform<
+    H: Threads + Wait + Sync,
+    P: FallibleRead,
+    S: FallibleRead,
+    O: FallibleWrite,
+    E: FallibleWrite,
+>(
     rt: &H,
     alloc: Global,
     job: &Job<'_>,
@@ -197,6 +232,13 @@ pub fn perform<H: Threads + Wait + Sync, P: Read, S: Read, O: Write, E: Write>(
     // What a search answers and writes is due to the text of its file: the line of the first fault of the plan or of its claims; or the plan
     // that the text spells with what was found for its claims, and the claims for which nothing was.
     ensures searches { job.now.action ≡ Search → Ends O.contents E.contents (AnswersOf (file_of P.remaining job.now.plan.now plan.old plan.new) SearchesTo) result out.old out.new err.old err.new }
+
+    // A file is said to be one that can't be read only where it couldn't be opened, or a read of it failed; and an output one that can't be
+    // written only where a write to it failed, or took none of its bytes.
+    ensures plan_read { FailsByRead P.answers plan.old plan.new }
+    ensures script_read { FailsByRead S.answers script.old script.new }
+    ensures out_written { FailsByWrite O.answers out.old out.new }
+    ensures err_written { FailsByWrite E.answers err.old err.new }
 {
     match job.action {
         Action::Check => perform_check(alloc, job, plan, out, err),

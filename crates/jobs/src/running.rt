@@ -5,9 +5,11 @@ ghost use Rattle.std.specs.Arc.{arc_value};
 ghost use Rattle.plan.specs.CheckedModel.{checked_model};
 ghost use Rattle.jobs.specs.Answers.{AnswersOf, FleetsTo, RunsTo, TellsOrders, file_of, script_name};
 ghost use Rattle.jobs.specs.Stops.{answer_of};
+ghost use Rattle.jobs.specs.Streams.{FailsByRead};
 ghost use Rattle.jobs.specs.ToldFleet.{TellsFleet};
 ghost use Rattle.jobs.specs.declared.reply.Stop.TheVariants.{NoMemory};
 
+use crate::fallible::FallibleRead;
 use crate::files::Source;
 use crate::inputs::plan_and_script;
 use crate::reply::{Reply, Stop};
@@ -17,7 +19,6 @@ use drivers::drive;
 use plan::CheckedPlan;
 use script::Script;
 use std::alloc::Global;
-use std::io::Read;
 use std::sync::{Arc, Wait};
 use std::thread::Threads;
 use world::run_orders;
@@ -34,13 +35,15 @@ fn ran(alloc: Global, plan: &Arc<CheckedPlan>, script: &Script) -> Result<Reply,
 }
 
 /// What `run` says: the plan is checked, then the whole script is read, then it is run.
-pub fn run<'a, P: Read, S: Read>(
+pub fn run<'a, P: FallibleRead, S: FallibleRead>(
     alloc: Global,
     job: &Job<'a>,
     plan: &mut Source<P>,
     script: &mut Source<S>,
 ) -> Result<Reply, Stop<'a>>
-    ensures { AnswersOf (file_of P.remaining job.now.plan.now plan.old plan.new) (RunsTo (file_of S.remaining (script_name job.now) script.old script.new)) (answer_of result) }
+    ensures answers { AnswersOf (file_of P.remaining job.now.plan.now plan.old plan.new) (RunsTo (file_of S.remaining (script_name job.now) script.old script.new)) (answer_of result) }
+    ensures plan_read { FailsByRead P.answers plan.old plan.new }
+    ensures script_read { FailsByRead S.answers script.old script.new }
 {
     match plan_and_script(alloc, job, plan, script) {
         Ok(both) => ran(alloc, &both.plan, &both.script),
@@ -67,14 +70,16 @@ fn driven<H: Threads + Wait + Sync>(
 }
 
 /// What `fleet` says: the plan is checked, then the whole script is read, then it is run on threads.
-pub fn fleet<'a, H: Threads + Wait + Sync, P: Read, S: Read>(
+pub fn fleet<'a, H: Threads + Wait + Sync, P: FallibleRead, S: FallibleRead>(
     rt: &H,
     alloc: Global,
     job: &Job<'a>,
     plan: &mut Source<P>,
     script: &mut Source<S>,
 ) -> Result<Reply, Stop<'a>>
-    ensures { AnswersOf (file_of P.remaining job.now.plan.now plan.old plan.new) (FleetsTo (file_of S.remaining (script_name job.now) script.old script.new)) (answer_of result) }
+    ensures answers { AnswersOf (file_of P.remaining job.now.plan.now plan.old plan.new) (FleetsTo (file_of S.remaining (script_name job.now) script.old script.new)) (answer_of result) }
+    ensures plan_read { FailsByRead P.answers plan.old plan.new }
+    ensures script_read { FailsByRead S.answers script.old script.new }
 {
     match plan_and_script(alloc, job, plan, script) {
         Ok(both) => driven(rt, alloc, &both.plan, &both.script, job.workers),

@@ -13,9 +13,11 @@ ghost use Rattle.cert_search.specs.Answers.{rule_in, AreAnswersOf};
 ghost use Rattle.jobs.specs.Answers.{AnswersOf, file_of};
 ghost use Rattle.jobs.specs.Searched.{IsPlanLine, SearchesTo, TellsSearch, claims_of, found_answer};
 ghost use Rattle.jobs.specs.Stops.{StopsBy};
+ghost use Rattle.jobs.specs.Streams.{FailsByRead};
 ghost use Rattle.jobs.specs.Unfound.{claim_line, unfound_line, unfound_lines};
 ghost use Rattle.jobs.specs.declared.reply.Stop.TheVariants.{NoMemory};
 
+use crate::fallible::FallibleRead;
 use crate::files::Source;
 use crate::inputs::{contents, plan_in};
 use crate::reply::{Found, Stop};
@@ -25,7 +27,6 @@ use plan::{LentClaim, Plan, claim_name, lent_claims, shown_claims_certify};
 use plan_tokens::write_plan;
 use refutation::Certificate;
 use std::alloc::{AllocError, Global};
-use std::io::Read;
 use std::sync::Wait;
 use std::thread::Threads;
 
@@ -168,13 +169,14 @@ fn searched<H: Threads + Wait + Sync>(
 }
 
 /// What `search` says.
-pub fn search<'a, H: Threads + Wait + Sync, P: Read>(
+pub fn search<'a, H: Threads + Wait + Sync, P: FallibleRead>(
     rt: &H,
     alloc: Global,
     job: &Job<'a>,
     plan: &mut Source<P>,
 ) -> Result<Found, Stop<'a>>
-    ensures { AnswersOf (file_of P.remaining job.now.plan.now plan.old plan.new) SearchesTo (found_answer result) }
+    ensures answers { AnswersOf (file_of P.remaining job.now.plan.now plan.old plan.new) SearchesTo (found_answer result) }
+    ensures reason { FailsByRead P.answers plan.old plan.new }
 {
     let text = contents(alloc, job.plan, plan)?;
     searched(rt, alloc, text.as_slice(), job.workers)

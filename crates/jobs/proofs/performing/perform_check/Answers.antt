@@ -11,7 +11,7 @@ pub returns-clause-ends : goal.returns-clause-ends
 returns-clause-ends g c =
     let file = file_of g.P.Read.remaining c.args.job.now.plan.now c.args.plan.now c.check-answer.new.plan in
     ends_by g.O.Write.contents g.E.Write.contents (IsSaid (answer_of c.check-answer.result)) (AnswersOf file ChecksTo) c.finish.result c.args.out.now c.finish.new.out c.args.err.now c.finish.new.err
-    (λ a said. said_due ChecksTo file (answer_of c.check-answer.result) a c.check-answer.ensures said) c.finish.ensures.ends
+    (λ a said. said_due ChecksTo file (answer_of c.check-answer.result) a c.check-answer.ensures.answers said) c.finish.ensures.ends
 
 pub returns-clause-no : goal.returns-clause-no
 returns-clause-no g c one =

@@ -13,7 +13,7 @@ returns-in-Ok-clause-ends g c =
     let found = c.in-Ok.found in
     let file = file_of g.P.Read.remaining c.args.job.now.plan.now c.args.plan.now c.search.new.plan in
     ends_as g.O.Write.contents g.E.Write.contents (AnswersOf file SearchesTo) c.deliver.result c.args.out.now c.deliver.new.out c.args.err.now c.deliver.new.err found.status found.plan.items c.as_slice.result.now (string_bytes found.unfound) c.as_bytes.result.now
-    c.as_slice.ensures.value c.as_bytes.ensures.value c.in-Ok.ensures c.deliver.ensures.delivers
+    c.as_slice.ensures.value c.as_bytes.ensures.value c.in-Ok.ensures.answers c.deliver.ensures.delivers
 
 pub returns-in-Ok-clause-silent : goal.returns-in-Ok-clause-silent
 returns-in-Ok-clause-silent g c zero =
@@ -25,4 +25,4 @@ pub returns-in-Err-clause-ends : goal.returns-in-Err-clause-ends
 returns-in-Err-clause-ends g c =
     let file = file_of g.P.Read.remaining c.args.job.now.plan.now c.args.plan.now c.search.new.plan in
     ends_by g.O.Write.contents g.E.Write.contents (IsSaid (stop_answer c.in-Err.stop)) (AnswersOf file SearchesTo) c.refuse.result c.args.out.now c.refuse.new.out c.args.err.now c.refuse.new.err
-    (λ a said. said_due SearchesTo file (stop_answer c.in-Err.stop) a c.in-Err.ensures said) c.refuse.ensures.ends
+    (λ a said. said_due SearchesTo file (stop_answer c.in-Err.stop) a c.in-Err.ensures.answers said) c.refuse.ensures.ends
