@@ -1,12 +1,10 @@
 //! What each order came to.
 
-ghost use Rattle.std.specs.Prelude.{◌≡◌, ◌+◌, IfOk, IfErr, vec_len};
-ghost use Rattle.volume_model.specs.declared.fault.Fault.TheVariants.{NoMemory};
+ghost use Rattle.std.specs.Prelude.{◌≡◌, IfOk, vec_len};
 
 use crate::word::{Told, Word};
 use std::alloc::{AllocError, Global};
 use std::sync::{OnceLock, Wait};
-use volume_model::Fault;
 
 /// A word for each order of a script, in which is told what it came to.
 #[derive(Drop)]
@@ -64,23 +62,17 @@ impl Desk {
         }
     }
 
-    /// How many orders were made, and how many were refused.
+    /// What each order came to, in their order. Waits until all of it is told.
     ///
     /// # Errors
-    /// `NoMemory` where one of them was refused for want of memory.
-    pub fn counts<R: Wait>(&self, rt: &R) -> Result<(usize, usize), Fault>
-        ensures all { IfOk result (λ counts. counts.0 + counts.1 ≡ vec_len self.now.words) }
-        ensures memory { IfErr result (λ fault. fault ≡ NoMemory) }
+    /// Where a growth was refused.
+    pub fn all<R: Wait>(&self, rt: &R, alloc: Global) -> Result<Vec<Told>, AllocError>
+        ensures { IfOk result (λ told. vec_len told ≡ vec_len self.now.words) }
     {
-        let mut made = 0;
-        let mut refused = 0;
+        let mut all = Vec::with_capacity(alloc, self.words.len())?;
         for word in &self.words {
-            match word.wait(rt) {
-                Told::Made { .. } => made += 1,
-                Told::Refused => refused += 1,
-                Told::Starved => return Err(Fault::NoMemory),
-            }
+            all.push(word.wait(rt))?;
         }
-        Ok((made, refused))
+        Ok(all)
     }
 }
