@@ -17,7 +17,7 @@ use Rattle.plan_tokens.specs.Spelled.{Spells, SpellsSome}
 use Rattle.plan_tokens.specs.Configurations.{IsConfiguration, AreConfigurations, IsGroup, AreGroups}
 use Rattle.plan_tokens.proofs.Spelled.{Passes, none_passed, one_passed, joined, list_read}
 
-items_len-joined : (ds : List Data) → items_len (joined ds no_items) ≡ length ds
+pub items_len-joined : (ds : List Data) → items_len (joined ds no_items) ≡ length ds
 items_len-joined [] = refl
 items_len-joined (d ∷ ds) = ap suc (items_len-joined ds)
 

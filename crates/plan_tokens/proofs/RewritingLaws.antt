@@ -1,5 +1,5 @@
 -- Configurations, groups and plans with other certificates, put together from their values.
-use Rattle.std.proofs.Common.{◌≡◌, ℕ, suc, ◌+◌, ◌-◌, ◌*◌, ◌≤◌, List, [], ◌∷◌, ◌++◌, length, drop, codes, refl, ap, sym, subst, ◌∙◌, arith, append-nil, append_assoc, Option, Some, None, Result, Ok, Err}
+use Rattle.std.proofs.Common.{◌≡◌, ℕ, ◌+◌, ◌-◌, ◌*◌, ◌≤◌, List, [], ◌∷◌, ◌++◌, length, drop, codes, refl, ap, sym, subst, ◌∙◌, arith, append-nil, append_assoc, Option, Some, None, Result, Ok, Err}
 use Rattle.std.specs.Prelude.{true, option_map}
 use Rattle.std.specs.declared.alloc.Global.{Global}
 use Rattle.std.proofs.lemmas.Bool.Decides.{nat_tests}
@@ -25,20 +25,13 @@ use Rattle.plan_tokens.specs.Rewritten.{front_members, parent_data, Copies, IsCo
 use Rattle.plan_tokens.specs.Spelled.{Spells, SpellsSome}
 use Rattle.plan_tokens.proofs.Spelled.{Passes, none_passed, one_passed, up, braced, bracketed, joined, joined-one, list_read}
 use Rattle.plan_tokens.proofs.ConfigurationLaws.{configuration_members}
+use Rattle.plan_tokens.proofs.GroupLaws.{items_len-joined, length-more}
 use Rattle.plan_tokens.proofs.Branches.{last_key}
 use Rattle.plan_tokens.proofs.Putting.{listed, listing, one_listed, members_and, one_more, closed}
 
 joined-items : (ds : List Data) → joined ds no_items ≡ items_of ds
 joined-items [] = refl
 joined-items (d ∷ ds) = ap (item d) (joined-items ds)
-
-items_len-joined : (ds : List Data) → items_len (joined ds no_items) ≡ length ds
-items_len-joined [] = refl
-items_len-joined (d ∷ ds) = ap suc (items_len-joined ds)
-
-length-one : (ds : List Data) (d : Data) → length (ds ++ d ∷ []) ≡ length ds + 1
-length-one [] d = refl
-length-one (e ∷ ds) d = omega (arith, length-one ds d)
 
 -- what is left of certificates is what is left of their values
 pub values-drop : (n : ℕ) (cs : List (Option (Certificate Global))) → certificate_values (drop n cs) ≡ drop n (certificate_values cs)
@@ -129,7 +122,7 @@ pub configuration_more : (certificates : List Data) (count : ℕ) (start now at 
 configuration_more certificates count start now at after old between new so_far going s = record {
   values = so_far.values ++ s.value ∷ [];
   passes = one_passed 82 start now after so_far.values s.value so_far.passes going.0 (subst (λ ts. Spells 82 ts after s.value) going.1 s.spells);
-  length_is = let before : length so_far.values ≡ count = so_far.length_is in omega (arith, length-one so_far.values s.value, before);
+  length_is = let before : length so_far.values ≡ count = so_far.length_is in omega (arith, length-more so_far.values s.value, before);
   written = so_far.written ++ s.holds.written ∷ [];
   all =
       let place : count ≡ 0 + length so_far.values = let before : length so_far.values ≡ count = so_far.length_is in omega (arith, before) in
