@@ -73,6 +73,9 @@ impl LentClaim<'_> {
     ghost use Rattle.plan.specs.LentClaims.{lent_state};
 
     /// What a certificate has to refute, in memory of its own.
+    ///
+    /// # Errors
+    /// `NoMemory` where a growth was refused.
     pub fn claim_in<B: Allocator + Clone>(&self, alloc: B) -> Result<Claim<B>, Fault>
         ensures { Gives first_state result (Ok (lent_state self.now)) }
     {
@@ -82,7 +85,10 @@ impl LentClaim<'_> {
         }
     }
 
-    /// Whether a certificate refutes it, and if not, the certificate's first fault. Nothing that the plan lends is copied.
+    /// Whether a certificate refutes it. Nothing that the plan lends is copied.
+    ///
+    /// # Errors
+    /// The certificate's first fault, with its path; or `NoMemory` where a growth was refused.
     pub fn check<B: Allocator>(
         &self,
         alloc: Global,

@@ -19,10 +19,8 @@ use crate::configurations::{Configuration, Group, Plan};
 use crate::fault::{PlanFault, Quorum};
 use crate::fields::{Fields, Header, TopFields};
 use crate::formats::Format;
-use quorum_expr::{Expr, Lists, MemberSet, read_expr};
-use refutation::{
-    Certificate, array, count, has_keys, number_to, read_certificate, value_at, whole,
-};
+use quorum_expr::{Expr, Lists, MemberSet, read_expr, value_at, whole};
+use refutation::{Certificate, array, count, has_keys, number_to, read_certificate};
 use serde_json::Value;
 use std::alloc::Global;
 use volume_model::Fault;

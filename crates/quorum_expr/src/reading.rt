@@ -1,6 +1,6 @@
 //! From JSON to expressions.
 
-ghost use Rattle.std.specs.Prelude.{◌≡◌, ◌≤◌, ◌+◌, ◌-◌, ◌&&◌, Ok, None, IfOk, map, nat_lt, true};
+ghost use Rattle.std.specs.Prelude.{◌≡◌, ◌≤◌, ◌+◌, ◌-◌, ◌&&◌, ◌≢◌, Ok, None, IfOk, IfErr, map, nat_lt, true};
 ghost use Rattle.std.specs.FinSet as set;
 ghost use Rattle.serde_json.specs.View.{view};
 ghost use Rattle.volume_model.specs.Answer.{Gives};
@@ -19,16 +19,17 @@ use serde_json::Value;
 use std::alloc::Global;
 use volume_model::Fault;
 
-/// The value at a key of an object.
-fn value_at<'v>(value: &'v Value, key: &str) -> Result<&'v Value, Fault>
+/// The value at a key of an object. `Malformed` where there is none.
+pub fn value_at<'v>(value: &'v Value, key: &str) -> Result<&'v Value, Fault>
     ensures { Gives (λ v. view v.now) result (at_key key.now (view value.now)) }
 {
     value.get(key).ok_or(Fault::Malformed)
 }
 
-/// A whole number from 0.
-fn whole(value: &Value) -> Result<u64, Fault>
-    ensures { Gives (λ n. n) result (whole_of (view value.now)) }
+/// A whole number from 0. `Malformed` for another value.
+pub fn whole(value: &Value) -> Result<u64, Fault>
+    ensures given { Gives (λ n. n) result (whole_of (view value.now)) }
+    ensures own { IfErr result (λ fault. fault ≢ Fault.NoMemory) }
 {
     value.as_u64().ok_or(Fault::Malformed)
 }

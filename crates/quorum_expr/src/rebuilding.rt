@@ -11,6 +11,9 @@ use std::alloc::Allocator;
 use volume_model::Fault;
 
 /// The same expression in other memory.
+///
+/// # Errors
+/// `NoMemory` where a growth was refused.
 pub fn copy_in<A: Allocator, B: Allocator + Clone>(
     expr: &Expr<A>,
     alloc: B,
@@ -54,8 +57,10 @@ fn dual_formula<A: Allocator, B: Allocator + Clone>(
     }
 }
 
-/// The expression that holds in a set exactly where the given one, which is valid, doesn't hold in the complement. Fails for want of memory
-/// alone.
+/// The expression that holds in a set exactly where the given one, which is valid, doesn't hold in the complement.
+///
+/// # Errors
+/// `NoMemory` where a growth was refused.
 pub fn dual_in<A: Allocator, B: Allocator + Clone>(
     expr: &Expr<A>,
     alloc: B,

@@ -63,8 +63,11 @@ fn fault_within<A: Allocator>(expr: &Expr<A>, levels: u8, room: &mut u32) -> Opt
 }
 
 /// Whether an expression has at most six levels, each threshold from 1 to the weights of its at most 64 children, which
-/// weigh 1 to 255 each, members of 0 to 63 alone and at most 4,096 nodes. Of several faults it is the first, outer ones before inner ones and children in
-/// order; the nodes are counted when the whole has been walked.
+/// weigh 1 to 255 each, members of 0 to 63 alone and at most 4,096 nodes. Takes no memory.
+///
+/// # Errors
+/// The first fault, outer ones before inner ones and children in order: `TooDeep`, `BadCount` of a threshold, `NotAMember`; and
+/// `OverLimit` of the nodes, which are counted when the whole has been walked.
 pub fn valid<A: Allocator>(expr: &Expr<A>) -> Result<(), Fault>
     ensures ok { OnOk result (expression_fault (formula_of expr.now) ≡ None) }
     ensures err { IfErr result (λ fault. expression_fault (formula_of expr.now) ≡ Some fault) }

@@ -57,6 +57,9 @@ impl<A: Allocator> Certificate<A> {
     }
 
     /// The same certificate in other memory.
+    ///
+    /// # Errors
+    /// `NoMemory` where a growth was refused.
     pub fn copy_in<B: Allocator + Clone>(&self, alloc: B) -> Result<Certificate<B>, Fault>
         ensures { Gives certificate_rule result (Ok (certificate_rule self.now)) }
     {

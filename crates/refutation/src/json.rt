@@ -4,18 +4,11 @@ ghost use Rattle.std.specs.Prelude.{◌≡◌, ◌≢◌, ◌≤◌, IfOk, IfErr
 ghost use Rattle.serde_json.specs.View.{view, items_view};
 ghost use Rattle.serde_json.specs.Events.{items_len};
 ghost use Rattle.volume_model.specs.Answer.{Gives};
-ghost use Rattle.quorum_expr.specs.Reading.{at_key, whole_of};
 ghost use Rattle.refutation.specs.Reading.{has_keys, array_of, entry_at, number_to, number_at};
 
+use quorum_expr::{value_at, whole};
 use serde_json::Value;
 use volume_model::Fault;
-
-/// The value at a key of an object. `Malformed` where there is none.
-pub fn value_at<'v>(value: &'v Value, key: &str) -> Result<&'v Value, Fault>
-    ensures { Gives (λ v. view v.now) result (at_key key.now (view value.now)) }
-{
-    value.get(key).ok_or(Fault::Malformed)
-}
 
 /// The entry at a place of a list. `Malformed` where there is none.
 pub fn entry<'v>(value: &'v Value, place: usize) -> Result<&'v Value, Fault>
@@ -23,14 +16,6 @@ pub fn entry<'v>(value: &'v Value, place: usize) -> Result<&'v Value, Fault>
     ensures own { IfErr result (λ fault. fault ≢ Fault.NoMemory) }
 {
     value.get(place).ok_or(Fault::Malformed)
-}
-
-/// A whole number from 0. `Malformed` for another value.
-pub fn whole(value: &Value) -> Result<u64, Fault>
-    ensures given { Gives (λ n. n) result (whole_of (view value.now)) }
-    ensures own { IfErr result (λ fault. fault ≢ Fault.NoMemory) }
-{
-    value.as_u64().ok_or(Fault::Malformed)
 }
 
 /// Whether the value is an object of so many keys. `Malformed` where it isn't.

@@ -10,8 +10,9 @@ ghost use Rattle.refutation.specs.Reading.{side_in, side_of, numbers_of, pair_of
 
 use crate::certificate::{Certificate, MAX_DEPTH};
 use crate::form::{Form, RuleName};
-use crate::json::{array, count, entry, has_keys, number_at, number_to, value_at};
+use crate::json::{array, count, entry, has_keys, number_at, number_to};
 use crate::{Refutation, Side};
+use quorum_expr::value_at;
 use serde_json::Value;
 use std::alloc::Global;
 use volume_model::Fault;
