@@ -2,13 +2,7 @@ use Rattle.std.specs.Arc.{arc_value}
 use Rattle.volume_model.specs.Redo.{Redo}
 use Rattle.redo_record.specs.declared.packet.Packet.{Packet}
 use Rattle.redo_record.specs.Record.{redo_of}
-use Rattle.redo_record.specs.Ranges.{HasRanges, redo_of-ranges}
 
 -- the record of the model that a packet shares
 unfoldable pub packet_redo : Packet → Redo
 packet_redo packet = redo_of (arc_value packet.shared)
-
--- a packet's record keeps its ranges
-pub packet_redo-ranges : (packet : Packet) → HasRanges (packet_redo packet)
-unfolding packet_redo
-packet_redo-ranges packet = redo_of-ranges (arc_value packet.shared)

@@ -1,7 +1,5 @@
 use Rattle.std.specs.Prelude.{◌+◌, ◌^◌, ◌<◌, ◌≤◌, length}
 use Rattle.volume_model.specs.Redo.{Redo}
-use Rattle.redo_record.specs.declared.«record».Record.{Record}
-use Rattle.redo_record.specs.Record.{redo_of}
 use Rattle.redo_record.specs.Payload.{HasRoom}
 
 -- what each record keeps
@@ -14,19 +12,6 @@ pub record HasRanges (r : Redo) : Type 0 where
   pub prev_block_in_group : r.prev_block ≤ r.prev_group
   pub group_in_range : r.group < 16
   pub bytes_within : r.offset + length r.bytes ≤ 512
-
--- a record keeps its ranges
-pub redo_of-ranges : (r : Record) → HasRanges (redo_of r)
-redo_of-ranges r = record {
-  lsn_positive = r.lsn_positive;
-  lsn_in_range = r.lsn_in_range;
-  volume_positive = r.volume_epoch_positive;
-  prev_volume_before = r.prev_volume_before;
-  prev_group_in_volume = r.prev_group_in_volume;
-  prev_block_in_group = r.prev_block_in_group;
-  group_in_range = r.group_in_range;
-  bytes_within = r.bytes_within;
-}
 
 -- what a record keeps, and what its types keep
 pub record IsSpellable (r : Redo) : Type 0 where

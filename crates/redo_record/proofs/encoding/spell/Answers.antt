@@ -3,7 +3,7 @@ use Rattle.std.proofs.Common.{Bool, true, false, subst, ◌≡◌, ◌∙◌, le
 use Rattle.std.specs.Int.{w16, w32, w64, to_be_bytes}
 use Rattle.volume_model.specs.Redo.{Redo}
 use Rattle.redo_record.specs.Payload.{HasRoom}
-use Rattle.redo_record.specs.Ranges.{redo_of-ranges}
+use Rattle.redo_record.proofs.KeptRanges.{redo_of-ranges}
 use Rattle.redo_record.specs.Record.{redo_of}
 use Rattle.redo_record.specs.Text.{text_bytes}
 use Rattle.redo_record.proofs.Spelled.{text, text-same, text-written, spelled-text}
