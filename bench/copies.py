@@ -125,7 +125,7 @@ fn installed(
             label,
             piece,
             of,
-            contents,
+            contents: Box::new(alloc, contents)?,
         };
         holder.deliver(alloc, &Message::Install(install))?;
     }
@@ -143,7 +143,7 @@ fn reported(alloc: Global, holder: &mut Segment) -> Result<Contents, Fault> {
     };
     let mut answers = holder.deliver(alloc, &Message::Fence(fence))?;
     match answers.pop() {
-        Some(Message::Report(report)) => Ok(report.contents),
+        Some(Message::Report(report)) => Ok(Box::into_inner(report.contents)),
         _ => Err(Fault::NoMessage),
     }
 }

@@ -160,7 +160,10 @@ impl Hydration {
         self.copies.clear();
     }
 
-    /// What a node becomes from the complete copies, where they are those of a read set; want of memory comes only where they are.
+    /// What a node becomes from the complete copies, where they are those of a read set.
+    ///
+    /// # Errors
+    /// `NoMemory`, where they are those of a read set and a growth was refused.
     pub fn finish(&self, alloc: Global, read: &Expr<Global>) -> Result<Option<State>, Fault>
         ensures state { Gives (option_map state_of) result (Ok (finished (formula_of read.now) (copies_of self.now))) }
         ensures memory { OnErr result (result ≡ Err NoMemory) }

@@ -15,7 +15,8 @@ use Rattle.volume_model.proofs.Chains.{greatest_point-is}
 use Rattle.volume_model.proofs.Records.{found_in-from}
 use Rattle.redo_record.specs.declared.packet.Packet.{Packet}
 use Rattle.redo_record.specs.declared.record_set.RecordSet.{RecordSet}
-use Rattle.redo_record.specs.Packet.{packet_redo, packet_redo-ranges}
+use Rattle.redo_record.specs.Packet.{packet_redo}
+use Rattle.redo_record.proofs.KeptRanges.{packet_redo-ranges}
 use Rattle.redo_record.specs.Ranges.{HasRanges}
 use Rattle.redo_record.specs.RecordSet.{records_of}
 use Rattle.hydration.specs.declared.copied.Copied.{Copied}

@@ -5,7 +5,8 @@ use Rattle.std.proofs.lemmas.Bool.{cases_Bool, cases_lt, or_right, true≢false,
 use Rattle.volume_model.specs.Lists.{added}
 use Rattle.volume_model.specs.Redo.{Redo, last_lsn, cut_of}
 use Rattle.redo_record.specs.declared.packet.Packet.{Packet}
-use Rattle.redo_record.specs.Packet.{packet_redo, packet_redo-ranges}
+use Rattle.redo_record.specs.Packet.{packet_redo}
+use Rattle.redo_record.proofs.KeptRanges.{packet_redo-ranges}
 use Rattle.writer_core.specs.Logs.{log_of, is_growing}
 use Rattle.writer_core.proofs.Logs.{log_of-more}
 use Rattle.writer_core.proofs.Growing.{both}

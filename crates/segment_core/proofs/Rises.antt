@@ -1,15 +1,14 @@
 -- Records in order: how their numbers rise, and that the number before each is smaller
 use Rattle.std.proofs.Common.{◌≡◌, ◌<◌, ◌≤◌, ◌-◌, true, false, List, [], ◌∷◌, ◌++◌, ◌⊎◌, length, get_or, map, sym, subst, inl, inr, arith}
 use Rattle.std.proofs.lemmas.Bool.{or_cases, and_parts, ltb-true, eqb-true}
-use Rattle.std.specs.List.Sorted.{IsPartitionPoint}
 use Rattle.volume_model.specs.Lists.{IsIn}
 use Rattle.volume_model.specs.Redo.{Redo, spelling, numbers_before, with_record}
 use Rattle.volume_model.specs.Grounded.{GroupLinksFall}
 use Rattle.redo_record.specs.declared.packet.Packet.{Packet}
-use Rattle.redo_record.specs.Packet.{packet_redo, packet_redo-ranges}
+use Rattle.redo_record.specs.Packet.{packet_redo}
+use Rattle.redo_record.proofs.KeptRanges.{packet_redo-ranges}
 use Rattle.redo_record.specs.Ranges.{HasRanges}
-use Rattle.redo_record.specs.Order.{IsInOrder}
-use Rattle.redo_record.proofs.Places.{parted, shown-all, with_record-from}
+use Rattle.redo_record.proofs.Places.{shown-all, with_record-from}
 use Rattle.runs.specs.declared.run.Run.{Run}
 use Rattle.runs.specs.Joined.{joined}
 use Rattle.runs.specs.Run.{run_records, runs_in}
@@ -51,13 +50,3 @@ before-lsn r s h =
       | inl a ↦ (let l : r.lsn < s.lsn = ltb-true r.lsn s.lsn a in omega arith)
       | inr b ↦ (let e : r.lsn ≡ s.lsn = eqb-true r.lsn s.lsn (and_parts _ _ b).0 in omega arith)
     ]
-
--- where the last packet comes before the record, all of them do
-pub all_before : (packets : List Packet) (r : Redo) (last : Packet) → IsInOrder (map packet_redo packets) → 0 < length packets → ((d : Packet) → last ≡ get_or packets (length packets - 1) d) → numbers_before (spelling (packet_redo last)) (spelling r) ≡ true
-    → IsPartitionPoint (λ p. numbers_before (spelling (packet_redo p)) (spelling r) ≡ true) (λ p. numbers_before (spelling (packet_redo p)) (spelling r) ≡ false) packets (length packets)
-all_before packets r last order some is before = (
-  λ k d from lt.
-      (let here : numbers_before (spelling (packet_redo (get_or packets (length packets - 1) d))) (spelling r) ≡ true = subst (λ p. numbers_before (spelling (packet_redo p)) (spelling r) ≡ true) (is d) before in
-      parted packet_redo packets r order k (length packets - 1) d (omega arith) (omega arith) here),
-  λ k d from lt. absurd (omega arith),
-)

@@ -35,7 +35,7 @@ impl Assembly {
 
     /// Whether an install can't be a piece beside those that are kept.
     pub fn is_bad(&self, install: &Install) -> bool
-        ensures { result ≡ is_bad_piece (kept_in self.now) install.now.label.volume (piece_in install.now.piece install.now.of) (contents_of install.now.contents) }
+        ensures { result ≡ is_bad_piece (kept_in self.now) install.now.label.volume (piece_in install.now.piece install.now.of) (contents_of install.now.contents.value) }
     {
         Pieces::is_bad(
             self.pieces.as_ref(),
@@ -48,8 +48,8 @@ impl Assembly {
 
     /// Makes ready to keep a piece: where pieces of another volume epoch are kept, it takes their place. Fails for want of memory alone.
     pub fn prepare(&mut self, alloc: Global, install: &Install) -> Result<Change, AllocError>
-        requires { is_bad_piece (kept_in self.old) install.now.label.volume (piece_in install.now.piece install.now.of) (contents_of install.now.contents) ≡ false }
-        ensures change { IfOk result (λ change. changed_by change (kept_in self.old) ≡ Some (with_install (kept_in self.old) install.now.label.volume (piece_in install.now.piece install.now.of) (contents_of install.now.contents))) }
+        requires { is_bad_piece (kept_in self.old) install.now.label.volume (piece_in install.now.piece install.now.of) (contents_of install.now.contents.value) ≡ false }
+        ensures change { IfOk result (λ change. changed_by change (kept_in self.old) ≡ Some (with_install (kept_in self.old) install.now.label.volume (piece_in install.now.piece install.now.of) (contents_of install.now.contents.value))) }
         ensures ready { IfOk result (CanGather self.new) }
         ensures same { kept_in self.new ≡ kept_in self.old }
     {

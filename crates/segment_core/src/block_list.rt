@@ -4,7 +4,7 @@ ghost use Rattle.std.specs.Prelude.{map};
 ghost use Rattle.redo_record.specs.Order.{IsInOrder};
 ghost use Rattle.redo_record.specs.Packet.{packet_redo};
 
-use redo_record::Packet;
+use redo_record::{Packet, place_among};
 use std::alloc::{AllocError, Global};
 
 /// Packets of one block in the order of their records' bytes, each once.
@@ -15,10 +15,10 @@ pub struct BlockList {
 }
 
 impl BlockList {
-    ghost use Rattle.std.specs.Prelude.{◌≡◌, ◌≤◌, [], length, OnOk, MatchOption};
+    ghost use Rattle.std.specs.Prelude.{◌≡◌, [], OnOk, MatchOption};
     ghost use Rattle.volume_model.specs.Redo.{with_record};
     ghost use Rattle.redo_record.specs.Places.{IsHeldIn, IsPlaceFor};
-    ghost use Rattle.segment_core.specs.BlockList.{redos_in, HasRoomInside, IsCountBefore};
+    ghost use Rattle.segment_core.specs.BlockList.{redos_in, HasRoomInside};
 
     /// No packet.
     pub fn new(alloc: Global) -> BlockList
@@ -36,33 +36,11 @@ impl BlockList {
         self.packets.as_slice()
     }
 
-    /// How many packets come before this one: often all of them.
-    fn count_before(&self, packet: &Packet) -> usize
-        ensures bound { result ≤ length (redos_in self.now) }
-        ensures split { IsCountBefore self.now (packet_redo packet.now) result }
-    {
-        if let Some(last) = self.packets.last() {
-            if last.is_before(packet) {
-                return self.packets.len();
-            }
-        }
-        self.packets
-            .partition_point(|other| other.is_before(packet))
-    }
-
     /// Where the record would stand, `None` where it is there already.
     fn place_for(&self, packet: &Packet) -> Option<usize>
         ensures { MatchOption result (IsHeldIn (redos_in self.now) (packet_redo packet.now)) (λ place. IsPlaceFor (redos_in self.now) (packet_redo packet.now) place) }
     {
-        let place = self.count_before(packet);
-        if place == self.packets.len() {
-            return Some(place);
-        }
-        if packet.is_same(&self.packets[place]) {
-            None
-        } else {
-            Some(place)
-        }
+        place_among(&self.packets, packet)
     }
 
     /// Makes room for one more packet.

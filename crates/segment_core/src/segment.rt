@@ -214,7 +214,7 @@ impl Segment {
             group: self.group,
             label: fence.label,
             from: self.member,
-            contents: self.contents(alloc)?,
+            contents: Box::new(alloc, self.contents(alloc)?)?,
         };
         Ok(Prepared {
             answers: only(alloc, Message::Report(report))?,
@@ -229,7 +229,7 @@ impl Segment {
         install: &Install,
         found: &RecordSet,
     ) -> Result<Prepared, AllocError>
-        ensures step { IfOk result (λ prepared. step_of prepared (node_of self.now) ≡ replaced (segment_group self.now) (segment_member self.now) (node_of self.now) (label_of install.now.label) (contents_of install.now.contents).lineage (set_records found.now)) }
+        ensures step { IfOk result (λ prepared. step_of prepared (node_of self.now) ≡ replaced (segment_group self.now) (segment_member self.now) (node_of self.now) (label_of install.now.label) (contents_of install.now.contents.value).lineage (set_records found.now)) }
         ensures ready { IfOk result (λ prepared. CanTake self.now prepared.effect) }
     {
         let lineage = install.contents.lineage.clone()?;
@@ -245,8 +245,8 @@ impl Segment {
 
     /// Makes ready for a piece of an install that isn't refused: keeps it, or holds what was found where it was the last that was missing.
     fn prepare_piece(&mut self, alloc: Global, install: &Install) -> Result<Prepared, AllocError>
-        requires { is_bad_piece (node_of self.old).install install.now.label.volume (piece_in install.now.piece install.now.of) (contents_of install.now.contents) ≡ false }
-        ensures step { IfOk result (λ prepared. step_of prepared (node_of self.old) ≡ installed (segment_group self.old) (segment_member self.old) (node_of self.old) (label_of install.now.label) (piece_in install.now.piece install.now.of) (contents_of install.now.contents)) }
+        requires { is_bad_piece (node_of self.old).install install.now.label.volume (piece_in install.now.piece install.now.of) (contents_of install.now.contents.value) ≡ false }
+        ensures step { IfOk result (λ prepared. step_of prepared (node_of self.old) ≡ installed (segment_group self.old) (segment_member self.old) (node_of self.old) (label_of install.now.label) (piece_in install.now.piece install.now.of) (contents_of install.now.contents.value)) }
         ensures ready { IfOk result (λ prepared. CanTake self.new prepared.effect) }
         ensures node { node_of self.new ≡ node_of self.old }
         ensures actor { IsSameActor self.old self.new }
@@ -360,12 +360,12 @@ impl Segment {
         for piece in 0..of {
             messages.push(Message::CopyReport(CopyReport {
                 group: self.group,
-                epoch: self.epoch,
                 from: self.member,
-                series,
                 piece,
                 of,
-                contents: contents.piece(usize::from(piece))?,
+                epoch: self.epoch,
+                series,
+                contents: Box::new(alloc, contents.piece(usize::from(piece))?)?,
             }))?;
         }
         Ok(messages)
@@ -492,8 +492,8 @@ impl Segment {
         self.check_page(ask.point)?;
         let page = Page {
             group: self.group,
-            label: ask.label,
             from: self.member,
+            label: ask.label,
             block: ask.block,
             point: ask.point,
             bytes: Box::new(alloc, self.records.page(ask.block, ask.point))?,
@@ -578,6 +578,10 @@ impl Segment {
 
     /// Makes ready to take a message: gives every refusal, makes every growth, and works out the answers. Nothing that the segment
     /// holds has changed, and what was made ready is a step of the segment as it is now.
+    ///
+    /// # Errors
+    /// The first refusal that applies to a message of its kind, from `StaleVolume` to `SeriesSpent`, or `NotAddressed` for one that isn't
+    /// for this segment and `NotInPlan` for a step that the plan doesn't have; `NoMemory` where none applies and a growth was refused.
     pub fn prepare(&mut self, alloc: Global, message: &Message) -> Result<Prepared, Fault>
         ensures step { Answers step_of (reaction_of self.old (message_of message.now)) (node_of self.old) result (node_of self.old) }
         ensures ready { IfOk result (λ prepared. IsReady self.new prepared) }
@@ -697,7 +701,10 @@ impl Segment {
         answers
     }
 
-    /// Takes a message: the first refusal that applies, and the segment unchanged, or else its effect and its answers.
+    /// Takes a message: makes its effect, and gives its answers.
+    ///
+    /// # Errors
+    /// As [`Segment::prepare`]; then the segment is what it was.
     pub fn deliver(&mut self, alloc: Global, message: &Message) -> Result<Vec<Message>, Fault>
         ensures answers { Answers answered (reaction_of self.old (message_of message.now)) (node_of self.old) result (node_of self.new) }
         ensures actor { IsSameActor self.old self.new }

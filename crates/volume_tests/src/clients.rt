@@ -39,14 +39,15 @@ fn view(alloc: Global) -> Result<Message, Fail> {
 
 /// A member says that it holds no record.
 fn report(alloc: Global, from: u8) -> Result<Message, Fail> {
+    let contents = Contents {
+        lineage: Lineage::birth(alloc)?,
+        records: RecordSet::new(alloc),
+    };
     Ok(Message::Report(Report {
         group: 0,
         label: LABEL,
         from,
-        contents: Contents {
-            lineage: Lineage::birth(alloc)?,
-            records: RecordSet::new(alloc),
-        },
+        contents: Box::new(alloc, contents)?,
     }))
 }
 

@@ -38,7 +38,7 @@ fn report(alloc: Global, from: u8, lineage: Lineage, last: u64) -> Result<CopyRe
         series: 1,
         piece: 0,
         of: 1,
-        contents: Contents { lineage, records },
+        contents: Box::new(alloc, Contents { lineage, records })?,
     })
 }
 
@@ -49,6 +49,7 @@ type Part = (u16, u16, u64, u64);
 fn piece(alloc: Global, series: u64, part: Part) -> Result<CopyReport, Fail> {
     let (piece, of, before, last) = part;
     let records = records(alloc, before, last)?;
+    let lineage = Lineage::birth(alloc)?;
     Ok(CopyReport {
         group: 0,
         epoch: 2,
@@ -56,10 +57,7 @@ fn piece(alloc: Global, series: u64, part: Part) -> Result<CopyReport, Fail> {
         series,
         piece,
         of,
-        contents: Contents {
-            lineage: Lineage::birth(alloc)?,
-            records,
-        },
+        contents: Box::new(alloc, Contents { lineage, records })?,
     })
 }
 
@@ -193,11 +191,11 @@ fn what_copies_hold(rt: HostRuntime) -> Result<(), Fail> {
     let copies = [
         Copied {
             from: 0,
-            contents: report(alloc, 0, lineage.clone()?, 2)?.contents,
+            contents: Box::into_inner(report(alloc, 0, lineage.clone()?, 2)?.contents),
         },
         Copied {
             from: 2,
-            contents: report(alloc, 2, Lineage::birth(alloc)?, 5)?.contents,
+            contents: Box::into_inner(report(alloc, 2, Lineage::birth(alloc)?, 5)?.contents),
         },
     ];
     assert_eq!(rt; senders(&copies).len(), 2);
@@ -216,15 +214,15 @@ fn newest_of_three(rt: HostRuntime) -> Result<(), Fail> {
     let copies = [
         Copied {
             from: 4,
-            contents: report(alloc, 4, Lineage::birth(alloc)?, 1)?.contents,
+            contents: Box::into_inner(report(alloc, 4, Lineage::birth(alloc)?, 1)?.contents),
         },
         Copied {
             from: 5,
-            contents: report(alloc, 5, recovered(alloc, 3)?, 1)?.contents,
+            contents: Box::into_inner(report(alloc, 5, recovered(alloc, 3)?, 1)?.contents),
         },
         Copied {
             from: 1,
-            contents: report(alloc, 1, recovered(alloc, 5)?, 1)?.contents,
+            contents: Box::into_inner(report(alloc, 1, recovered(alloc, 5)?, 1)?.contents),
         },
     ];
     let none = Lineage::empty(alloc);

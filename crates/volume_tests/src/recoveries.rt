@@ -82,14 +82,15 @@ fn report(alloc: Global, from: u8, last: u64) -> Result<Report, Fail> {
     for back in 0..last.min(10) {
         records.insert(packet(alloc, back + 1, back == 2 || back == 4)?)?;
     }
+    let contents = Contents {
+        lineage: Lineage::birth(alloc)?,
+        records,
+    };
     Ok(Report {
         group: 0,
         label: LABEL,
         from,
-        contents: Contents {
-            lineage: Lineage::birth(alloc)?,
-            records,
-        },
+        contents: Box::new(alloc, contents)?,
     })
 }
 
@@ -249,14 +250,15 @@ fn report_of_three(alloc: Global, group: u8, before: u64, last: u64) -> Result<R
     for back in before..last.min(857) {
         records.insert(of_three(alloc, back + 1)?)?;
     }
+    let contents = Contents {
+        lineage: Lineage::birth(alloc)?,
+        records,
+    };
     Ok(Report {
         group,
         label: LABEL,
         from: 0,
-        contents: Contents {
-            lineage: Lineage::birth(alloc)?,
-            records,
-        },
+        contents: Box::new(alloc, contents)?,
     })
 }
 

@@ -36,7 +36,7 @@ pub struct Report {
     /// The member that holds the segment.
     pub from: u8,
     /// What it holds.
-    pub contents: Contents,
+    pub contents: Box<Contents>,
 }
 
 /// A piece of what the nodes of a group are to hold.
@@ -51,7 +51,7 @@ pub struct Install {
     /// How many pieces there are.
     pub of: u16,
     /// What the piece has of what they are to hold.
-    pub contents: Contents,
+    pub contents: Box<Contents>,
 }
 
 /// A record of a writer's log, for the nodes of a group.
@@ -103,18 +103,18 @@ pub struct CopyAsk {
 pub struct CopyReport {
     /// The group.
     pub group: u8,
-    /// The membership epoch of both.
-    pub epoch: u32,
     /// The member that holds the segment.
     pub from: u8,
-    /// How many copies the member has told, with this one.
-    pub series: u64,
     /// The number of the piece, from 0.
     pub piece: u16,
     /// How many pieces there are.
     pub of: u16,
+    /// The membership epoch of both.
+    pub epoch: u32,
+    /// How many copies the member has told, with this one.
+    pub series: u64,
     /// What the piece has of what it holds.
-    pub contents: Contents,
+    pub contents: Box<Contents>,
 }
 
 /// A writer asks for a block's bytes.
@@ -135,10 +135,10 @@ pub struct PageAsk {
 pub struct Page {
     /// The group.
     pub group: u8,
-    /// The label of the question.
-    pub label: Label,
     /// The member that holds the segment.
     pub from: u8,
+    /// The label of the question.
+    pub label: Label,
     /// The block.
     pub block: u32,
     /// The LSN up to which its records count.
@@ -147,7 +147,7 @@ pub struct Page {
     pub bytes: Box<[u8; 512]>,
 }
 
-/// What an actor says to another.
+/// What an actor says to another. All messages that were ever made are kept, so what is large lies behind a pointer.
 #[derive(Drop)]
 pub enum Message {
     /// Where the groups stand.
@@ -176,6 +176,8 @@ pub enum Message {
     Page(Page),
 }
 
+const _: () = prove!(size_of::<Message>() <= 40);
+
 impl Write {
     /// Whether it is for the nodes of the group: it speaks of the group, and its record is one of the group.
     pub fn is_for(&self, group: u8) -> bool
@@ -200,7 +202,7 @@ impl Install {
 
     /// Whether it is for the nodes of the group: it speaks of the group, and the records of the piece are those of the group.
     pub fn is_for(&self, group: u8) -> bool
-        ensures { result ≡ (self.now.group == group && in_group group (contents_of self.now.contents)) }
+        ensures { result ≡ (self.now.group == group && in_group group (contents_of self.now.contents.value)) }
     {
         self.contents.is_of(group) && self.group == group
     }
@@ -214,7 +216,7 @@ impl CopyReport {
     /// Whether it is for the nodes of the group: it speaks of the group, the records of the piece are those of the group, and its sender
     /// is a member.
     pub fn is_for(&self, group: u8) -> bool
-        ensures { result ≡ (self.now.group == group && in_group group (contents_of self.now.contents) && nat_lt self.now.from 64) }
+        ensures { result ≡ (self.now.group == group && in_group group (contents_of self.now.contents.value) && nat_lt self.now.from 64) }
     {
         self.group == group && self.contents.is_of(group) && self.from < 64
     }

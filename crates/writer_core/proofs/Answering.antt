@@ -1,6 +1,6 @@
 -- Refusals, as answers of a client.
 use Rattle.std.proofs.Common.{◌≡◌, ◌≢◌, Bool, true, Ok, Err, Result, refl}
-use Rattle.volume_model.specs.Answer.{AnswersLate, may_want_memory, refusal_of}
+use Rattle.volume_model.specs.Answer.{AnswersLate, refusal_of}
 use Rattle.volume_model.specs.declared.fault.Fault.{Fault}
 use Rattle.volume_model.specs.declared.fault.Fault.TheVariants.{NoMemory}
 
@@ -19,8 +19,3 @@ pub same-refusal : {R R' S S' T : Type 0} (late : Fault → Bool) (step : R → 
     → AnswersLate late step defined old (Err fault) new → AnswersLate late step' defined old' (Err fault) new'
 same-refusal late step step' NoMemory defined old new old' new' stays h = (h.0, stays h.1)
 same-refusal late step step' fault defined old new old' new' stays h = (h.0, stays h.1)
-
--- what isn't refused may want memory
-pub may-want : {T : Type 0} (late : Fault → Bool) (defined : Result T Fault) → Ok tt ≡ refusal_of defined → may_want_memory late defined ≡ true
-may-want late (Ok step) h = refl
-may-want late (Err fault) h = cc

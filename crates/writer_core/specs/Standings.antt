@@ -30,7 +30,7 @@ counted_group group sender reached = record group { counts = with_count sender r
 
 -- what is kept of a report: what its sender holds
 abbrev pub report_of : Report → From
-report_of report = record { sender = report.from; contents = contents_of report.contents }
+report_of report = record { sender = report.from; contents = contents_of report.contents.value }
 
 -- a group with a report kept, the first of each sender
 abbrev pub reported_group : ClientGroup → From → ClientGroup

@@ -76,7 +76,7 @@ pub fn group_installs(
             label,
             piece,
             of,
-            contents: whole.piece(usize::from(piece))?,
+            contents: Box::new(alloc, whole.piece(usize::from(piece))?)?,
         }))?;
     }
     Ok(messages)

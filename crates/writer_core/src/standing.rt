@@ -6,7 +6,7 @@ use hydration::{Copied, senders};
 use plan::CheckedPlan;
 use quorum_expr::holds;
 use std::alloc::{AllocError, AllocFailed, Global};
-use wire::{Place, Report};
+use wire::{Contents, Place, Report};
 
 /// What a client keeps of a group.
 #[derive(Drop)]
@@ -93,7 +93,7 @@ impl Standing {
         if senders(self.copies.as_slice()).contains(report.from) {
             return Ok(());
         }
-        let contents = report.contents.clone()?;
+        let contents = Contents::clone(&report.contents)?;
         self.copies.push(Copied {
             from: report.from,
             contents,

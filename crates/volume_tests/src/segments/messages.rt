@@ -37,21 +37,18 @@ pub fn packet(alloc: Global, number: u64, group: u8) -> Result<Packet, Fail> {
 }
 
 /// The record of number 1 alone, of the group.
-pub fn contents(alloc: Global, group: u8) -> Result<Contents, Fail> {
+pub fn contents(alloc: Global, group: u8) -> Result<Box<Contents>, Fail> {
     let mut records = RecordSet::new(alloc);
     records.insert(packet(alloc, 1, group)?)?;
-    Ok(Contents {
-        lineage: Lineage::birth(alloc)?,
-        records,
-    })
+    let lineage = Lineage::birth(alloc)?;
+    Ok(Box::new(alloc, Contents { lineage, records })?)
 }
 
 /// No record, and no lineage.
-pub fn nothing(alloc: Global) -> Contents {
-    Contents {
-        lineage: Lineage::empty(alloc),
-        records: RecordSet::new(alloc),
-    }
+pub fn nothing(alloc: Global) -> Result<Box<Contents>, Fail> {
+    let lineage = Lineage::empty(alloc);
+    let records = RecordSet::new(alloc);
+    Ok(Box::new(alloc, Contents { lineage, records })?)
 }
 
 /// A fence of a group.
@@ -78,7 +75,7 @@ pub fn gossip(group: u8, label: Label, packet: Packet) -> Message {
 }
 
 /// What a recovery installs in a group, in one piece.
-pub fn install(group: u8, label: Label, contents: Contents) -> Message {
+pub fn install(group: u8, label: Label, contents: Box<Contents>) -> Message {
     Message::Install(Install {
         group,
         label,
@@ -105,7 +102,7 @@ pub fn copy_ask(group: u8, epoch: u32) -> Message {
 }
 
 /// A member's first copy, at a membership epoch, in one piece.
-pub fn copy_report(group: u8, epoch: u32, from: u8, contents: Contents) -> Message {
+pub fn copy_report(group: u8, epoch: u32, from: u8, contents: Box<Contents>) -> Message {
     Message::CopyReport(CopyReport {
         group,
         epoch,

@@ -101,7 +101,7 @@ pub fn installed(alloc: Global, label: Label, part: Part) -> Result<Message, Fai
         label,
         piece: part.piece,
         of: part.of,
-        contents: Contents { lineage, records },
+        contents: Box::new(alloc, Contents { lineage, records })?,
     }))
 }
 
@@ -122,6 +122,6 @@ pub fn copied(
         series,
         piece: part.piece,
         of: part.of,
-        contents: Contents { lineage, records },
+        contents: Box::new(alloc, Contents { lineage, records })?,
     }))
 }

@@ -67,7 +67,7 @@ fn installs(alloc: Global) -> Result<Taken, Fail> {
             (
                 "an install of another group",
                 At::Whole,
-                install(1, label(2, 1), nothing(alloc)),
+                install(1, label(2, 1), nothing(alloc)?),
                 Fault::NotAddressed,
             ),
             (
@@ -79,25 +79,25 @@ fn installs(alloc: Global) -> Result<Taken, Fail> {
             (
                 "an install of an earlier place",
                 At::Whole,
-                install(0, label(2, 0), nothing(alloc)),
+                install(0, label(2, 0), nothing(alloc)?),
                 Fault::StaleMember,
             ),
             (
                 "an install of a later place",
                 At::Whole,
-                install(0, label(2, 2), nothing(alloc)),
+                install(0, label(2, 2), nothing(alloc)?),
                 Fault::AheadMember,
             ),
             (
                 "an install before it is whole",
                 At::Fresh,
-                install(0, label(2, 2), nothing(alloc)),
+                install(0, label(2, 2), nothing(alloc)?),
                 Fault::NotWhole,
             ),
             (
                 "an install below the promise",
                 At::Promised,
-                install(0, LABEL, nothing(alloc)),
+                install(0, LABEL, nothing(alloc)?),
                 Fault::StaleVolume,
             ),
         ],
@@ -286,7 +286,7 @@ fn copy_reports(alloc: Global) -> Result<Taken, Fail> {
             (
                 "a copy of another group",
                 At::Fresh,
-                copy_report(1, 2, 1, nothing(alloc)),
+                copy_report(1, 2, 1, nothing(alloc)?),
                 Fault::NotAddressed,
             ),
             (
@@ -298,25 +298,25 @@ fn copy_reports(alloc: Global) -> Result<Taken, Fail> {
             (
                 "a copy of no member",
                 At::Fresh,
-                copy_report(0, 2, 64, nothing(alloc)),
+                copy_report(0, 2, 64, nothing(alloc)?),
                 Fault::NotAddressed,
             ),
             (
                 "a copy when it is whole",
                 At::Whole,
-                copy_report(0, 1, 1, nothing(alloc)),
+                copy_report(0, 1, 1, nothing(alloc)?),
                 Fault::AlreadyWhole,
             ),
             (
                 "a copy from an earlier place",
                 At::Fresh,
-                copy_report(0, 1, 1, nothing(alloc)),
+                copy_report(0, 1, 1, nothing(alloc)?),
                 Fault::StaleMember,
             ),
             (
                 "a copy from a later place",
                 At::Fresh,
-                copy_report(0, 3, 1, nothing(alloc)),
+                copy_report(0, 3, 1, nothing(alloc)?),
                 Fault::AheadMember,
             ),
         ],

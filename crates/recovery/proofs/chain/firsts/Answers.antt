@@ -4,7 +4,8 @@ use Rattle.std.proofs.lemmas.List.{get_or-map, length-map, take_all, get_or_defa
 use Rattle.volume_model.specs.Redo.{Redo, last_lsn, record_at}
 use Rattle.redo_record.specs.declared.packet.Packet.{Packet}
 use Rattle.redo_record.specs.Order.{IsInOrder}
-use Rattle.redo_record.specs.Packet.{packet_redo, packet_redo-ranges}
+use Rattle.redo_record.specs.Packet.{packet_redo}
+use Rattle.redo_record.proofs.KeptRanges.{packet_redo-ranges}
 use Rattle.redo_record.specs.RecordSet.{records_of}
 use Rattle.writer_core.specs.Logs.{log_of, is_growing}
 use Rattle.writer_core.proofs.Logs.{log_of-push}

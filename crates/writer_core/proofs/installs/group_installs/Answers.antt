@@ -32,7 +32,7 @@ loop-piece-preserved c =
     let shown : Contents = to_install lineage (log_of items) group in
     let said : ℕ → model.Message = λ number. model.Message.Install group label (record { number = number; of = of }) (piece_of shown number) in
     let whole = whole-is lineage (lineage_of c.in_ok-clone.field-0) (records_of c.in_ok-of_group.field-0) group items c.in_ok-clone.ensures.cases c.in_ok-of_group.ensures in
-    let piece : contents_of c.in_ok-piece.field-0 ≡ piece_of shown i = c.in_ok-piece.ensures ∙ ap₂ piece_of whole c.from.ensures in
+    let piece : contents_of c.in_ok-new.field-0.value ≡ piece_of shown i = ap contents_of c.in_ok-new.ensures.ok ∙ c.in_ok-piece.ensures ∙ ap₂ piece_of whole c.from.ensures in
     message-more c.loop-piece.messages.items c.push.new.self.items _ i (λ number. true) said c.in_ok-push.ensures.items c.loop-piece.invariant refl
     (ap (model.Message.Install group label (record { number = i; of = of })) piece)
 

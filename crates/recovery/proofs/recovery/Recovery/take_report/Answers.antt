@@ -24,7 +24,7 @@ invariant_of-self-clause-older c =
     let report = c.args.report.now in
     let groups = groups_in self.standings in
     let kept : From = report_of report in
-    let less : last_epoch kept.contents.lineage < self.volume = subst (λ n. n < self.volume) c.last_epoch.ensures c.if-last_epoch-self.false in
+    let less : last_epoch kept.contents.lineage < self.volume = subst (λ n. n < self.volume) (rw c.deref.ensures at c.last_epoch.ensures) c.if-last_epoch-self.false in
     either c.keep.result (λ gs. are_older self.volume gs ≡ true) (groups_in c.keep.new.self) (reported_in groups report.group kept) groups c.keep.ensures.kept c.keep.ensures.same
     (older-reported self.volume groups report.group kept self.older less) self.older
 

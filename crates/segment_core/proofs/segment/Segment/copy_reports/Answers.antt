@@ -15,7 +15,7 @@ loop-piece-preserved c =
     let whole : Contents = contents_of c.args.contents.now in
     let said : ℕ → Contents → model.Message = λ number. model.Message.CopyReport s.group s.epoch s.member c.args.series (record { number = number; of = of }) in
     message-more c.loop-piece.messages.items c.push.new.self.items _ i (λ number. said number (piece_of whole number)) c.in_ok-push.ensures.items c.loop-piece.invariant
-    (ap (said i) (c.in_ok-piece.ensures ∙ ap (piece_of whole) c.from.ensures))
+    (ap (said i) (ap contents_of c.in_ok-new.ensures.ok ∙ c.in_ok-piece.ensures ∙ ap (piece_of whole) c.from.ensures))
 
 pub returns : goal.returns
 returns c =

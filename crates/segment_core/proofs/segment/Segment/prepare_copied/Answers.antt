@@ -18,7 +18,7 @@ returns-in_err-keeping-clause-step c =
     let report = c.args.report.now in
     let node : Node = node_of s in
     let copies = copies_of s.copies in
-    let here : Bool = report.group == s.group && in_group s.group (contents_of report.contents) in
+    let here : Bool = report.group == s.group && in_group s.group (contents_of report.contents.value) in
     let mine : (here && nat_lt report.from 64) ≡ true = sym c.is_for.ensures ∙ c.if-not-is_for.false in
     let step : NodeStep = record { made = []; node = record node { copies = with_report report copies } } in
     let rest : NodeAnswer = refuse_if (is_bad report copies) BadPiece (Ok step) in

@@ -24,10 +24,10 @@ returns-then-last_epoch-volume-clause-step c =
     let label : model.Label = label_of install.label in
     let piece : Piece = piece_in install.piece install.of in
     let told : NodeStep = record { made = model.Message.Ack s.group label s.member c.complete_point-scl.result ∷ []; node = effected (Effect.Promise install.label.volume) node } in
-    let same : told ≡ installed s.group s.member node label piece (contents_of install.contents) =
+    let same : told ≡ installed s.group s.member node label piece (contents_of install.contents.value) =
     ap (λ n. record { made = model.Message.Ack s.group label s.member n ∷ []; node = record node { volume = label.volume } }) c.complete_point-scl.ensures
-    ∙ acknowledges s.group s.member node label piece (contents_of install.contents) (sym c.last_epoch.ensures ∙ c.if-last_epoch-volume.true) in
-    if-ok (λ prepared. step_of prepared node ≡ told) (λ prepared. step_of prepared node ≡ installed s.group s.member node label piece (contents_of install.contents)) c.acknowledged.result (λ prepared h. h ∙ same)
+    ∙ acknowledges s.group s.member node label piece (contents_of install.contents.value) (sym c.last_epoch.ensures ∙ c.if-last_epoch-volume.true) in
+    if-ok (λ prepared. step_of prepared node ≡ told) (λ prepared. step_of prepared node ≡ installed s.group s.member node label piece (contents_of install.contents.value)) c.acknowledged.result (λ prepared h. h ∙ same)
     (made-so c.acknowledged.result node told.made (Effect.Promise install.label.volume) c.acknowledged.ensures.made c.acknowledged.ensures.effect)
 
 pub returns-in-Some-clause-step : goal.returns-in-Some-clause-step
@@ -36,7 +36,7 @@ returns-in-Some-clause-step c =
     let install = c.args.install.now in
     let node : Node = node_of s in
     let label : model.Label = label_of install.label in
-    let contents : Contents = contents_of install.contents in
+    let contents : Contents = contents_of install.contents.value in
     let piece : Piece = piece_in install.piece install.of in
     let records = set_records c.in-Some.found in
     let after : Option Pieces = changed_by c.in_ok-change.change (kept_in s.assembly) in
@@ -52,7 +52,7 @@ returns-in-None-clause-step c =
     let install = c.args.install.now in
     let node : Node = node_of s in
     let label : model.Label = label_of install.label in
-    let contents : Contents = contents_of install.contents in
+    let contents : Contents = contents_of install.contents.value in
     let piece : Piece = piece_in install.piece install.of in
     let after : Option Pieces = changed_by c.in_ok-change.change (kept_in s.assembly) in
     let apart : lineage_epoch node ≢ label.volume = λ e. c.if-last_epoch-volume.false (c.last_epoch.ensures ∙ e) in
