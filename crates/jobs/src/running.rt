@@ -11,7 +11,7 @@ ghost use Rattle.jobs.specs.declared.reply.Stop.TheVariants.{NoMemory};
 
 use crate::fallible::FallibleRead;
 use crate::files::Source;
-use crate::inputs::plan_and_script;
+use crate::inputs::{PlanAndScript, plan_and_script};
 use crate::reply::{Reply, Stop};
 use crate::told::{fleet_lines, run_lines};
 use command_line::Job;
@@ -23,13 +23,15 @@ use std::sync::{Arc, Wait};
 use std::thread::Threads;
 use world::run_orders;
 
-/// What is told of a script's run.
-fn ran(alloc: Global, plan: &Arc<CheckedPlan>, script: &Script) -> Result<Reply, Stop<'static>>
-    ensures told { IfOk result (λ reply. TellsOrders (checked_model (arc_value plan.now)) script.now.steps.items script.now.orders.items reply.status (string_bytes reply.text)) }
+/// What is told of a script's run over a plan.
+fn ran(alloc: Global, both: PlanAndScript) -> Result<Reply, Stop<'static>>
+    ensures told { IfOk result (λ reply. TellsOrders (checked_model (arc_value both.plan)) both.script.steps.items both.script.orders.items reply.status (string_bytes reply.text)) }
     ensures stop { IfErr result (λ stop. stop ≡ NoMemory) }
 {
-    match run_orders(alloc, plan, script.orders.as_slice()) {
-        Ok(outcome) => Ok(run_lines(alloc, script.steps.as_slice(), &outcome)?),
+    let PlanAndScript { plan, script } = both;
+    let Script { steps, orders } = script;
+    match run_orders(alloc, &plan, orders) {
+        Ok(outcome) => Ok(run_lines(alloc, steps.as_slice(), &outcome)?),
         Err(_) => Err(Stop::NoMemory),
     }
 }
@@ -46,7 +48,7 @@ pub fn run<'a, P: FallibleRead, S: FallibleRead>(
     ensures script_read { FailsByRead S.answers script.old script.new }
 {
     match plan_and_script(alloc, job, plan, script) {
-        Ok(both) => ran(alloc, &both.plan, &both.script),
+        Ok(both) => ran(alloc, both),
         Err(stop) => Err(stop),
     }
 }

@@ -22,7 +22,7 @@ pub data Seen : Type 0 where
   Asks : Asked → Seen
 
 abbrev pub asked_by : Order → Asked
-asked_by (orders.Event event) = Asked.Fixed (event_of event)
+asked_by (orders.Event event) = Asked.Fixed (event_of event.value)
 asked_by (orders.DeliverFrom group member event place) = Asked.From group member event place
 asked_by (orders.TakeFrom volume event place) = Asked.TakeFrom volume event place
 

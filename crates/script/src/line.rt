@@ -1,6 +1,6 @@
 //! What one line of a script says.
 
-ghost use Rattle.std.specs.Prelude.{◌≡◌, ◌++◌, [], IfSome, codes, length, option_map};
+ghost use Rattle.std.specs.Prelude.{◌≡◌, ◌++◌, [], IfOk, IfSome, codes, length, option_map};
 ghost use Rattle.world.specs.Events.{event_of};
 ghost use Rattle.script.specs.Grammar.{deed_of, is_silent, said_by, verb_in, wait_in};
 ghost use Rattle.script.specs.Reads.{ReadsBy};
@@ -13,7 +13,7 @@ use crate::numbers::{
     advance, assign, cut, grow, hydrate, offer, open, read, refresh, resend, restart,
 };
 use crate::parts::Parts;
-use std::alloc::Global;
+use std::alloc::{AllocError, Global};
 use volume_model::Fault;
 use world::{Event, Order};
 
@@ -109,7 +109,7 @@ fn is_silent(line: &[u8]) -> bool
 }
 
 /// What a line does, or that it isn't one of a script. `events` has the index of each earlier line's event.
-pub fn line_of(alloc: Global, text: &[u8], events: &[Option<usize>]) -> Result<Line, Fault>
+pub fn line_of(alloc: Global, text: &[u8], events: &[Option<u32>]) -> Result<Line, Fault>
     ensures { ReadsBy seen (option_map (seen_deed events.now) (deed_of (length events.now) text.now)) result }
 {
     if is_silent(text) {
@@ -117,10 +117,10 @@ pub fn line_of(alloc: Global, text: &[u8], events: &[Option<usize>]) -> Result<L
     }
     // Most lines deliver or take, so these two are told by their first bytes.
     if let Some(words) = after_deliver(text) {
-        return Ok(Line::Order(deliver(Parts::new(words, b' '), events)?));
+        return Ok(Line::Order(deliver(alloc, Parts::new(words, b' '), events)?));
     }
     if let Some(words) = after_take(text) {
-        return Ok(Line::Order(take(Parts::new(words, b' '), events)?));
+        return Ok(Line::Order(take(alloc, Parts::new(words, b' '), events)?));
     }
     let mut words = Parts::new(text, b' ');
     let Some(verb) = words.take_first() else {
@@ -133,34 +133,34 @@ pub fn line_of(alloc: Global, text: &[u8], events: &[Option<usize>]) -> Result<L
 }
 
 /// What a verb says with the words after it.
-fn said_by(alloc: Global, verb: Verb, words: Parts, events: &[Option<usize>]) -> Result<Line, Fault>
+fn said_by(alloc: Global, verb: Verb, words: Parts, events: &[Option<u32>]) -> Result<Line, Fault>
     requires { words.separator ≡ 32 }
     ensures { ReadsBy seen (option_map (seen_deed events.now) (said_by (length events.now) verb (parts_left words.entry))) result }
 {
     match verb {
-        Verb::Assign => Ok(line_by(assign(words)?)),
-        Verb::Advance => Ok(line_by(advance(words)?)),
-        Verb::Refresh => Ok(line_by(refresh(words)?)),
-        Verb::Grow => Ok(line_by(grow(words)?)),
-        Verb::Issue => Ok(line_by(issue(alloc, words)?)),
-        Verb::Take => Ok(Line::Order(take(words, events)?)),
-        Verb::Cut => Ok(line_by(cut(words)?)),
-        Verb::Open => Ok(line_by(open(words)?)),
-        Verb::Resend => Ok(line_by(resend(words)?)),
-        Verb::Read => Ok(line_by(read(words)?)),
-        Verb::Deliver => Ok(Line::Order(deliver(words, events)?)),
-        Verb::Hydrate => Ok(line_by(hydrate(words)?)),
-        Verb::Restart => Ok(line_by(restart(words)?)),
-        Verb::Offer => Ok(line_by(offer(words)?)),
+        Verb::Assign => Ok(line_by(alloc, assign(words)?)?),
+        Verb::Advance => Ok(line_by(alloc, advance(words)?)?),
+        Verb::Refresh => Ok(line_by(alloc, refresh(words)?)?),
+        Verb::Grow => Ok(line_by(alloc, grow(words)?)?),
+        Verb::Issue => Ok(line_by(alloc, issue(alloc, words)?)?),
+        Verb::Take => Ok(Line::Order(take(alloc, words, events)?)),
+        Verb::Cut => Ok(line_by(alloc, cut(words)?)?),
+        Verb::Open => Ok(line_by(alloc, open(words)?)?),
+        Verb::Resend => Ok(line_by(alloc, resend(words)?)?),
+        Verb::Read => Ok(line_by(alloc, read(words)?)?),
+        Verb::Deliver => Ok(Line::Order(deliver(alloc, words, events)?)),
+        Verb::Hydrate => Ok(line_by(alloc, hydrate(words)?)?),
+        Verb::Restart => Ok(line_by(alloc, restart(words)?)?),
+        Verb::Offer => Ok(line_by(alloc, offer(words)?)?),
         Verb::Wait => wait(words),
     }
 }
 
 /// The line that makes an event happen.
-fn line_by(event: Event) -> Line
-    ensures { seen result ≡ Seen.Asks (Asked.Fixed (event_of event)) }
+fn line_by(alloc: Global, event: Event) -> Result<Line, AllocError>
+    ensures { IfOk result (λ line. seen line ≡ Seen.Asks (Asked.Fixed (event_of event))) }
 {
-    Line::Order(Order::Event(event))
+    Ok(Line::Order(Order::Event(Box::new(alloc, event)?)))
 }
 
 /// `wait`

@@ -1,6 +1,6 @@
 //! Messages that are named by the lines that made them.
 
-ghost use Rattle.std.specs.Prelude.{◌≡◌, length, option_map};
+ghost use Rattle.std.specs.Prelude.{◌≡◌, IfOk, length, option_map};
 ghost use Rattle.script.specs.Grammar.{deliver_in, name_in, take_in};
 ghost use Rattle.script.specs.Reads.{ReadsBy};
 ghost use Rattle.script.specs.Parts.{only_name, parts_left};
@@ -8,6 +8,7 @@ ghost use Rattle.script.specs.Seen.{Seen, asked_by, asked_from, seen_deed, take_
 ghost use Rattle.script.specs.Words.{sides_in};
 
 use crate::parts::Parts;
+use std::alloc::{AllocError, Global};
 use volume_model::Fault;
 use world::{Event, Order};
 
@@ -36,57 +37,68 @@ fn last_name(words: Parts, earlier: usize) -> Result<(u64, u64), Fault>
 }
 
 /// `deliver G M L.K`, where L is an earlier line.
-pub fn deliver(mut words: Parts, events: &[Option<usize>]) -> Result<Order, Fault>
+pub fn deliver(alloc: Global, mut words: Parts, events: &[Option<u32>]) -> Result<Order, Fault>
     requires { words.separator ≡ 32 }
     ensures { ReadsBy (λ order. Seen.Asks (asked_by order)) (option_map (seen_deed events.now) (deliver_in (length events.now) (parts_left words.entry))) result }
 {
     let group = words.take_id()?;
     let member = words.take_id()?;
     let (line, place) = last_name(words, events.len())?;
-    Ok(delivery(group, member, place, events[(line - 1) as usize]))
+    let event = events[(line - 1) as usize];
+    Ok(delivery(alloc, group, member, place, event)?)
 }
 
 /// The delivery of a message of a line with this event.
-fn delivery(group: u8, member: u8, place: u64, event: Option<usize>) -> Order
-    ensures { asked_by result ≡ asked_from group member place event }
+fn delivery(
+    alloc: Global,
+    group: u8,
+    member: u8,
+    place: u64,
+    event: Option<u32>,
+) -> Result<Order, AllocError>
+    ensures { IfOk result (λ order. asked_by order ≡ asked_from group member place event) }
 {
     match event {
-        Some(event) => Order::DeliverFrom {
+        Some(event) => Ok(Order::DeliverFrom {
             group,
             member,
             event,
             place,
-        },
-        // The line has no event, so it has made no message: number 0 is that of none.
-        None => Order::Event(Event::Deliver {
-            group,
-            member,
-            message: 0,
         }),
+        // The line has no event, so it has made no message: number 0 is that of none.
+        None => {
+            let none = Event::Deliver {
+                group,
+                member,
+                message: 0,
+            };
+            Ok(Order::Event(Box::new(alloc, none)?))
+        }
     }
 }
 
 /// `take V L.K`, where L is an earlier line.
-pub fn take(mut words: Parts, events: &[Option<usize>]) -> Result<Order, Fault>
+pub fn take(alloc: Global, mut words: Parts, events: &[Option<u32>]) -> Result<Order, Fault>
     requires { words.separator ≡ 32 }
     ensures { ReadsBy (λ order. Seen.Asks (asked_by order)) (option_map (seen_deed events.now) (take_in (length events.now) (parts_left words.entry))) result }
 {
     let volume = words.take_block()?;
     let (line, place) = last_name(words, events.len())?;
-    Ok(taking(volume, place, events[(line - 1) as usize]))
+    let event = events[(line - 1) as usize];
+    Ok(taking(alloc, volume, place, event)?)
 }
 
 /// The taking of a message of a line with this event.
-fn taking(volume: u32, place: u64, event: Option<usize>) -> Order
-    ensures { asked_by result ≡ take_from volume place event }
+fn taking(alloc: Global, volume: u32, place: u64, event: Option<u32>) -> Result<Order, AllocError>
+    ensures { IfOk result (λ order. asked_by order ≡ take_from volume place event) }
 {
     match event {
-        Some(event) => Order::TakeFrom {
+        Some(event) => Ok(Order::TakeFrom {
             volume,
             event,
             place,
-        },
+        }),
         // The line has no event, so it has made no message: number 0 is that of none.
-        None => Order::Event(Event::Take { volume, message: 0 }),
+        None => Ok(Order::Event(Box::new(alloc, Event::Take { volume, message: 0 })?)),
     }
 }

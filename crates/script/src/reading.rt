@@ -1,6 +1,6 @@
 //! The lines of a script in turn: one event a line.
 
-ghost use Rattle.std.specs.Prelude.{◌≡◌, ◌≤◌, ◌↔◌, IsTrue, OnOk};
+ghost use Rattle.std.specs.Prelude.{◌≡◌, ◌≤◌, ◌↔◌, IfOk, IsTrue, OnOk};
 ghost use Rattle.std.specs.Str.{IsUtf8};
 ghost use Rattle.script.specs.Seen.{seen};
 ghost use Rattle.script.specs.Script.{AddsLine, ReadsScript, kept_in, stop_at, with_line};
@@ -55,8 +55,18 @@ impl From<AllocError> for ScriptFault {
     }
 }
 
+/// The index of an event behind so many. More than an order can name are as if memory ran out.
+fn index_of(events: usize) -> Result<u32, AllocError>
+    ensures { IfOk result (λ index. index ≡ events) }
+{
+    match u32::try_from(events) {
+        Ok(index) => Ok(index),
+        Err(_) => Err(AllocError),
+    }
+}
+
 /// Adds a line. `events` has the index of each earlier line's event.
-fn keep(script: &mut Script, events: &mut Vec<Option<usize>>, line: Line) -> Result<(), AllocError>
+fn keep(script: &mut Script, events: &mut Vec<Option<u32>>, line: Line) -> Result<(), AllocError>
     ensures { OnOk result (kept_in script.new events.new.items ≡ with_line (kept_in script.old events.old.items) (seen line)) }
 {
     let number = events.len() + 1;
@@ -70,7 +80,7 @@ fn keep(script: &mut Script, events: &mut Vec<Option<usize>>, line: Line) -> Res
             })?;
         }
         Line::Order(order) => {
-            events.push(Some(script.orders.len()))?;
+            events.push(Some(index_of(script.orders.len())?))?;
             script.orders.push(order)?;
             script.steps.push(Step {
                 line: number,
@@ -92,7 +102,7 @@ fn is_utf8(bytes: &[u8]) -> bool
 fn add_line(
     alloc: Global,
     script: &mut Script,
-    events: &mut Vec<Option<usize>>,
+    events: &mut Vec<Option<u32>>,
     line: &[u8],
     is_text: bool,
 ) -> Result<(), Fault>

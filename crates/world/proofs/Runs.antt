@@ -1,5 +1,5 @@
 -- One event more of a run.
-use Rattle.std.proofs.Common.{◌≡◌, ◌≢◌, ℕ, Bool, ◌+◌, List, [], ◌∷◌, ◌++◌, Result, Ok, Err, length, refl, sym, ap, ap₂, ◌∙◌, append_assoc, arith, drop, get_or, ◌<◌, drop-cons, add-one, subst}
+use Rattle.std.proofs.Common.{◌≡◌, ◌≢◌, ℕ, Bool, ◌+◌, List, [], ◌∷◌, ◌++◌, Result, Ok, Err, length, refl, sym, ap, ap₂, ◌∙◌, append_assoc, arith, subst}
 use Rattle.volume_model.specs.declared.fault.Fault.{Fault}
 use Rattle.volume_model.specs.declared.fault.Fault.TheVariants.{NoMemory}
 use Rattle.volume_model.specs.Headline.{AcknowledgementsLast, StaysSo}
@@ -39,13 +39,12 @@ module _ (late : Fault → Bool) (plan : Plan) (old new : World) (event : Event)
   run_on = sym (ap (λ (w : World). run plan w later) both.1)
 
 -- what is left of orders, when one was followed
-pub order_rest : (late : Fault → Bool) (plan : Plan) (old new : World) (results : List (Result ℕ Fault)) (orders : List Order) (i : ℕ) (order : Order) → i < length orders → order ≡ get_or orders i order → (result : Result ℕ Fault) → result ≢ Err NoMemory → Steps late (step plan old (ordered results order)) old result new
-    → events_from plan old results (drop i orders) ≡ ordered results order ∷ events_from plan new (results ++ result ∷ []) (drop (i + 1) orders)
-order_rest late plan old new results orders i order within is result ne steps =
+pub order_rest : (late : Fault → Bool) (plan : Plan) (old new : World) (results : List (Result ℕ Fault)) (orders left : List Order) (order : Order) → orders ≡ order ∷ left → (result : Result ℕ Fault) → result ≢ Err NoMemory → Steps late (step plan old (ordered results order)) old result new
+    → events_from plan old results orders ≡ ordered results order ∷ events_from plan new (results ++ result ∷ []) left
+order_rest late plan old new results orders left order is result ne steps =
     let told_is = steps_told late (step plan old (ordered results order)) old new result ne steps in
-    ap (events_from plan old results) (drop-cons orders i order within)
-    ∙ ap₂ (λ (x : Order) (n : ℕ). events_from plan old results (x ∷ drop n orders)) (sym is) (sym (add-one i))
-    ∙ ap₂ (λ (r : Result ℕ Fault) (w : World). ordered results order ∷ events_from plan w (results ++ r ∷ []) (drop (i + 1) orders)) told_is.0 told_is.1
+    ap (events_from plan old results) is
+    ∙ ap₂ (λ (r : Result ℕ Fault) (w : World). ordered results order ∷ events_from plan w (results ++ r ∷ []) left) told_is.0 told_is.1
 
 -- how many messages were made, when one event more has happened
 pub total_on : (late : Fault → Bool) (plan : Plan) (old new : World) (event : Event) (result : Result ℕ Fault) → result ≢ Err NoMemory → Steps late (step plan old event) old result new → (so_far : List (Result ℕ Fault)) → total_made so_far ≡ length old.messages → total_made (so_far ++ result ∷ []) ≡ length new.messages

@@ -55,7 +55,7 @@ firsts_of first (result ∷ later) = first ∷ firsts_of (first + made_by result
 
 -- the event that an order is, after these results
 abbrev pub ordered : List (Result ℕ Fault) → Order → model.Event
-ordered results (orders.Event event) = event_of event
+ordered results (orders.Event event) = event_of event.value
 ordered results (orders.DeliverFrom group member event place) = model.Event.Deliver group member (number_from 0 results event place)
 ordered results (orders.TakeFrom volume event place) = model.Event.Take volume (number_from 0 results event place)
 

@@ -37,25 +37,28 @@ pub enum Event {
     Offer { group: u8, member: u8, lsn: u64 },
 }
 
-/// An event whose message may be named by the event that made it.
+/// An event whose message may be named by the event that made it. Most are deliveries and takings, and there may be many, so another
+/// event lies behind a pointer.
 #[derive(Drop)]
 pub enum Order {
     /// An event as it is.
-    Event(Event),
+    Event(Box<Event>),
     /// A node of a group takes the message that was made as the `place`-th, from 1, by the event with this index.
     DeliverFrom {
         group: u8,
         member: u8,
-        event: usize,
+        event: u32,
         place: u64,
     },
     /// A client takes the message that was made as the `place`-th, from 1, by the event with this index.
     TakeFrom {
         volume: u32,
-        event: usize,
+        event: u32,
         place: u64,
     },
 }
+
+const _: () = prove!(size_of::<Order>() <= 24);
 
 impl Clone for Event {
     ghost use Rattle.std.specs.Prelude.{◌≡◌};

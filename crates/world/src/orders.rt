@@ -37,33 +37,33 @@ fn number_of(firsts: &[u64], results: &[Result<u64, Fault>], event: usize, place
     firsts[event] + place
 }
 
-/// Makes the event happen that an order is after these results.
+/// Makes the event happen that an order is after these results. The memory of the order is given back then.
 pub fn follow(
     alloc: Global,
     actors: &mut Actors,
-    order: &Order,
+    order: Order,
     firsts: &[u64],
     results: &[Result<u64, Fault>],
 ) -> Result<u64, Fault>
     requires actors { AreActors actors.old }
     requires firsts { firsts.now ≡ firsts_of 0 results.now }
     requires total { total_made results.now < 2 ^ 64 }
-    ensures steps { Steps (event_late (ordered results.now order.now)) (step (plan_of actors.old) (world_of actors.old) (ordered results.now order.now)) (world_of actors.old) result (world_of actors.new) }
+    ensures steps { Steps (event_late (ordered results.now order)) (step (plan_of actors.old) (world_of actors.old) (ordered results.now order)) (world_of actors.old) result (world_of actors.new) }
     ensures good { AreActors actors.new }
     ensures plan { plan_of actors.new ≡ plan_of actors.old }
 {
     match order {
-        Order::Event(event) => actors.step(alloc, event),
+        Order::Event(event) => actors.step(alloc, &event),
         Order::DeliverFrom {
             group,
             member,
             event,
             place,
         } => {
-            let message = number_of(firsts, results, *event, *place);
+            let message = number_of(firsts, results, event as usize, place);
             let delivery = Event::Deliver {
-                group: *group,
-                member: *member,
+                group,
+                member,
                 message,
             };
             actors.step(alloc, &delivery)
@@ -73,11 +73,8 @@ pub fn follow(
             event,
             place,
         } => {
-            let message = number_of(firsts, results, *event, *place);
-            let taking = Event::Take {
-                volume: *volume,
-                message,
-            };
+            let message = number_of(firsts, results, event as usize, place);
+            let taking = Event::Take { volume, message };
             actors.step(alloc, &taking)
         }
     }

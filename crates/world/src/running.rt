@@ -65,13 +65,13 @@ fn outcome_of(alloc: Global, plan: &Arc<CheckedPlan>, events: &[Event]) -> Resul
     })
 }
 
-/// The outcome of orders that are followed one after the other.
+/// The outcome of orders that are followed one after the other, the memory of each of which is given back once it was followed.
 fn outcome_of_orders(
     alloc: Global,
     plan: &Arc<CheckedPlan>,
-    orders: &[Order],
+    orders: Vec<Order>,
 ) -> Result<Outcome, Fault>
-    ensures tells { IfOk result (TellsRun (checked_model (arc_value plan.now)) (ordered_events (checked_model (arc_value plan.now)) orders.now)) }
+    ensures tells { IfOk result (TellsRun (checked_model (arc_value plan.now)) (ordered_events (checked_model (arc_value plan.now)) orders.items)) }
     ensures memory { IfErr result (λ e. e ≡ NoMemory) }
 {
     let mut actors = Actors::open(alloc, plan)?;
@@ -117,15 +117,16 @@ pub fn run(alloc: Global, plan: &Arc<CheckedPlan>, events: &[Event]) -> Result<O
     outcome_of(alloc, plan, events)
 }
 
-/// `run`, of events whose messages may be named by the events that made them. Want of memory ends it too.
+/// `run`, of events whose messages may be named by the events that made them. Want of memory ends it too. The memory of an order is given
+/// back once it was followed, with its changes where it is a transaction.
 pub fn run_orders(
     alloc: Global,
     plan: &Arc<CheckedPlan>,
-    orders: &[Order],
+    orders: Vec<Order>,
 ) -> Result<Outcome, Fault>
-    ensures tells { IfOk result (TellsRun (checked_model (arc_value plan.now)) (ordered_events (checked_model (arc_value plan.now)) orders.now)) }
+    ensures tells { IfOk result (TellsRun (checked_model (arc_value plan.now)) (ordered_events (checked_model (arc_value plan.now)) orders.items)) }
     ensures returned { IfOk result KeepsReturned }
-    ensures promises { KeepsPromises (checked_model (arc_value plan.now)) (ordered_events (checked_model (arc_value plan.now)) orders.now) }
+    ensures promises { KeepsPromises (checked_model (arc_value plan.now)) (ordered_events (checked_model (arc_value plan.now)) orders.items) }
     ensures memory { IfErr result (λ e. e ≡ NoMemory) }
 {
     promised(plan);

@@ -1,5 +1,6 @@
-use Rattle.std.proofs.Common.{◌≡◌, ◌≢◌, ℕ, ◌+◌, ◌++◌, ◌∷◌, [], List, Result, Err, drop, sym, ap, ap₂, ◌∙◌, subst, arith}
+use Rattle.std.proofs.Common.{◌≡◌, ◌≢◌, ℕ, ◌+◌, ◌++◌, ◌∷◌, [], List, Result, Err, sym, ap, ap₂, ◌∙◌, subst, arith}
 use Rattle.std.specs.Arc.{arc_value}
+use Rattle.std.specs.Vec.Iter.{into_iter_items}
 use Rattle.volume_model.specs.declared.fault.Fault.{Fault}
 use Rattle.volume_model.specs.declared.fault.Fault.TheVariants.{NoMemory}
 use Rattle.volume_model.specs.Plan.{Plan}
@@ -15,20 +16,20 @@ use Rattle.world.proofs.running.outcome_of_orders.Goals as goal
 pub loop-order-preserved : goal.loop-order-preserved
 loop-order-preserved c =
     let plan : Plan = checked_model (arc_value c.args.plan.now) in
-    let order : Order = c.order-item.result in
+    let order : Order = c.in-Some.order in
     let result : Result ℕ Fault = c.in_ok-result.result in
     let results : List (Result ℕ Fault) = c.loop-order.results.items in
     let old : model.World = world_of c.loop-order.actors in
     let new : model.World = world_of c.follow-step.new.actors in
-    let left : List Order = drop (c.loop-order.order-index + 1) c.args.orders.now in
+    let left : List Order = into_iter_items c.next.new.self in
     let event : model.Event = ordered results order in
     let later : List model.Event = events_from plan new (results ++ result ∷ []) left in
     let followed : Steps (event_late event) (model.step (plan_of c.loop-order.actors) old event) old c.follow-step.result new = rw c.as_slice-in-loop-order.ensures.value at c.follow-step.ensures.steps in
     let steps : Steps (event_late event) (model.step plan old event) old result new =
     subst (λ (p : Plan). Steps (event_late event) (model.step p old event) old result new) c.loop-order.invariant.plan_is (rw c.in_ok-result.ensures.same followed) in
     let ne : result ≢ Err NoMemory = c.in_ok-result.ensures.some in
-    let rest : events_from plan old results (drop c.loop-order.order-index c.args.orders.now) ≡ event ∷ later =
-    order_rest (event_late event) plan old new results c.args.orders.now c.loop-order.order-index order c.loop-order-test.true c.order-item.is result ne steps in
+    let rest : events_from plan old results (into_iter_items c.loop-order.order-iterator) ≡ event ∷ later =
+    order_rest (event_late event) plan old new results (into_iter_items c.loop-order.order-iterator) left order c.in-Some.ensures.steps.0 result ne steps in
     let items : c.push-in-loop-order.new.self.items ≡ results ++ result ∷ [] = c.in_ok-push-2.ensures.items in
     let firsts : c.push.new.self.items ≡ c.loop-order.firsts.items ++ c.made-made.result ∷ [] = c.in_ok-push.ensures.items in
     let made : c.made-made.result ≡ 0 + total_made results = omega (arith, c.made-made.ensures, c.loop-order.invariant.total) in

@@ -1,5 +1,6 @@
-use Rattle.std.proofs.Common.{◌≡◌, ◌++◌, [], drop, length}
+use Rattle.std.proofs.Common.{◌≡◌, ◌++◌, [], length}
 use Rattle.std.specs.Arc.{arc_value}
+use Rattle.std.specs.Vec.Iter.{into_iter_items}
 use Rattle.volume_model.specs.World as model
 use Rattle.plan.specs.CheckedModel.{checked_model}
 use Rattle.world.specs.Actors.{plan_of, world_of, messages_in, AreActors}
@@ -12,8 +13,8 @@ invariant-loop-order l =
     record {
       good : AreActors l.actors;
       plan_is : plan_of l.actors ≡ plan;
-      told : l.results.items ++ model.results plan (world_of l.actors) (events_from plan (world_of l.actors) l.results.items (drop l.order-index l.orders)) ≡ model.results plan (model.opening plan) (events_from plan (model.opening plan) [] l.orders);
-      rest : model.run plan (world_of l.actors) (events_from plan (world_of l.actors) l.results.items (drop l.order-index l.orders)) ≡ model.run plan (model.opening plan) (events_from plan (model.opening plan) [] l.orders);
+      told : l.results.items ++ model.results plan (world_of l.actors) (events_from plan (world_of l.actors) l.results.items (into_iter_items l.order-iterator)) ≡ model.results plan (model.opening plan) (events_from plan (model.opening plan) [] l.fn.orders.items);
+      rest : model.run plan (world_of l.actors) (events_from plan (world_of l.actors) l.results.items (into_iter_items l.order-iterator)) ≡ model.run plan (model.opening plan) (events_from plan (model.opening plan) [] l.fn.orders.items);
       firsts : l.firsts.items ≡ firsts_of 0 l.results.items;
       total : total_made l.results.items ≡ length (messages_in l.actors);
     }
