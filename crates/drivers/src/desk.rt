@@ -3,6 +3,7 @@
 ghost use Rattle.std.specs.Prelude.{◌≡◌, ◌+◌, IfOk, IfErr, vec_len};
 ghost use Rattle.volume_model.specs.declared.fault.Fault.TheVariants.{NoMemory};
 
+use crate::tally::Tally;
 use crate::word::{Told, Word};
 use std::alloc::{AllocError, Global};
 use std::sync::{OnceLock, Wait};
@@ -64,23 +65,18 @@ impl Desk {
         }
     }
 
-    /// How many orders were made, and how many were refused.
+    /// How many orders were made, and how many were refused. Waits until all of it is told.
     ///
     /// # Errors
     /// `NoMemory` where one of them was refused for want of memory.
-    pub fn counts<R: Wait>(&self, rt: &R) -> Result<(usize, usize), Fault>
-        ensures all { IfOk result (λ counts. counts.0 + counts.1 ≡ vec_len self.now.words) }
+    pub fn counts<R: Wait>(&self, rt: &R) -> Result<Tally, Fault>
+        ensures all { IfOk result (λ tally. tally.made + tally.refused ≡ vec_len self.now.words) }
         ensures memory { IfErr result (λ fault. fault ≡ NoMemory) }
     {
-        let mut made = 0;
-        let mut refused = 0;
+        let mut tally = Tally::new();
         for word in &self.words {
-            match word.wait(rt) {
-                Told::Made { .. } => made += 1,
-                Told::Refused => refused += 1,
-                Told::Starved => return Err(Fault::NoMemory),
-            }
+            tally = tally.with(word.wait(rt))?;
         }
-        Ok((made, refused))
+        Ok(tally)
     }
 }

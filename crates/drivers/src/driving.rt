@@ -15,6 +15,7 @@ use crate::desk::Desk;
 use crate::hand::{Hand, Part};
 use crate::nodes::{Node, receivers};
 use crate::run::Run;
+use crate::tally::Tally;
 use crate::threads::{Crew, run_all};
 use crate::turns::{Turn, turns};
 use journal::{Pass, Row, Site};
@@ -146,27 +147,28 @@ fn agrees(outcome: &Outcome, events: &Vec<Event>, steps: usize) -> bool
     !refuses(outcome.results.as_slice()) && events.len() == steps
 }
 
-/// What a closed fleet leaves of a run in which so many orders were made, and so many refused.
+/// What a closed fleet leaves of a run in which so many orders were made and refused.
 fn ended<'a, L: Site>(
     alloc: Global,
     fleet: Fleet<'a, L>,
     passes: Vec<Pass<'a, L>>,
     plan: &Arc<CheckedPlan>,
-    steps: usize,
-    refused: usize,
+    tally: Tally,
 ) -> Result<Driven, Fault>
     requires plan { checked_model (arc_value plan.now) ≡ L.plan }
     requires passes { (vec_len passes ≡ L.parts) × (0 < vec_len passes) }
-    ensures driven { IfOk result (IsDriven (checked_model (arc_value plan.now)) (steps + refused)) }
+    ensures driven { IfOk result (IsDriven (checked_model (arc_value plan.now)) (tally.made + tally.refused)) }
+    ensures steps { IfOk result (λ driven. driven.steps ≡ tally.made) }
+    ensures refused { IfOk result (λ driven. driven.refused ≡ tally.refused) }
     ensures memory { IfErr result (λ fault. fault ≡ NoMemory) }
 {
     let journal = fleet.close(passes);
     let events = journal.events(alloc)?;
     let outcome = run(alloc, plan, events.as_slice())?;
-    let agrees = agrees(&outcome, &events, steps);
+    let agrees = agrees(&outcome, &events, tally.made);
     Ok(Driven {
-        steps,
-        refused,
+        steps: tally.made,
+        refused: tally.refused,
         agrees,
         outcome,
     })
@@ -205,8 +207,8 @@ fn drive_over<'a, L: Site + Send + Sync, R: Threads + Wait + Sync>(
     if passes.len() != count {
         return Err(Fault::NoMemory);
     }
-    let (steps, refused) = stage.desk.counts(rt)?;
-    ended(alloc, fleet, passes, plan, steps, refused)
+    let tally = stage.desk.counts(rt)?;
+    ended(alloc, fleet, passes, plan, tally)
 }
 
 /// Runs a script on a new fleet, with a thread for each of these nodes.

@@ -8,6 +8,7 @@ mod driving;
 mod hand;
 mod nodes;
 mod run;
+mod tally;
 mod threads;
 mod turns;
 mod word;

@@ -14,15 +14,26 @@ pub struct Node {
     pub member: u8,
 }
 
-/// The node that an order delivers to.
-pub fn receiver(order: &Order) -> Option<Node> {
-    match order {
-        Order::DeliverFrom { group, member, .. }
-        | Order::Event(Event::Deliver { group, member, .. }) => Some(Node {
+/// The node that an event delivers to.
+fn receiver_of(event: &Event) -> Option<Node> {
+    match event {
+        Event::Deliver { group, member, .. } => Some(Node {
             group: *group,
             member: *member,
         }),
         _ => None,
+    }
+}
+
+/// The node that an order delivers to.
+pub fn receiver(order: &Order) -> Option<Node> {
+    match order {
+        Order::DeliverFrom { group, member, .. } => Some(Node {
+            group: *group,
+            member: *member,
+        }),
+        Order::Event(event) => receiver_of(event),
+        Order::TakeFrom { .. } => None,
     }
 }
 

@@ -19,6 +19,14 @@ impl StepGate for Open {
     fn prepared(&self, _answers: &[Message]) {}
 }
 
+/// The number of the message that an event delivers, 0 where it delivers none.
+fn message_of(event: &Event) -> u64 {
+    match event {
+        Event::Deliver { message, .. } => *message,
+        _ => 0,
+    }
+}
+
 /// What all threads of a run share.
 #[derive(Drop)]
 pub struct Run<'f, 'a, L: Site> {
@@ -44,10 +52,9 @@ impl<'f, 'a, L: Site> Run<'f, 'a, L> {
     fn message<R: Wait>(&self, rt: &R, index: usize, order: &Order) -> u64 {
         match order {
             Order::DeliverFrom { event, place, .. } | Order::TakeFrom { event, place, .. } => {
-                self.desk.message(rt, index, *event, *place)
+                self.desk.message(rt, index, *event as usize, *place)
             }
-            Order::Event(Event::Deliver { message, .. }) => *message,
-            Order::Event(_) => 0,
+            Order::Event(event) => message_of(event),
         }
     }
 
