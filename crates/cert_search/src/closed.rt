@@ -1,57 +1,58 @@
 //! The tree of a pair of subexpressions that closes.
 
 use crate::closing::{Closing, Way};
-use crate::parts::Choice;
+use crate::parts::{Form, Part};
 use crate::rules::Search;
 use refutation::{Refutation, Side};
 use std::alloc::{AllocError, Allocator};
 
 /// What refutes the state whose only items are these, where it is found in trees of so many levels.
 #[cycle(closed)]
-pub fn closed<B: Allocator + Clone>(
+pub fn closed<B: Allocator + Clone, C: Allocator>(
     search: &mut Search<B>,
-    closing: &Closing<B>,
-    left: usize,
-    right: usize,
+    closing: &Closing<C>,
+    one: &Part,
+    other: &Part,
     levels: u8,
 ) -> Result<Option<Refutation<B>>, AllocError> {
     if levels == 0 || !search.spend() {
         return Ok(None);
     }
-    match closing.way(left, right) {
+    match closing.way(one, other) {
         None => Ok(None),
         Some(Way::Dead(side)) => Ok(Some(Refutation::Dead { side, item: 0 })),
         Some(Way::Clash) => Ok(Some(Refutation::Clash { left: 0, right: 0 })),
-        Some(Way::Match(of, others)) => matched(search, closing, of, others, levels - 1),
-        Some(Way::Pick(Side::Left, choice)) => {
-            picked(search, closing, Side::Left, choice, right, levels - 1)
-        }
-        Some(Way::Pick(Side::Right, choice)) => {
-            picked(search, closing, Side::Right, choice, left, levels - 1)
-        }
+        Some(Way::Match) => matched(search, closing, one, other, levels - 1),
+        Some(Way::Pick(side)) => picked(search, closing, side, one, other, levels - 1),
     }
 }
 
 /// The pick of those children of a side's only item that close with that of the other side, of as much weight as is needed.
 #[cycle(closed)]
-fn picked<B: Allocator + Clone>(
+fn picked<B: Allocator + Clone, C: Allocator>(
     search: &mut Search<B>,
-    closing: &Closing<B>,
+    closing: &Closing<C>,
     side: Side,
-    choice: Choice,
-    other: usize,
+    one: &Part,
+    other: &Part,
     levels: u8,
 ) -> Result<Option<Refutation<B>>, AllocError> {
-    let mut children = Vec::new(search.arena.clone()?);
-    let mut then = Vec::new(search.arena.clone()?);
+    let (choice, candidates) = match (side, &one.form, &other.form) {
+        (Side::Left, Form::KOf(of), _) => (of, closing.lefts(of)),
+        (Side::Right, _, Form::KOf(others)) => (others, closing.rights(others)),
+        _ => return Ok(None),
+    };
+    let most = choice.count.min(choice.needed());
+    let mut children = Vec::with_capacity(search.arena.clone()?, most)?;
+    let mut then = Vec::with_capacity(search.arena.clone()?, most)?;
     let mut missing = choice.needed();
-    for (number, child) in (0..64u8).zip(choice.first..choice.end()) {
+    for (number, child) in (0..64u8).zip(candidates) {
         if missing == 0 {
             break;
         }
-        let (left, right, weight) = match side {
-            Side::Left => (child, other, closing.left_weight(child)),
-            Side::Right => (other, child, closing.right_weight(child)),
+        let (left, right) = match side {
+            Side::Left => (child, other),
+            Side::Right => (one, child),
         };
         if closing.closes(left, right) {
             let Some(tree) = closed(search, closing, left, right, levels)? else {
@@ -59,7 +60,7 @@ fn picked<B: Allocator + Clone>(
             };
             children.push(number)?;
             then.push(tree)?;
-            missing = missing.saturating_sub(weight);
+            missing = missing.saturating_sub(usize::from(child.weight));
         }
     }
     Ok(Some(Refutation::Pick {
@@ -72,22 +73,29 @@ fn picked<B: Allocator + Clone>(
 
 /// The match of children of the only items that close.
 #[cycle(closed)]
-fn matched<B: Allocator + Clone>(
+fn matched<B: Allocator + Clone, C: Allocator>(
     search: &mut Search<B>,
-    closing: &Closing<B>,
-    of: Choice,
-    others: Choice,
+    closing: &Closing<C>,
+    one: &Part,
+    other: &Part,
     levels: u8,
 ) -> Result<Option<Refutation<B>>, AllocError> {
+    let (Form::KOf(of), Form::KOf(others)) = (&one.form, &other.form) else {
+        return Ok(None);
+    };
     let Some(mates) = closing.mates(of, others) else {
         return Ok(None);
     };
-    let mut pairs = Vec::new(search.arena.clone()?);
-    let mut then = Vec::new(search.arena.clone()?);
-    for (right, other) in (0..64u8).zip(others.first..others.end()) {
+    let lefts = closing.lefts(of);
+    let count = mates.len();
+    let mut pairs = Vec::with_capacity(search.arena.clone()?, count)?;
+    let mut then = Vec::with_capacity(search.arena.clone()?, count)?;
+    for (right, other) in (0..64u8).zip(closing.rights(others)) {
         if let Some(left) = mates.of(right) {
-            let child = of.first.saturating_add(usize::from(left));
-            let Some(tree) = closed(search, closing, child, other, levels)? else {
+            let Some(one) = lefts.get(usize::from(left)) else {
+                return Ok(None);
+            };
+            let Some(tree) = closed(search, closing, one, other, levels)? else {
                 return Ok(None);
             };
             pairs.push((left, right))?;

@@ -1,10 +1,10 @@
 //! Which pairs of subexpressions of the two sides can be closed, each pair by itself: the one can't hold, they are one member, two
-//! thresholds have enough pairs of children that close, or a threshold has enough children that close with the other.
+//! choices have enough pairs of children that close, or a choice has enough children that close with the other.
 
 use crate::grid::Grid;
 use crate::matching::Mates;
 use crate::order::ordered;
-use crate::parts::{Choice, Form, Part};
+use crate::parts::{Choice, Form, Part, Parts};
 use refutation::Side;
 use std::alloc::{AllocError, Allocator};
 
@@ -13,49 +13,64 @@ use std::alloc::{AllocError, Allocator};
 pub enum Way {
     Dead(Side),
     Clash,
-    Match(Choice, Choice),
-    Pick(Side, Choice),
+    Match,
+    Pick(Side),
 }
 
-/// The subexpressions of both sides, and for each left one a bit for each right one with which it closes.
+/// The subexpressions of both sides, and for each left choice a bit for each right one with which it closes. Whether a member closes
+/// with another subexpression is told by what that needs.
 #[derive(Drop)]
 pub struct Closing<B: Allocator> {
-    lefts: Vec<Part, B>,
-    rights: Vec<Part, B>,
+    lefts: Parts<B>,
+    rights: Parts<B>,
     grid: Grid<B>,
 }
 
-/// What a subexpression weighs as a child.
-fn weight_in<B: Allocator>(parts: &Vec<Part, B>, at: usize) -> usize {
-    parts.get(at).map_or(0, |part| usize::from(part.weight))
+/// What the pairs of a match of two choices weigh at least.
+fn wanted(of: &Choice, others: &Choice) -> usize {
+    (of.needed().saturating_add(others.needed())).saturating_sub(1)
+}
+
+/// How many members there are.
+fn count(members: u64) -> usize {
+    members.count_ones() as usize
+}
+
+/// How many children of a choice over members can't hold.
+fn dead(choice: &Choice, part: &Part) -> usize {
+    choice.count.saturating_sub(count(part.members))
+}
+
+/// The weights of up to 64 subexpressions.
+fn weights(parts: &[Part]) -> [u8; 64] {
+    let mut weights = [0u8; 64];
+    for (weight, part) in weights.iter_mut().zip(parts) {
+        *weight = part.weight;
+    }
+    weights
 }
 
 impl<B: Allocator> Closing<B> {
-    /// What a left subexpression weighs as a child.
-    pub fn left_weight(&self, at: usize) -> usize {
-        weight_in(&self.lefts, at)
+    /// The left subexpression with a number.
+    pub fn left(&self, at: usize) -> Option<&Part> {
+        self.lefts.at(at)
     }
 
-    /// What a right subexpression weighs as a child.
-    pub fn right_weight(&self, at: usize) -> usize {
-        weight_in(&self.rights, at)
+    /// The right subexpression with a number.
+    pub fn right(&self, at: usize) -> Option<&Part> {
+        self.rights.at(at)
     }
 
-    /// Goes through all pairs, those of children before those of their thresholds.
-    pub fn new(
-        arena: B,
-        lefts: Vec<Part, B>,
-        rights: Vec<Part, B>,
-    ) -> Result<Closing<B>, AllocError> {
-        let grid = Grid::new(arena, lefts.len(), rights.len())?;
+    /// Goes through all pairs of choices, those of children before those of their parents.
+    pub fn new(arena: B, lefts: Parts<B>, rights: Parts<B>) -> Result<Closing<B>, AllocError> {
+        let grid = Grid::new(arena, lefts.choices.len(), rights.choices.len())?;
         let mut closing = Closing {
             lefts,
             rights,
             grid,
         };
-        let mut rows = [None; 64];
-        for left in (0..closing.lefts.len()).rev() {
-            closing.close_next(left, &mut rows);
+        for row in (0..closing.lefts.choices.len()).rev() {
+            closing.close_row(row);
         }
         Ok(closing)
     }
@@ -65,7 +80,7 @@ impl<B: Allocator> Closing<B> {
     where
         B: Clone,
     {
-        ordered(arena, self.lefts.as_slice(), self.rights.as_slice())
+        ordered(arena, self.lefts.all.as_slice(), self.rights.all.as_slice())
     }
 
     /// How many subexpressions there are on both sides.
@@ -73,136 +88,162 @@ impl<B: Allocator> Closing<B> {
         self.lefts.len().saturating_add(self.rights.len())
     }
 
-    /// Goes through the pairs of a left subexpression; a member's row is made once, and `rows` has the rows made so far.
-    fn close_next(&mut self, left: usize, rows: &mut [Option<usize>; 64]) {
-        let member = match self.lefts.get(left) {
-            Some(
-                Part {
-                    form: Form::Member(member),
-                    ..
-                },
-            ) => usize::from(*member),
-            _ => usize::MAX,
-        };
-        match rows.get_mut(member) {
-            Some(Some(row)) => self.grid.copy_row(*row, left),
-            Some(none) => {
-                *none = Some(left);
-                self.close_row(left);
+    /// Goes through the pairs of a left choice.
+    fn close_row(&mut self, row: usize) {
+        for column in (0..self.rights.choices.len()).rev() {
+            if self.choices_close(row, column) {
+                self.grid.put(row, column);
             }
-            None => self.close_row(left),
         }
     }
 
-    /// Goes through the pairs of a left subexpression.
-    fn close_row(&mut self, left: usize) {
-        for right in (0..self.rights.len()).rev() {
-            if self.way(left, right).is_some() {
-                self.grid.put(left, right);
-            }
+    /// Whether a pair of choices closes, where the pairs of children are known.
+    fn choices_close(&self, row: usize, column: usize) -> bool {
+        match (self.lefts.choice(row), self.rights.choice(column)) {
+            (Some(one), Some(other)) => self.way(one, other).is_some(),
+            _ => false,
         }
     }
 
     /// Whether a pair is known to close.
-    pub fn closes(&self, left: usize, right: usize) -> bool {
-        self.grid.has(left, right)
+    pub fn closes(&self, one: &Part, other: &Part) -> bool {
+        if !one.is_live || !other.is_live {
+            return true;
+        }
+        match (&one.form, &other.form) {
+            (Form::KOf(of), Form::KOf(others)) => self.grid.has(of.number, others.number),
+            (Form::Member(_), _) => one.members & other.needs != 0,
+            (Form::KOf(_), Form::Member(_)) => one.needs & other.members != 0,
+        }
     }
 
     /// How a pair is closed, where the pairs of children are known.
-    pub fn way(&self, left: usize, right: usize) -> Option<Way> {
-        let one = self.lefts.get(left)?;
-        let other = self.rights.get(right)?;
+    pub fn way(&self, one: &Part, other: &Part) -> Option<Way> {
         if !one.is_live {
             return Some(Way::Dead(Side::Left));
         }
         if !other.is_live {
             return Some(Way::Dead(Side::Right));
         }
-        if one.members.intersection(other.members).is_empty() {
+        if one.members & other.members == 0 {
             return None;
         }
-        match (one.form, other.form) {
+        match (&one.form, &other.form) {
             (Form::Member(_), Form::Member(_)) => Some(Way::Clash),
-            (Form::KOf(choice), Form::Member(_)) => self.pick_left(choice, right),
-            (Form::Member(_), Form::KOf(choice)) => self.pick_right(left, choice),
-            (Form::KOf(of), Form::KOf(others)) => self.two_choices(left, right, of, others),
+            (Form::KOf(of), Form::Member(_)) => self.pick_left(one, of, other),
+            (Form::Member(_), Form::KOf(others)) => self.pick_right(one, other, others),
+            (Form::KOf(of), Form::KOf(others)) => self.two_choices(one, of, other, others),
         }
     }
 
-    /// How a pair of thresholds is closed.
-    fn two_choices(&self, left: usize, right: usize, of: Choice, others: Choice) -> Option<Way> {
-        if self.mates(of, others).is_some() {
-            return Some(Way::Match(of, others));
+    /// How a pair of choices is closed.
+    fn two_choices(&self, one: &Part, of: &Choice, other: &Part, others: &Choice) -> Option<Way> {
+        if self.match_closes(one, of, other, others) {
+            return Some(Way::Match);
         }
         if others.k == others.total {
-            self.pick_right(left, others)
-                .or_else(|| self.pick_left(of, right))
+            self.pick_right(one, other, others)
+                .or_else(|| self.pick_left(one, of, other))
         } else {
-            self.pick_left(of, right)
-                .or_else(|| self.pick_right(left, others))
+            self.pick_left(one, of, other)
+                .or_else(|| self.pick_right(one, other, others))
         }
     }
 
-    /// A pick of a left threshold's children, where enough of them close with the right side.
-    fn pick_left(&self, choice: Choice, right: usize) -> Option<Way> {
-        let mut missing = choice.needed();
-        for child in choice.first..choice.end() {
-            if missing == 0 {
-                break;
-            }
-            if self.grid.has(child, right) {
-                missing = missing.saturating_sub(weight_in(&self.lefts, child));
-            }
-        }
-        (missing == 0).then_some(Way::Pick(Side::Left, choice))
-    }
-
-    /// A pick of a right threshold's children, where enough of them close with the left side.
-    fn pick_right(&self, left: usize, choice: Choice) -> Option<Way> {
-        let weight = if choice.is_of_ones() {
-            let closed = self.grid.window(left, choice.first, choice.count);
-            closed.count_ones() as usize
+    /// A pick of a left choice's children, where enough of them close with the right side.
+    fn pick_left(&self, one: &Part, of: &Choice, other: &Part) -> Option<Way> {
+        let weight = if of.is_flat {
+            dead(of, one).saturating_add(count(one.members & other.needs))
         } else {
-            self.weight_with(left, choice)
+            self.left_weight_with(of, other)
         };
-        (weight >= choice.needed()).then_some(Way::Pick(Side::Right, choice))
+        (weight >= of.needed()).then_some(Way::Pick(Side::Left))
     }
 
-    /// What those children of a right threshold weigh that close with the left side.
-    fn weight_with(&self, left: usize, choice: Choice) -> usize {
+    /// A pick of a right choice's children, where enough of them close with the left side.
+    fn pick_right(&self, one: &Part, other: &Part, others: &Choice) -> Option<Way> {
+        let weight = if others.is_flat {
+            dead(others, other).saturating_add(count(one.needs & other.members))
+        } else {
+            self.right_weight_with(one, others)
+        };
+        (weight >= others.needed()).then_some(Way::Pick(Side::Right))
+    }
+
+    /// What those children of a left choice weigh that close with the right side.
+    fn left_weight_with(&self, of: &Choice, other: &Part) -> usize {
         let mut weight = 0usize;
-        for child in choice.first..choice.end() {
-            if self.grid.has(left, child) {
-                weight = weight.saturating_add(weight_in(&self.rights, child));
+        for child in self.lefts.children(of) {
+            if self.closes(child, other) {
+                weight = weight.saturating_add(usize::from(child.weight));
             }
         }
         weight
     }
 
-    /// Pairs of children that close, of as much weight as a match of two thresholds takes.
-    pub fn mates(&self, of: Choice, others: Choice) -> Option<Mates> {
-        let wanted = (of.needed().saturating_add(others.needed())).saturating_sub(1);
+    /// What those children of a right choice weigh that close with the left side.
+    fn right_weight_with(&self, one: &Part, others: &Choice) -> usize {
+        let mut weight = 0usize;
+        for child in self.rights.children(others) {
+            if self.closes(one, child) {
+                weight = weight.saturating_add(usize::from(child.weight));
+            }
+        }
+        weight
+    }
+
+    /// Whether pairs of children that close weigh as much as a match of two choices takes. Of members, those are the equal ones and as
+    /// many as can't hold.
+    fn match_closes(&self, one: &Part, of: &Choice, other: &Part, others: &Choice) -> bool {
+        if of.is_flat && others.is_flat {
+            let pairs = count(one.members & other.members)
+                .saturating_add(dead(of, one))
+                .saturating_add(dead(others, other));
+            let wanted = wanted(of, others);
+            wanted <= pairs && wanted <= of.count && wanted <= others.count
+        } else {
+            self.mates(of, others).is_some()
+        }
+    }
+
+    /// A bit for each of some right subexpressions that closes with a left one.
+    fn edge(&self, one: &Part, others: &[Part]) -> u64 {
+        let mut edge = 0u64;
+        let mut bit = 1u64;
+        for other in others {
+            if self.closes(one, other) {
+                edge |= bit;
+            }
+            bit = bit.wrapping_add(bit);
+        }
+        edge
+    }
+
+    /// Pairs of children that close, of as much weight as a match of two choices takes.
+    pub fn mates(&self, of: &Choice, others: &Choice) -> Option<Mates> {
+        let wanted = wanted(of, others);
         if wanted > of.total.min(others.total) {
             return None;
         }
+        let (lefts, rights) = (self.lefts.children(of), self.rights.children(others));
         let mut edges = [0u64; 64];
-        for (edge, child) in edges.iter_mut().zip(of.first..of.end()) {
-            *edge = self.grid.window(child, others.first, others.count);
+        for (edge, child) in edges.iter_mut().zip(lefts) {
+            *edge = self.edge(child, rights);
         }
         let edges = edges.get(..of.count)?;
         if of.is_of_ones() && others.is_of_ones() {
             return Mates::find(edges, wanted);
         }
-        let (mut lefts, mut rights) = ([0u8; 64], [0u8; 64]);
-        for (weight, part) in lefts.iter_mut().zip(self.lefts.get(of.first..of.end())?) {
-            *weight = part.weight;
-        }
-        for (weight, part) in rights
-            .iter_mut()
-            .zip(self.rights.get(others.first..others.end())?)
-        {
-            *weight = part.weight;
-        }
-        Mates::heaviest(edges, &lefts, &rights, wanted)
+        Mates::heaviest(edges, &weights(lefts), &weights(rights), wanted)
+    }
+
+    /// The children of a left choice.
+    pub fn lefts(&self, of: &Choice) -> &[Part] {
+        self.lefts.children(of)
+    }
+
+    /// The children of a right choice.
+    pub fn rights(&self, others: &Choice) -> &[Part] {
+        self.rights.children(others)
     }
 }

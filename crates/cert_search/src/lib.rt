@@ -14,6 +14,7 @@ mod hand;
 mod leaves;
 mod matching;
 mod members;
+mod needs;
 mod one;
 mod order;
 mod own;
@@ -26,6 +27,7 @@ mod settling;
 mod state;
 mod table;
 mod working;
+mod worth;
 
 pub use dealing::deal;
 pub use gate::Gate;

@@ -14,18 +14,19 @@ fn augment(edges: &[u64], left: u8, tried: &mut u64, mates: &mut [u8; 64], depth
     if depth == 0 {
         return false;
     }
-    let Some(open) = edges.get(usize::from(left)) else {
-        return false;
-    };
-    for right in 0..64u8 {
-        let bit = 1u64 << right;
-        if open & bit == 0 || *tried & bit != 0 {
-            continue;
+    let edge = edges.get(usize::from(left)).copied().unwrap_or(0);
+    for _ in 0..64 {
+        let open = edge & !*tried;
+        if open == 0 {
+            return false;
         }
-        *tried |= bit;
-        let mate = mates[usize::from(right)];
+        *tried |= open & open.wrapping_neg();
+        let right = open.trailing_zeros() as usize;
+        let mate = mates.get(right).copied().unwrap_or(NOBODY);
         if mate == NOBODY || augment(edges, mate, tried, mates, depth - 1) {
-            mates[usize::from(right)] = left;
+            if let Some(place) = mates.get_mut(right) {
+                *place = left;
+            }
             return true;
         }
     }
@@ -265,6 +266,11 @@ impl Mates {
             return None;
         }
         Some(Mates { mates })
+    }
+
+    /// How many pairs there are.
+    pub fn len(&self) -> usize {
+        self.mates.iter().filter(|mate| **mate != NOBODY).count()
     }
 
     /// The left child that a right one is matched with.

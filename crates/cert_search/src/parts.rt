@@ -1,10 +1,16 @@
 //! The subexpressions of an expression, by number.
 
+use crate::needs::known_of;
 use quorum_expr::{Expr, MemberSet};
 use std::alloc::{AllocError, Allocator};
 
 /// How many subexpressions are numbered at most: as many as a valid expression may have.
 const MOST: usize = 4096;
+
+/// How many subexpressions there is room for at first, and how many choices.
+const ROOM: usize = 64;
+
+const CHOICES: usize = 16;
 
 /// At least so much of what the subexpressions from a number on weigh.
 #[derive(Clone, Copy)]
@@ -15,6 +21,10 @@ pub struct Choice {
     pub total: usize,
     pub first: usize,
     pub count: usize,
+    /// Its number among the choices.
+    pub number: usize,
+    /// Whether its children are members of weight 1, of which those that may be there differ.
+    pub is_flat: bool,
 }
 
 /// A member, or a choice.
@@ -30,10 +40,20 @@ pub struct Part {
     pub form: Form,
     /// What it weighs as a child.
     pub weight: u8,
-    /// The members that it speaks of and that may be there.
-    pub members: MemberSet,
     /// Whether it holds in all members that may be there.
     pub is_live: bool,
+    /// The members that it speaks of and that may be there, a bit for each.
+    pub members: u64,
+    /// The members without any of which it doesn't hold, a bit for each.
+    pub needs: u64,
+}
+
+/// The subexpressions of an expression, itself the first, each before its children, whose numbers follow one another.
+#[derive(Drop)]
+pub struct Parts<B: Allocator> {
+    pub all: Vec<Part, B>,
+    /// The numbers of those that are choices.
+    pub choices: Vec<usize, B>,
 }
 
 impl Choice {
@@ -62,114 +82,170 @@ pub fn total<A: Allocator>(of: &[(u8, Expr<A>)]) -> usize {
     total
 }
 
-/// A subexpression's form, and what it weighs as a child.
-#[derive(Clone, Copy)]
-struct Weighed {
-    weight: u8,
-    form: Form,
+/// A member, where it may be there.
+fn member_part(member: u8, weight: u8, absent: MemberSet) -> Part {
+    let bit = 1u64.checked_shl(u32::from(member)).unwrap_or(0);
+    let is_live = !absent.contains(member);
+    Part {
+        form: Form::Member(member),
+        weight,
+        is_live,
+        members: if is_live { bit } else { 0 },
+        needs: if is_live { bit } else { u64::MAX },
+    }
 }
 
-/// The forms of an expression and all its subexpressions, each before its children, whose numbers follow one another. None where they
-/// are too many.
-fn forms<A: Allocator, B: Allocator + Clone>(
-    arena: &B,
-    expr: &Expr<A>,
-) -> Result<Option<Vec<Weighed, B>>, AllocError> {
-    let mut weights = Vec::new(arena.clone()?);
-    let mut exprs = Vec::new(arena.clone()?);
-    weights.push(1u8)?;
-    exprs.push(expr)?;
-    let mut forms = Vec::new(arena.clone()?);
-    for at in 0..MOST + 1 {
-        let first = exprs.len();
-        let weight = weights.get(at).copied().unwrap_or(0);
-        let form = match exprs.get(at).copied() {
-            None => return Ok(Some(forms)),
-            Some(Expr::Member(member)) => Form::Member(*member),
-            Some(Expr::KOf { k, of }) => {
-                for (weight, child) in of {
-                    weights.push(*weight)?;
-                    exprs.push(child)?;
-                }
-                Form::KOf(Choice {
-                    k: usize::from(*k),
-                    total: total(of.as_slice()),
-                    first,
-                    count: of.len(),
-                })
-            }
-        };
-        forms.push(Weighed { weight, form })?;
-    }
-    Ok(None)
-}
-
-/// A choice over the parts that are its children.
-fn choice_over(choice: Choice, weight: u8, children: &[Part]) -> Part {
-    let mut members = MemberSet::empty();
-    let mut live = 0usize;
-    for child in children {
-        members = members.union(child.members);
-        if child.is_live {
-            live = live.saturating_add(usize::from(child.weight));
-        }
-    }
+/// A choice of so many subexpressions from a number on, of which nothing is known yet.
+fn choice_part(k: u16, weight: u8, number: usize) -> Part {
+    let choice = Choice {
+        k: usize::from(k),
+        total: 0,
+        first: 0,
+        count: 0,
+        number,
+        is_flat: false,
+    };
     Part {
         form: Form::KOf(choice),
         weight,
-        members,
-        is_live: live >= choice.k,
+        is_live: false,
+        members: 0,
+        needs: u64::MAX,
     }
 }
 
-/// The subexpression of a form, where its children are known.
-fn part_of(weighed: Weighed, known: &[Part], present: MemberSet) -> Part {
-    let Weighed { weight, form } = weighed;
-    match form {
-        Form::Member(member) => {
-            let is_live = present.contains(member);
-            let members = if is_live {
-                MemberSet::empty().with(member)
-            } else {
-                MemberSet::empty()
-            };
-            Part {
-                form,
-                weight,
-                members,
-                is_live,
+/// Where the parts of an expression are listed.
+#[derive(Drop)]
+struct Listing<'e, A: Allocator, B: Allocator> {
+    parts: Parts<B>,
+    /// The children of the choices.
+    children: Vec<&'e [(u8, Expr<A>)], B>,
+    absent: MemberSet,
+}
+
+impl<'e, A: Allocator, B: Allocator> Listing<'e, A, B> {
+    /// One more part.
+    fn add(&mut self, weight: u8, expr: &'e Expr<A>) -> Result<(), AllocError> {
+        let part = match expr {
+            Expr::Member(member) => member_part(*member, weight, self.absent),
+            Expr::KOf { k, of } => {
+                let number = self.children.len();
+                self.parts.choices.push(self.parts.all.len())?;
+                self.children.push(of.as_slice())?;
+                choice_part(*k, weight, number)
             }
+        };
+        self.parts.all.push(part)?;
+        Ok(())
+    }
+
+    /// The children of a choice, which come last.
+    fn add_children(&mut self, number: usize) -> Result<(), AllocError> {
+        let children = self.children.get(number).copied().unwrap_or(&[]);
+        let first = self.parts.all.len();
+        let mut total = 0usize;
+        for (weight, child) in children {
+            total = total.saturating_add(usize::from(*weight));
+            self.add(*weight, child)?;
         }
-        Form::KOf(choice) => {
-            let children = known.get(choice.first..choice.end()).unwrap_or(&[]);
-            choice_over(choice, weight, children)
+        let at = self.parts.choices.get(number).copied().unwrap_or(0);
+        if let Some(
+            Part {
+                form: Form::KOf(choice),
+                ..
+            },
+        ) = self.parts.all.get_mut(at)
+        {
+            choice.total = total;
+            choice.first = first;
+            choice.count = children.len();
+        }
+        Ok(())
+    }
+}
+
+impl<B: Allocator> Parts<B> {
+    /// The part with a number.
+    pub fn at(&self, number: usize) -> Option<&Part> {
+        self.all.get(number)
+    }
+
+    /// The choice with a number among them.
+    pub fn choice(&self, number: usize) -> Option<&Part> {
+        self.all.get(*self.choices.get(number)?)
+    }
+
+    /// The children of a choice.
+    pub fn children(&self, choice: &Choice) -> &[Part] {
+        self.all.get(choice.first..choice.end()).unwrap_or(&[])
+    }
+
+    /// How many there are.
+    pub fn len(&self) -> usize {
+        self.all.len()
+    }
+
+    /// Notes what is known of a choice by its children.
+    fn know(&mut self, at: usize) {
+        let Some(
+            Part {
+                form: Form::KOf(choice),
+                weight,
+                ..
+            },
+        ) = self.all.get(at).copied()
+        else {
+            return;
+        };
+        let known = known_of(choice, self.children(&choice));
+        if let Some(part) = self.all.get_mut(at) {
+            *part = Part {
+                form: Form::KOf(Choice {
+                    is_flat: known.is_flat,
+                    ..choice
+                }),
+                weight,
+                is_live: known.is_live,
+                members: known.members,
+                needs: known.needs,
+            };
+        }
+    }
+
+    /// Notes what is known of all choices, of children before their parents.
+    fn know_all(&mut self) {
+        for number in (0..self.choices.len()).rev() {
+            let at = self.choices.get(number).copied().unwrap_or(0);
+            self.know(at);
         }
     }
 }
 
-/// The subexpressions of an expression, itself the first, each before its children, whose numbers follow one another. None where
-/// they are too many.
-pub fn parts<A: Allocator, B: Allocator + Clone>(
+/// The subexpressions of an expression where these members are absent. None where they are too many.
+pub fn parts_of<A: Allocator, B: Allocator + Clone>(
     arena: &B,
     expr: &Expr<A>,
     absent: MemberSet,
-) -> Result<Option<Vec<Part, B>>, AllocError> {
-    let Some(forms) = forms(arena, expr)? else {
-        return Ok(None);
+) -> Result<Option<Parts<B>>, AllocError> {
+    let mut listing = Listing {
+        parts: Parts {
+            all: Vec::with_capacity(arena.clone()?, ROOM)?,
+            choices: Vec::with_capacity(arena.clone()?, CHOICES)?,
+        },
+        children: Vec::with_capacity(arena.clone()?, CHOICES)?,
+        absent,
     };
-    let unknown = Part {
-        form: Form::Member(0),
-        weight: 0,
-        members: MemberSet::empty(),
-        is_live: false,
-    };
-    let present = absent.complement();
-    let mut parts = vec![in arena.clone()?; unknown; forms.len()]?;
-    for (at, form) in forms.iter().enumerate().rev() {
-        let part = part_of(*form, parts.as_slice(), present);
-        if let Some(place) = parts.get_mut(at) {
-            *place = part;
+    listing.add(1, expr)?;
+    for number in 0..MOST + 1 {
+        if number >= listing.children.len() {
+            break;
         }
+        listing.add_children(number)?;
     }
+    let Listing { mut parts, .. } = listing;
+    if parts.len() > MOST {
+        return Ok(None);
+    }
+    parts.know_all();
     Ok(Some(parts))
 }

@@ -61,7 +61,7 @@ fn equal_pairs<A: Allocator, B: Allocator + Clone>(
     ensures pairs { Gives (λ v. v.items) result (Ok (equal_pairs 0 (formulas_of of.now) (formulas_of others.now))) }
     ensures few { IfOk result (λ v. length v.items ≤ 64) }
 {
-    let mut pairs = Vec::new(arena.clone()?);
+    let mut pairs = Vec::with_capacity(arena.clone()?, of.len().min(others.len()))?;
     for (i, (_, child)) in of.iter().enumerate() {
         if let Some(pair) = pair_at(i as u8, child, others) {
             pairs.push(pair)?;
@@ -77,7 +77,7 @@ fn clashes<B: Allocator + Clone>(
 ) -> Result<Vec<Refutation<B>, B>, Fault>
     ensures { Gives (λ v. rules_of v.items) result (Ok (clashes pairs.now)) }
 {
-    let mut then = Vec::new(arena.clone()?);
+    let mut then = Vec::with_capacity(arena.clone()?, pairs.len())?;
     for _ in pairs {
         then.push(Refutation::Clash { left: 0, right: 0 })?;
     }

@@ -18,6 +18,7 @@ use crate::hand::Hand;
 use crate::one::search_one;
 use crate::settling::settle;
 use crate::working::{Found, Worked, work};
+use crate::worth::worth;
 use plan::{LentClaim, Plan, lent_claims};
 use refutation::Certificate;
 use std::alloc::{AllocError, Global};
@@ -159,5 +160,6 @@ pub fn search_all<R: Threads + Wait + Sync, G: Gate + Sync>(
         Ok(claims) => claims,
         Err(fault) => return Err(fault.kind()),
     };
+    let workers = worth(claims.as_slice(), workers);
     searched(rt, alloc, claims.as_slice(), workers, budget, gate)
 }

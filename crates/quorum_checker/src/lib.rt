@@ -35,8 +35,10 @@ use rules::check_rule;
 use std::alloc::{Allocator, Global};
 use volume_model::Fault;
 
-/// Whether a certificate refutes a claim, and if not, its first fault, numbered from 20 to 27. The two may lie in
-/// different memory. Only the lists of items take any.
+/// Whether a certificate refutes a claim. The two may lie in different memory. Only the lists of items take any.
+///
+/// # Errors
+/// The certificate's first fault, numbered from 20 to 27, with its path; or `NoMemory` where a growth was refused.
 pub fn check<A: Allocator, B: Allocator>(
     alloc: Global,
     claim: &Claim<A>,
@@ -56,7 +58,10 @@ pub fn check<A: Allocator, B: Allocator>(
 }
 
 /// Whether a certificate refutes the claim that each set that satisfies the left item, and is clear of the given members,
-/// meets each set that satisfies the right one, and if not, its first fault. Nothing of the two is copied.
+/// meets each set that satisfies the right one. Nothing of the two is copied.
+///
+/// # Errors
+/// As [`check`].
 pub fn check_lent<A: Allocator, B: Allocator>(
     alloc: Global,
     left: Item<'_, A>,

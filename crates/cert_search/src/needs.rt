@@ -1,0 +1,95 @@
+//! What is known of a choice by what is known of its children.
+
+use crate::parts::{Choice, Form, Part};
+
+/// What is known of a choice.
+#[derive(Clone, Copy)]
+pub struct Known {
+    pub is_flat: bool,
+    pub is_live: bool,
+    pub members: u64,
+    pub needs: u64,
+}
+
+/// Whether the children are members of weight 1, of which those that may be there differ.
+fn are_flat(children: &[Part]) -> bool {
+    let mut members = 0u64;
+    for child in children {
+        match child.form {
+            Form::Member(_) => {}
+            Form::KOf(_) => return false,
+        }
+        if child.weight != 1 || members & child.members != 0 {
+            return false;
+        }
+        members |= child.members;
+    }
+    true
+}
+
+/// What those children weigh that may hold, and don't without these members.
+fn weight_of(children: &[Part], members: u64) -> usize {
+    let mut weight = 0usize;
+    for child in children {
+        if child.is_live && child.needs & members != 0 {
+            weight = weight.saturating_add(usize::from(child.weight));
+        }
+    }
+    weight
+}
+
+/// The members of which each is needed by children of so much weight that may hold.
+fn needed_by(children: &[Part], needed: usize) -> u64 {
+    let mut sure = 0u64;
+    let mut some = 0u64;
+    for child in children {
+        if child.is_live {
+            some |= child.needs;
+            if usize::from(child.weight) >= needed {
+                sure |= child.needs;
+            }
+        }
+    }
+    let mut left = some & !sure;
+    for _ in 0..64 {
+        if left == 0 {
+            break;
+        }
+        let member = left & left.wrapping_neg();
+        left &= !member;
+        if weight_of(children, member) >= needed {
+            sure |= member;
+        }
+    }
+    sure
+}
+
+/// What is known of a choice over these children.
+pub fn known_of(choice: Choice, children: &[Part]) -> Known {
+    let mut members = 0u64;
+    let mut live = 0usize;
+    for child in children {
+        members |= child.members;
+        if child.is_live {
+            live = live.saturating_add(usize::from(child.weight));
+        }
+    }
+    let is_live = live >= choice.k;
+    let is_flat = are_flat(children);
+    let needed = live.saturating_add(1).saturating_sub(choice.k);
+    let needs = if !is_live {
+        u64::MAX
+    } else if !is_flat {
+        needed_by(children, needed)
+    } else if needed <= 1 {
+        members
+    } else {
+        0
+    };
+    Known {
+        is_flat,
+        is_live,
+        members,
+        needs,
+    }
+}
