@@ -3,6 +3,7 @@ mod ConfigurationLaws
 mod Converted
 mod Digits
 mod GroupLaws
+mod Passing
 mod Plans
 mod PutRules
 mod Putting

@@ -6,4 +6,5 @@ pub mod Plans
 pub mod Puts
 pub mod Rewritten
 pub mod Rules
+pub mod Skipped
 pub mod Spelled

@@ -12,6 +12,7 @@ mod reading;
 mod rewriting;
 mod rules;
 mod sizes;
+mod skipping;
 mod tokens;
 mod writing;
 

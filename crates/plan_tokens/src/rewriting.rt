@@ -13,17 +13,21 @@ ghost use Rattle.plan_tokens.specs.Rewritten.{front_members, parent_data, Copies
 ghost use Rattle.plan_tokens.specs.Spelled.{Spells, SpellsSome};
 
 use crate::certificates::{put_certificate_at, put_step};
-use crate::configurations::{certificate, number_or_null};
+use crate::configurations::number_or_null;
 use crate::copies::copy_tree;
 use crate::expressions::LEVELS;
 use crate::groups::CONFIGURATIONS;
 use crate::puts::{
     close_array, close_object, open_array, open_object, put_key, put_null, put_number, put_numbers,
 };
+use crate::skipping::skip_value;
 use crate::tokens::{any_key, begin_array, begin_object, end, key, small_numbers};
 use json::{Reader, Writer};
 use refutation::Certificate;
 use std::alloc::Global;
+
+/// How many levels a certificate's text has at most.
+const CERTIFICATE_LEVELS: u8 = 81;
 
 /// What stands before the expressions of a configuration.
 #[derive(Drop)]
@@ -64,14 +68,6 @@ fn put_front(
     put_parent(writer, front.parent)
 }
 
-/// A certificate of the text, or null, of which nothing is kept.
-fn skip_certificate(alloc: Global, reader: &mut Reader<'_>) -> Option<()>
-    ensures { OnSome result (SpellsSome 81 reader.old reader.new (λ d. Unit {0})) }
-{
-    certificate(alloc, reader)?;
-    Some(())
-}
-
 /// The expression of a configuration at a key.
 fn copy_at(alloc: Global, reader: &mut Reader<'_>, writer: &mut Writer, name: &str) -> Option<()>
     ensures { OnSome result (CopiesAt name.now reader.old reader.new writer.old writer.new) }
@@ -109,9 +105,9 @@ fn copy_parent_first(
     copy_at(alloc, reader, writer, "write")?;
     close_object(writer)?;
     key(reader, "meets")?;
-    skip_certificate(alloc, reader)?;
+    skip_value(reader, CERTIFICATE_LEVELS)?;
     key(reader, "step")?;
-    skip_certificate(alloc, reader)?;
+    skip_value(reader, CERTIFICATE_LEVELS)?;
     end(reader)
 }
 
@@ -128,7 +124,7 @@ fn copy_full_first(
 {
     let full = small_numbers(alloc, reader)?;
     key(reader, "meets")?;
-    skip_certificate(alloc, reader)?;
+    skip_value(reader, CERTIFICATE_LEVELS)?;
     key(reader, "members")?;
     let members = small_numbers(alloc, reader)?;
     key(reader, "parent")?;
@@ -141,7 +137,7 @@ fn copy_full_first(
     put_front(writer, &front, number, certificates)?;
     copy_at(alloc, reader, writer, "read")?;
     key(reader, "step")?;
-    skip_certificate(alloc, reader)?;
+    skip_value(reader, CERTIFICATE_LEVELS)?;
     put_key(writer, "step")?;
     put_step(writer, certificates, number)?;
     copy_at(alloc, reader, writer, "write")?;
