@@ -51,6 +51,21 @@ fn letters_come_in_order_and_the_closing_letter_last(rt: HostRuntime) -> Result<
 }
 
 #[test]
+fn a_letter_behind_the_closing_letter(rt: HostRuntime) -> Result<(), Fail> {
+    let (mail, mut seats) = Mailbox::new(rt.alloc(), 4, 1)?;
+    let mut seat = seats.pop().ok_or("no seat")?;
+    mail.post(&rt, &mut seat, 5);
+    mail.post(&rt, &mut seat, 6);
+    mail.close(&rt, &mut seat);
+    mail.post(&rt, &mut seat, 7);
+    assert_eq!(rt; mail.collect(&rt, &mut seat), Some(5));
+    assert_eq!(rt; mail.collect(&rt, &mut seat), Some(6));
+    assert_eq!(rt; mail.collect(&rt, &mut seat), None);
+    assert_eq!(rt; mail.collect(&rt, &mut seat), Some(7));
+    Ok(())
+}
+
+#[test]
 fn letters_reach_another_thread_in_order(rt: HostRuntime) -> Result<(), Fail> {
     let (mail, mut seats) = Mailbox::new(rt.alloc(), 1, 2)?;
     let second = seats.pop().ok_or("no seat")?;

@@ -12,6 +12,7 @@ mod pieces;
 mod plans;
 mod refutations;
 mod said;
+mod scarce;
 mod scripts;
 mod searches;
 mod stops;

@@ -2,6 +2,7 @@
 
 mod calls;
 mod drive;
+mod letters;
 mod looks;
 mod refusals;
 mod tables;

@@ -11,7 +11,7 @@ use volume_model::Fault;
 use world::AuthorityAct;
 
 /// Three bytes reach four of six members, and their acknowledgements the writer.
-const WRITTEN: [Step; 17] = [
+pub const WRITTEN: [Step; 17] = [
     (Call::Issue(1, "abc"), Ok((3, 0))),
     (Call::Deliver(0, 1), Ok((1, 0))),
     (Call::Deliver(1, 1), Ok((1, 0))),
