@@ -1,5 +1,7 @@
 -- What is told of orders, and how many of them were made and refused.
-use Rattle.std.specs.Prelude.{◌+◌, Bool, true, false}
+use Rattle.std.specs.Prelude.{◌+◌, Bool, true, false, Result, Ok, Err}
+use Rattle.volume_model.specs.declared.fault.Fault.{Fault}
+use Rattle.volume_model.specs.declared.fault.Fault.TheVariants.{NoMemory}
 use Rattle.drivers.specs.declared.tally.Tally.{Tally}
 use Rattle.drivers.specs.declared.word.Told.{Told}
 use Rattle.drivers.specs.declared.word.Told.TheVariants.{Made, Refused, Starved}
@@ -15,6 +17,12 @@ abbrev pub is_refused : Told → Bool
 is_refused (Made first count) = false
 is_refused Refused = true
 is_refused Starved = false
+
+-- the call was refused, and not for want of memory
+abbrev pub is_refusal : {T : Type 0} → Result T Fault → Bool
+is_refusal (Ok made) = false
+is_refusal (Err NoMemory) = false
+is_refusal (Err fault) = true
 
 -- the order was refused for want of memory
 abbrev pub IsStarved : Told → Type 0

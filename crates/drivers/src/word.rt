@@ -36,14 +36,13 @@ pub enum Told {
 }
 
 impl Told {
-    ghost use Rattle.std.specs.Prelude.{◌≡◌, ◌≢◌, Err, is_ok, true};
-    ghost use Rattle.volume_model.specs.declared.fault.Fault.TheVariants.{NoMemory};
-    ghost use Rattle.drivers.specs.Tallies.{is_made, is_refused};
+    ghost use Rattle.std.specs.Prelude.{◌≡◌, is_ok};
+    ghost use Rattle.drivers.specs.Tallies.{is_made, is_refusal, is_refused};
 
     /// What is told of a call of the fleet.
     pub fn of(call: Result<Receipt, Fault>) -> Told
         ensures made { is_made result ≡ is_ok call }
-        ensures starved { is_refused result ≡ true → call ≢ Err NoMemory }
+        ensures refused { is_refused result ≡ is_refusal call }
     {
         match call {
             Ok(receipt) => Told::Made {

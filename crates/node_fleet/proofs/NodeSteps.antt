@@ -1,7 +1,7 @@
 -- The step of a node, in the world.
 use Rattle.std.proofs.Common.{◌≡◌, ◌≢◌, ℕ, ◌<◌, ◌≤◌, not, ◌&&◌, nat_lt, Bool, true, List, [], length, Option, Some, option_map, Result, Ok, Err, sym, ap, ap₂, ◌∙◌, subst, arith}
 use Rattle.std.proofs.lemmas.Bool.{le-ltb, lt-ltb}
-use Rattle.std.specs.Prelude.{slice_get}
+use Rattle.std.specs.Prelude.{slice_get, IfOk, IfErr}
 use Rattle.volume_model.specs.declared.fault.Fault.{Fault}
 use Rattle.volume_model.specs.declared.fault.Fault.TheVariants.{JournalFull, NoActor, NoMemory, NoMessage, NoSlot}
 use Rattle.volume_model.specs.Actor.{Actor, Agree}
@@ -18,9 +18,12 @@ use Rattle.volume_model.specs.World.{Event, Step, World, after, after_step, deli
 use Rattle.volume_model.proofs.Frames.{put_at_here}
 use Rattle.volume_model.proofs.ListFacts.{get_there}
 use Rattle.volume_model.proofs.Own.{hydrated_own, offered_own, reaction_own}
+use Rattle.segment_core.specs.declared.act.NodeAct.{NodeAct}
+use Rattle.segment_core.specs.declared.prepared.Prepared.{Prepared}
 use Rattle.segment_core.specs.declared.segment.Segment.{Segment}
+use Rattle.segment_core.specs.Acts.{acted}
 use Rattle.segment_core.specs.Prepared.{step_of}
-use Rattle.segment_core.specs.Segment.{hydration_of, is_full, node_of, IsSameActor, IsSegmentOf}
+use Rattle.segment_core.specs.Segment.{act_of, node_of, IsSameActor, IsSegmentOf}
 use Rattle.wire.specs.declared.message.Message as wire
 use Rattle.wire.specs.Message.{message_of}
 use Rattle.node_fleet.specs.declared.deed.NodeDeed.{NodeDeed}
@@ -94,7 +97,7 @@ letter_own plan g m now made index inside =
     let x = get_there made index inside in
     delivery_own plan g m now (option_map message_of (slice_get made index)) (message_of x.0) (ap (option_map message_of) x.1)
 
-deed_own : (plan : Plan) (g m : ℕ) (now : Node) (what : NodeDeed) → Refuses IsOwn (done_by plan g m now what)
+pub deed_own : (plan : Plan) (g m : ℕ) (now : Node) (what : NodeDeed) → Refuses IsOwn (done_by plan g m now what)
 deed_own plan g m now deed.Hydrate = hydrated_own plan g m now
 deed_own plan g m now deed.Restart = tt
 deed_own plan g m now (deed.Offer lsn) = offered_own g now lsn
@@ -125,7 +128,12 @@ module _ (plan : Plan) (slots cells : ℕ) (es : List Entry) (seen : World) (act
       ap (λ (r : Result Step Fault). (after_step (world_at plan es) r).nodes g m) (delivers plan (world_at plan es) g m joined named now here asked found (ap (numbered (world_at plan es).messages) same ∙ is) ∙ ap (of_node (world_at plan es) g m) ok)
       ∙ put_at_here (world_at plan es).nodes g m s.node
 
-  -- so it is where it does something of itself
+  -- so are those that it makes of itself
+  pub tells : (what : NodeDeed) (s : NodeStep) → done_by plan g m now what ≡ Ok s → (made : List Message) → made ≡ s.made → makes (step plan (world_at plan es) (event_by g m what)) ≡ Some made
+  tells what s ok made are =
+      ap makes (does plan (world_at plan es) g m joined named now here what ∙ ap (of_node (world_at plan es) g m) ok) ∙ ap (λ (ms : List Message). Some ms) (sym are)
+
+  -- and it is then the model's node
   pub done : (what : NodeDeed) (s : NodeStep) → done_by plan g m now what ≡ Ok s → (after plan (world_at plan es) (event_by g m what)).nodes g m ≡ s.node
   done what s ok =
       ap (λ (r : Result Step Fault). (after_step (world_at plan es) r).nodes g m) (does plan (world_at plan es) g m joined named now here what ∙ ap (of_node (world_at plan es) g m) ok) ∙ put_at_here (world_at plan es).nodes g m s.node
@@ -140,13 +148,15 @@ late_fails : {R S T : Type 0} (late : Fault → Bool) (step : R → S → T) (de
 late_fails late step defined old new NoMemory h = tt
 late_fails late step defined old new fault h = h.0
 
--- a segment becomes whole as the node that it is
-module _ (plan : Plan) (g m : ℕ) (s : Segment) (is : IsSegmentOf plan g m s) where
-  same_hydration : hydration_of s ≡ hydrated plan g m (node_of s)
-  same_hydration = λ i. hydrated (is.plan_is i) (is.group_is i) (is.member_is i) (node_of s)
+-- a segment does what it is asked to as the node that it is
+module _ (plan : Plan) (g m : ℕ) (old new : Segment) (is : IsSegmentOf plan g m old) (still : node_of new ≡ node_of old) (what : NodeDeed) (act : NodeAct) (same : (plan : Plan) (g m : ℕ) (now : Node) → acted act plan g m now ≡ done_by plan g m now what) where
+  same_act : act_of old act ≡ done_by plan g m (node_of old) what
+  same_act = (λ i. acted act (is.plan_is i) (is.group_is i) (is.member_is i) (node_of old)) ∙ same plan g m (node_of old)
 
-  pub hydrates : (made : NodeStep) → hydration_of s ≡ Ok made → hydrated plan g m (node_of s) ≡ Ok made
-  hydrates made ok = sym same_hydration ∙ ok
+  pub deed_steps : (late : Fault → Bool) (result : Result Prepared Fault) → AnswersLate late step_of (act_of old act) (node_of old) result (node_of old) → IfOk result (λ prepared. done_by plan g m (node_of new) what ≡ Ok (step_of prepared (node_of new)))
+  deed_steps late (Ok prepared) h = subst (λ (n : Node). done_by plan g m n what ≡ Ok (step_of prepared n)) (sym still) (sym same_act ∙ h)
+  deed_steps late (Err fault) h = tt
 
-  pub hydration_fails : (fault : Fault) → AnswersLate is_full step_of (hydration_of s) (node_of s) (Err fault) (node_of s) → Fails fault (hydrated plan g m (node_of s))
-  hydration_fails fault h = subst (Fails fault) same_hydration (late_fails is_full step_of (hydration_of s) (node_of s) (node_of s) fault h)
+  pub deed_fails : (late : Fault → Bool) (result : Result Prepared Fault) → AnswersLate late step_of (act_of old act) (node_of old) result (node_of old) → IfErr result (λ fault. Fails fault (done_by plan g m (node_of new) what))
+  deed_fails late (Ok prepared) h = tt
+  deed_fails late (Err fault) h = subst (λ (n : Node). Fails fault (done_by plan g m n what)) (sym still) (subst (Fails fault) same_act (late_fails late step_of (act_of old act) (node_of old) (node_of old) fault h))

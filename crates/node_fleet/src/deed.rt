@@ -1,12 +1,13 @@
 //! What a node does of itself.
 
-ghost use Rattle.std.specs.Prelude.{◌≡◌};
+ghost use Rattle.std.specs.Prelude.{◌≡◌, ℕ};
 
 use crate::halt::Halt;
 use crate::node::NodeActor;
 use crate::step::{ready, refused};
 use height::Height;
 use journal::{Log, Pass, Receipt, Site};
+use segment_core::{NodeAct, Prepared};
 use std::alloc::Global;
 use std::sync::Wait;
 use volume_model::Fault;
@@ -23,149 +24,58 @@ pub enum NodeDeed {
     Offer { lsn: u64 },
 }
 
+impl NodeDeed {
+    ghost use Rattle.volume_model.specs.Plan.{Plan};
+    ghost use Rattle.volume_model.specs.Node.{Node};
+    ghost use Rattle.segment_core.specs.Acts.{acted};
+    ghost use Rattle.world.specs.Events.{event_of};
+    ghost use Rattle.node_fleet.specs.Nodes.{done_by, event_by};
+
+    /// The event that it is, of the member of a group.
+    fn event(self, group: u8, member: u8) -> Event
+        ensures { event_of result ≡ event_by group member self }
+    {
+        match self {
+            NodeDeed::Hydrate => Event::Hydrate { group, member },
+            NodeDeed::Restart => Event::Restart { group, member },
+            NodeDeed::Offer { lsn } => Event::Offer { group, member, lsn },
+        }
+    }
+
+    /// What a segment is asked for.
+    fn act<'a>(self) -> NodeAct<'a>
+        ensures { (plan : Plan) (group member : ℕ) (now : Node) → acted result plan group member now ≡ done_by plan group member now self }
+    {
+        match self {
+            NodeDeed::Hydrate => NodeAct::Hydrate,
+            NodeDeed::Restart => NodeAct::Restart,
+            NodeDeed::Offer { lsn } => NodeAct::Offer { lsn },
+        }
+    }
+}
+
 impl<L: Site> NodeActor<L> {
-    ghost use Rattle.std.specs.Prelude.{◌≢◌, Err, IfErr, OnErr, OnOk, length};
+    ghost use Rattle.std.specs.Prelude.{◌≢◌, Err, Ok, IfErr, IfOk, OnErr, OnOk, length};
     ghost use Rattle.height.specs.Seats.{table_of};
+    ghost use Rattle.volume_model.specs.Answer.{Fails};
     ghost use Rattle.volume_model.specs.declared.fault.Fault.TheVariants.{NoMessage};
-    ghost use Rattle.volume_model.specs.World.Event.{Hydrate, Restart, Offer};
+    ghost use Rattle.segment_core.specs.Prepared.{step_of};
+    ghost use Rattle.segment_core.specs.Segment.{node_of, IsReady};
     ghost use Rattle.journal.specs.Passes.{journal_of, notes_of, seat_of, steps_of, world_of};
     ghost use Rattle.node_fleet.specs.declared.halt.Halt.TheVariants.{Again, Refused};
     ghost use Rattle.node_fleet.specs.Halts.{Enters, Halts, IsExact};
     ghost use Rattle.node_fleet.specs.Ready.{IsStale};
-    ghost use Rattle.node_fleet.specs.Nodes.{actor_group, actor_member, actor_node, event_by};
+    ghost use Rattle.node_fleet.specs.Nodes.{actor_group, actor_member, actor_node, deed_of, event_by};
 
-    /// The node becomes whole, and the step is entered.
-    fn hydrate<'a, R: Wait>(
-        &mut self,
-        rt: &R,
-        alloc: Global,
-        height: &Height,
-        log: &mut Log<'a, L>,
-        pass: &mut Pass<'a, L>,
-    ) -> Result<Receipt, Halt>
-        requires height { table_of height.now ≡ L.table }
-        ensures told { Halts (Hydrate self.old.group self.old.member) result (steps_of pass.old) (steps_of pass.new) (notes_of pass.old) (notes_of pass.new) }
-        ensures exact { IsExact L.plan L.slots (length L.cells) (journal_of log.old) (Hydrate self.old.group self.old.member) result }
-        ensures entered { Enters (Hydrate self.old.group self.old.member) (journal_of log.old) (journal_of log.new) result }
-        ensures stale { result ≡ Err Again → IsStale self.old.mark log.old }
-        ensures seat { seat_of pass.new ≡ seat_of pass.old }
-        ensures found { IfErr result (λ halt. halt ≢ Refused NoMessage) }
-        ensures same { (self.new.group ≡ self.old.group) × (self.new.member ≡ self.old.member) }
-        ensures moved { OnOk result (actor_node self.new ≡ (world_of log.new).nodes self.old.group self.old.member) }
-        ensures still { OnErr result (actor_node self.new ≡ actor_node self.old) }
+    /// Makes ready for a deed: gives every refusal of the node, makes every growth, and works out the messages. Nothing that the node holds
+    /// has changed.
+    fn prepare_deed(&mut self, alloc: Global, deed: NodeDeed) -> Result<Prepared, Fault>
+        ensures ready { IfOk result (λ prepared. IsReady self.new.segment prepared) }
+        ensures step { IfOk result (λ prepared. deed_of self.new deed ≡ Ok (step_of prepared (node_of self.new.segment))) }
+        ensures fails { IfErr result (λ fault. Fails fault (deed_of self.new deed)) }
+        ensures same { (self.new.group ≡ self.old.group) × (self.new.member ≡ self.old.member) × (self.new.mark ≡ self.old.mark) × (actor_node self.new ≡ actor_node self.old) }
     {
-        let NodeActor {
-            mark,
-            segment,
-            group,
-            member,
-        } = self;
-        ready(height, log, pass, mark)?;
-        let event = Event::Hydrate {
-            group: *group,
-            member: *member,
-        };
-        if u64::from(*group) >= log.joined() {
-            return Err(refused(log, pass, event, Fault::NoActor));
-        }
-        let prepared = match segment.prepare_hydration(alloc) {
-            Ok(prepared) => prepared,
-            Err(fault) => return Err(refused(log, pass, event, fault)),
-        };
-        if log.is_full() {
-            return Err(refused(log, pass, event, Fault::JournalFull));
-        }
-        let made = segment.apply(prepared);
-        Ok(log.enter(rt, height, mark, pass, event, made, 0))
-    }
-
-    /// The node starts again, and the step is entered.
-    fn restart<'a, R: Wait>(
-        &mut self,
-        rt: &R,
-        alloc: Global,
-        height: &Height,
-        log: &mut Log<'a, L>,
-        pass: &mut Pass<'a, L>,
-    ) -> Result<Receipt, Halt>
-        requires height { table_of height.now ≡ L.table }
-        ensures told { Halts (Restart self.old.group self.old.member) result (steps_of pass.old) (steps_of pass.new) (notes_of pass.old) (notes_of pass.new) }
-        ensures exact { IsExact L.plan L.slots (length L.cells) (journal_of log.old) (Restart self.old.group self.old.member) result }
-        ensures entered { Enters (Restart self.old.group self.old.member) (journal_of log.old) (journal_of log.new) result }
-        ensures stale { result ≡ Err Again → IsStale self.old.mark log.old }
-        ensures seat { seat_of pass.new ≡ seat_of pass.old }
-        ensures found { IfErr result (λ halt. halt ≢ Refused NoMessage) }
-        ensures same { (self.new.group ≡ self.old.group) × (self.new.member ≡ self.old.member) }
-        ensures moved { OnOk result (actor_node self.new ≡ (world_of log.new).nodes self.old.group self.old.member) }
-        ensures still { OnErr result (actor_node self.new ≡ actor_node self.old) }
-    {
-        let NodeActor {
-            mark,
-            segment,
-            group,
-            member,
-        } = self;
-        ready(height, log, pass, mark)?;
-        let event = Event::Restart {
-            group: *group,
-            member: *member,
-        };
-        if u64::from(*group) >= log.joined() {
-            return Err(refused(log, pass, event, Fault::NoActor));
-        }
-        if log.is_full() {
-            return Err(refused(log, pass, event, Fault::JournalFull));
-        }
-        segment.restart();
-        Ok(log.enter(rt, height, mark, pass, event, Vec::new(alloc), 0))
-    }
-
-    /// The node offers a record, and the step is entered.
-    fn offer<'a, R: Wait>(
-        &mut self,
-        rt: &R,
-        alloc: Global,
-        height: &Height,
-        log: &mut Log<'a, L>,
-        pass: &mut Pass<'a, L>,
-        lsn: u64,
-    ) -> Result<Receipt, Halt>
-        requires height { table_of height.now ≡ L.table }
-        ensures told { Halts (Offer self.old.group self.old.member lsn) result (steps_of pass.old) (steps_of pass.new) (notes_of pass.old) (notes_of pass.new) }
-        ensures exact { IsExact L.plan L.slots (length L.cells) (journal_of log.old) (Offer self.old.group self.old.member lsn) result }
-        ensures entered { Enters (Offer self.old.group self.old.member lsn) (journal_of log.old) (journal_of log.new) result }
-        ensures stale { result ≡ Err Again → IsStale self.old.mark log.old }
-        ensures seat { seat_of pass.new ≡ seat_of pass.old }
-        ensures found { IfErr result (λ halt. halt ≢ Refused NoMessage) }
-        ensures same { (self.new.group ≡ self.old.group) × (self.new.member ≡ self.old.member) }
-        ensures moved { OnOk result (actor_node self.new ≡ (world_of log.new).nodes self.old.group self.old.member) }
-        ensures still { OnErr result (actor_node self.new ≡ actor_node self.old) }
-    {
-        let NodeActor {
-            mark,
-            segment,
-            group,
-            member,
-        } = self;
-        let mut made = Vec::with_capacity(alloc, 1)?;
-        ready(height, log, pass, mark)?;
-        let event = Event::Offer {
-            group: *group,
-            member: *member,
-            lsn,
-        };
-        if u64::from(*group) >= log.joined() {
-            return Err(refused(log, pass, event, Fault::NoActor));
-        }
-        let carried = match segment.offer(lsn) {
-            Ok(carried) => carried,
-            Err(fault) => return Err(refused(log, pass, event, fault)),
-        };
-        if log.is_full() {
-            return Err(refused(log, pass, event, Fault::JournalFull));
-        }
-        made.push_reserved(carried.gossip()?);
-        Ok(log.enter(rt, height, mark, pass, event, made, 0))
+        self.segment.prepare_act(alloc, deed.act())
     }
 
     /// The node does what it does of itself, and the step is entered. Its caller holds the node's lock and the
@@ -196,10 +106,20 @@ impl<L: Site> NodeActor<L> {
         ensures moved { OnOk result (actor_node self.new ≡ (world_of log.new).nodes (actor_group self.old) (actor_member self.old)) }
         ensures still { OnErr result (actor_node self.new ≡ actor_node self.old) }
     {
-        match deed {
-            NodeDeed::Hydrate => self.hydrate(rt, alloc, height, log, pass),
-            NodeDeed::Restart => self.restart(rt, alloc, height, log, pass),
-            NodeDeed::Offer { lsn } => self.offer(rt, alloc, height, log, pass, lsn),
+        ready(height, log, pass, &self.mark)?;
+        let event = deed.event(self.group, self.member);
+        if u64::from(self.group) >= log.joined() {
+            return Err(refused(log, pass, event, Fault::NoActor));
         }
+        let prepared = match self.prepare_deed(alloc, deed) {
+            Ok(prepared) => prepared,
+            Err(fault) => return Err(refused(log, pass, event, fault)),
+        };
+        if log.is_full() {
+            return Err(refused(log, pass, event, Fault::JournalFull));
+        }
+        let NodeActor { mark, segment, .. } = self;
+        let made = segment.apply(prepared);
+        Ok(log.enter(rt, height, mark, pass, event, made, 0))
     }
 }

@@ -10,7 +10,8 @@ use Rattle.volume_model.specs.declared.fault.Fault.{Fault}
 use Rattle.volume_model.specs.declared.fault.Fault.TheVariants.{Full, NoMemory}
 use Rattle.hydration.specs.Hydration.{state_of}
 use Rattle.segment_core.specs.Prepared.{step_of}
-use Rattle.segment_core.specs.Segment.{hydration_of, is_full, node_of}
+use Rattle.segment_core.specs.Acts.{is_full}
+use Rattle.segment_core.specs.Segment.{hydration_of, node_of}
 use Rattle.segment_core.specs.Records.{records_of}
 use Rattle.segment_core.specs.declared.segment.Segment.{Segment}
 use Rattle.segment_core.specs.declared.records.Records.{Records}

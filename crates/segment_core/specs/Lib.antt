@@ -5,5 +5,6 @@ pub mod Link
 pub mod Records
 pub mod Assembly
 pub mod Prepared
+pub mod Acts
 pub mod Segment
 pub mod Told

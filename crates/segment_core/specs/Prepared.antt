@@ -1,13 +1,13 @@
 use Rattle.std.specs.Prelude.{true, [], suc, List, None}
 use Rattle.volume_model.specs.Redo.{with_record}
-use Rattle.volume_model.specs.Node.{Node, NodeStep}
+use Rattle.volume_model.specs.Node.{Node, NodeStep, restarted}
 use Rattle.redo_record.specs.Packet.{packet_redo}
 use Rattle.lineage.specs.Lineage.{lineage_of}
 use Rattle.wire.specs.declared.message.Message.{Message}
 use Rattle.wire.specs.Message.{messages_of, place_of}
 use Rattle.hydration.specs.Hydration.{kept_by}
 use Rattle.segment_core.specs.declared.prepared.Effect.{Effect}
-use Rattle.segment_core.specs.declared.prepared.Effect.TheVariants.{Nothing, Enter, Promise, Count, Move, Gather, Replace, Keep, Hydrate}
+use Rattle.segment_core.specs.declared.prepared.Effect.TheVariants.{Nothing, Enter, Promise, Count, Move, Gather, Replace, Keep, Hydrate, Restart}
 use Rattle.segment_core.specs.declared.prepared.Prepared.{Prepared}
 use Rattle.segment_core.specs.Assembly.{changed_by}
 use Rattle.segment_core.specs.Records.{records_of}
@@ -30,6 +30,7 @@ effected (Replace volume lineage records) node =
 effected (Keep keeping) node = record node { copies = kept_by keeping node.copies }
 effected (Hydrate volume lineage records) node =
     record node { volume = volume; whole = true; contents = record { lineage = lineage_of lineage; records = records_of records } }
+effected Restart node = restarted node
 
 -- what the step makes of a node
 abbrev pub step_of : Prepared → Node → NodeStep

@@ -1,4 +1,4 @@
-use Rattle.std.specs.Prelude.{◌≡◌, ◌<◌, ◌⊎◌, ℕ, suc, Bool, true, false, not, List, [], ◌∷◌, Option, Some, None, Result, Ok, Vec}
+use Rattle.std.specs.Prelude.{◌≡◌, ◌<◌, ℕ, suc, true, false, not, List, [], ◌∷◌, Option, Some, None, Result, Ok, Vec}
 use Rattle.std.specs.Arc.{arc_value}
 use Rattle.std.specs.Borrow.{Bor}
 use Rattle.std.specs.Global.{Global}
@@ -10,7 +10,7 @@ use Rattle.volume_model.specs.Node.{Node, NodeAnswer, NodeStep, ack_of, born_nod
 use Rattle.volume_model.specs.Message as model_message
 use Rattle.volume_model.specs.Refusal.{refuse_if}
 use Rattle.volume_model.specs.declared.fault.Fault.{Fault}
-use Rattle.volume_model.specs.declared.fault.Fault.TheVariants.{Full, NoActor, NotWhole}
+use Rattle.volume_model.specs.declared.fault.Fault.TheVariants.{NoActor, NotWhole}
 use Rattle.quorum_expr.specs.declared.expression.Expr.{Expr}
 use Rattle.quorum_expr.specs.Expr.{formula_of}
 use Rattle.plan.specs.CheckedModel.{checked_model}
@@ -20,10 +20,12 @@ use Rattle.wire.specs.declared.carried.Carried.{Carried}
 use Rattle.wire.specs.declared.message.Message.{Message}
 use Rattle.wire.specs.Message.{label_of, messages_of}
 use Rattle.hydration.specs.Hydration.{copies_of, CanKeep}
+use Rattle.segment_core.specs.declared.act.NodeAct.{NodeAct}
 use Rattle.segment_core.specs.declared.prepared.Effect.{Effect}
 use Rattle.segment_core.specs.declared.prepared.Effect.TheVariants.{Enter, Count, Gather, Keep}
 use Rattle.segment_core.specs.declared.prepared.Prepared.{Prepared}
 use Rattle.segment_core.specs.declared.segment.Segment.{Segment}
+use Rattle.segment_core.specs.Acts.{acted}
 use Rattle.segment_core.specs.Assembly.{kept_in, CanGather}
 use Rattle.segment_core.specs.Prepared.{step_of}
 use Rattle.segment_core.specs.Records.{records_of, CanEnter}
@@ -99,9 +101,13 @@ CanTake s (Gather volume change) = CanGather s.assembly change
 CanTake s (Keep keeping) = CanKeep s.copies keeping
 CanTake s effect = Unit {0}
 
--- a step that the segment may take as it is: one by a message, or that by which it becomes whole
+-- what a segment does when it is asked to, as the node that it is
+abbrev pub act_of : Segment → NodeAct → NodeAnswer
+act_of s act = acted act (segment_plan s) (segment_group s) (segment_member s) (node_of s)
+
+-- a step that the segment may take as it is: one that it can be asked for
 abbrev pub MayStep : Segment → NodeStep → Type 0
-MayStep s step = ((message : model_message.Message) × (reaction_of s message ≡ Ok step)) ⊎ (hydration_of s ≡ Ok step)
+MayStep s step = (act : NodeAct) × (act_of s act ≡ Ok step)
 
 -- The segment is ready to take the step: it is one of the steps of this very state, and there is room for it.
 pub record IsReady (s : Segment) (prepared : Prepared) : Type 0 where
@@ -129,8 +135,3 @@ answered messages node = record { made = messages_of messages.items; node = node
 -- the step of a node that makes no message and becomes this
 abbrev pub became : Unit {0} → Node → NodeStep
 became u node = record { made = []; node = node }
-
--- that more records were found than a segment holds may be said after want of memory, since they must be gathered first
-abbrev pub is_full : Fault → Bool
-is_full Full = true
-is_full fault = false

@@ -1,6 +1,7 @@
 //! A segment of a protection group: the records that it holds, and what it answers.
 #![tactic(auto)]
 
+mod act;
 mod assembly;
 mod block_list;
 mod blocks;
@@ -11,5 +12,6 @@ mod prepared;
 mod records;
 mod segment;
 
+pub use act::NodeAct;
 pub use prepared::Prepared;
 pub use segment::Segment;

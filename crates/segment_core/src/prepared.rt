@@ -38,6 +38,8 @@ pub enum Effect {
         lineage: Lineage,
         records: Records,
     },
+    /// All pieces are dropped.
+    Restart,
 }
 
 /// A step that a segment is ready to take.

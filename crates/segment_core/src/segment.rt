@@ -4,6 +4,7 @@ ghost use Rattle.std.specs.Prelude.{◌≡◌, length, IfOk};
 ghost use Rattle.volume_model.specs.Pieces.{pieces_of};
 ghost use Rattle.wire.specs.Contents.{contents_of};
 
+use crate::act::NodeAct;
 use crate::assembly::Assembly;
 use crate::prepared::{Effect, Prepared};
 use crate::records::Records;
@@ -77,8 +78,9 @@ impl Segment {
     ghost use Rattle.wire.specs.Contents.{piece_in};
     ghost use Rattle.wire.specs.Message.{label_of, message_of, messages_of};
     ghost use Rattle.hydration.specs.Hydration.{state_of};
+    ghost use Rattle.segment_core.specs.Acts.{act_late, is_full};
     ghost use Rattle.segment_core.specs.Prepared.{answers_of, effected, step_of};
-    ghost use Rattle.segment_core.specs.Segment.{node_of, segment_plan, segment_group, segment_member, answered, became, born, copied, hydration_of, is_full, offered_step, paged, reaction_of, replaced, CanTake, IsReadExpression, IsSegmentOf, IsSameActor, IsReady};
+    ghost use Rattle.segment_core.specs.Segment.{node_of, segment_plan, segment_group, segment_member, act_of, answered, became, born, copied, hydration_of, offered_step, paged, reaction_of, replaced, CanTake, IsReadExpression, IsSegmentOf, IsSameActor, IsReady};
 
     /// The segment of a member of a group, as it is born. Refused 82 where the plan names no such member.
     pub fn new(
@@ -618,10 +620,8 @@ impl Segment {
         }
     }
 
-    /// Makes ready to become whole. Refused 56 where it is whole, 57 where its member isn't one of the configuration that it took last or
-    /// the copies aren't those of a read set of it, 55 where more records were found than a segment holds; want of memory may come
-    /// before 55.
-    pub fn prepare_hydration(&self, alloc: Global) -> Result<Prepared, Fault>
+    /// Makes ready to become whole. Refused as [`Segment::hydrate`] says.
+    fn prepare_hydration(&self, alloc: Global) -> Result<Prepared, Fault>
         ensures silent { IfOk result (λ prepared. answers_of prepared ≡ []) }
         ensures step { AnswersLate is_full step_of (hydration_of self.now) (node_of self.now) result (node_of self.now) }
         ensures ready { IfOk result (λ prepared. IsReady self.now prepared) }
@@ -642,6 +642,41 @@ impl Segment {
                 records,
             },
         })
+    }
+
+    /// Makes ready to offer a record, as [`Segment::offer`] does.
+    fn prepare_offer(&self, alloc: Global, lsn: u64) -> Result<Prepared, Fault>
+        ensures step { Answers step_of (offered (segment_group self.now) (node_of self.now) lsn) (node_of self.now) result (node_of self.now) }
+        ensures ready { IfOk result (λ prepared. CanTake self.now prepared.effect) }
+    {
+        let carried = self.offer(lsn)?;
+        Ok(Prepared {
+            answers: only(alloc, carried.gossip()?)?,
+            effect: Effect::Nothing,
+        })
+    }
+
+    /// Makes ready for what it is asked to do: gives every refusal, makes every growth, and works out the messages that it makes. Nothing
+    /// that the segment holds has changed, and what was made ready is a step of the segment as it is now.
+    ///
+    /// # Errors
+    /// Of [`NodeAct::Deliver`] as [`Segment::prepare`], of [`NodeAct::Hydrate`] as [`Segment::hydrate`], of [`NodeAct::Offer`] as
+    /// [`Segment::offer`]; `NoMemory` where none applies and a growth was refused.
+    pub fn prepare_act(&mut self, alloc: Global, act: NodeAct<'_>) -> Result<Prepared, Fault>
+        ensures step { AnswersLate (act_late act.entry) step_of (act_of self.old act.entry) (node_of self.old) result (node_of self.old) }
+        ensures ready { IfOk result (λ prepared. IsReady self.new prepared) }
+        ensures node { node_of self.new ≡ node_of self.old }
+        ensures actor { IsSameActor self.old self.new }
+    {
+        match act {
+            NodeAct::Deliver(message) => self.prepare(alloc, message),
+            NodeAct::Hydrate => self.prepare_hydration(alloc),
+            NodeAct::Restart => Ok(Prepared {
+                answers: Vec::new(alloc),
+                effect: Effect::Restart,
+            }),
+            NodeAct::Offer { lsn } => self.prepare_offer(alloc, lsn),
+        }
     }
 
     /// Takes the effect of a step.
@@ -676,6 +711,7 @@ impl Segment {
                 self.assembly.clear();
             }
             Effect::Keep(keeping) => self.copies.keep(keeping),
+            Effect::Restart => self.restart(),
             Effect::Hydrate {
                 volume,
                 lineage,
@@ -713,8 +749,9 @@ impl Segment {
         Ok(self.apply(prepared))
     }
 
-    /// Becomes whole: takes the newest lineage of its copies and all their records that are live in it. Refused as
-    /// [`Segment::prepare_hydration`] says, and then nothing has changed.
+    /// Becomes whole: takes the newest lineage of its copies and all their records that are live in it. Refused 56 where it is whole, 57
+    /// where its member isn't one of the configuration that it took last or the copies aren't those of a read set of it, 55 where more
+    /// records were found than a segment holds; want of memory may come before 55. Then nothing has changed.
     pub fn hydrate(&mut self, alloc: Global) -> Result<(), Fault>
         ensures answers { AnswersLate is_full became (hydration_of self.old) (node_of self.old) result (node_of self.new) }
         ensures actor { IsSameActor self.old self.new }

@@ -9,10 +9,9 @@ use Rattle.volume_model.specs.Lists.{added}
 use Rattle.volume_model.specs.Message as model
 use Rattle.wire.specs.declared.message.Message.{Message}
 use Rattle.wire.specs.Message.{message_of, messages_of}
-use Rattle.volume_model.specs.Client.{Client, ClientAnswer, ClientStep}
-use Rattle.writer_core.specs.Writers.{silent}
+use Rattle.volume_model.specs.Client.{Client, ClientAnswer}
 use Rattle.recovery.specs.Recoveries.{admitted}
-use Rattle.world.specs.Moves.{told_of, ClientMoves}
+use Rattle.world.specs.Moves.{told_of, ClientMoves, Moves}
 use Rattle.world.proofs.Messages.{added-messages}
 
 -- what is defined, seen otherwise
@@ -54,11 +53,12 @@ judged_moves late (Err other) NoMemory old kept h = (h.0, refl)
 judged_moves late (Ok step) fault old kept h = absurd cc
 judged_moves late (Err other) fault old kept h = let same : other ≡ fault = cc in (ap Err same, refl)
 
--- a refusal of a client that makes no message
-pub silent_refused : (late : Fault → Bool) (defined : ClientAnswer) (old new : Client) (kept : List model.Message) (fault : Fault) → AnswersLate late silent defined old (Err fault) new → ClientMoves late defined old kept (Err fault) new kept
-silent_refused late defined old new kept NoMemory h = (wants defined ∙ h.0, ap (λ (a : Client). record { actor = a; messages = kept }) h.1)
-  where
-    wants : (answer : ClientAnswer) → may_want_memory late (told_of (λ (s : ClientStep). s.made) (λ (s : ClientStep). s.client) kept answer) ≡ may_want_memory late answer
-    wants (Err other) = refl
-    wants (Ok step) = refl
-silent_refused late defined old new kept fault h = (ap (told_of (λ (s : ClientStep). s.made) (λ (s : ClientStep). s.client) kept) h.0, ap (λ (a : Client). record { actor = a; messages = kept }) h.1)
+-- memory may be wanted of what is told of a step where it may be wanted of the step
+wants_told : {T S : Type 0} (late : Fault → Bool) (made : T → List model.Message) (actor : T → S) (kept : List model.Message) (defined : Result T Fault) → may_want_memory late (told_of made actor kept defined) ≡ may_want_memory late defined
+wants_told late made actor kept (Err fault) = refl
+wants_told late made actor kept (Ok step) = refl
+
+-- an actor that refuses leaves all messages too
+pub refused_moves : {R S T : Type 0} (made : T → List model.Message) (actor : T → S) (late : Fault → Bool) (step : R → S → T) (defined : Result T Fault) (old new : S) (kept : List model.Message) (fault : Fault) → AnswersLate late step defined old (Err fault) new → Moves made actor late defined old kept (Err fault) new kept
+refused_moves made actor late step defined old new kept NoMemory h = (wants_told late made actor kept defined ∙ h.0, ap (λ now. record { actor = now; messages = kept }) h.1)
+refused_moves made actor late step defined old new kept fault h = (ap (told_of made actor kept) h.0, ap (λ now. record { actor = now; messages = kept }) h.1)

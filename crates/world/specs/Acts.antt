@@ -1,11 +1,11 @@
 -- What the model's actors do.
-use Rattle.std.specs.Prelude.{◌≡◌, ℕ, Bool, [], List, Option, None, Some, Err, Ok, Result}
+use Rattle.std.specs.Prelude.{◌≡◌, ℕ, Bool, List, Option, None, Some, Err, Result}
 use Rattle.volume_model.specs.declared.fault.Fault.{Fault}
 use Rattle.volume_model.specs.Answer.{never_late}
 use Rattle.volume_model.specs.Lists.{numbered}
 use Rattle.volume_model.specs.Plan.{Plan}
 use Rattle.volume_model.specs.Message as model
-use Rattle.volume_model.specs.Node.{Node, NodeAnswer, hydrated, offered, restarted}
+use Rattle.volume_model.specs.Node.{Node, NodeAnswer}
 use Rattle.volume_model.specs.declared.fault.Fault.TheVariants.{NoMessage}
 use Rattle.volume_model.specs.Client.{Client, ClientAnswer}
 use Rattle.volume_model.specs.ClientWriter.{issued, page_asked, resent}
@@ -15,14 +15,15 @@ use Rattle.wire.specs.Message.{message_of}
 use Rattle.volume_model.specs.World.{Authority, AuthorityStep, assigned, advanced, refreshed, grown, deliver, take}
 use Rattle.wire.specs.declared.message.Message.{Message}
 use Rattle.epochs.specs.Authority.{grew, told}
-use Rattle.segment_core.specs.Segment.{is_full}
+use Rattle.segment_core.specs.declared.act.NodeAct.{NodeAct}
+use Rattle.segment_core.specs.Acts.{act_late, acted}
 use Rattle.recovery.specs.Finds.{is_spent}
 use Rattle.volume_model.specs.Few.{Few}
 use Rattle.writer_core.specs.Changes.{changes_of}
 use Rattle.world.specs.declared.acts.AuthorityAct.{AuthorityAct}
 use Rattle.world.specs.declared.acts.AuthorityAct.TheVariants as authority
-use Rattle.world.specs.declared.acts.NodeAct.{NodeAct}
-use Rattle.world.specs.declared.acts.NodeAct.TheVariants as node
+use Rattle.world.specs.declared.acts.NodeOrder.{NodeOrder}
+use Rattle.world.specs.declared.acts.NodeOrder.TheVariants as node
 use Rattle.world.specs.declared.acts.ClientAct.{ClientAct}
 use Rattle.world.specs.declared.acts.ClientAct.TheVariants as client
 use Rattle.world.specs.declared.acts.ClientOrder.{ClientOrder}
@@ -47,12 +48,14 @@ abbrev pub spoken : Option Message → Authority → AuthorityStep
 spoken None now = grew tt now
 spoken (Some message) now = told message now
 
--- what the node of a member of a group does, where these messages were made
-abbrev pub node_acted : List model.Message → NodeAct → Plan → ℕ → ℕ → Node → NodeAnswer
-node_acted made (node.Deliver message) plan group member now = deliver plan group member now (numbered made message)
-node_acted made node.Hydrate plan group member now = hydrated plan group member now
-node_acted made node.Restart plan group member now = Ok (record { made = []; node = restarted now })
-node_acted made (node.Offer lsn) plan group member now = offered group now lsn
+-- what the node of a member of a group does, where these messages were made and it may be asked for one
+abbrev pub node_ordered : List model.Message → NodeOrder → Plan → ℕ → ℕ → Node → NodeAnswer
+node_ordered made (node.Deliver message) plan group member now = deliver plan group member now (numbered made message)
+node_ordered made (node.Act act) plan group member now = acted act plan group member now
+
+-- the order names a message that wasn't made
+abbrev pub IsRefusedNodeOrder : List model.Message → NodeOrder → Type 0
+IsRefusedNodeOrder made order = (plan : Plan) (group member : ℕ) (now : Node) → node_ordered made order plan group member now ≡ Err NoMessage
 
 -- what the client of a volume epoch does, but for becoming a writer
 abbrev pub client_acted : ClientAct → Plan → ℕ → Client → ClientAnswer
@@ -99,7 +102,12 @@ pub record IsOrderOf (made : List model.Message) (order : ClientOrder) (act : Cl
   pub does : (plan : Plan) (volume : ℕ) (now : Client) → client_ordered made order plan volume now ≡ client_acted act plan volume now
   pub late : order_late order ≡ client_late act
 
--- the refusals of a node that may come after want of memory: that more records were found than it may hold
-abbrev pub node_late : NodeAct → Fault → Bool
-node_late node.Hydrate = is_full
-node_late act = never_late
+-- the refusals of a node that may come after want of memory
+abbrev pub node_late : NodeOrder → Fault → Bool
+node_late (node.Deliver message) = never_late
+node_late (node.Act act) = act_late act
+
+-- the order asks a node for this act, where these messages were made
+pub record IsNodeOrderOf (made : List model.Message) (order : NodeOrder) (act : NodeAct) : Type 0 where
+  pub does : (plan : Plan) (group member : ℕ) (now : Node) → node_ordered made order plan group member now ≡ acted act plan group member now
+  pub late : node_late order ≡ act_late act

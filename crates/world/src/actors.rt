@@ -1,6 +1,6 @@
 //! All actors, and all messages ever made.
 
-use crate::acts::{AuthorityAct, ClientAct, ClientOrder, NodeAct};
+use crate::acts::{AuthorityAct, ClientAct, ClientOrder, NodeOrder};
 use crate::client::Client;
 use crate::client_step::act_of;
 use crate::event::Event;
@@ -9,7 +9,7 @@ use crate::numbering::enter;
 use crate::{authority_step, birth, client_step, node_step};
 use epochs::Authority;
 use plan::CheckedPlan;
-use segment_core::Segment;
+use segment_core::{NodeAct, Segment};
 use std::alloc::Global;
 use std::collections::BTreeMap;
 use std::sync::Arc;
@@ -39,7 +39,7 @@ impl Actors {
     ghost use Rattle.plan.specs.CheckedModel.{checked_model};
     ghost use Rattle.volume_model.specs.Answer.{never_late};
     ghost use Rattle.world.specs.Actors.{event_late, plan_of, world_of, messages_in, AreActors, Steps};
-    ghost use Rattle.world.specs.Acts.{authority_acted, client_ordered, node_acted, node_late, order_late};
+    ghost use Rattle.world.specs.Acts.{authority_acted, client_ordered, node_late, node_ordered, order_late};
     ghost use Rattle.world.specs.Events.{event_of};
 
     /// All actors before any event.
@@ -77,10 +77,10 @@ impl Actors {
         alloc: Global,
         group: u8,
         member: u8,
-        act: NodeAct,
+        order: NodeOrder<'_>,
     ) -> Result<u64, Fault>
         requires { AreActors self.old }
-        ensures steps { Steps (node_late act) (of_node (world_of self.old) group member (if_there (plan_of self.old) (groups_joined (world_of self.old).authority) group member (node_acted (messages_in self.old) act (plan_of self.old) group member ((world_of self.old).nodes group member)))) (world_of self.old) result (world_of self.new) }
+        ensures steps { Steps (node_late order.entry) (of_node (world_of self.old) group member (if_there (plan_of self.old) (groups_joined (world_of self.old).authority) group member (node_ordered (messages_in self.old) order.entry (plan_of self.old) group member ((world_of self.old).nodes group member)))) (world_of self.old) result (world_of self.new) }
         ensures good { AreActors self.new }
         ensures plan { plan_of self.new ≡ plan_of self.old }
     {
@@ -92,7 +92,7 @@ impl Actors {
         };
         match &mut self.nodes[slot] {
             None => Err(Fault::NoActor),
-            Some(segment) => node_step::act(alloc, segment, &mut self.messages, act),
+            Some(segment) => node_step::act(alloc, segment, &mut self.messages, order),
         }
     }
 
@@ -204,21 +204,22 @@ impl Actors {
                 self.client_step(alloc, *volume, ClientOrder::Act(act))
             }
             Event::Hydrate { group, member } => {
-                self.node_step(alloc, *group, *member, NodeAct::Hydrate)
+                self.node_step(alloc, *group, *member, NodeOrder::Act(NodeAct::Hydrate))
             }
             Event::Deliver {
                 group,
                 member,
                 message,
             } => {
-                let act = NodeAct::Deliver { message: *message };
-                self.node_step(alloc, *group, *member, act)
+                let order = NodeOrder::Deliver { message: *message };
+                self.node_step(alloc, *group, *member, order)
             }
             Event::Restart { group, member } => {
-                self.node_step(alloc, *group, *member, NodeAct::Restart)
+                self.node_step(alloc, *group, *member, NodeOrder::Act(NodeAct::Restart))
             }
             Event::Offer { group, member, lsn } => {
-                self.node_step(alloc, *group, *member, NodeAct::Offer { lsn: *lsn })
+                let act = NodeAct::Offer { lsn: *lsn };
+                self.node_step(alloc, *group, *member, NodeOrder::Act(act))
             }
         }
     }

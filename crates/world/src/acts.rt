@@ -1,5 +1,6 @@
 //! What an actor may be asked to do.
 
+use segment_core::NodeAct;
 use wire::Message;
 use writer_core::Change;
 
@@ -16,17 +17,13 @@ pub enum AuthorityAct {
     Grow,
 }
 
-/// What a node does.
+/// What a node is asked to do, of a message by its number.
 #[derive(Clone, Copy)]
-pub enum NodeAct {
+pub enum NodeOrder<'a> {
     /// It takes the message with this number.
     Deliver { message: u64 },
-    /// It becomes whole.
-    Hydrate,
-    /// It starts again.
-    Restart,
-    /// It offers the record with this LSN to the others of its group.
-    Offer { lsn: u64 },
+    /// It acts otherwise.
+    Act(NodeAct<'a>),
 }
 
 /// What a client does, but for becoming a writer.

@@ -10,7 +10,7 @@ ghost use Rattle.world.specs.Moves.{ClientMoves};
 
 use crate::acts::{ClientAct, ClientOrder};
 use crate::client::Client;
-use crate::numbering::{enter, message_at};
+use crate::numbering::{enter, named};
 use std::alloc::Global;
 use volume_model::{Fault, steps_are_few};
 use wire::Message;
@@ -21,10 +21,7 @@ pub fn act_of<'a>(order: ClientOrder<'a>, messages: &'a [Message]) -> Result<Cli
 {
     match order {
         ClientOrder::Act(act) => Ok(act),
-        ClientOrder::Take { message } => match message_at(messages, message) {
-            Some(message) => Ok(ClientAct::Take(message)),
-            None => Err(Fault::NoMessage),
-        },
+        ClientOrder::Take { message } => Ok(ClientAct::Take(named(messages, message)?)),
     }
 }
 

@@ -1,19 +1,34 @@
 //! The messages that were made, in the order of making.
 
-ghost use Rattle.std.specs.Prelude.{◌≡◌, ◌+◌, ◌≤◌, ◌++◌, [], length, option_map, vec_capacity, vec_len};
+ghost use Rattle.std.specs.Prelude.{◌≡◌, ◌+◌, ◌≤◌, ◌++◌, [], None, Some, length, option_map, vec_capacity, vec_len, MatchResult};
+ghost use Rattle.volume_model.specs.declared.fault.Fault.TheVariants.{NoMessage};
 ghost use Rattle.volume_model.specs.Lists.{added, numbered};
 ghost use Rattle.wire.specs.Message.{message_of, messages_of};
 
+use volume_model::Fault;
 use wire::Message;
 
 /// The message with a number, counted from 1 in the order of making.
-pub fn message_at(messages: &[Message], number: u64) -> Option<&Message>
+fn message_at(messages: &[Message], number: u64) -> Option<&Message>
     ensures { option_map (λ m. message_of m.now) result ≡ numbered (added (messages_of messages.now) []) number }
 {
     if number == 0 || number > messages.len() as u64 {
         return None;
     }
     Some(&messages[(number - 1) as usize])
+}
+
+/// The message that an order names.
+///
+/// # Errors
+/// `NoMessage` where none has that number.
+pub fn named(messages: &[Message], number: u64) -> Result<&Message, Fault>
+    ensures { MatchResult result (λ m. numbered (added (messages_of messages.now) []) number ≡ Some (message_of m.now)) (λ fault. (fault ≡ NoMessage) × (numbered (added (messages_of messages.now) []) number ≡ None)) }
+{
+    match message_at(messages, number) {
+        Some(message) => Ok(message),
+        None => Err(Fault::NoMessage),
+    }
 }
 
 /// Adds the messages that a step made to the others, among which there is room for them, and answers how many they are.

@@ -1,12 +1,14 @@
-use Rattle.std.proofs.Common.{◌≤◌, ◌<◌, length, Err, refl, sym, subst, arith, inr}
+use Rattle.std.proofs.Common.{◌≤◌, ◌<◌, length, Err, refl, sym, subst, arith}
 use Rattle.std.proofs.lemmas.Result.{err_from_is_err_and}
 use Rattle.volume_model.specs.Answer.{AnswersLate}
 use Rattle.volume_model.specs.Node.{Node, NodeAnswer, Hydrated, gathered, most_records, hydrated}
 use Rattle.volume_model.specs.declared.fault.Fault.{Fault}
 use Rattle.hydration.specs.Hydration.{state_of}
+use Rattle.segment_core.specs.declared.act.NodeAct.TheVariants.{Hydrate}
 use Rattle.segment_core.specs.declared.segment.Segment.{Segment}
+use Rattle.segment_core.specs.Acts.{is_full}
 use Rattle.segment_core.specs.Prepared.{step_of}
-use Rattle.segment_core.specs.Segment.{node_of, segment_plan, segment_group, segment_member, is_full}
+use Rattle.segment_core.specs.Segment.{node_of, segment_plan, segment_group, segment_member}
 use Rattle.segment_core.proofs.Hydrating.{gathers, fails_first, late, too_full, hydrates, whole_step}
 use Rattle.segment_core.proofs.segment.Segment.prepare_hydration.Goals as goal
 
@@ -53,7 +55,10 @@ returns-clause-ready c =
     let h : Hydrated = state_of c.in_ok-volume.field-0 in
     let few : length h.contents.records ≤ most_records = omega (arith, c.len.ensures, c.if-len-gt-MOST_RECORDS.false) in
     record {
-      may_step = inr (whole_step s h c.new.result c.max.result c.in_ok-volume.field-0.contents.lineage c.in_ok-records.records c.new.ensures.items c.max.ensures refl c.in_ok-records.ensures
-          (hydrates (segment_plan s) (segment_group s) (segment_member s) node h c.if-self.false c.in_ok-volume.ensures few));
+      may_step = (
+        Hydrate,
+        whole_step s h c.new.result c.max.result c.in_ok-volume.field-0.contents.lineage c.in_ok-records.records c.new.ensures.items c.max.ensures refl c.in_ok-records.ensures
+            (hydrates (segment_plan s) (segment_group s) (segment_member s) node h c.if-self.false c.in_ok-volume.ensures few),
+      );
       can_take = tt;
     }

@@ -5,7 +5,7 @@ use Rattle.std.specs.BTreeMap.{get}
 use Rattle.epochs.specs.Authority.{authority_of}
 use Rattle.volume_model.specs.Answer.{never_late, AnswersLate}
 use Rattle.volume_model.specs.declared.fault.Fault.{Fault}
-use Rattle.volume_model.specs.Client.{ClientAnswer}
+use Rattle.volume_model.specs.Client.{ClientAnswer, ClientStep}
 use Rattle.volume_model.specs.ClientRecovery.{opened}
 use Rattle.writer_core.specs.Writers.{silent}
 use Rattle.world.specs.declared.client.Client.{Client}
@@ -14,7 +14,7 @@ use Rattle.world.specs.Homes.{nodes_of}
 use Rattle.world.specs.Clients.{client_plan, seen_client, client_or_unborn, clients_of}
 use Rattle.world.specs.Actors.{plan_of, messages_in}
 use Rattle.world.proofs.ClientMap.{IsPut, client_put, clients_on, same_client}
-use Rattle.world.proofs.Moving.{silent_refused}
+use Rattle.world.proofs.Moving.{refused_moves}
 use Rattle.world.proofs.Steps.{client_steps}
 use Rattle.world.proofs.actors.Actors.opening_step.Goals as goal
 
@@ -33,7 +33,7 @@ returns-in_err-open-in-Some-clause-steps c =
     let p = err_from_is_err_and c.from_residual.result c.from_residual.ensures.1 in
     rw (p.1, p.2) (client_steps (authority_of self.authority) (node_at (plan_of self) (nodes_of self.nodes.items)) (clients_of self.clients) (messages_in self) c.args.volume never_late _ (seen_client old) (seen_client new) at
     (clients_of (c.get_mut.follows.lender new)) (client_put self.clients (c.get_mut.follows.lender new) c.args.volume new is) (Err fault) (messages_in self)
-    (silent_refused never_late _ (seen_client old) (seen_client new) (messages_in self) fault answers))
+    (refused_moves (λ (step : ClientStep). step.made) (λ (step : ClientStep). step.client) never_late silent _ (seen_client old) (seen_client new) (messages_in self) fault answers))
 
 pub returns-in_err-open-in-Some-clause-good : goal.returns-in_err-open-in-Some-clause-good
 returns-in_err-open-in-Some-clause-good c =
