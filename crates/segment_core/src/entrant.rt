@@ -20,7 +20,9 @@ pub enum Link {
 pub struct Entrant {
     pub place: Place,
     pub packet: Packet,
-    /// The same record, for the list of its block.
+    /// The place of the list of its block.
+    pub list: u32,
+    /// The same record, for that list.
     pub of_block: Packet,
     pub link: Link,
 }

@@ -1,5 +1,6 @@
 //! Packets in order.
 
+ghost use Rattle.std.specs.Prelude.{option_map, box_value};
 ghost use Rattle.runs.specs.Runs.{records_of as records_in};
 ghost use Rattle.segment_core.specs.Told.{TellsAll};
 
@@ -12,8 +13,8 @@ use std::alloc::{AllocError, Global};
 pub struct Ordered {
     runs: Runs,
     /// The set of them all that was told last, where none has come since.
-    told: Option<RecordSet>,
-    ghost tells: { ∥ TellsAll told (records_in runs) ∥₁ },
+    told: Option<Box<RecordSet>>,
+    ghost tells: { ∥ TellsAll (option_map box_value told) (records_in runs) ∥₁ },
 }
 
 impl Ordered {
@@ -65,10 +66,10 @@ impl Ordered {
         ensures same { self.new.runs ≡ self.old.runs }
     {
         if let Some(set) = &self.told {
-            return set.clone();
+            return (**set).clone();
         }
         let set = self.runs.to_set(alloc)?;
-        self.told = Some(set.clone()?);
+        self.told = Some(Box::new(alloc, set.clone()?)?);
         Ok(set)
     }
 

@@ -183,11 +183,12 @@ impl Records {
         ensures same { records_of self.new ≡ records_of self.old }
     {
         self.ordered.make_room(alloc, place)?;
-        self.blocks.make_room(alloc, packet.record().block)?;
+        let list = self.blocks.make_room(alloc, packet.record().block)?;
         let link = self.link(alloc, packet)?;
         Ok(Entrant {
             place,
             packet: packet.clone()?,
+            list,
             of_block: packet.clone()?,
             link,
         })
@@ -209,11 +210,12 @@ impl Records {
         let Entrant {
             place,
             packet,
+            list,
             of_block,
             link,
         } = entrant;
         link.tie(&mut self.chains, &packet);
-        self.blocks.add(of_block);
+        self.blocks.add(list, of_block);
         self.ordered.insert(place, packet);
     }
 

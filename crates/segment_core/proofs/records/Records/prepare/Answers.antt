@@ -43,7 +43,7 @@ returns-clause-ready c =
       place = subst (λ (z : Redo). IsPlaceOf (runs_of c.link.new.self.ordered.runs) z c.args.place) (sym copied) (subst (λ (rs : List (List Redo)). IsPlaceOf rs r c.args.place) (sym runs) c.requires);
       room = subst (HasRoomFor c.args.place) (sym ordered) c.in_ok-make_room.ensures.room;
       same = c.in_ok-clone-2.ensures.cases ∙ sym copied;
-      room_of_block = subst (λ (b : ℕ). HasRoomAt b c.link.new.self.blocks) block (subst (λ (blocks : Blocks). HasRoomAt c.record.result.now.block blocks) (sym c.in_ok-link.ensures.blocks) c.in_ok-make_room-2.ensures.room);
+      room_of_block = subst (λ (b : ℕ). HasRoomAt b c.in_ok-list.list c.link.new.self.blocks) block (subst (λ (blocks : Blocks). HasRoomAt c.record.result.now.block c.in_ok-list.list blocks) (sym c.in_ok-link.ensures.blocks) c.in_ok-list.ensures.room);
       room_of_chains = subst (CanTie c.in_ok-link.link chains) (sym copied) c.in_ok-link.ensures.room;
       link = subst (λ (z : Redo). IsLinkOf (records_of c.link.new.self) chains z c.in_ok-link.link) (sym copied) c.in_ok-link.ensures.link;
     }
