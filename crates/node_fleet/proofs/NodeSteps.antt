@@ -1,7 +1,7 @@
 -- The step of a node, in the world.
 use Rattle.std.proofs.Common.{◌≡◌, ◌≢◌, ℕ, ◌<◌, ◌≤◌, not, ◌&&◌, nat_lt, Bool, true, List, [], length, Option, Some, option_map, Result, Ok, Err, sym, ap, ap₂, ◌∙◌, subst, arith}
 use Rattle.std.proofs.lemmas.Bool.{le-ltb, lt-ltb}
-use Rattle.std.specs.Prelude.{slice_get, IfOk, IfErr}
+use Rattle.std.specs.Prelude.{slice_get}
 use Rattle.volume_model.specs.declared.fault.Fault.{Fault}
 use Rattle.volume_model.specs.declared.fault.Fault.TheVariants.{JournalFull, NoActor, NoMemory, NoMessage, NoSlot}
 use Rattle.volume_model.specs.Actor.{Actor, Agree}
@@ -19,9 +19,8 @@ use Rattle.volume_model.proofs.Frames.{put_at_here}
 use Rattle.volume_model.proofs.ListFacts.{get_there}
 use Rattle.volume_model.proofs.Own.{hydrated_own, offered_own, reaction_own}
 use Rattle.segment_core.specs.declared.act.NodeAct.{NodeAct}
-use Rattle.segment_core.specs.declared.prepared.Prepared.{Prepared}
 use Rattle.segment_core.specs.declared.segment.Segment.{Segment}
-use Rattle.segment_core.specs.Acts.{acted}
+use Rattle.segment_core.specs.Acts.{act_late, acted}
 use Rattle.segment_core.specs.Prepared.{step_of}
 use Rattle.segment_core.specs.Segment.{act_of, node_of, IsSameActor, IsSegmentOf}
 use Rattle.wire.specs.declared.message.Message as wire
@@ -149,14 +148,12 @@ late_fails late step defined old new NoMemory h = tt
 late_fails late step defined old new fault h = h.0
 
 -- a segment does what it is asked to as the node that it is
-module _ (plan : Plan) (g m : ℕ) (old new : Segment) (is : IsSegmentOf plan g m old) (still : node_of new ≡ node_of old) (what : NodeDeed) (act : NodeAct) (same : (plan : Plan) (g m : ℕ) (now : Node) → acted act plan g m now ≡ done_by plan g m now what) where
-  same_act : act_of old act ≡ done_by plan g m (node_of old) what
-  same_act = (λ i. acted act (is.plan_is i) (is.group_is i) (is.member_is i) (node_of old)) ∙ same plan g m (node_of old)
+module _ (plan : Plan) (g m : ℕ) (s : Segment) (is : IsSegmentOf plan g m s) (what : NodeDeed) (act : NodeAct) (same : (plan : Plan) (g m : ℕ) (now : Node) → acted act plan g m now ≡ done_by plan g m now what) where
+  same_act : act_of s act ≡ done_by plan g m (node_of s) what
+  same_act = (λ i. acted act (is.plan_is i) (is.group_is i) (is.member_is i) (node_of s)) ∙ same plan g m (node_of s)
 
-  pub deed_steps : (late : Fault → Bool) (result : Result Prepared Fault) → AnswersLate late step_of (act_of old act) (node_of old) result (node_of old) → IfOk result (λ prepared. done_by plan g m (node_of new) what ≡ Ok (step_of prepared (node_of new)))
-  deed_steps late (Ok prepared) h = subst (λ (n : Node). done_by plan g m n what ≡ Ok (step_of prepared n)) (sym still) (sym same_act ∙ h)
-  deed_steps late (Err fault) h = tt
+  pub deed_steps : (made : NodeStep) → act_of s act ≡ Ok made → done_by plan g m (node_of s) what ≡ Ok made
+  deed_steps made ok = sym same_act ∙ ok
 
-  pub deed_fails : (late : Fault → Bool) (result : Result Prepared Fault) → AnswersLate late step_of (act_of old act) (node_of old) result (node_of old) → IfErr result (λ fault. Fails fault (done_by plan g m (node_of new) what))
-  deed_fails late (Ok prepared) h = tt
-  deed_fails late (Err fault) h = subst (λ (n : Node). Fails fault (done_by plan g m n what)) (sym still) (subst (Fails fault) same_act (late_fails late step_of (act_of old act) (node_of old) (node_of old) fault h))
+  pub deed_fails : (fault : Fault) → AnswersLate (act_late act) step_of (act_of s act) (node_of s) (Err fault) (node_of s) → Fails fault (done_by plan g m (node_of s) what)
+  deed_fails fault h = subst (Fails fault) same_act (late_fails (act_late act) step_of (act_of s act) (node_of s) (node_of s) fault h)

@@ -39,7 +39,3 @@ module _ {X : Type 0} {s : SiteGhosts X} {l : LedgerGhosts X} where
   -- what it does with a message that was found
   abbrev pub delivery_of : NodeActor X s l → Option Message → NodeAnswer
   delivery_of actor found = deliver s.plan actor.group actor.member (node_of actor.segment) found
-
-  -- what it does of itself
-  abbrev pub deed_of : NodeActor X s l → NodeDeed → NodeAnswer
-  deed_of actor what = done_by s.plan actor.group actor.member (node_of actor.segment) what

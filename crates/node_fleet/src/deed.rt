@@ -7,7 +7,7 @@ use crate::node::NodeActor;
 use crate::step::{ready, refused};
 use height::Height;
 use journal::{Log, Pass, Receipt, Site};
-use segment_core::{NodeAct, Prepared};
+use segment_core::NodeAct;
 use std::alloc::Global;
 use std::sync::Wait;
 use volume_model::Fault;
@@ -55,28 +55,14 @@ impl NodeDeed {
 }
 
 impl<L: Site> NodeActor<L> {
-    ghost use Rattle.std.specs.Prelude.{◌≢◌, Err, Ok, IfErr, IfOk, OnErr, OnOk, length};
+    ghost use Rattle.std.specs.Prelude.{◌≢◌, Err, IfErr, OnErr, OnOk, length};
     ghost use Rattle.height.specs.Seats.{table_of};
-    ghost use Rattle.volume_model.specs.Answer.{Fails};
     ghost use Rattle.volume_model.specs.declared.fault.Fault.TheVariants.{NoMessage};
-    ghost use Rattle.segment_core.specs.Prepared.{step_of};
-    ghost use Rattle.segment_core.specs.Segment.{node_of, IsReady};
     ghost use Rattle.journal.specs.Passes.{journal_of, notes_of, seat_of, steps_of, world_of};
     ghost use Rattle.node_fleet.specs.declared.halt.Halt.TheVariants.{Again, Refused};
     ghost use Rattle.node_fleet.specs.Halts.{Enters, Halts, IsExact};
     ghost use Rattle.node_fleet.specs.Ready.{IsStale};
-    ghost use Rattle.node_fleet.specs.Nodes.{actor_group, actor_member, actor_node, deed_of, event_by};
-
-    /// Makes ready for a deed: gives every refusal of the node, makes every growth, and works out the messages. Nothing that the node holds
-    /// has changed.
-    fn prepare_deed(&mut self, alloc: Global, deed: NodeDeed) -> Result<Prepared, Fault>
-        ensures ready { IfOk result (λ prepared. IsReady self.new.segment prepared) }
-        ensures step { IfOk result (λ prepared. deed_of self.new deed ≡ Ok (step_of prepared (node_of self.new.segment))) }
-        ensures fails { IfErr result (λ fault. Fails fault (deed_of self.new deed)) }
-        ensures same { (self.new.group ≡ self.old.group) × (self.new.member ≡ self.old.member) × (self.new.mark ≡ self.old.mark) × (actor_node self.new ≡ actor_node self.old) }
-    {
-        self.segment.prepare_act(alloc, deed.act())
-    }
+    ghost use Rattle.node_fleet.specs.Nodes.{actor_group, actor_member, actor_node, event_by};
 
     /// The node does what it does of itself, and the step is entered. Its caller holds the node's lock and the
     /// journal's.
@@ -106,19 +92,24 @@ impl<L: Site> NodeActor<L> {
         ensures moved { OnOk result (actor_node self.new ≡ (world_of log.new).nodes (actor_group self.old) (actor_member self.old)) }
         ensures still { OnErr result (actor_node self.new ≡ actor_node self.old) }
     {
-        ready(height, log, pass, &self.mark)?;
-        let event = deed.event(self.group, self.member);
-        if u64::from(self.group) >= log.joined() {
+        let NodeActor {
+            mark,
+            segment,
+            group,
+            member,
+        } = self;
+        ready(height, log, pass, mark)?;
+        let event = deed.event(*group, *member);
+        if u64::from(*group) >= log.joined() {
             return Err(refused(log, pass, event, Fault::NoActor));
         }
-        let prepared = match self.prepare_deed(alloc, deed) {
+        let prepared = match segment.prepare_act(alloc, deed.act()) {
             Ok(prepared) => prepared,
             Err(fault) => return Err(refused(log, pass, event, fault)),
         };
         if log.is_full() {
             return Err(refused(log, pass, event, Fault::JournalFull));
         }
-        let NodeActor { mark, segment, .. } = self;
         let made = segment.apply(prepared);
         Ok(log.enter(rt, height, mark, pass, event, made, 0))
     }

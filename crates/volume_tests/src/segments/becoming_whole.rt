@@ -1,7 +1,7 @@
 use super::messages::*;
 use super::nodes::segment;
 use super::plans::REPLACED;
-use segment_core::Segment;
+use segment_core::{NodeAct, Segment};
 use std::alloc::Global;
 use std::test::*;
 use volume_model::Fault;
@@ -74,11 +74,14 @@ fn hydration_in_two_parts(rt: HostRuntime) -> Result<(), Fail> {
     let alloc = rt.alloc();
     let mut node = joined(alloc)?;
     copy(alloc, &mut node, &[0, 1, 2])?;
-    let prepared = node.prepare_hydration(alloc)?;
+    let prepared = node.prepare_act(alloc, NodeAct::Hydrate)?;
     assert_eq!(rt; prepared.answers().len(), 0);
     assert_eq!(rt; node.scl(), 0);
     assert_eq!(rt; node.apply(prepared).len(), 0);
     assert_eq!(rt; node.scl(), 1);
+    let prepared = node.prepare_act(alloc, NodeAct::Offer { lsn: 1 })?;
+    assert_eq!(rt; prepared.answers().len(), 1);
+    assert_eq!(rt; node.apply(prepared).len(), 1);
     Ok(())
 }
 

@@ -1,13 +1,47 @@
 use Rattle.std.proofs.Common.{◌≡◌, List, length, Ok, Err, sym, ap, ◌∙◌, subst}
+use Rattle.volume_model.specs.declared.fault.Fault.{Fault}
+use Rattle.volume_model.specs.Answer.{Fails}
 use Rattle.volume_model.specs.Judging.{Exact}
 use Rattle.volume_model.specs.Journal.{Entry, world_at}
-use Rattle.volume_model.specs.World.{Event}
+use Rattle.volume_model.specs.Node.{Node, NodeStep}
+use Rattle.volume_model.specs.Told.{makes, refusal}
+use Rattle.volume_model.specs.World.{Event, World, after, step}
 use Rattle.wire.specs.Message.{messages_of}
 use Rattle.segment_core.specs.Prepared.{step_of}
 use Rattle.segment_core.specs.Segment.{node_of}
 use Rattle.journal.specs.Passes.{journal_of, marked, seen_at}
 use Rattle.node_fleet.specs.declared.halt.Halt.{Halt}
 use Rattle.node_fleet.specs.Halts.{IsExact}
-use Rattle.node_fleet.specs.Nodes.{event_by}
-use Rattle.node_fleet.proofs.NodeSteps.{deed_own, denies, done, not_joined, not_lost, there_joined, tells, unjoined_deed}
+use Rattle.node_fleet.specs.Nodes.{done_by, event_by}
+use Rattle.node_fleet.proofs.NodeSteps.{deed_fails, deed_own, deed_steps, denies, done, not_joined, not_lost, same_of, there_joined, tells, unjoined_deed}
 use Rattle.node_fleet.proofs.node.NodeActor.act.Goals as goal
+
+pub refused-requires-clause-exact : goal.refused-requires-clause-exact
+refused-requires-clause-exact g c =
+    let plan = g.L.Site.plan in
+    let node = c.args.self.now in
+    let now = world_at plan (journal_of c.ready.new.log) in
+    ap (λ (e : Event). refusal (step plan now e)) c.event.ensures
+    ∙ unjoined_deed plan now node.group node.member c.args.deed (not_joined now node.group c.from.result c.joined.result c.joined.ensures c.from.ensures c.if-from-joined.true)
+
+pub refused-requires-in-Err-clause-exact : goal.refused-requires-in-Err-clause-exact
+refused-requires-in-Err-clause-exact g c =
+    let plan = g.L.Site.plan in
+    let slots = g.L.Site.slots in
+    let cells = length g.L.Site.cells in
+    let node = c.args.self.now in
+    let es = journal_of c.ready.new.log in
+    subst (λ (e : Event). Exact plan slots cells es e c.in-Err.fault) (sym c.event.ensures)
+    (denies plan slots cells es (world_at plan (seen_at node.mark)) (marked node.mark) node.group node.member (node_of node.segment) node.who node.named node.state c.in_ok-ready.ensures.ready.agree (there_joined (world_at plan es) node.group c.from.result c.joined.result c.joined.ensures c.from.ensures c.if-from-joined.false)
+    c.args.deed c.in-Err.fault (deed_fails plan node.group node.member node.segment node.of c.args.deed c.act.result c.act.ensures c.in-Err.fault c.in-Err.ensures.step))
+
+pub enter-requires-clause-goes : goal.enter-requires-clause-goes
+enter-requires-clause-goes g c =
+    let plan = g.L.Site.plan in
+    let node = c.args.self.now in
+    let es = journal_of c.ready.new.log in
+    let made : NodeStep = step_of c.in-Ok.prepared (node_of node.segment) in
+    ap (λ (e : Event). makes (step plan (world_at plan es) e)) c.event.ensures
+    ∙ tells plan g.L.Site.slots 0 es (world_at plan (seen_at node.mark)) (marked node.mark) node.group node.member (node_of node.segment) node.who node.named node.state c.in_ok-ready.ensures.ready.agree (there_joined (world_at plan es) node.group c.from.result c.joined.result c.joined.ensures c.from.ensures c.if-from-joined.false)
+    c.args.deed made (deed_steps plan node.group node.member node.segment node.of c.args.deed c.act.result c.act.ensures made c.in-Ok.ensures.step)
+    (messages_of c.apply-made.result.items) (ap messages_of c.apply-made.ensures.answers)
