@@ -1,6 +1,7 @@
 //! The tree of a pair of subexpressions that closes.
 
-use crate::closing::{Closing, Way};
+use crate::closing::{Closing, Way, equal_members};
+use crate::equals::equal_match;
 use crate::parts::{Form, Part};
 use crate::rules::Search;
 use refutation::{Refutation, Side};
@@ -42,7 +43,7 @@ fn picked<B: Allocator + Clone, C: Allocator>(
         (Side::Right, _, Form::KOf(others)) => (others, closing.rights(others)),
         _ => return Ok(None),
     };
-    let most = choice.count.min(choice.needed());
+    let most = choice.len().min(choice.needed());
     let mut children = Vec::with_capacity(search.arena.clone()?, most)?;
     let mut then = Vec::with_capacity(search.arena.clone()?, most)?;
     let mut missing = choice.needed();
@@ -83,6 +84,15 @@ fn matched<B: Allocator + Clone, C: Allocator>(
     let (Form::KOf(of), Form::KOf(others)) = (&one.form, &other.form) else {
         return Ok(None);
     };
+    if let Some(count) = equal_members(one, of, other, others) {
+        if levels == 0 || !search.spend_all(count as u64) {
+            return Ok(None);
+        }
+        let (lefts, rights) = (closing.lefts(of), closing.rights(others));
+        let members = one.members & other.members;
+        let tree = equal_match(&search.arena, lefts, rights, members, count)?;
+        return Ok(Some(tree));
+    }
     let Some(mates) = closing.mates(of, others) else {
         return Ok(None);
     };

@@ -38,7 +38,16 @@ fn count(members: u64) -> usize {
 
 /// How many children of a choice over members can't hold.
 fn dead(choice: &Choice, part: &Part) -> usize {
-    choice.count.saturating_sub(count(part.members))
+    choice.len().saturating_sub(count(part.members))
+}
+
+/// How many pairs of equal members a match of two choices takes, where both are over members that may all be there and enough of
+/// these are equal.
+pub fn equal_members(one: &Part, of: &Choice, other: &Part, others: &Choice) -> Option<usize> {
+    let are_there = dead(of, one) == 0 && dead(others, other) == 0;
+    let wanted = wanted(of, others);
+    let is_enough = wanted <= count(one.members & other.members);
+    (of.is_flat && others.is_flat && are_there && is_enough).then_some(wanted)
 }
 
 /// The weights of up to 64 subexpressions.
@@ -88,10 +97,10 @@ impl<B: Allocator> Closing<B> {
         self.lefts.len().saturating_add(self.rights.len())
     }
 
-    /// Goes through the pairs of a left choice.
+    /// Goes through the pairs of a left choice. Nobody asks for the pair of the two whole expressions, which are no children.
     fn close_row(&mut self, row: usize) {
         for column in (0..self.rights.choices.len()).rev() {
-            if self.choices_close(row, column) {
+            if (row, column) != (0, 0) && self.choices_close(row, column) {
                 self.grid.put(row, column);
             }
         }
@@ -111,7 +120,10 @@ impl<B: Allocator> Closing<B> {
             return true;
         }
         match (&one.form, &other.form) {
-            (Form::KOf(of), Form::KOf(others)) => self.grid.has(of.number, others.number),
+            (Form::KOf(of), Form::KOf(others)) => {
+                self.grid
+                    .has(usize::from(of.number), usize::from(others.number))
+            },
             (Form::Member(_), _) => one.members & other.needs != 0,
             (Form::KOf(_), Form::Member(_)) => one.needs & other.members != 0,
         }
@@ -200,7 +212,7 @@ impl<B: Allocator> Closing<B> {
                 .saturating_add(dead(of, one))
                 .saturating_add(dead(others, other));
             let wanted = wanted(of, others);
-            wanted <= pairs && wanted <= of.count && wanted <= others.count
+            wanted <= pairs && wanted <= of.len() && wanted <= others.len()
         } else {
             self.mates(of, others).is_some()
         }
@@ -222,7 +234,7 @@ impl<B: Allocator> Closing<B> {
     /// Pairs of children that close, of as much weight as a match of two choices takes.
     pub fn mates(&self, of: &Choice, others: &Choice) -> Option<Mates> {
         let wanted = wanted(of, others);
-        if wanted > of.total.min(others.total) {
+        if wanted > usize::from(of.total.min(others.total)) {
             return None;
         }
         let (lefts, rights) = (self.lefts.children(of), self.rights.children(others));
@@ -230,7 +242,7 @@ impl<B: Allocator> Closing<B> {
         for (edge, child) in edges.iter_mut().zip(lefts) {
             *edge = self.edge(child, rights);
         }
-        let edges = edges.get(..of.count)?;
+        let edges = edges.get(..of.len())?;
         if of.is_of_ones() && others.is_of_ones() {
             return Mates::find(edges, wanted);
         }

@@ -74,9 +74,9 @@ pub fn known_of(choice: Choice, children: &[Part]) -> Known {
             live = live.saturating_add(usize::from(child.weight));
         }
     }
-    let is_live = live >= choice.k;
+    let is_live = live >= usize::from(choice.k);
     let is_flat = are_flat(children);
-    let needed = live.saturating_add(1).saturating_sub(choice.k);
+    let needed = live.saturating_add(1).saturating_sub(usize::from(choice.k));
     let needs = if !is_live {
         u64::MAX
     } else if !is_flat {

@@ -1,8 +1,10 @@
 //! The subexpressions of an expression, by number.
 
+use crate::lists::append;
 use crate::needs::known_of;
 use quorum_expr::{Expr, MemberSet};
 use std::alloc::{AllocError, Allocator};
+use std::ops::Range;
 
 /// How many subexpressions are numbered at most: as many as a valid expression may have.
 const MOST: usize = 4096;
@@ -16,13 +18,13 @@ const CHOICES: usize = 16;
 #[derive(Clone, Copy)]
 pub struct Choice {
     /// The weight that has to hold.
-    pub k: usize,
+    pub k: u16,
     /// What all children weigh.
-    pub total: usize,
-    pub first: usize,
-    pub count: usize,
+    pub total: u16,
+    pub first: u16,
+    pub count: u16,
     /// Its number among the choices.
-    pub number: usize,
+    pub number: u16,
     /// Whether its children are members of weight 1, of which those that may be there differ.
     pub is_flat: bool,
 }
@@ -57,14 +59,20 @@ pub struct Parts<B: Allocator> {
 }
 
 impl Choice {
-    /// The number behind the last of its children.
-    pub fn end(&self) -> usize {
-        self.first.saturating_add(self.count)
+    /// The numbers of its children.
+    pub fn children(&self) -> Range<usize> {
+        let first = usize::from(self.first);
+        first..first + usize::from(self.count)
+    }
+
+    /// How many children there are.
+    pub fn len(&self) -> usize {
+        usize::from(self.count)
     }
 
     /// What children weigh of which one holds at least: one more than what it can do without.
     pub fn needed(&self) -> usize {
-        self.total.saturating_add(1).saturating_sub(self.k)
+        (usize::from(self.total) + 1).saturating_sub(usize::from(self.k))
     }
 
     /// Whether each child weighs 1.
@@ -80,6 +88,11 @@ pub fn total<A: Allocator>(of: &[(u8, Expr<A>)]) -> usize {
         total = total.saturating_add(usize::from(*weight));
     }
     total
+}
+
+/// A number of up to 16 bits, as all are of an expression whose subexpressions aren't too many.
+fn short(number: usize) -> u16 {
+    u16::try_from(number).unwrap_or(u16::MAX)
 }
 
 /// A member, where it may be there.
@@ -98,11 +111,11 @@ fn member_part(member: u8, weight: u8, absent: MemberSet) -> Part {
 /// A choice of so many subexpressions from a number on, of which nothing is known yet.
 fn choice_part(k: u16, weight: u8, number: usize) -> Part {
     let choice = Choice {
-        k: usize::from(k),
+        k,
         total: 0,
         first: 0,
         count: 0,
-        number,
+        number: short(number),
         is_flat: false,
     };
     Part {
@@ -130,22 +143,21 @@ impl<'e, A: Allocator, B: Allocator> Listing<'e, A, B> {
             Expr::Member(member) => member_part(*member, weight, self.absent),
             Expr::KOf { k, of } => {
                 let number = self.children.len();
-                self.parts.choices.push(self.parts.all.len())?;
-                self.children.push(of.as_slice())?;
+                append(&mut self.parts.choices, self.parts.all.len())?;
+                append(&mut self.children, of.as_slice())?;
                 choice_part(*k, weight, number)
             }
         };
-        self.parts.all.push(part)?;
-        Ok(())
+        append(&mut self.parts.all, part)
     }
 
     /// The children of a choice, which come last.
     fn add_children(&mut self, number: usize) -> Result<(), AllocError> {
         let children = self.children.get(number).copied().unwrap_or(&[]);
         let first = self.parts.all.len();
-        let mut total = 0usize;
+        let mut total = 0u16;
         for (weight, child) in children {
-            total = total.saturating_add(usize::from(*weight));
+            total = total.saturating_add(u16::from(*weight));
             self.add(*weight, child)?;
         }
         let at = self.parts.choices.get(number).copied().unwrap_or(0);
@@ -157,8 +169,8 @@ impl<'e, A: Allocator, B: Allocator> Listing<'e, A, B> {
         ) = self.parts.all.get_mut(at)
         {
             choice.total = total;
-            choice.first = first;
-            choice.count = children.len();
+            choice.first = short(first);
+            choice.count = short(children.len());
         }
         Ok(())
     }
@@ -177,7 +189,7 @@ impl<B: Allocator> Parts<B> {
 
     /// The children of a choice.
     pub fn children(&self, choice: &Choice) -> &[Part] {
-        self.all.get(choice.first..choice.end()).unwrap_or(&[])
+        self.all.get(choice.children()).unwrap_or(&[])
     }
 
     /// How many there are.

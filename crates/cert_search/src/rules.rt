@@ -34,7 +34,12 @@ struct Closing<B: Allocator> {
 impl<B: Allocator> Search<B> {
     /// Counts a node, where the search may try one more.
     pub fn spend(&mut self) -> bool {
-        match self.budget.checked_sub(1) {
+        self.spend_all(1)
+    }
+
+    /// Counts so many nodes, where the search may try as many more.
+    pub fn spend_all(&mut self, nodes: u64) -> bool {
+        match self.budget.checked_sub(nodes) {
             Some(rest) => {
                 self.budget = rest;
                 true

@@ -38,6 +38,9 @@ pub fn worth(claims: &[LentClaim<'_>], workers: usize) -> usize
     requires { 0 < workers }
     ensures { (0 < result) × (result ≤ workers) }
 {
+    if workers == 1 {
+        return workers;
+    }
     let mut pairs = 0usize;
     for claim in claims {
         pairs = pairs.saturating_add(pairs_of(claim));

@@ -1,0 +1,61 @@
+//! Matches of equal members.
+
+use crate::lists::append;
+use crate::parts::Part;
+use refutation::Refutation;
+use std::alloc::{AllocError, Allocator};
+
+/// The first children of some members: these members, a bit for each, and at the place of each the number of its child.
+#[derive(Drop)]
+struct Chosen {
+    members: u64,
+    numbers: [u8; 64],
+}
+
+/// The first so many of some children that are one of these members each.
+fn first_of(of: &[Part], members: u64, count: usize) -> Chosen {
+    let mut chosen = Chosen {
+        members: 0,
+        numbers: [0; 64],
+    };
+    let mut missing = count;
+    for (number, child) in (0..64u8).zip(of) {
+        if missing == 0 {
+            break;
+        }
+        let member = child.members & members;
+        if let Some(place) = chosen.numbers.get_mut(member.trailing_zeros() as usize) {
+            *place = number;
+            chosen.members |= member;
+            missing -= 1;
+        }
+    }
+    chosen
+}
+
+/// The match of so many pairs of equal members, which are among these, of the children of the only items: members that differ.
+pub fn equal_match<B: Allocator + Clone>(
+    arena: &B,
+    of: &[Part],
+    others: &[Part],
+    members: u64,
+    count: usize,
+) -> Result<Refutation<B>, AllocError> {
+    let chosen = first_of(of, members, count);
+    let mut pairs = Vec::with_capacity(arena.clone()?, count)?;
+    let mut then = Vec::with_capacity(arena.clone()?, count)?;
+    for (right, other) in (0..64u8).zip(others) {
+        let member = other.members & chosen.members;
+        if member != 0 {
+            let left = chosen.numbers.get(member.trailing_zeros() as usize);
+            append(&mut pairs, (left.copied().unwrap_or(0), right))?;
+            append(&mut then, Refutation::Clash { left: 0, right: 0 })?;
+        }
+    }
+    Ok(Refutation::Match {
+        left: 0,
+        right: 0,
+        pairs,
+        then,
+    })
+}

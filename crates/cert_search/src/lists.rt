@@ -1,0 +1,10 @@
+//! Lists that grow.
+
+use std::alloc::{AllocError, Allocator};
+
+/// One more behind the others.
+pub fn append<T: Drop, B: Allocator>(list: &mut Vec<T, B>, value: T) -> Result<(), AllocError> {
+    list.reserve(1)?;
+    list.push_reserved(value);
+    Ok(())
+}
