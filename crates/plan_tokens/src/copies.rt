@@ -7,10 +7,10 @@ ghost use Rattle.json.specs.Token.{Token as SpecToken};
 ghost use Rattle.plan_tokens.specs.Rewritten.{Copies, EndsThreshold};
 
 use crate::puts::{
-    close_array, close_object, open_array, open_object, put_key, put_number, put_number_at,
+    close_array, close_object, open_array, open_object, put_digits, put_key, put_number_at,
     put_numbers, put_text,
 };
-use crate::tokens::{digits, end, key, number_to, small_numbers};
+use crate::tokens::{end, key, number_to, small_numbers};
 use json::{Reader, Token, Writer};
 use std::alloc::Global;
 
@@ -50,10 +50,7 @@ pub(crate) fn copy_tree(
         return None;
     }
     match reader.next() {
-        Some(Token::Number(text)) => {
-            let number = digits(text)?;
-            put_number(writer, number)
-        }
+        Some(Token::Number(text)) => put_digits(writer, text),
         Some(Token::BeginObject) => copy_threshold(alloc, reader, writer, levels - 1),
         _ => None,
     }

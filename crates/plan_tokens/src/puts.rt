@@ -1,12 +1,14 @@
 //! Tokens one by one, put into a text: keys, ends, whole numbers and lists of them.
 
-ghost use Rattle.std.specs.Prelude.{◌≡◌, ◌≤◌, ◌<◌, ◌^◌, All, OnSome};
+ghost use Rattle.std.specs.Prelude.{◌≡◌, ◌≤◌, ◌<◌, ◌^◌, ℕ, All, IfSome, OnSome, Some, decimal};
 ghost use Rattle.json.specs.Token as token;
-ghost use Rattle.serde_json.specs.Data.{array, null, string};
+ghost use Rattle.serde_json.specs.Data.{array, null, string, unsigned};
+ghost use Rattle.serde_json.specs.Read.{number_of};
 ghost use Rattle.refutation.specs.Ranges.{IsPairInRange};
 ghost use Rattle.refutation.specs.Writing.{number_data, numbers_data, pair_data, pairs_data};
 ghost use Rattle.plan_tokens.specs.Puts.{Puts, PutsMember, PutsToken};
 
+use crate::tokens::{long_number, short_number};
 use json::Writer;
 
 /// A key.
@@ -58,11 +60,46 @@ pub(crate) fn put_text(writer: &mut Writer, text: &str) -> Option<()>
     writer.string(text).ok()
 }
 
+/// How a number of one digit is written.
+fn digit_text(number: u64) -> Option<&'static str>
+    ensures { IfSome result (λ s. s.now ≡ decimal number) }
+{
+    match number {
+        0 => Some("0"),
+        1 => Some("1"),
+        2 => Some("2"),
+        3 => Some("3"),
+        4 => Some("4"),
+        5 => Some("5"),
+        6 => Some("6"),
+        7 => Some("7"),
+        8 => Some("8"),
+        9 => Some("9"),
+        _ => None,
+    }
+}
+
 /// A whole number.
 pub(crate) fn put_number(writer: &mut Writer, number: u64) -> Option<()>
     ensures { OnSome result (Puts (number_data number) writer.old writer.new) }
 {
-    writer.u64(number).ok()
+    match digit_text(number) {
+        Some(text) => writer.number(text).ok(),
+        None => writer.u64(number).ok(),
+    }
+}
+
+/// The number that a text writes in digits alone.
+pub(crate) fn put_digits(writer: &mut Writer, text: &str) -> Option<()>
+    ensures { OnSome result ((n : ℕ) × (number_of text.now ≡ Some (unsigned n)) × Puts (number_data n) writer.old writer.new) }
+{
+    match short_number(text) {
+        Some(_) => writer.number(text).ok(),
+        None => {
+            let number = long_number(text)?;
+            put_number(writer, number)
+        }
+    }
 }
 
 /// A key and a text.

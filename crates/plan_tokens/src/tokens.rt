@@ -1,6 +1,6 @@
 //! Tokens one by one: keys, ends, whole numbers and lists of them.
 
-ghost use Rattle.std.specs.Prelude.{◌≡◌, ◌-◌, ◌<◌, ◌≤◌, ◌∷◌, ◌++◌, [], Some, None, Ok, IfSome, OnSome, All, length};
+ghost use Rattle.std.specs.Prelude.{◌≡◌, ◌-◌, ◌<◌, ◌≤◌, ◌∷◌, ◌++◌, [], Some, None, Ok, IfSome, OnSome, All, decimal, length};
 ghost use Rattle.std.specs.Char.{digit_value};
 ghost use Rattle.json.specs.Json.{read_key};
 ghost use Rattle.json.specs.Token as token;
@@ -12,6 +12,9 @@ ghost use Rattle.plan_tokens.specs.Spelled.{Spells};
 
 use json::{Reader, Token};
 use std::alloc::Global;
+
+/// How many numbers of a list there is room for at first: as many as take no more memory than one would.
+const NUMBERS: usize = 24;
 
 /// The number that one digit writes.
 fn digit(byte: u8) -> Option<u64>
@@ -25,21 +28,45 @@ fn digit(byte: u8) -> Option<u64>
     }
 }
 
-/// The number that a text writes in digits alone.
-pub(crate) fn digits(text: &str) -> Option<u64>
-    ensures { IfSome result (λ n. number_of text.now ≡ Some (unsigned n)) }
+/// The number that a text writes in one digit, or in two of which the first isn't 0.
+pub(crate) fn short_number(text: &str) -> Option<u64>
+    ensures small { IfSome result (λ n. n < 100) }
+    ensures is { IfSome result (λ n. text.now ≡ decimal n) }
 {
     let bytes = text.as_bytes();
     if bytes.len() == 1 {
         let number = digit(bytes[0])?;
         return Some(number);
     }
+    if bytes.len() != 2 || bytes[0] == b'0' {
+        return None;
+    }
+    let tens = digit(bytes[0])?;
+    let ones = digit(bytes[1])?;
+    Some(10 * tens + ones)
+}
+
+/// The number that a text writes in digits alone, without a sign.
+pub(crate) fn long_number(text: &str) -> Option<u64>
+    ensures { IfSome result (λ n. number_of text.now ≡ Some (unsigned n)) }
+{
+    let bytes = text.as_bytes();
     if bytes.is_empty() || bytes[0] == b'+' {
         return None;
     }
     match fast_float::parse_u64(bytes) {
         Ok(n) => Some(n),
         Err(_) => None,
+    }
+}
+
+/// The number that a text writes in digits alone.
+pub(crate) fn digits(text: &str) -> Option<u64>
+    ensures { IfSome result (λ n. number_of text.now ≡ Some (unsigned n)) }
+{
+    match short_number(text) {
+        Some(n) => Some(n),
+        None => long_number(text),
     }
 }
 
@@ -147,8 +174,11 @@ pub(crate) fn begin_array(reader: &mut Reader<'_>) -> Option<()>
 pub(crate) fn push<T: Drop>(list: &mut Vec<T>, value: T) -> Option<()>
     ensures { OnSome result (list.new.items ≡ list.old.items ++ value ∷ []) }
 {
-    match list.push(value) {
-        Ok(()) => Some(()),
+    match list.reserve(1) {
+        Ok(()) => {
+            list.push_reserved(value);
+            Some(())
+        }
         Err(_) => None,
     }
 }
@@ -159,7 +189,7 @@ pub(crate) fn small_numbers(alloc: Global, reader: &mut Reader<'_>) -> Option<Ve
     ensures small { IfSome result (λ v. All (λ n. n ≤ 255) v.items) }
 {
     begin_array(reader)?;
-    let mut numbers = Vec::new(alloc);
+    let mut numbers = Vec::with_capacity(alloc, NUMBERS).ok()?;
     while !reader.take_end_array() {
         let number = number_to(reader, 255)?;
         push(&mut numbers, number as u8)?;

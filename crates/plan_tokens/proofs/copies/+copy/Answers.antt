@@ -10,15 +10,14 @@ use Rattle.plan_tokens.proofs.Putting.{then_put, opened, one_more}
 use Rattle.plan_tokens.proofs.RewritingLaws.{no_child, child_more, row_copied}
 use Rattle.plan_tokens.proofs.copies.+copy.Goals as goal
 
-pub copy_tree-returns-in_ok-number-in-Some-Number : goal.copy_tree-returns-in_ok-number-in-Some-Number
-copy_tree-returns-in_ok-number-in-Some-Number t c =
+pub copy_tree-returns-in-Some-Number : goal.copy_tree-returns-in-Some-Number
+copy_tree-returns-in-Some-Number t c =
     let begins : c.args.reader.now ≡ token_of c.in-Some-Number.field-0 ∷ c.next.new.self = grind arith in
     let is : c.args.reader.now ≡ Token.number c.in-Some-Number.text.now ∷ c.next.new.self = grind (arith, begins) in
-    let n = c.in_ok-number-in-Some-Number.number in
-    then_put c.put_number.result c.put_number.ensures (λ p. record {
-      value = number_data n;
-      spells = up 0 (2 * c.args.levels) (omega arith) (subst (λ ts. Spells 0 ts c.next.new.self (number_data n)) (sym is) (number_read c.in-Some-Number.text.now n c.next.new.self c.in_ok-number-in-Some-Number.ensures));
-      holds = p;
+    then_put c.put_digits.result c.put_digits.ensures (λ p. record {
+      value = number_data p.0;
+      spells = up 0 (2 * c.args.levels) (omega arith) (subst (λ ts. Spells 0 ts c.next.new.self (number_data p.0)) (sym is) (number_read c.in-Some-Number.text.now p.0 c.next.new.self p.1));
+      holds = p.2;
     })
 
 pub copy_threshold-returns : goal.copy_threshold-returns
