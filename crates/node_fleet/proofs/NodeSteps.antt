@@ -1,10 +1,10 @@
 -- The step of a node, in the world.
-use Rattle.std.proofs.Common.{◌≡◌, ◌≢◌, ℕ, ◌<◌, ◌≤◌, not, ◌&&◌, nat_lt, Bool, true, List, [], length, Option, Some, option_map, Result, Ok, Err, sym, ap, ap₂, ◌∙◌, subst, arith}
+use Rattle.std.proofs.Common.{◌≡◌, ◌≢◌, ℕ, ◌<◌, ◌≤◌, not, ◌&&◌, nat_lt, Bool, true, List, [], length, Option, Some, option_map, Result, Ok, Err, refl, sym, ap, ap₂, ◌∙◌, subst, arith}
 use Rattle.std.proofs.lemmas.Bool.{le-ltb, lt-ltb}
 use Rattle.std.specs.Prelude.{slice_get}
 use Rattle.volume_model.specs.declared.fault.Fault.{Fault}
 use Rattle.volume_model.specs.declared.fault.Fault.TheVariants.{JournalFull, NoActor, NoMemory, NoMessage, NoSlot}
-use Rattle.volume_model.specs.Actor.{Actor, Agree}
+use Rattle.volume_model.specs.Actor.{Actor, Agree, actor_of}
 use Rattle.volume_model.specs.Answer.{AnswersLate, Fails}
 use Rattle.volume_model.specs.Judging.{Exact}
 use Rattle.volume_model.specs.Journal.{Entry, world_at}
@@ -96,6 +96,12 @@ letter_own plan g m now made index inside =
     let x = get_there made index inside in
     delivery_own plan g m now (option_map message_of (slice_get made index)) (message_of x.0) (ap (option_map message_of) x.1)
 
+-- which actor does it
+pub deed_actor : (g m : ℕ) (what : NodeDeed) → actor_of (event_by g m what) ≡ Actor.Node g m
+deed_actor g m deed.Hydrate = refl
+deed_actor g m deed.Restart = refl
+deed_actor g m (deed.Offer lsn) = refl
+
 pub deed_own : (plan : Plan) (g m : ℕ) (now : Node) (what : NodeDeed) → Refuses IsOwn (done_by plan g m now what)
 deed_own plan g m now deed.Hydrate = hydrated_own plan g m now
 deed_own plan g m now deed.Restart = tt
@@ -126,6 +132,10 @@ module _ (plan : Plan) (slots cells : ℕ) (es : List Entry) (seen : World) (act
   becomes number asked found same is s ok =
       ap (λ (r : Result Step Fault). (after_step (world_at plan es) r).nodes g m) (delivers plan (world_at plan es) g m joined named now here asked found (ap (numbered (world_at plan es).messages) same ∙ is) ∙ ap (of_node (world_at plan es) g m) ok)
       ∙ put_at_here (world_at plan es).nodes g m s.node
+
+  -- what it does of itself isn't refused where the node does it
+  pub grants : (what : NodeDeed) (s : NodeStep) → done_by plan g m now what ≡ Ok s → refusal (step plan (world_at plan es) (event_by g m what)) ≡ 0
+  grants what s ok = ap refusal (does plan (world_at plan es) g m joined named now here what ∙ ap (of_node (world_at plan es) g m) ok)
 
   -- so are those that it makes of itself
   pub tells : (what : NodeDeed) (s : NodeStep) → done_by plan g m now what ≡ Ok s → (made : List Message) → made ≡ s.made → makes (step plan (world_at plan es) (event_by g m what)) ≡ Some made
