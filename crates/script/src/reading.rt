@@ -7,6 +7,7 @@ ghost use Rattle.script.specs.Script.{AddsLine, ReadsScript, kept_in, stop_at, w
 
 use crate::line::{Line, line_of};
 use crate::pieces::first_line;
+use memchr::memchr_iter;
 use std::alloc::{AllocError, Global};
 use volume_model::Fault;
 use world::Order;
@@ -131,12 +132,14 @@ fn stop_at(fault: Fault, line: usize) -> ScriptFault
     }
 }
 
-/// For how many lines of a text room is made: it has no more than bytes, and a script no more than it may have. Room that no line
-/// takes is never touched.
+/// For how many lines of a text room is made: one more than it has newlines, and no more than a script may have.
 fn lines_at_most(text: &[u8]) -> usize
     ensures { result ≤ SCRIPT_LINES }
 {
-    text.len().min(SCRIPT_LINES)
+    memchr_iter(b'\n', text)
+        .count()
+        .saturating_add(1)
+        .min(SCRIPT_LINES)
 }
 
 /// What a text does as a script, or its first line that isn't one of a script: at most 100,000 lines in 16,777,216 bytes,
