@@ -9,6 +9,11 @@ use crossbeam_channel::{Pass, RuledReceiver, RuledSender, bounded_with};
 use std::alloc::{AllocError, Global};
 use std::collections::LinkedList;
 use std::sync::Wait;
+use std::thread::yield_now;
+
+/// How often a thread looks for a letter before it sleeps. Between two looks it lets another thread run, which may be the one
+/// that posts.
+const LOOKS: u32 = 100;
 
 /// A message's number, or None, the closing letter.
 pub type Letter = Option<u64>;
@@ -168,6 +173,12 @@ impl Mailbox {
         ensures same { IsSeatOf self.now seat.new }
         ensures step { AddsCollected (steps_of seat.old) result (steps_of seat.new) }
     {
+        for _ in 0..LOOKS {
+            if let Ok(found) = self.from.try_recv_as::<Collects, R>(rt, &mut seat.pass) {
+                return found;
+            }
+            yield_now();
+        }
         for _ in rt.forever() {
             if let Ok(letter) = self.from.recv_as::<Collects, R>(rt, &mut seat.pass) {
                 return letter;
