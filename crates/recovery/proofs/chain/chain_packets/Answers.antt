@@ -8,7 +8,7 @@ use Rattle.writer_core.specs.Logs.{log_of, is_growing}
 use Rattle.recovery.proofs.Links.{chain_from-is}
 use Rattle.recovery.proofs.Cuts.{log-back}
 use Rattle.recovery.proofs.Ends.{walked, log_of-reverse, chain-grows}
-use Rattle.recovery.proofs.chain.chain_of.Goals as goal
+use Rattle.recovery.proofs.chain.chain_packets.Goals as goal
 
 pub returns-clause-chain : goal.returns-clause-chain
 returns-clause-chain c =
