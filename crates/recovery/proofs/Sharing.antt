@@ -1,7 +1,7 @@
 -- What a log that is found shares with the records that were reported.
-use Rattle.std.proofs.Common.{◌≡◌, ℕ, ◌<◌, ◌≤◌, Bool, true, false, ◌&&◌, nat_lt, nat_eq, ◌⊎◌, List, [], ◌∷◌, ◌++◌, map, take, drop, length, Option, Some, None, option_map, if◌then◌else◌, refl, sym, ap, ◌∙◌, subst, inl, inr, arith}
-use Rattle.std.specs.Prelude.{◌==◌, Result, Ok, Err, IfOk, MatchResult}
-use Rattle.std.proofs.lemmas.Bool.{and_parts, and_from, eq-eqb, eqb-true, lt-ltb, or_left}
+use Rattle.std.proofs.Common.{◌≡◌, ℕ, ◌<◌, ◌≤◌, true, ◌&&◌, nat_lt, nat_eq, List, [], ◌∷◌, ◌++◌, map, take, drop, Option, Some, None, option_map, if◌then◌else◌, refl, sym, ap, ◌∙◌, subst, inl, inr, arith}
+use Rattle.std.specs.Prelude.{Result, Ok, Err, IfOk, MatchResult}
+use Rattle.std.proofs.lemmas.Bool.{and_parts, eq-eqb, eqb-true, lt-ltb, or_left}
 use Rattle.std.proofs.lemmas.List.{take-append-drop, take-map}
 use Rattle.volume_model.specs.Lists.{IsIn, added}
 use Rattle.volume_model.specs.Redo.{Redo, spelling, numbers_before, last_lsn, record_at, chain_from}
@@ -46,7 +46,7 @@ copy-grows P (Ok copy) set g h = ap (λ (rs : List Redo). is_growing (added rs [
 copy-grows P (Err e) set g h = tt
 
 pub copy-same : {E : Type 0} (P : E → Type 0) (r : Result RecordSet E) (set : RecordSet) → is_growing (log_of_set set) ≡ true → MatchResult r (λ copy. records_of copy ≡ records_of set) P → IfOk r (λ copy. (n : ℕ) → record_at (log_of_set copy) n ≡ record_at (records_of set) n)
-copy-same P (Ok copy) set g h n = ap (λ (rs : List Redo). record_at (added rs []) n) h ∙ growing-same (records_of set) g n
+copy-same P (Ok copy) set g h = λ n. ap (λ (rs : List Redo). record_at (added rs []) n) h ∙ growing-same (records_of set) g n
 copy-same P (Err e) set g h = tt
 
 pub added-more : (records : List Redo) (r : Redo) (kept : List Redo) → added (records ++ r ∷ []) kept ≡ r ∷ added records kept
@@ -69,7 +69,7 @@ grown-ordered [] kept g = (tt, λ s i. absurd i)
 grown-ordered (r ∷ rs) kept g =
     let (order, later) = grown-ordered rs (r ∷ kept) g in
     let (above, rest) = both (last_lsn kept) r.lsn (is_growing kept) (older-grows rs (r ∷ kept) g) in
-    ((λ s i. lower-before s r (later s i)), order), next above later
+    (((λ s i. lower-before s r (later s i)), order), next above later)
   where
     next : last_lsn kept < r.lsn → ((s : Redo) → IsIn s rs → r.lsn < s.lsn) → (s : Redo) → IsIn s (r ∷ rs) → last_lsn kept < s.lsn
     next above later s (inl e) = subst (λ (z : Redo). last_lsn kept < z.lsn) (sym e) above

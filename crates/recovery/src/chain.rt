@@ -31,7 +31,7 @@ pub fn firsts(alloc: Global, set: &RecordSet) -> Result<RecordSet, AllocError>
 
 /// How many packets from the first on are the chain by `prev_volume` from an LSN down to 0; `None` where others stand between.
 fn chain_length(packets: &[Packet], lsn: u64) -> Option<usize>
-    ensures { IfSome result (λ len. IsChainTo lsn (log_of (take len packets.now))) }
+    ensures chain { IfSome result (λ len. IsChainTo lsn (log_of (take len packets.now))) }
     ensures within { IfSome result (λ len. len ≤ length packets.now) }
 {
     let mut last = 0;

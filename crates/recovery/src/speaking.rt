@@ -87,13 +87,7 @@ pub fn later_installs(
         let place = places[usize::from(group)];
         if standings.epoch(group) < place.epoch {
             let label = label_at(volume, place);
-            let mut pieces = group_installs(
-                alloc,
-                group,
-                label,
-                &found.lineage,
-                &found.log,
-            )?;
+            let mut pieces = group_installs(alloc, group, label, &found.lineage, &found.log)?;
             messages.append(&mut pieces)?;
         }
     }

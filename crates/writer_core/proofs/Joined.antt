@@ -19,6 +19,7 @@ use Rattle.redo_record.proofs.Copied.{IsCopy, redos-copied}
 use Rattle.redo_record.proofs.Parts.{part-shown}
 use Rattle.redo_record.proofs.Places.{IsOrdered, ordered-from, with_record-after}
 use Rattle.writer_core.specs.Logs.{log_of, log_of_set, is_growing}
+use Rattle.writer_core.specs.declared.log.Log.{Log}
 use Rattle.writer_core.proofs.Growing.{both}
 use Rattle.writer_core.proofs.Finding.{in-added, record_at-in, record_at-none}
 
@@ -41,7 +42,7 @@ pub log_of-append : (xs ys : List Packet) → log_of (xs ++ ys) ≡ added (map p
 log_of-append xs ys = added-append xs ys []
 
 -- a log grows up to each of its records
-older-grows : (rs : List Redo) (kept : List Redo) → is_growing (added rs kept) ≡ true → is_growing kept ≡ true
+pub older-grows : (rs : List Redo) (kept : List Redo) → is_growing (added rs kept) ≡ true → is_growing kept ≡ true
 older-grows [] kept h = h
 older-grows (r ∷ rs) kept h = (both (last_lsn kept) r.lsn (is_growing kept) (older-grows rs (r ∷ kept) h)).1
 
@@ -174,3 +175,7 @@ all-of group (r ∷ rs) older kept is order all =
 -- a set all of whose records are of the group
 pub of_group-all : (group : ℕ) (rs : List Redo) → IsInOrder rs → every (λ r. r.group == group) rs ≡ true → of_group group (added rs []) ≡ rs
 of_group-all group rs order all = all-of group rs [] [] refl (ordered-from rs order) all
+
+-- what a log began with grows
+pub begun-grows : (log : Log) → is_growing (log_of_set log.found) ≡ true
+begun-grows log = ap is_growing (sym (log_of-set log.found)) ∙ found-grows (packets_of log.found) log.issued.items log.growing
