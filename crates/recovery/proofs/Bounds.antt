@@ -1,6 +1,6 @@
 -- How many records a cut finds at most.
 use Rattle.std.proofs.Common.{◌≡◌, ℕ, zero, suc, ◌+◌, ◌-◌, ◌^◌, ◌<◌, ◌≤◌, min, ◌==◌, List, [], ◌∷◌, ◌++◌, Option, Some, None, option_map, length, map, get_or, take, drop, refl, sym, ap, ◌∙◌, subst, inl, inr, arith}
-use Rattle.std.proofs.lemmas.List.{length-map, take_all}
+use Rattle.std.proofs.lemmas.List.{take_all}
 use Rattle.std.proofs.lemmas.Bool.{cases_Bool}
 use Rattle.volume_model.specs.Lists.{IsIn, added}
 use Rattle.volume_model.specs.Redo.{Redo, record_at, follow, chain_from, chain_or_none, cut_of}
@@ -23,7 +23,7 @@ use Rattle.hydration.specs.declared.copied.Copied.{Copied}
 use Rattle.hydration.specs.Copies.{copies_in}
 use Rattle.wire.specs.Contents as wire
 use Rattle.writer_core.specs.declared.standing.Standing.{Standing}
-use Rattle.writer_core.specs.Logs.{log_of}
+use Rattle.writer_core.specs.Logs.{log_of_set}
 use Rattle.writer_core.specs.Standings.{groups_of}
 use Rattle.recovery.specs.declared.found.Found.{Found}
 use Rattle.recovery.specs.Reported.{reports_in}
@@ -144,17 +144,17 @@ found-most standings before count law is =
     count-above (length (log_reported client)) (records_said client) cut count (law.found client fall) (chain-within cut (live_reported client) cut)
     (cut-within (live_reported client) (λ r i. (ranges r i).lsn_in_range)) (is ∙ ap (λ reports. min (records_in reports) (2 ^ 64 - 1)) (sym same))
 
--- ---- a log as long as its packets
+-- ---- a log as long as its set
 
 added-length : {A : Type 0} (xs kept : List A) → length (added xs kept) ≡ length xs + length kept
 added-length [] kept = omega arith
 added-length (x ∷ xs) kept = let inner : length (added xs (x ∷ kept)) ≡ length xs + length (x ∷ kept) = added-length xs (x ∷ kept) in omega (arith, inner)
 
-pub log-length : (packets : List Packet) → length (log_of packets) ≡ length packets
-log-length packets = let whole : length (log_of packets) ≡ length (map packet_redo packets) + length {A = Redo} [] = added-length (map packet_redo packets) [] in omega (arith, whole, length-map packets packet_redo)
+pub log-length : (set : RecordSet) → length (log_of_set set) ≡ length (records_of set)
+log-length set = let whole : length (log_of_set set) ≡ length (records_of set) + length {A = Redo} [] = added-length (records_of set) [] in omega (arith, whole)
 
 pub found-none : (groups : List ClientGroup) (before : Option Found) → before ≡ None → 0 ≡ length (client_with groups before).found
 found-none groups before none = ap (λ f. length (client_with groups f).found) (sym none)
 
-pub found-some : (groups : List ClientGroup) (before : Option Found) (found : Found) → before ≡ Some found → length found.log.items ≡ length (client_with groups before).found
-found-some groups before found there = sym (log-length found.log.items) ∙ ap (λ f. length (client_with groups f).found) (sym there)
+pub found-some : (groups : List ClientGroup) (before : Option Found) (found : Found) → before ≡ Some found → length (records_of found.log) ≡ length (client_with groups before).found
+found-some groups before found there = sym (log-length found.log) ∙ ap (λ f. length (client_with groups f).found) (sym there)

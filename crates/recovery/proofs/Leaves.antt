@@ -14,7 +14,7 @@ use Rattle.volume_model.specs.Client.{ClientGroup, ClientStep, ClientAnswer, no_
 use Rattle.volume_model.specs.ClientRecovery.{all_reports, has_read, cut_step, cut_client}
 use Rattle.volume_model.proofs.Chains.{record_at-some, record_at-there, greatest_point-is, greatest_point-above}
 use Rattle.lineage.specs.Lineage.{lineage_of}
-use Rattle.writer_core.specs.Logs.{log_of}
+use Rattle.writer_core.specs.Logs.{log_of_set}
 use Rattle.writer_core.specs.Groups.{keeping}
 use Rattle.recovery.specs.declared.found.Found.{Found}
 use Rattle.recovery.specs.Reported.{reports_in}
@@ -133,7 +133,7 @@ module _ (plan : Plan) (volume : ℕ) (groups : List ClientGroup) (before : Opti
       ∙ ap (λ b. refuse_if (not b) NotReady (found >>= λ lineage. Ok (cut_under lineage))) ready
 
   -- what a recovery finds that hasn't cut, and has read enough, is what its cut leaves
-  pub cut-found : (result : Result Found Fault) → Gives (λ f. lineage_of f.lineage) result found → IfOk result (λ f. log_of f.log.items ≡ log_found (live_records groups))
+  pub cut-found : (result : Result Found Fault) → Gives (λ f. lineage_of f.lineage) result found → IfOk result (λ f. log_of_set f.log ≡ log_found (live_records groups))
       → AnswersLate is_spent (found_step volume) (cut_client plan volume (client_with groups before)) groups result groups
   cut-found (Ok f) h log =
       cuts ∙ ap (λ (r : Result Lineage Fault). r >>= λ lineage. Ok (cut_under lineage)) h

@@ -9,3 +9,4 @@ pub mod Leaves
 pub mod Refusals
 pub mod Bounds
 pub mod Sought
+pub mod Sharing

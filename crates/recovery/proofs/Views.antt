@@ -15,7 +15,7 @@ use Rattle.volume_model.proofs.Groups.{group_of-new}
 use Rattle.lineage.specs.Lineage.{lineage_of}
 use Rattle.wire.specs.declared.label.Place.{Place}
 use Rattle.wire.specs.Message as wire
-use Rattle.writer_core.specs.Logs.{log_of}
+use Rattle.writer_core.specs.Logs.{log_of_set}
 use Rattle.writer_core.proofs.Views.{each-same, fences-with_places, installs-with_places}
 use Rattle.recovery.specs.declared.found.Found.{Found}
 use Rattle.recovery.specs.Recoveries.{client_with}
@@ -42,13 +42,13 @@ view-reading plan volume of groups now items found made same good none new is =
     subst (λ f. taken plan volume (client_with groups f) (model.Message.View of places) ≡ Ok (record { made = made; client = client_with now f })) (sym none) base
 
 pub view-installing : (plan : Plan) (volume of : ℕ) (groups now : List ClientGroup) (items : List Place) (before : Option Found) (found : Found) (made : List model.Message) → of ≡ volume → are_places plan (map wire.place_of items) ≡ true → before ≡ Some found
-    → now ≡ with_places later_group groups (map wire.place_of items) → made ≡ installs (length items) volume (place_in (map wire.place_of items)) (lineage_of found.lineage) (log_of found.log.items) (later_in (place_of groups) (place_in (map wire.place_of items)))
+    → now ≡ with_places later_group groups (map wire.place_of items) → made ≡ installs (length items) volume (place_in (map wire.place_of items)) (lineage_of found.lineage) (log_of_set found.log) (later_in (place_of groups) (place_in (map wire.place_of items)))
     → taken plan volume (client_with groups before) (model.Message.View of (map wire.place_of items)) ≡ Ok (record { made = made; client = client_with now before })
 view-installing plan volume of groups now items before found made same good there new is =
     let places : List model.Place = map wire.place_of items in
     let chosen : ℕ → Bool = later_in (place_of groups) (place_in places) in
     let lineage : Lineage = lineage_of found.lineage in
-    let log : List Redo = log_of found.log.items in
+    let log : List Redo = log_of_set found.log in
     let said : made ≡ installs (length places) volume (place_of (with_places later_group groups places)) lineage log chosen =
     is ∙ ap (λ n. installs n volume (place_in places) lineage log chosen) (sym (length-map items wire.place_of)) ∙ installs-with_places (length places) volume groups places lineage log chosen (λ k t. t) in
     let base : taken plan volume (client_with groups (Some found)) (model.Message.View of places) ≡ Ok (record { made = made; client = client_with now (Some found) }) =

@@ -6,19 +6,19 @@ use Rattle.volume_model.specs.Redo.{Redo}
 use Rattle.volume_model.specs.Lineage.{last_cut, newest, found_in}
 use Rattle.volume_model.specs.Client.{Client, ClientGroup}
 use Rattle.lineage.specs.Lineage.{lineage_of}
-use Rattle.writer_core.specs.Logs.{log_of}
+use Rattle.writer_core.specs.Logs.{log_of_set}
 use Rattle.recovery.specs.declared.found.Found.{Found}
 use Rattle.recovery.specs.Reported.{reports_in}
 
 -- This is what a client has found: the log, where it cut, and its lineage.
 pub record IsFindOf (client : Client) (found : Found) : Type 0 where
-  pub log_is : log_of found.log.items ≡ client.found
+  pub log_is : log_of_set found.log ≡ client.found
   pub cut_is : found.cut ≡ last_cut client.lineage
   pub lineage_is : lineage_of found.lineage ≡ client.lineage
 
 -- The one is found as the other is: the same log, cut and lineage.
 pub record IsSameFind (found other : Found) : Type 0 where
-  pub same_log : log_of other.log.items ≡ log_of found.log.items
+  pub same_log : log_of_set other.log ≡ log_of_set found.log
   pub same_cut : other.cut ≡ found.cut
   pub same_lineage : lineage_of other.lineage ≡ lineage_of found.lineage
 

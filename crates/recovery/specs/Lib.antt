@@ -1,4 +1,5 @@
 pub mod Cuts
+pub mod Chains
 pub mod Reported
 pub mod Finds
 pub mod Recoveries

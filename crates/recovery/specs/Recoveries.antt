@@ -15,7 +15,7 @@ use Rattle.lineage.specs.Lineage.{lineage_of}
 use Rattle.wire.specs.declared.message.Message.{Message}
 use Rattle.wire.specs.Message.{messages_of}
 use Rattle.writer_core.specs.declared.writer.Writer.{Writer}
-use Rattle.writer_core.specs.Logs.{log_of}
+use Rattle.writer_core.specs.Logs.{log_of_set}
 use Rattle.writer_core.specs.Groups.{groups_in, keeping, standings_plan}
 use Rattle.writer_core.specs.Writers as writers
 use Rattle.recovery.specs.declared.found.Found.{Found}
@@ -36,7 +36,7 @@ recovery_groups r = groups_in r.standings
 -- the client that keeps these of its groups: before its cut, and after it
 abbrev pub client_with : List ClientGroup → Option Found → Client
 client_with groups None = record unborn { stage = Reading; groups = groups }
-client_with groups (Some found) = writers.installing groups (lineage_of found.lineage) (log_of found.log.items)
+client_with groups (Some found) = writers.installing groups (lineage_of found.lineage) (log_of_set found.log)
 
 -- the client that it is
 abbrev pub client_of : Recovery → Client
@@ -78,7 +78,7 @@ begun (r, messages) = record { made = messages_of messages.items; client = clien
 
 -- the cut of a recovery that keeps these of its groups, with what it finds
 abbrev pub found_step : ℕ → Found → List ClientGroup → ClientStep
-found_step volume found groups = cut_step volume (keeping groups) (log_of found.log.items) (lineage_of found.lineage)
+found_step volume found groups = cut_step volume (keeping groups) (log_of_set found.log) (lineage_of found.lineage)
 
 -- a call isn't refused
 abbrev pub admitted : Unit {0} → Unit {0} → Unit {0}

@@ -1,31 +1,59 @@
 //! The log that is found among records.
 
-ghost use Rattle.std.specs.Prelude.{◌≡◌, ℕ, true, IfOk, is_some};
+ghost use Rattle.std.specs.Prelude.{◌≡◌, ◌≤◌, ℕ, true, Some, take, length, IfOk, IfSome, is_some};
 ghost use Rattle.volume_model.specs.Redo.{record_at, chain_from, chain_or_none};
 ghost use Rattle.redo_record.specs.RecordSet.{records_of};
-ghost use Rattle.writer_core.specs.Logs.{log_of, is_growing};
+ghost use Rattle.writer_core.specs.Logs.{log_of, log_of_set, is_growing};
+ghost use Rattle.recovery.specs.Chains.{IsChainTo};
 
+use crate::cutting::is_growing;
 use redo_record::{Packet, RecordSet};
 use std::alloc::{AllocError, Global};
 
-/// The first record of each LSN of a set.
-pub fn firsts(alloc: Global, set: &RecordSet) -> Result<Vec<Packet>, AllocError>
-    ensures growing { IfOk result (λ list. is_growing (log_of list.items) ≡ true) }
-    ensures same { IfOk result (λ list. (n : ℕ) → record_at (log_of list.items) n ≡ record_at (records_of set.now) n) }
+/// The first record of each LSN of a set: the set itself, shared with it, where no LSN stands twice.
+pub fn firsts(alloc: Global, set: &RecordSet) -> Result<RecordSet, AllocError>
+    ensures growing { IfOk result (λ firsts. is_growing (log_of_set firsts) ≡ true) }
+    ensures same { IfOk result (λ firsts. (n : ℕ) → record_at (log_of_set firsts) n ≡ record_at (records_of set.now) n) }
 {
-    let mut list: Vec<Packet> = Vec::new(alloc);
+    if is_growing(set.as_slice()) {
+        return set.clone();
+    }
+    let mut firsts = RecordSet::new(alloc);
     let mut last = 0;
     for packet in set.as_slice() {
         if last < packet.lsn() {
             last = packet.lsn();
-            list.push(packet.clone()?)?;
+            firsts.push(packet.clone()?)?;
         }
     }
-    Ok(list)
+    Ok(firsts)
 }
 
-/// The chain by `prev_volume` from an LSN down to 0, in growing LSN.
-pub fn chain_of(alloc: Global, records: &[Packet], lsn: u64) -> Result<Vec<Packet>, AllocError>
+/// How many packets from the first on are the chain by `prev_volume` from an LSN down to 0; `None` where others stand between.
+fn chain_length(packets: &[Packet], lsn: u64) -> Option<usize>
+    ensures chain { IfSome result (λ len. IsChainTo lsn (log_of (take len packets.now))) }
+    ensures within { IfSome result (λ len. len ≤ length packets.now) }
+{
+    let mut last = 0;
+    for place in 0..packets.len() {
+        if last == lsn {
+            return Some(place);
+        }
+        let record = packets[place].record();
+        if record.prev_volume != last {
+            return None;
+        }
+        last = record.lsn;
+    }
+    if last == lsn {
+        Some(packets.len())
+    } else {
+        None
+    }
+}
+
+/// The packets of the chain by `prev_volume` from an LSN down to 0, in growing LSN.
+fn chain_packets(alloc: Global, records: &[Packet], lsn: u64) -> Result<Vec<Packet>, AllocError>
     requires growing { is_growing (log_of records.now) ≡ true }
     requires there { is_some (chain_from lsn (log_of records.now) lsn) ≡ true }
     ensures chain { IfOk result (λ log. log_of log.items ≡ chain_or_none (chain_from lsn (log_of records.now) lsn)) }
@@ -41,5 +69,21 @@ pub fn chain_of(alloc: Global, records: &[Packet], lsn: u64) -> Result<Vec<Packe
         }
     }
     log.reverse();
+    Ok(log)
+}
+
+/// The chain by `prev_volume` from an LSN down to 0: a part of the records, shared with them, where no others stand between.
+pub fn chain_of(alloc: Global, records: &RecordSet, lsn: u64) -> Result<RecordSet, AllocError>
+    requires growing { is_growing (log_of_set records.now) ≡ true }
+    requires there { is_some (chain_from lsn (log_of_set records.now) lsn) ≡ true }
+    ensures chain { IfOk result (λ log. log_of_set log ≡ chain_or_none (chain_from lsn (log_of_set records.now) lsn)) }
+    ensures growing { IfOk result (λ log. is_growing (log_of_set log) ≡ true) }
+{
+    if let Some(len) = chain_length(records.as_slice(), lsn) {
+        return records.front(len);
+    }
+    let packets = chain_packets(alloc, records.as_slice(), lsn)?;
+    let mut log = RecordSet::new(alloc);
+    log.extend_from_slice(packets.as_slice())?;
     Ok(log)
 }

@@ -6,7 +6,7 @@ ghost use Rattle.volume_model.specs.Lineage.{extension, newest};
 ghost use Rattle.volume_model.specs.Redo.{cut_of, log_found};
 ghost use Rattle.lineage.specs.Lineage.{lineage_of};
 ghost use Rattle.writer_core.specs.Groups.{groups_in, standings_plan};
-ghost use Rattle.writer_core.specs.Logs.{log_of};
+ghost use Rattle.writer_core.specs.Logs.{log_of_set};
 ghost use Rattle.recovery.specs.Cuts.{are_older};
 ghost use Rattle.recovery.specs.Finds.{live_records};
 ghost use Rattle.recovery.specs.Reported.{reports_in};
@@ -25,7 +25,7 @@ pub fn find(alloc: Global, volume: u32, standings: &Standings) -> Result<Found, 
     requires assigned { 1 ≤ volume }
     requires older { are_older volume (groups_in standings.now) ≡ true }
     ensures lineage { Gives (λ found. lineage_of found.lineage) result (extension (newest (reports_in (groups_in standings.now))) volume (cut_of (live_records (groups_in standings.now))) (standings_plan standings.now).lal) }
-    ensures log { IfOk result (λ found. log_of found.log.items ≡ log_found (live_records (groups_in standings.now))) }
+    ensures log { IfOk result (λ found. log_of_set found.log ≡ log_found (live_records (groups_in standings.now))) }
 {
     standings.plan().certified();
     let parent = newest_lineage(alloc, standings.as_slice())?;
@@ -35,7 +35,7 @@ pub fn find(alloc: Global, volume: u32, standings: &Standings) -> Result<Found, 
         Ok(cut) => cut,
         Err(fault) => return Err(fault),
     };
-    let log = chain_of(alloc, records.as_slice(), cut)?;
+    let log = chain_of(alloc, &records, cut)?;
     match parent.extend(volume, cut, standings.plan().lal()) {
         Ok(lineage) => Ok(Found { log, cut, lineage }),
         Err(fault) => Err(fault),

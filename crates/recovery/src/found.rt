@@ -2,24 +2,24 @@
 
 ghost use Rattle.std.specs.Prelude.{◌≡◌, true};
 ghost use Rattle.lineage.specs.Lineage.{lineage_of};
-ghost use Rattle.writer_core.specs.Logs.{log_of, is_growing};
+ghost use Rattle.writer_core.specs.Logs.{log_of_set, is_growing};
 ghost use Rattle.volume_model.specs.Lineage.{last_cut};
 
 use lineage::Lineage;
-use redo_record::Packet;
-use std::alloc::{AllocError, Global};
+use redo_record::RecordSet;
+use std::alloc::AllocError;
 use writer_core::Writer;
 
 /// What a recovery has found, and where it has cut.
 #[derive(Drop)]
 pub struct Found {
     /// The log up to the cut, in growing LSN.
-    pub log: Vec<Packet>,
+    pub log: RecordSet,
     /// The LSN up to which the log is kept.
     pub cut: u64,
     /// The lineage, with the recovery's own entry.
     pub lineage: Lineage,
-    pub ghost growing: { is_growing (log_of log.items) ≡ true },
+    pub ghost growing: { is_growing (log_of_set log) ≡ true },
     pub ghost entered: { last_cut (lineage_of lineage) ≡ cut },
 }
 
@@ -30,11 +30,11 @@ impl Found {
 
     /// What the recovery had found that has become this writer. The writer that a volume is born with was none: of it that is no record,
     /// and its lineage. Fails for want of memory alone.
-    pub fn of_writer(alloc: Global, writer: &Writer) -> Result<Found, AllocError>
+    pub fn of_writer(writer: &Writer) -> Result<Found, AllocError>
         ensures { IfOk result (IsFindOf (client_of writer.now)) }
     {
         Ok(Found {
-            log: writer.found().to_vec(alloc)?,
+            log: writer.found().clone()?,
             cut: writer.lineage().last_cut(),
             lineage: writer.lineage().clone()?,
         })

@@ -8,7 +8,7 @@ ghost use Rattle.volume_model.specs.ClientMessages.{later_in};
 ghost use Rattle.lineage.specs.Lineage.{lineage_of};
 ghost use Rattle.wire.specs.Message as wire;
 ghost use Rattle.wire.specs.Message.{messages_of};
-ghost use Rattle.writer_core.specs.Logs.{log_of};
+ghost use Rattle.writer_core.specs.Logs.{log_of_set};
 ghost use Rattle.writer_core.specs.Groups.{groups_in};
 
 use crate::found::Found;
@@ -60,12 +60,12 @@ pub fn installs(
     standings: &Standings,
     found: &Found,
 ) -> Result<Vec<Message>, AllocError>
-    ensures { IfOk result (λ messages. messages_of messages.items ≡ installs (length (groups_in standings.now)) volume (place_of (groups_in standings.now)) (lineage_of found.now.lineage) (log_of found.now.log.items) (λ group. true)) }
+    ensures { IfOk result (λ messages. messages_of messages.items ≡ installs (length (groups_in standings.now)) volume (place_of (groups_in standings.now)) (lineage_of found.now.lineage) (log_of_set found.now.log) (λ group. true)) }
 {
     let mut messages = Vec::new(alloc);
     for group in 0..standings.groups() {
         let label = standings.label(volume, group);
-        let mut pieces = group_installs(alloc, group, label, &found.lineage, found.log.as_slice())?;
+        let mut pieces = group_installs(alloc, group, label, &found.lineage, &found.log)?;
         messages.append(&mut pieces)?;
     }
     Ok(messages)
@@ -80,20 +80,14 @@ pub fn later_installs(
     places: &[Place],
 ) -> Result<Vec<Message>, AllocError>
     requires { length places.now ≤ 16 }
-    ensures { IfOk result (λ messages. messages_of messages.items ≡ installs (length places.now) volume (place_in (map wire.place_of places.now)) (lineage_of found.now.lineage) (log_of found.now.log.items) (later_in (place_of (groups_in standings.now)) (place_in (map wire.place_of places.now)))) }
+    ensures { IfOk result (λ messages. messages_of messages.items ≡ installs (length places.now) volume (place_in (map wire.place_of places.now)) (lineage_of found.now.lineage) (log_of_set found.now.log) (later_in (place_of (groups_in standings.now)) (place_in (map wire.place_of places.now)))) }
 {
     let mut messages = Vec::new(alloc);
     for group in 0..places.len() as u8 {
         let place = places[usize::from(group)];
         if standings.epoch(group) < place.epoch {
             let label = label_at(volume, place);
-            let mut pieces = group_installs(
-                alloc,
-                group,
-                label,
-                &found.lineage,
-                found.log.as_slice(),
-            )?;
+            let mut pieces = group_installs(alloc, group, label, &found.lineage, &found.log)?;
             messages.append(&mut pieces)?;
         }
     }

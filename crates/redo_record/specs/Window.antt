@@ -2,7 +2,12 @@
 use Rattle.std.specs.Prelude.{◌≡◌, List, length, take, drop}
 use Rattle.volume_model.specs.Redo.{Redo}
 use Rattle.redo_record.specs.declared.window.Window.{Window}
-use Rattle.redo_record.specs.Shared.{redos_in}
+use Rattle.redo_record.specs.declared.packet.Packet.{Packet}
+use Rattle.redo_record.specs.Shared.{packets_in, redos_in}
+
+-- the packets, in their order
+abbrev pub packets_seen : Window → List Packet
+packets_seen window = take window.len (drop window.from (packets_in window.shared.packets))
 
 -- the records of the packets, in their order
 abbrev pub redos_seen : Window → List Redo

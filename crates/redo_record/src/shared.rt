@@ -15,7 +15,7 @@ impl Shared {
     ghost use Rattle.std.specs.Prelude.{◌≡◌, ◌+◌, ◌≤◌, [], ◌∷◌, ◌++◌, length, map, take, drop, IfOk, OnOk, OnErr};
     ghost use Rattle.std.specs.List.{insert};
     ghost use Rattle.redo_record.specs.Packet.{packet_redo};
-    ghost use Rattle.redo_record.specs.Shared.{redos_in};
+    ghost use Rattle.redo_record.specs.Shared.{packets_in, redos_in};
 
     /// No packet.
     pub fn new(alloc: Global) -> Shared
@@ -39,7 +39,7 @@ impl Shared {
 
     /// The packets.
     pub fn as_slice(&self) -> &[Packet]
-        ensures { map packet_redo result.now ≡ redos_in self.now }
+        ensures { result.now ≡ packets_in self.now.packets }
     {
         match &self.packets {
             Some(packets) => packets.as_slice(),

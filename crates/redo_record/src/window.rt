@@ -20,7 +20,7 @@ impl Window {
     ghost use Rattle.std.specs.Prelude.{◌≡◌, [], ◌∷◌, ◌++◌, map, take, drop, IfOk, OnOk, OnErr};
     ghost use Rattle.std.specs.List.{insert};
     ghost use Rattle.redo_record.specs.Packet.{packet_redo};
-    ghost use Rattle.redo_record.specs.Window.{redos_seen, IsWhole};
+    ghost use Rattle.redo_record.specs.Window.{packets_seen, redos_seen, IsWhole};
 
     /// No packet.
     pub fn new(alloc: Global) -> Window
@@ -48,7 +48,8 @@ impl Window {
 
     /// The packets.
     pub fn as_slice(&self) -> &[Packet]
-        ensures { map packet_redo result.now ≡ redos_seen self.now }
+        ensures packets { result.now ≡ packets_seen self.now }
+        ensures records { map packet_redo result.now ≡ redos_seen self.now }
     {
         &self.shared.as_slice()[self.from..self.from + self.len]
     }

@@ -14,7 +14,8 @@ use Rattle.volume_model.specs.Headline.{Acknowledges, HasFound, KeepsCommits}
 use Rattle.volume_model.specs.Outcome as model
 use Rattle.volume_model.specs.Outcome.{found_client, opened_client, writers_in, finds_in}
 use Rattle.volume_model.proofs.Basics.{IsIn-append}
-use Rattle.writer_core.specs.Logs.{log_of}
+use Rattle.writer_core.specs.Log.{log_in}
+use Rattle.writer_core.specs.Logs.{log_of_set}
 use Rattle.world.specs.declared.outcome.FindEnd.{FindEnd}
 use Rattle.world.specs.declared.outcome.WriterEnd.{WriterEnd}
 use Rattle.world.specs.declared.outcome.Outcome.{Outcome}
@@ -49,7 +50,7 @@ told_find world volume = found_client volume (world.clients volume)
 -- a returned writer is one of the world
 record IsWriterOf (world : World) (w : WriterEnd) : Type 0 where
   open_is : is_open (world.clients w.volume).stage ≡ true
-  log_is : log_of w.log.items ≡ (world.clients w.volume).log
+  log_is : log_in w.log ≡ (world.clients w.volume).log
   durable_is : w.durable ≡ durable_point (world.clients w.volume)
 
 writer_of : (world : World) (w : WriterEnd) (ws : List WriterEnd) → map opened_of ws ≡ writers_in world → IsIn w ws → IsWriterOf world w
@@ -65,7 +66,7 @@ writer_of world w ws are within =
 -- a returned find is that of a recovery of the world that has cut
 record IsFinderOf (world : World) (f : FindEnd) : Type 0 where
   found_is : HasFound world f.volume
-  log_is : log_of f.found.log.items ≡ (world.clients f.volume).found
+  log_is : log_of_set f.found.log ≡ (world.clients f.volume).found
 
 finder_of : (world : World) (f : FindEnd) (fs : List FindEnd) → map find_of fs ≡ finds_in world → IsIn f fs → IsFinderOf world f
 finder_of world f fs are within =
@@ -94,7 +95,7 @@ module _ (world : World) (keeps : KeepsCommits world) where
     found_later = λ writer find n there here later has.
         let w = writer_of world writer outcome.writers.items writers there in
         let f = finder_of world find outcome.finds.items finds here in
-        subst (λ (log : List Redo). IsBeginningOf log (log_of find.found.log.items)) (sym (covered_is writer n w))
+        subst (λ (log : List Redo). IsBeginningOf log (log_of_set find.found.log)) (sym (covered_is writer n w))
         (subst (IsBeginningOf (up_to n (world.clients writer.volume).log)) (sym f.log_is)
         (keeps.found_later writer.volume find.volume n later (acknowledges writer n w has) f.found_is));
     one_record = λ writer other n m r s there here has had one two.

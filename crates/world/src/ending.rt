@@ -15,34 +15,34 @@ use std::alloc::{AllocError, Global};
 use writer_core::Writer;
 
 /// What is told of the writer of a volume epoch.
-fn end_of(alloc: Global, volume: u32, writer: &Writer) -> Result<WriterEnd, AllocError>
+fn end_of(volume: u32, writer: &Writer) -> Result<WriterEnd, AllocError>
     ensures { IfOk result (λ end. opened_of end ≡ opened_client volume (client_of writer.now)) }
 {
     Ok(WriterEnd {
         volume,
         start: writer.start(),
-        log: writer.log().to_vec(alloc)?,
+        log: writer.log().clone()?,
         durable: writer.durable_point(),
     })
 }
 
 /// What is told of the client of a volume epoch as a writer, where it is one.
-fn opened_by(alloc: Global, volume: u32, client: &Client) -> Result<Option<WriterEnd>, AllocError>
+fn opened_by(volume: u32, client: &Client) -> Result<Option<WriterEnd>, AllocError>
     ensures { IfOk result (λ opened. option_map opened_of opened ≡ (if is_open (seen_client client.now).stage then Some (opened_client volume (seen_client client.now)) else None)) }
 {
     match client.state() {
-        ClientState::Writer(writer) => Ok(Some(end_of(alloc, volume, writer)?)),
+        ClientState::Writer(writer) => Ok(Some(end_of(volume, writer)?)),
         _ => Ok(None),
     }
 }
 
 /// What is told of the client of a volume epoch as a recovery, where it has cut.
-fn found_by(alloc: Global, volume: u32, client: &Client) -> Result<Option<FindEnd>, AllocError>
+fn found_by(volume: u32, client: &Client) -> Result<Option<FindEnd>, AllocError>
     ensures { IfOk result (λ found. option_map find_of found ≡ (if has_cut (seen_client client.now).stage then Some (found_client volume (seen_client client.now)) else None)) }
 {
     let found = match client.state() {
         ClientState::Unborn => return Ok(None),
-        ClientState::Writer(writer) => Found::of_writer(alloc, writer)?,
+        ClientState::Writer(writer) => Found::of_writer(writer)?,
         ClientState::Recovery(recovery) => match recovery.found() {
             Some(found) => found.clone()?,
             None => return Ok(None),
@@ -57,18 +57,13 @@ impl Actors {
     ghost use Rattle.world.specs.Clients.{clients_of};
 
     /// Adds what is told of the writer of a volume epoch, where there is one.
-    fn add_writer(
-        &self,
-        alloc: Global,
-        volume: u32,
-        ends: &mut Vec<WriterEnd>,
-    ) -> Result<(), AllocError>
+    fn add_writer(&self, volume: u32, ends: &mut Vec<WriterEnd>) -> Result<(), AllocError>
         ensures { IfOk result (λ _. map opened_of ends.new.items ≡ map opened_of ends.old.items ++ (if is_open (clients_of self.now.clients volume).stage then opened_client volume (clients_of self.now.clients volume) ∷ [] else [])) }
     {
         let Some(client) = self.clients.get(&volume) else {
             return Ok(());
         };
-        if let Some(end) = opened_by(alloc, volume, client)? {
+        if let Some(end) = opened_by(volume, client)? {
             ends.push(end)?;
         }
         Ok(())
@@ -81,19 +76,14 @@ impl Actors {
         let last = self.authority.last_volume();
         let mut ends = Vec::new(alloc);
         for volume in 0..last {
-            self.add_writer(alloc, volume, &mut ends)?;
+            self.add_writer(volume, &mut ends)?;
         }
-        self.add_writer(alloc, last, &mut ends)?;
+        self.add_writer(last, &mut ends)?;
         Ok(ends)
     }
 
     /// Adds what is told of the client of a volume epoch as a recovery, where it is one that has cut. Writer 1 was none.
-    fn add_find(
-        &self,
-        alloc: Global,
-        volume: u32,
-        ends: &mut Vec<FindEnd>,
-    ) -> Result<(), AllocError>
+    fn add_find(&self, volume: u32, ends: &mut Vec<FindEnd>) -> Result<(), AllocError>
         ensures { IfOk result (λ _. map find_of ends.new.items ≡ map find_of ends.old.items ++ (if nat_lt 1 volume && has_cut (clients_of self.now.clients volume).stage then found_client volume (clients_of self.now.clients volume) ∷ [] else [])) }
     {
         if volume <= 1 {
@@ -102,7 +92,7 @@ impl Actors {
         let Some(client) = self.clients.get(&volume) else {
             return Ok(());
         };
-        if let Some(end) = found_by(alloc, volume, client)? {
+        if let Some(end) = found_by(volume, client)? {
             ends.push(end)?;
         }
         Ok(())
@@ -115,9 +105,9 @@ impl Actors {
         let last = self.authority.last_volume();
         let mut ends = Vec::new(alloc);
         for volume in 0..last {
-            self.add_find(alloc, volume, &mut ends)?;
+            self.add_find(volume, &mut ends)?;
         }
-        self.add_find(alloc, last, &mut ends)?;
+        self.add_find(last, &mut ends)?;
         Ok(ends)
     }
 }

@@ -1,8 +1,8 @@
 //! What a run leaves to be told.
 
 use recovery::Found;
-use redo_record::Packet;
 use volume_model::Fault;
+use writer_core::Log;
 
 /// An opened writer at the end of a run.
 #[derive(Drop)]
@@ -12,7 +12,7 @@ pub struct WriterEnd {
     /// The LSN after which its own records begin.
     pub start: u64,
     /// Its log, in growing LSN.
-    pub log: Vec<Packet>,
+    pub log: Log,
     /// Its durable point.
     pub durable: u64,
 }

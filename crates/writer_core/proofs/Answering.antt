@@ -1,5 +1,5 @@
 -- Refusals, as answers of a client.
-use Rattle.std.proofs.Common.{◌≡◌, ◌≢◌, Bool, true, Ok, Err, Result, refl}
+use Rattle.std.proofs.Common.{◌≡◌, ◌≢◌, Bool, Ok, Err, Result, refl}
 use Rattle.volume_model.specs.Answer.{AnswersLate, refusal_of}
 use Rattle.volume_model.specs.declared.fault.Fault.{Fault}
 use Rattle.volume_model.specs.declared.fault.Fault.TheVariants.{NoMemory}

@@ -46,7 +46,7 @@ lsn-rises xs h i j d l k =
 
 -- ---- the records of a log
 
-in-added : {A : Type 0} (xs kept : List A) (x : A) → IsIn x xs ⊎ IsIn x kept → IsIn x (added xs kept)
+pub in-added : {A : Type 0} (xs kept : List A) (x : A) → IsIn x xs ⊎ IsIn x kept → IsIn x (added xs kept)
 in-added [] kept x (inl i) = absurd i
 in-added [] kept x (inr i) = i
 in-added (y ∷ xs) kept x (inl (inl e)) = in-added xs (y ∷ kept) x (inr (inl e))

@@ -1,5 +1,7 @@
 pub mod Below
 pub mod Logs
+pub mod Joined
+pub mod Clients
 pub mod Copied
 pub mod Counting
 pub mod Covering

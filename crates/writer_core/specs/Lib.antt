@@ -1,4 +1,5 @@
 pub mod Logs
+pub mod Log
 pub mod Lasts
 pub mod Covered
 pub mod Counts

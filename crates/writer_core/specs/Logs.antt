@@ -3,11 +3,17 @@ use Rattle.std.specs.Prelude.{Bool, true, ◌&&◌, nat_lt, List, [], ◌∷◌,
 use Rattle.volume_model.specs.Lists.{added}
 use Rattle.volume_model.specs.Redo.{Redo, last_lsn}
 use Rattle.redo_record.specs.declared.packet.Packet.{Packet}
+use Rattle.redo_record.specs.declared.record_set.RecordSet.{RecordSet}
 use Rattle.redo_record.specs.Packet.{packet_redo}
+use Rattle.redo_record.specs.RecordSet.{records_of}
 
 -- the log that a list of packets is
 abbrev pub log_of : List Packet → List Redo
 log_of packets = added (map packet_redo packets) []
+
+-- the log that a set of records is
+abbrev pub log_of_set : RecordSet → List Redo
+log_of_set set = added (records_of set) []
 
 -- each record's number is above those of the records before it
 abbrev pub is_growing : List Redo → Bool

@@ -1,5 +1,5 @@
 -- What a writer is, as the model's client, and what it answers.
-use Rattle.std.specs.Prelude.{◌≡◌, ℕ, ◌+◌, ◌^◌, ◌≤◌, true, List, [], ◌∷◌, length, max, take}
+use Rattle.std.specs.Prelude.{◌≡◌, ℕ, ◌+◌, ◌^◌, ◌≤◌, true, List, [], ◌∷◌, length, max}
 use Rattle.std.specs.Prelude.{Vec}
 use Rattle.std.specs.Global.{Global}
 use Rattle.volume_model.specs.Plan.{Plan}
@@ -13,7 +13,8 @@ use Rattle.wire.specs.declared.carried.Carried.{Carried}
 use Rattle.wire.specs.declared.message.Message.{Message}
 use Rattle.wire.specs.Message.{message_of, messages_of}
 use Rattle.writer_core.specs.Carried.{carried_write}
-use Rattle.writer_core.specs.Logs.{log_of}
+use Rattle.writer_core.specs.Logs.{log_of_set}
+use Rattle.writer_core.specs.Log.{found_of, log_in}
 use Rattle.writer_core.specs.Groups.{groups_in, standings_plan}
 use Rattle.writer_core.specs.declared.writer.Writer.{Writer}
 
@@ -27,7 +28,7 @@ writer_volume w = w.volume
 
 -- the client that it is
 abbrev pub client_of : Writer → Client
-client_of w = record { stage = Writing; groups = groups_in w.standings; lineage = lineage_of w.lineage; found = log_of (take w.found w.log.items); log = log_of w.log.items }
+client_of w = record { stage = Writing; groups = groups_in w.standings; lineage = lineage_of w.lineage; found = log_of_set (found_of w.log); log = log_in w.log }
 
 -- a recovery that has cut, with what it keeps of its groups, its lineage and the log that it found
 abbrev pub installing : List ClientGroup → Lineage → List Redo → Client

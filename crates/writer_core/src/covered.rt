@@ -3,8 +3,9 @@
 ghost use Rattle.std.specs.Prelude.{◌≡◌, length};
 
 use crate::lasts::GROUPS;
+use crate::log::Log;
 use crate::standings::Standings;
-use redo_record::{Packet, Record};
+use redo_record::Record;
 
 /// How far a log is covered: a record is where its LSN is not above the point of its group.
 #[derive(Clone, Copy)]
@@ -24,10 +25,10 @@ pub struct Covered {
 }
 
 impl Covered {
-    ghost use Rattle.std.specs.Prelude.{◌+◌, ◌^◌, ◌<◌, true, slice_index};
+    ghost use Rattle.std.specs.Prelude.{◌+◌, ◌^◌, ◌<◌, slice_index};
     ghost use Rattle.volume_model.specs.Client.{group_point_of};
     ghost use Rattle.redo_record.specs.Record.{redo_of};
-    ghost use Rattle.writer_core.specs.Logs.{log_of, is_growing};
+    ghost use Rattle.writer_core.specs.Log.{packets_in};
     ghost use Rattle.writer_core.specs.Groups.{groups_in};
     ghost use Rattle.writer_core.specs.Covered.{CoversNone, Covers, CoversFront, CoversLog};
 
@@ -53,13 +54,12 @@ impl Covered {
     }
 
     /// Goes on behind the records that are covered, up to the first that isn't.
-    pub fn follow(&mut self, log: &[Packet], standings: &Standings)
-        requires growing { is_growing (log_of log.now) ≡ true }
-        requires front { CoversFront self.old (group_point_of (groups_in standings.now)) log.now }
-        ensures { CoversLog self.new (group_point_of (groups_in standings.now)) log.now }
+    pub fn follow(&mut self, log: &Log, standings: &Standings)
+        requires { CoversFront self.old (group_point_of (groups_in standings.now)) (packets_in log.now) }
+        ensures { CoversLog self.new (group_point_of (groups_in standings.now)) (packets_in log.now) }
     {
         while self.records < log.len() {
-            let record = log[self.records].record();
+            let record = log.packet(self.records).record();
             if standings.point(record.group) < record.lsn {
                 return;
             }

@@ -12,12 +12,12 @@ ghost use Rattle.redo_record.specs.RecordSet.{records_of};
 ghost use Rattle.wire.specs.Contents.{contents_of};
 ghost use Rattle.wire.specs.Message as wire;
 ghost use Rattle.wire.specs.Message.{messages_of};
-ghost use Rattle.writer_core.specs.Logs.{log_of};
+ghost use Rattle.writer_core.specs.Logs.{log_of_set};
 ghost use Rattle.writer_core.specs.Groups.{groups_in};
 
 use crate::standings::Standings;
 use lineage::Lineage;
-use redo_record::{Packet, RecordSet};
+use redo_record::RecordSet;
 use std::alloc::{AllocError, Global};
 use wire::{Contents, Install, Label, Message, Place};
 
@@ -31,12 +31,15 @@ pub fn label_at(volume: u32, place: Place) -> Label
     }
 }
 
-/// The records of a group, as a set.
-fn of_group(alloc: Global, group: u8, log: &[Packet]) -> Result<RecordSet, AllocError>
-    ensures { IfOk result (λ set. records_of set ≡ of_group group (log_of log.now)) }
+/// The records of a log that are of a group: the log's own list where all are.
+fn of_group(alloc: Global, group: u8, log: &RecordSet) -> Result<RecordSet, AllocError>
+    ensures { IfOk result (λ set. records_of set ≡ of_group group (log_of_set log.now)) }
 {
+    if log.is_of(group) {
+        return log.clone();
+    }
     let mut set = RecordSet::new(alloc);
-    for packet in log {
+    for packet in log.as_slice() {
         if packet.group() == group {
             set.insert(packet.clone()?)?;
         }
@@ -60,9 +63,9 @@ pub fn group_installs(
     group: u8,
     label: Label,
     lineage: &Lineage,
-    log: &[Packet],
+    log: &RecordSet,
 ) -> Result<Vec<Message>, AllocError>
-    ensures { IfOk result (λ messages. messages_of messages.items ≡ in_pieces (to_install (lineage_of lineage.now) (log_of log.now) group) (model.Message.Install group (wire.label_of label))) }
+    ensures { IfOk result (λ messages. messages_of messages.items ≡ in_pieces (to_install (lineage_of lineage.now) (log_of_set log.now) group) (model.Message.Install group (wire.label_of label))) }
 {
     let whole = Contents {
         lineage: lineage.clone()?,
@@ -93,12 +96,13 @@ pub(crate) fn unjoined_installs(
     requires { length places.now ≤ 16 }
     ensures { IfOk result (λ messages. messages_of messages.items ≡ installs (length places.now) volume (place_in (map wire.place_of places.now)) (lineage_of lineage.now) [] (later_unjoined (groups_in standings.now) (place_in (map wire.place_of places.now)))) }
 {
+    let none = RecordSet::new(alloc);
     let mut messages = Vec::new(alloc);
     for group in 0..places.len() as u8 {
         let place = places[usize::from(group)];
         if standings.epoch(group) < place.epoch && !standings.has_joined(group) {
             let label = label_at(volume, place);
-            let mut pieces = group_installs(alloc, group, label, lineage, &[])?;
+            let mut pieces = group_installs(alloc, group, label, lineage, &none)?;
             messages.append(&mut pieces)?;
         }
     }

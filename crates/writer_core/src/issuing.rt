@@ -12,7 +12,7 @@ ghost use Rattle.redo_record.specs.Payload.{HasRoom};
 ghost use Rattle.volume_model.specs.Message as model;
 ghost use Rattle.volume_model.specs.Client.{label_of};
 ghost use Rattle.wire.specs.Message.{messages_of};
-ghost use Rattle.writer_core.specs.Logs.{log_of, is_growing};
+ghost use Rattle.writer_core.specs.Log.{found_of, log_in, packets_in};
 ghost use Rattle.writer_core.specs.Lasts.{AreLasts, AreLastsOfFront, AreLinkedFrom};
 ghost use Rattle.writer_core.specs.Groups.{groups_in};
 ghost use Rattle.writer_core.specs.Changes.{change_of, changes_of};
@@ -20,7 +20,7 @@ ghost use Rattle.writer_core.specs.Carried.{carried_write};
 
 use crate::change::Change;
 use crate::lasts::Lasts;
-use crate::log::last_lsn;
+use crate::log::Log;
 use crate::standings::Standings;
 use redo_record::{Packet, Payload, Record};
 use std::alloc::Global;
@@ -36,16 +36,15 @@ pub struct Span {
 }
 
 /// The record of a change behind a log, of which the last LSNs are known; `point` makes it a consistency point.
-fn next_record(span: Span, log: &[Packet], lasts: &Lasts, change: &Change, point: bool) -> Record
-    requires lasts { AreLasts lasts.now (log_of log.now) }
-    requires growing { is_growing (log_of log.now) ≡ true }
-    requires room { max (last_lsn (log_of log.now)) span.start < 2 ^ 62 }
+fn next_record(span: Span, log: &Log, lasts: &Lasts, change: &Change, point: bool) -> Record
+    requires lasts { AreLasts lasts.now (log_in log.now) }
+    requires room { max (last_lsn (log_in log.now)) span.start < 2 ^ 62 }
     requires group { change.now.group < 16 }
     requires bytes { HasRoom (length change.now.bytes.items) }
     requires place { change.now.offset + length change.now.bytes.items ≤ 512 }
-    ensures { redo_of result ≡ record_of span.volume span.start (log_of log.now) (change_of change.now) point }
+    ensures { redo_of result ≡ record_of span.volume span.start (log_in log.now) (change_of change.now) point }
 {
-    let last = last_lsn(log);
+    let last = log.last_lsn();
     let bytes = match Payload::new(change.bytes.as_slice()) {
         Some(bytes) => bytes,
         None => unreachable!(),
@@ -82,27 +81,26 @@ pub fn append(
     alloc: Global,
     span: Span,
     standings: &Standings,
-    log: &mut Vec<Packet>,
+    log: &mut Log,
     lasts: &mut Lasts,
     changes: &[Change],
     messages: &mut Vec<Message>,
 ) -> Result<(), Fault>
-    requires front { AreLastsOfFront lasts.old log.old.items }
-    requires growing { is_growing (log_of log.old.items) ≡ true }
-    requires room { max (last_lsn (log_of log.old.items)) span.start + length changes.now ≤ 2 ^ 62 }
+    requires front { AreLastsOfFront lasts.old (packets_in log.old) }
+    requires room { max (last_lsn (log_in log.old)) span.start + length changes.now ≤ 2 ^ 62 }
     requires few { length (groups_in standings.now) ≤ 16 }
     requires good { every (is_change (length (groups_in standings.now))) (changes_of changes.now) ≡ true }
-    ensures logged { OnOk result (log_of log.new.items ≡ issued_log span.volume span.start (changes_of changes.now) (log_of log.old.items)) }
-    ensures grown { OnOk result (is_growing (log_of log.new.items) ≡ true) }
-    ensures written { OnOk result (messages_of messages.new.items ≡ messages_of messages.old.items ++ issued_writes span.volume (place_of (groups_in standings.now)) span.start (changes_of changes.now) (log_of log.old.items)) }
-    ensures lasts { AreLastsOfFront lasts.new log.new.items }
+    ensures logged { OnOk result (log_in log.new ≡ issued_log span.volume span.start (changes_of changes.now) (log_in log.old)) }
+    ensures written { OnOk result (messages_of messages.new.items ≡ messages_of messages.old.items ++ issued_writes span.volume (place_of (groups_in standings.now)) span.start (changes_of changes.now) (log_in log.old)) }
+    ensures lasts { AreLastsOfFront lasts.new (packets_in log.new) }
     ensures memory { IfErr result (λ e. e ≡ NoMemory) }
-    ensures front { take (length log.old.items) log.new.items ≡ log.old.items }
-    ensures linked { AreLinkedFrom (length log.old.items) log.new.items }
+    ensures front { take (length (packets_in log.old)) (packets_in log.new) ≡ packets_in log.old }
+    ensures found { found_of log.new ≡ found_of log.old }
+    ensures linked { AreLinkedFrom (length (packets_in log.old)) (packets_in log.new) }
 {
     for (i, change) in changes.iter().enumerate() {
-        lasts.follow(log.as_slice())?;
-        let record = next_record(span, log.as_slice(), lasts, change, i + 1 == changes.len());
+        lasts.follow(log)?;
+        let record = next_record(span, log, lasts, change, i + 1 == changes.len());
         let packet = Packet::pack(alloc, record)?;
         messages.push(carry(span.volume, standings, &packet).write()?)?;
         log.push(packet)?;

@@ -2,7 +2,8 @@
 
 ghost use Rattle.std.specs.Prelude.{◌≡◌, length};
 
-use redo_record::{Packet, Record};
+use crate::log::Log;
+use redo_record::Record;
 use std::alloc::{AllocError, Global};
 use std::collections::BTreeMap;
 
@@ -24,7 +25,7 @@ pub struct Lasts {
 impl Lasts {
     ghost use Rattle.std.specs.Prelude.{◌+◌, ◌^◌, ◌<◌, [], OnOk, OnErr, take};
     ghost use Rattle.redo_record.specs.Record.{redo_of};
-    ghost use Rattle.writer_core.specs.Logs.{log_of};
+    ghost use Rattle.writer_core.specs.Log.{log_in, packets_in};
     ghost use Rattle.writer_core.specs.Lasts.{kept_of_group, kept_of_block, AreLasts, AreLastsOfFront, AreLinkedFrom, Enters, EntersNone, Leaves};
 
     /// No record is entered yet. Takes no memory.
@@ -68,13 +69,13 @@ impl Lasts {
     }
 
     /// Enters what the log has behind the records that are entered. Where memory runs out some of it may be.
-    pub fn follow(&mut self, log: &[Packet]) -> Result<(), AllocError>
-        requires { AreLastsOfFront self.old log.now }
-        ensures ok { OnOk result (AreLasts self.new (log_of log.now)) }
-        ensures front { AreLastsOfFront self.new log.now }
+    pub fn follow(&mut self, log: &Log) -> Result<(), AllocError>
+        requires { AreLastsOfFront self.old (packets_in log.now) }
+        ensures ok { OnOk result (AreLasts self.new (log_in log.now)) }
+        ensures front { AreLastsOfFront self.new (packets_in log.now) }
     {
         while self.entered < log.len() {
-            self.enter(log[self.entered].record())?;
+            self.enter(log.packet(self.entered).record())?;
         }
         Ok(())
     }
@@ -96,13 +97,13 @@ impl Lasts {
     }
 
     /// Takes records out again, the last first, until at most so many of the log are entered. Takes no memory.
-    pub fn go_back(&mut self, log: &[Packet], records: usize)
-        requires front { AreLastsOfFront self.old log.now }
-        requires linked { AreLinkedFrom records log.now }
-        ensures { AreLastsOfFront self.new (take records log.now) }
+    pub fn go_back(&mut self, log: &Log, records: usize)
+        requires front { AreLastsOfFront self.old (packets_in log.now) }
+        requires linked { AreLinkedFrom records (packets_in log.now) }
+        ensures { AreLastsOfFront self.new (take records (packets_in log.now)) }
     {
         while self.entered > records {
-            self.leave(log[self.entered - 1].record());
+            self.leave(log.packet(self.entered - 1).record());
         }
     }
 }

@@ -1,41 +1,136 @@
-//! What is read off a log, whose records stand in growing LSN.
+//! A log, whose records stand in growing LSN.
 
-ghost use Rattle.std.specs.Prelude.{◌≡◌, true, option_copied, option_map};
-ghost use Rattle.volume_model.specs.Redo.{last_lsn, record_at};
-ghost use Rattle.volume_model.specs.ClientPoints.{is_consistency_point};
-ghost use Rattle.redo_record.specs.Packet.{packet_redo};
+ghost use Rattle.std.specs.Prelude.{◌≡◌, ◌^◌, ◌<◌, ◌++◌, true, length};
+ghost use Rattle.redo_record.specs.RecordSet.{packets_of};
 ghost use Rattle.writer_core.specs.Logs.{log_of, is_growing};
 
-use redo_record::Packet;
+use crate::reading::{last_lsn, record_at};
+use redo_record::{Packet, RecordSet};
+use std::alloc::{AllocError, Global};
 
-/// The last LSN, 0 where there is none.
-pub fn last_lsn(log: &[Packet]) -> u64
-    ensures { result ≡ last_lsn (log_of log.now) }
-{
-    log.last().map_or(0, |packet| packet.lsn())
+/// A log, in growing LSN: what was found, which clones share, and behind it what was issued since.
+#[derive(Drop)]
+pub struct Log {
+    found: RecordSet,
+    /// How many records were found.
+    begun: usize,
+    issued: Vec<Packet>,
+    ghost counted: { begun ≡ length (packets_of found) },
+    ghost few: { begun < 2 ^ 63 },
+    ghost growing: { is_growing (log_of (packets_of found ++ issued.items)) ≡ true },
 }
 
-/// The record of an LSN, where there is one.
-pub fn record_at(log: &[Packet], lsn: u64) -> Option<&Packet>
-    requires { is_growing (log_of log.now) ≡ true }
-    ensures { option_map packet_redo (option_copied result) ≡ record_at (log_of log.now) lsn }
-{
-    let place = log.partition_point(|packet| packet.lsn() < lsn);
-    let packet = log.get(place)?;
-    if packet.lsn() == lsn {
-        Some(packet)
-    } else {
-        None
+impl Log {
+    ghost use Rattle.std.specs.Prelude.{◌≤◌, [], ◌∷◌, take, slice_index_or, option_copied, option_map, OnOk, OnErr};
+    ghost use Rattle.volume_model.specs.Redo.{last_lsn, record_at};
+    ghost use Rattle.volume_model.specs.ClientPoints.{is_consistency_point};
+    ghost use Rattle.redo_record.specs.Packet.{packet_redo};
+    ghost use Rattle.redo_record.specs.RecordSet.{records_of};
+    ghost use Rattle.writer_core.specs.Logs.{log_of_set};
+    ghost use Rattle.writer_core.specs.Log.{found_of, packets_in, log_in};
+
+    /// The log that was found, with no record behind it. Takes no memory.
+    pub fn begin(alloc: Global, found: RecordSet) -> Log
+        requires { is_growing (log_of_set found) ≡ true }
+        ensures packets { packets_in result ≡ packets_of found }
+        ensures found { found_of result ≡ found }
+    {
+        let begun = found.as_slice().len();
+        Log {
+            found,
+            begun,
+            issued: Vec::new(alloc),
+        }
+    }
+
+    /// How many records there are.
+    pub fn len(&self) -> usize
+        ensures { result ≡ length (packets_in self.now) }
+    {
+        self.begun + self.issued.len()
+    }
+
+    /// The records that were found.
+    pub fn found(&self) -> &RecordSet
+        ensures { result.now ≡ found_of self.now }
+    {
+        &self.found
+    }
+
+    /// The packet at this place, counted from the first.
+    pub fn packet(&self, place: usize) -> &Packet
+        requires { place < length (packets_in self.now) }
+        ensures { result.now ≡ slice_index_or (packets_in self.now) place result.now }
+    {
+        if place < self.begun {
+            &self.found.as_slice()[place]
+        } else {
+            &self.issued[place - self.begun]
+        }
+    }
+
+    /// The last LSN, 0 where there is none.
+    pub fn last_lsn(&self) -> u64
+        ensures { result ≡ last_lsn (log_in self.now) }
+    {
+        if self.issued.is_empty() {
+            last_lsn(self.found.as_slice())
+        } else {
+            last_lsn(self.issued.as_slice())
+        }
+    }
+
+    /// The record of an LSN, where there is one.
+    pub fn record_at(&self, lsn: u64) -> Option<&Packet>
+        ensures { option_map packet_redo (option_copied result) ≡ record_at (log_in self.now) lsn }
+    {
+        match record_at(self.found.as_slice(), lsn) {
+            Some(packet) => Some(packet),
+            None => record_at(self.issued.as_slice(), lsn),
+        }
+    }
+
+    /// Whether a record of this LSN is a consistency point.
+    pub fn is_point(&self, lsn: u64) -> bool
+        ensures { result ≡ is_consistency_point lsn (log_in self.now) }
+    {
+        match self.record_at(lsn) {
+            Some(packet) => packet.record().point,
+            None => false,
+        }
+    }
+
+    /// Adds a record behind all others. Where memory runs out the log is what it was.
+    pub(crate) fn push(&mut self, packet: Packet) -> Result<(), AllocError>
+        requires { last_lsn (log_in self.old) < (packet_redo packet).lsn }
+        ensures ok { OnOk result (packets_in self.new ≡ packets_in self.old ++ packet ∷ []) }
+        ensures err { OnErr result (packets_in self.new ≡ packets_in self.old) }
+        ensures found { found_of self.new ≡ found_of self.old }
+    {
+        self.issued.push(packet)?;
+        Ok(())
+    }
+
+    /// Leaves so many records, of which none is left out that was found.
+    pub(crate) fn truncate(&mut self, records: usize)
+        requires { length (packets_of (found_of self.old)) ≤ records }
+        ensures packets { packets_in self.new ≡ take records (packets_in self.old) }
+        ensures found { found_of self.new ≡ found_of self.old }
+    {
+        self.issued.truncate(records - self.begun);
     }
 }
 
-/// Whether a record of this LSN is a consistency point.
-pub fn is_point(log: &[Packet], lsn: u64) -> bool
-    requires { is_growing (log_of log.now) ≡ true }
-    ensures { result ≡ is_consistency_point lsn (log_of log.now) }
-{
-    match record_at(log, lsn) {
-        Some(packet) => packet.record().point,
-        None => false,
+impl Clone for Log {
+    ghost use Rattle.writer_core.specs.Log.{log_in};
+
+    ghost is_clone = { λ log copy. log_in copy ≡ log_in log };
+
+    fn clone(&self) -> Result<Log, AllocError> {
+        Ok(Log {
+            found: self.found.clone()?,
+            begun: self.begun,
+            issued: self.issued.clone()?,
+        })
     }
 }

@@ -71,6 +71,11 @@ impl Standings {
         &self.plan
     }
 
+    /// The allocator of what it keeps.
+    pub(crate) fn alloc(&self) -> Global {
+        *self.list.allocator()
+    }
+
     /// How many groups the view has.
     pub fn groups(&self) -> u8
         ensures groups { result ≡ length (groups_in self.now) }

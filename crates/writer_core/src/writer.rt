@@ -1,7 +1,8 @@
 //! The writer of a volume epoch.
 
 ghost use Rattle.std.specs.Prelude.{◌≡◌, ◌≤◌, true, length};
-ghost use Rattle.writer_core.specs.Logs.{log_of, is_growing};
+ghost use Rattle.writer_core.specs.Logs.{log_of_set, is_growing};
+ghost use Rattle.writer_core.specs.Log.{log_in, packets_in};
 ghost use Rattle.writer_core.specs.Lasts.{AreLastsOfFront};
 ghost use Rattle.writer_core.specs.Covered.{CoversLog};
 ghost use Rattle.writer_core.specs.Groups.{groups_in, standings_plan};
@@ -13,12 +14,12 @@ use crate::covered::Covered;
 use crate::installs::unjoined_installs;
 use crate::issuing::{Span, append, carry};
 use crate::lasts::Lasts;
-use crate::log::{is_point, last_lsn, record_at};
+use crate::log::Log;
 use crate::standings::Standings;
 use crate::transaction::{have_joined, is_transaction};
 use lineage::Lineage;
 use plan::CheckedPlan;
-use redo_record::Packet;
+use redo_record::RecordSet;
 use std::alloc::Global;
 use std::sync::Arc;
 use volume_model::Fault;
@@ -33,20 +34,16 @@ pub struct Writer {
     standings: Standings,
     volume: u32,
     lineage: Lineage,
-    /// How many records of the log it began with.
-    found: usize,
-    log: Vec<Packet>,
+    log: Log,
     /// The last LSN of each group and block, of the log's front; a transaction enters the rest before it asks.
     lasts: Lasts,
     /// How far the log is covered by the points of its groups.
     covered: Covered,
     ghost assigned: { 1 ≤ volume },
-    ghost within: { found ≤ length log.items },
-    ghost growing: { is_growing (log_of log.items) ≡ true },
     ghost raised: { AreRaised (standings_plan standings) (groups_in standings) },
     ghost joined: { HaveJoined (standings_plan standings) (groups_in standings) },
-    ghost front: { AreLastsOfFront lasts log.items },
-    ghost covers: { CoversLog covered (group_point_of (groups_in standings)) log.items },
+    ghost front: { AreLastsOfFront lasts (packets_in log) },
+    ghost covers: { CoversLog covered (group_point_of (groups_in standings)) (packets_in log) },
 }
 
 impl Writer {
@@ -76,8 +73,7 @@ impl Writer {
             standings: Standings::at_roots(alloc, plan)?,
             volume: 1,
             lineage: Lineage::birth(alloc)?,
-            found: 0,
-            log: Vec::new(alloc),
+            log: Log::begin(alloc, RecordSet::new(alloc)),
             lasts: Lasts::new(alloc),
             covered: Covered::none(),
         })
@@ -85,24 +81,24 @@ impl Writer {
 
     /// The writer of a later volume epoch, from what its recovery keeps of the groups, with the recovery's lineage and the log
     /// that it found. Takes no memory.
-    pub fn opened(standings: Standings, volume: u32, lineage: Lineage, log: Vec<Packet>) -> Writer
+    pub fn opened(standings: Standings, volume: u32, lineage: Lineage, found: RecordSet) -> Writer
         requires assigned { 1 ≤ volume }
-        requires growing { is_growing (log_of log.items) ≡ true }
-        ensures client { client_of result ≡ writing (standings_plan standings) (installing (groups_in standings) (lineage_of lineage) (log_of log.items)) }
+        requires growing { is_growing (log_of_set found) ≡ true }
+        ensures client { client_of result ≡ writing (standings_plan standings) (installing (groups_in standings) (lineage_of lineage) (log_of_set found)) }
         ensures plan { writer_plan result ≡ standings_plan standings }
         ensures volume { writer_volume result ≡ volume }
     {
         let mut standings = standings;
         standings.raise();
-        let found = log.len();
-        let lasts = Lasts::new(*log.allocator());
+        let alloc = standings.alloc();
+        let log = Log::begin(alloc, found);
+        let lasts = Lasts::new(alloc);
         let mut covered = Covered::none();
-        covered.follow(log.as_slice(), &standings);
+        covered.follow(&log, &standings);
         Writer {
             standings,
             volume,
             lineage,
-            found,
             log,
             lasts,
             covered,
@@ -131,10 +127,10 @@ impl Writer {
     }
 
     /// The log that its recovery found, in growing LSN; none of the writer that a volume is born with.
-    pub fn found(&self) -> &[Packet]
-        ensures { log_of result.now ≡ (client_of self.now).found }
+    pub fn found(&self) -> &RecordSet
+        ensures { log_of_set result.now ≡ (client_of self.now).found }
     {
-        &self.log[..self.found]
+        self.log.found()
     }
 
     /// The LSN after which its own records begin.
@@ -145,10 +141,10 @@ impl Writer {
     }
 
     /// The log, in growing LSN.
-    pub fn log(&self) -> &[Packet]
-        ensures { log_of result.now ≡ (client_of self.now).log }
+    pub fn log(&self) -> &Log
+        ensures { log_in result.now ≡ (client_of self.now).log }
     {
-        self.log.as_slice()
+        &self.log
     }
 
     /// The greatest LSN of the log up to which each record is covered by its group's point, else 0.
@@ -195,7 +191,7 @@ impl Writer {
             return Ok(());
         }
         self.standings.raise_group(ack.group);
-        self.covered.follow(self.log.as_slice(), &self.standings);
+        self.covered.follow(&self.log, &self.standings);
         Ok(())
     }
 
@@ -235,7 +231,7 @@ impl Writer {
         )?;
         self.standings.follow(places)?;
         self.standings.raise();
-        self.covered.follow(self.log.as_slice(), &self.standings);
+        self.covered.follow(&self.log, &self.standings);
         Ok(messages)
     }
 
@@ -244,7 +240,7 @@ impl Writer {
         ensures answers { AnswersAlways sent (resent (writer_volume self.now) (client_of self.now) lsn) (client_of self.now) result (client_of self.now) }
         ensures own { IfErr result (λ fault. fault ≢ NoMemory) }
     {
-        match record_at(self.log.as_slice(), lsn) {
+        match self.log.record_at(lsn) {
             Some(packet) => Ok(carry(self.volume, &self.standings, packet)),
             None => Err(Fault::NoLogRecord),
         }
@@ -281,7 +277,7 @@ impl Writer {
     pub fn acknowledged(&self, lsn: u64) -> bool
         ensures { result ≡ acknowledged (client_of self.now) lsn }
     {
-        is_point(self.log.as_slice(), lsn) && lsn <= self.durable_point()
+        self.log.is_point(lsn) && lsn <= self.durable_point()
     }
 
     /// Whether a transaction can be issued: `BadTransaction` where it isn't one of 1 to 32 good changes of groups of the view, `NotJoined`
@@ -300,7 +296,9 @@ impl Writer {
             return Err(Fault::NotJoined);
         }
         let start = self.start();
-        let last = last_lsn(self.log.as_slice())
+        let last = self
+            .log
+            .last_lsn()
             .max(start)
             .saturating_add(changes.len() as u64);
         if last > LAST_LSN {
@@ -341,11 +339,11 @@ impl Writer {
             &mut messages,
         ) {
             Ok(()) => {
-                self.covered.follow(self.log.as_slice(), &self.standings);
+                self.covered.follow(&self.log, &self.standings);
                 Ok(messages)
             }
             Err(fault) => {
-                self.lasts.go_back(self.log.as_slice(), length);
+                self.lasts.go_back(&self.log, length);
                 self.log.truncate(length);
                 Err(fault)
             }

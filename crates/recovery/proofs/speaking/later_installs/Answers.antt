@@ -8,8 +8,7 @@ use Rattle.volume_model.specs.Pieces.{in_pieces}
 use Rattle.volume_model.specs.ClientRecovery.{to_install}
 use Rattle.volume_model.specs.Lineage.{Contents}
 use Rattle.lineage.specs.Lineage.{lineage_of}
-use Rattle.redo_record.specs.declared.packet.Packet.{Packet}
-use Rattle.writer_core.specs.Logs.{log_of}
+use Rattle.writer_core.specs.Logs.{log_of_set}
 use Rattle.wire.specs.declared.label.Place.{Place}
 use Rattle.wire.specs.Message as wire
 use Rattle.writer_core.specs.Groups.{groups_in}
@@ -26,14 +25,13 @@ loop-group-preserved c =
     let k = c.from.result in
     let none : Place = record { configuration = 0; epoch = 0 } in
     let test : ℕ → Bool = later_in (place_of groups) (place_in (map wire.place_of places)) in
-    let shown : ℕ → Contents = to_install (lineage_of c.args.found.now.lineage) (log_of c.args.found.now.log.items) in
+    let shown : ℕ → Contents = to_install (lineage_of c.args.found.now.lineage) (log_of_set c.args.found.now.log) in
     let said : ℕ → List model.Message = λ group. in_pieces (shown group) (model.Message.Install group (label_of volume (place_in (map wire.place_of places)) group)) in
     let within : i < length places = c.loop-group-test.true in
     elim c.if-epoch-place.branch [
       | then-epoch-place+in_ok-pieces+in_ok-append w ↦ messages-more c.loop-group.messages.items c.if-epoch-place.messages.items w.in_ok-pieces.pieces.items i test said (ap (λ v. v.items) w.messages-is ∙ w.in_ok-append.ensures.items) c.loop-group.invariant
           (raised-is groups places i k c.epoch.result none true within c.from.ensures c.epoch.ensures (lt-ltb _ _ w.if-epoch-place.true))
           (w.in_ok-pieces.ensures
-          ∙ ap (λ (xs : List Packet). in_pieces (to_install (lineage_of c.args.found.now.lineage) (log_of xs) i) (model.Message.Install i (wire.label_of w.label_at-label.result))) w.as_slice.ensures.value
           ∙ ap (λ l. in_pieces (shown i) (model.Message.Install i l)) (w.label_at-label.ensures ∙ ap (λ (p : model.Place). record { volume = volume; member = p.epoch }) (sym (place-is places i k none within c.from.ensures))))
       | else-epoch-place w ↦ messages-none c.loop-group.messages.items c.if-epoch-place.messages.items i test said (ap (λ v. v.items) w.messages-is) c.loop-group.invariant
           (raised-is groups places i k c.epoch.result none false within c.from.ensures c.epoch.ensures (le-ltb _ _ w.if-epoch-place.false))

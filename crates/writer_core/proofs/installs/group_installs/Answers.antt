@@ -7,16 +7,16 @@ use Rattle.volume_model.specs.Lineage.{Contents, Lineage}
 use Rattle.volume_model.specs.Redo.{Redo, of_group}
 use Rattle.lineage.specs.Lineage.{lineage_of}
 use Rattle.redo_record.specs.RecordSet.{records_of}
-use Rattle.redo_record.specs.declared.packet.Packet.{Packet}
+use Rattle.redo_record.specs.declared.record_set.RecordSet.{RecordSet}
 use Rattle.wire.specs.Contents.{contents_of}
 use Rattle.wire.specs.Message.{label_of}
-use Rattle.writer_core.specs.Logs.{log_of}
+use Rattle.writer_core.specs.Logs.{log_of_set}
 use Rattle.writer_core.proofs.Speaking.{message-more}
 use Rattle.writer_core.proofs.installs.group_installs.Goals as goal
 
 -- what is made ready for the nodes, from its parts
-whole-is : (lineage own : Lineage) (records : List Redo) (group : ℕ) (packets : List Packet) → own ≡ lineage → records ≡ of_group group (log_of packets)
-    → record { lineage = own; records = records } ≡ to_install lineage (log_of packets) group
+whole-is : (lineage own : Lineage) (records : List Redo) (group : ℕ) (log : RecordSet) → own ≡ lineage → records ≡ of_group group (log_of_set log)
+    → record { lineage = own; records = records } ≡ to_install lineage (log_of_set log) group
 whole-is lineage own records group packets l r =
     let shown : Lineage → List Redo → Contents = λ lineage records. record { lineage = lineage; records = records } in
     ap₂ shown l r
@@ -27,11 +27,11 @@ loop-piece-preserved c =
     let group : ℕ = c.args.group in
     let label : model.Label = label_of c.args.label in
     let lineage : Lineage = lineage_of c.args.lineage.now in
-    let items : List Packet = c.args.log.now in
+    let log : RecordSet = c.args.log.now in
     let of : ℕ = c.in_ok-of.of in
-    let shown : Contents = to_install lineage (log_of items) group in
+    let shown : Contents = to_install lineage (log_of_set log) group in
     let said : ℕ → model.Message = λ number. model.Message.Install group label (record { number = number; of = of }) (piece_of shown number) in
-    let whole = whole-is lineage (lineage_of c.in_ok-clone.field-0) (records_of c.in_ok-of_group.field-0) group items c.in_ok-clone.ensures.cases c.in_ok-of_group.ensures in
+    let whole = whole-is lineage (lineage_of c.in_ok-clone.field-0) (records_of c.in_ok-of_group.field-0) group log c.in_ok-clone.ensures.cases c.in_ok-of_group.ensures in
     let piece : contents_of c.in_ok-new.field-0.value ≡ piece_of shown i = ap contents_of c.in_ok-new.ensures.ok ∙ c.in_ok-piece.ensures ∙ ap₂ piece_of whole c.from.ensures in
     message-more c.loop-piece.messages.items c.push.new.self.items _ i (λ number. true) said c.in_ok-push.ensures.items c.loop-piece.invariant refl
     (ap (model.Message.Install group label (record { number = i; of = of })) piece)
@@ -41,10 +41,10 @@ returns c =
     let group : ℕ = c.args.group in
     let label : model.Label = label_of c.args.label in
     let lineage : Lineage = lineage_of c.args.lineage.now in
-    let items : List Packet = c.args.log.now in
-    let shown : Contents = to_install lineage (log_of items) group in
+    let log : RecordSet = c.args.log.now in
+    let shown : Contents = to_install lineage (log_of_set log) group in
     let said : ℕ → ℕ → model.Message = λ of number. model.Message.Install group label (record { number = number; of = of }) (piece_of shown number) in
-    let whole = whole-is lineage (lineage_of c.in_ok-clone.field-0) (records_of c.in_ok-of_group.field-0) group items c.in_ok-clone.ensures.cases c.in_ok-of_group.ensures in
+    let whole = whole-is lineage (lineage_of c.in_ok-clone.field-0) (records_of c.in_ok-of_group.field-0) group log c.in_ok-clone.ensures.cases c.in_ok-of_group.ensures in
     let many : c.in_ok-of.of ≡ pieces_of (length shown.records) = c.in_ok-of.ensures ∙ ap (λ (q : Contents). pieces_of (length q.records)) whole in
     let end : c.loop-piece.piece ≡ c.in_ok-of.of = omega (arith, c.loop-piece.auto.piece-end, c.loop-piece-test.false) in
     c.loop-piece.invariant

@@ -4,7 +4,7 @@ use Rattle.volume_model.specs.Message as model
 use Rattle.volume_model.specs.Message.{place_in}
 use Rattle.volume_model.specs.Client as client
 use Rattle.lineage.specs.Lineage.{lineage_of}
-use Rattle.writer_core.specs.Logs.{log_of}
+use Rattle.writer_core.specs.Logs.{log_of_set}
 use Rattle.volume_model.specs.Client.{ClientGroup}
 use Rattle.volume_model.specs.ClientRecovery.{fences, installs}
 use Rattle.volume_model.specs.ClientMessages.{later_group, reread_group, with_places, are_places, later_in}
@@ -55,5 +55,5 @@ returns-in_ok-follow-in-Some-clause-answers c =
     let good : are_places plan (map place_of items) ≡ true = c.in_ok-admits_view.ensures.places in
     let now : groups_in c.follow.new.self ≡ with_places later_group groups (map place_of items) = subst (λ (xs : List Place). groups_in c.follow.new.self ≡ with_places later_group groups (map place_of xs)) value c.in_ok-follow-in-Some.ensures.groups in
     let made : List model.Message = messages_of c.in_ok-messages-in-Some.messages.items in
-    let said = subst (λ (xs : List Place). made ≡ installs (length xs) self.volume (place_in (map place_of xs)) (lineage_of c.in-Some.found.lineage) (log_of c.in-Some.found.log.items) (later_in (client.place_of groups) (place_in (map place_of xs)))) value c.in_ok-messages-in-Some.ensures in
+    let said = subst (λ (xs : List Place). made ≡ installs (length xs) self.volume (place_in (map place_of xs)) (lineage_of c.in-Some.found.lineage) (log_of_set c.in-Some.found.log) (later_in (client.place_of groups) (place_in (map place_of xs)))) value c.in_ok-messages-in-Some.ensures in
     view-installing plan self.volume c.args.view.now.volume groups (groups_in c.follow.new.self) items self.found c.in-Some.found made c.in_ok-admits_view.ensures.epoch good c.in-Some.is now said

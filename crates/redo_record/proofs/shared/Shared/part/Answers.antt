@@ -18,5 +18,5 @@ returns c =
     ∙ ap (λ ps. redos ps ++ redos more) c.new-packets.ensures.items
     ∙ ap (λ n. redos (take n (drop from packets))) count
     ∙ part-shown packet_redo packets from len
-    ∙ ap (λ rs. take len (drop from rs)) c.as_slice.ensures in
+    ∙ ap (λ ps. take len (drop from (redos ps))) c.as_slice.ensures in
     IfOk-weaker c.from_vec.result _ _ (λ part h. h ∙ copied) c.from_vec.ensures

@@ -1,4 +1,4 @@
-use Rattle.std.proofs.Common.{◌≡◌, Some, Err, IsSome, refl, sym, ap, subst}
+use Rattle.std.proofs.Common.{◌≡◌, Some, Ok, Err, IsSome, refl, sym, ap, subst, ◌∙◌}
 use Rattle.std.proofs.lemmas.Result.{err_from_is_err_and}
 use Rattle.std.specs.Ordering.{nat_cmp}
 use Rattle.std.specs.BTreeMap.{get}
@@ -13,6 +13,7 @@ use Rattle.world.specs.Slots.{node_at}
 use Rattle.world.specs.Homes.{nodes_of}
 use Rattle.world.specs.Clients.{client_plan, seen_client, client_or_unborn, clients_of}
 use Rattle.world.specs.Actors.{plan_of, messages_in}
+use Rattle.world.specs.Moves.{told_of}
 use Rattle.world.proofs.ClientMap.{IsPut, client_put, clients_on, same_client}
 use Rattle.world.proofs.Moving.{refused_moves}
 use Rattle.world.proofs.Steps.{client_steps}
@@ -62,3 +63,18 @@ returns-in_ok-open-in-Some-clause-good c =
       low = c.requires.low;
       clients = clients_on self.clients (c.get_mut.follows.lender new) c.args.volume new is (plan_of self) c.requires.clients (same_client (plan_of self) c.args.volume old new (c.requires.clients c.args.volume old there) c.open.ensures.same);
     }
+
+pub returns-in_ok-open-in-Some-clause-steps : goal.returns-in_ok-open-in-Some-clause-steps
+returns-in_ok-open-in-Some-clause-steps c =
+    let self = c.args.self.now in
+    let old : Client = c.in-Some.client.now in
+    let new : Client = c.open.new.self in
+    let there : get nat_cmp self.clients c.args.volume ≡ Some old = sym c.in-Some.ensures.value in
+    let is : IsPut self.clients c.args.volume new (c.get_mut.follows.lender new) = ((c.get_mut.follows.holds new).3 (subst IsSome (sym there) refl)).0 in
+    let at : clients_of self.clients c.args.volume ≡ seen_client old = ap client_or_unborn there in
+    let asked : opened (client_plan old) (seen_client old) ≡ opened (plan_of self) (clients_of self.clients c.args.volume) = λ i. opened ((c.requires.clients c.args.volume old there).plan_is i) (sym at i) in
+    let step : ClientStep = silent tt (seen_client new) in
+    let made : opened (plan_of self) (clients_of self.clients c.args.volume) ≡ Ok step = sym asked ∙ c.in_ok-open-in-Some.ensures.answers in
+    client_steps (authority_of self.authority) (node_at (plan_of self) (nodes_of self.nodes.items)) (clients_of self.clients) (messages_in self) c.args.volume never_late _ (seen_client old) (seen_client new) at
+    (clients_of (c.get_mut.follows.lender new)) (client_put self.clients (c.get_mut.follows.lender new) c.args.volume new is) (Ok 0) (messages_in self)
+    (ap (told_of (λ (s : ClientStep). s.made) (λ (s : ClientStep). s.client) (messages_in self)) made)

@@ -39,9 +39,9 @@ returns-in-Writer c =
     let self = c.args.self.now in
     let plan = checked_model (arc_value self.plan) in
     let writer = c.in-Writer.writer in
-    let many : ℕ = length c.found.result.now in
+    let many : ℕ = c.len.result in
     let most : ℕ = c.from-in-Writer.result + many / 256 in
-    let same : length (writers.client_of writer).found ≡ many = ap length (sym c.found.ensures) ∙ log-length c.found.result.now in
+    let same : length (writers.client_of writer).found ≡ many = ap length (sym c.found.ensures) ∙ log-length c.found.result.now ∙ sym c.len.ensures in
     let within : length (writers.client_of writer).found ≤ many = omega (arith, same) in
     subst (λ (state : ClientState). (m : Message) → Few most (taken (plan_or plan state) (volume_or self.volume state) (seen_state state) m)) (sym c.in-Writer.is)
     (few-taken (writers.writer_plan writer) (writers.writer_volume writer) (writers.client_of writer) c.from-in-Writer.result many c.steps_are_few.ensures

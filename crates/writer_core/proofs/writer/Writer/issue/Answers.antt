@@ -1,4 +1,4 @@
-use Rattle.std.proofs.Common.{◌≡◌, ℕ, true, length, take, List, Result, Err, sym, ap, ◌∙◌, subst, arith}
+use Rattle.std.proofs.Common.{◌≡◌, ℕ, length, take, List, Result, Err, sym, ap, ◌∙◌, subst}
 use Rattle.std.specs.Prelude.{Vec}
 use Rattle.std.specs.Global.{Global}
 use Rattle.std.proofs.lemmas.Result.{err_from_is_err_and}
@@ -11,7 +11,7 @@ use Rattle.volume_model.specs.declared.fault.Fault.{Fault}
 use Rattle.writer_core.specs.Changes.{changes_of}
 use Rattle.writer_core.specs.Covered.{CoversLog}
 use Rattle.writer_core.specs.Groups.{groups_in}
-use Rattle.writer_core.specs.Logs.{log_of, is_growing}
+use Rattle.writer_core.specs.Log.{packets_in}
 use Rattle.writer_core.specs.Writers.{acted, client_of, writer_plan, writer_volume}
 use Rattle.writer_core.proofs.Answering.{judged, refused}
 use Rattle.writer_core.proofs.writer.Writer.issue.Goals as goal
@@ -26,16 +26,9 @@ returns-in_err-admits-clause-answers c =
     let same : c.from_residual.result ≡ Err fault = p.1 ∙ ap Err p.2 in
     subst (λ (r : Result (Vec Message Global) Fault). Answers acted defined client r client) (sym same) (refused never_late acted fault defined client c.in_err-admits.ensures.own (judged fault defined c.in_err-admits.ensures.refusal))
 
-pub invariant_of-self-in-Err-clause-growing : goal.invariant_of-self-in-Err-clause-growing
-invariant_of-self-in-Err-clause-growing c =
-    let self = c.args.self.now in
-    let many : c.len-length.result ≡ length self.log.items = omega arith in
-    let back : c.truncate.new.self.items ≡ self.log.items = c.truncate.ensures.items ∙ ap (λ (n : ℕ). take n c.append.new.log.items) many ∙ c.append.ensures.front in
-    subst (λ (xs : List Packet). is_growing (log_of xs) ≡ true) (sym back) self.growing
-
 pub invariant_of-self-in-Err-clause-covers : goal.invariant_of-self-in-Err-clause-covers
 invariant_of-self-in-Err-clause-covers c =
     let self = c.args.self.now in
-    let many : c.len-length.result ≡ length self.log.items = omega arith in
-    let back : c.truncate.new.self.items ≡ self.log.items = c.truncate.ensures.items ∙ ap (λ (n : ℕ). take n c.append.new.log.items) many ∙ c.append.ensures.front in
+    let many : c.len-length.result ≡ length (packets_in self.log) = c.len-length.ensures in
+    let back : packets_in c.truncate.new.self ≡ packets_in self.log = c.truncate.ensures.packets ∙ ap (λ (n : ℕ). take n (packets_in c.append.new.log)) many ∙ c.append.ensures.front in
     subst (λ (xs : List Packet). CoversLog self.covered (group_point_of (groups_in self.standings)) xs) (sym back) self.covers

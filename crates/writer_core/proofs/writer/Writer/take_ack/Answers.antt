@@ -1,12 +1,12 @@
 use Rattle.std.proofs.Common.{◌≡◌, ℕ, ◌≤◌, true, List, sym, ap, ◌∙◌, subst, arith}
-use Rattle.redo_record.specs.declared.packet.Packet.{Packet}
 use Rattle.volume_model.specs.Client.{ClientGroup, group_of, group_point_of}
 use Rattle.volume_model.specs.ClientPoints.{raised}
 use Rattle.wire.specs.Message.{label_of}
 use Rattle.writer_core.specs.Standings.{counted_in}
 use Rattle.writer_core.specs.Raised.{AreRaised, HaveJoined, raised_in}
 use Rattle.writer_core.specs.Groups.{groups_in, standings_plan}
-use Rattle.writer_core.specs.Covered.{CoversFront, CoversLog}
+use Rattle.writer_core.specs.Log.{packets_in}
+use Rattle.writer_core.specs.Covered.{CoversLog}
 use Rattle.writer_core.specs.Writers.{client_of}
 use Rattle.writer_core.proofs.Acknowledging.{ack_counted}
 use Rattle.writer_core.proofs.Covering.{covers-raised, covers-same}
@@ -16,20 +16,18 @@ use Rattle.writer_core.proofs.writer.Writer.take_ack.Goals as goal
 
 -- ---- memory ran out
 
-pub invariant_of-self-in-Break-branch-2 : goal.invariant_of-self-in-Break-branch-2
-invariant_of-self-in-Break-branch-2 c =
+pub invariant_of-self : goal.invariant_of-self
+invariant_of-self c =
     let self = c.args.self.now in
     let plan = standings_plan self.standings in
     let old = groups_in self.standings in
     let same : groups_in c.count.new.self ≡ old = c.in_err-count.ensures.same in
     record {
       assigned = self.assigned;
-      within = self.within;
-      growing = self.growing;
       raised = subst (λ p. AreRaised p (groups_in c.count.new.self)) (sym c.in_err-count.ensures.plan) (subst (AreRaised plan) (sym same) self.raised);
       joined = subst (λ p. HaveJoined p (groups_in c.count.new.self)) (sym c.in_err-count.ensures.plan) (subst (HaveJoined plan) (sym same) self.joined);
       front = self.front;
-      covers = subst (λ (gs : List ClientGroup). CoversLog self.covered (group_point_of gs) self.log.items) (sym same) self.covers;
+      covers = subst (λ (gs : List ClientGroup). CoversLog self.covered (group_point_of gs) (packets_in self.log)) (sym same) self.covers;
     }
 
 -- ---- its complete point isn't above its group's point, and the group has joined
@@ -45,14 +43,12 @@ invariant_of-self-then-has_joined c =
     let there : (group_of old ack.group).joined ≡ true = sym (joined-counted_in old ack.group ack.from ack.scl ack.group) ∙ sym (c.has_joined.ensures ∙ ap (λ gs. (group_of gs ack.group).joined) counted) ∙ c.if-has_joined.true in
     record {
       assigned = self.assigned;
-      within = self.within;
-      growing = self.growing;
       raised = subst (λ p. AreRaised p (groups_in c.count.new.self)) (sym c.in_ok-count.ensures.plan)
           (subst (AreRaised plan) (sym counted) (counted_raised plan old ack.group ack.from ack.scl self.raised low));
       joined = subst (λ p. HaveJoined p (groups_in c.count.new.self)) (sym c.in_ok-count.ensures.plan)
           (subst (HaveJoined plan) (sym counted) (counted_joined plan old ack.group ack.from ack.scl self.joined there));
       front = self.front;
-      covers = covers-same self.covered (group_point_of old) (group_point_of (groups_in c.count.new.self)) self.log.items
+      covers = covers-same self.covered (group_point_of old) (group_point_of (groups_in c.count.new.self)) (packets_in self.log)
           (λ k. sym (ap (λ gs. group_point_of gs k) counted ∙ group_point_of-counted_in old ack.group ack.from ack.scl k)) self.covers;
     }
 
@@ -73,8 +69,8 @@ returns-then-has_joined-clause-answers c =
 
 -- ---- it is above, or the group hasn't joined
 
-pub follow-requires-clause-front : goal.follow-requires-clause-front
-follow-requires-clause-front c =
+pub follow-requires : goal.follow-requires
+follow-requires c =
     let self = c.args.self.now in
     let ack = c.args.ack.now in
     let plan = standings_plan self.standings in
@@ -84,8 +80,7 @@ follow-requires-clause-front c =
     (c.raise_group.ensures.groups ∙ ap (λ p. raised_in p (groups_in c.count.new.self) ack.group) c.in_ok-count.ensures.plan) in
     let rises : (k : ℕ) → group_point_of old k ≤ group_point_of (groups_in c.raise_group.new.self) k =
     λ k. subst (λ (groups : List ClientGroup). group_point_of old k ≤ group_point_of groups k) (sym now) (group_point_of-counted plan old ack.group ack.from ack.scl k) in
-    subst (λ (log : List Packet). CoversFront self.covered (group_point_of (groups_in c.raise_group.new.self)) log) (sym c.as_slice.ensures.value)
-    (covers-raised self.covered (group_point_of old) (group_point_of (groups_in c.raise_group.new.self)) self.log.items rises self.covers.front)
+    covers-raised self.covered (group_point_of old) (group_point_of (groups_in c.raise_group.new.self)) (packets_in self.log) rises self.covers.front
 
 pub invariant_of-self-2-clause-raised : goal.invariant_of-self-2-clause-raised
 invariant_of-self-2-clause-raised c =

@@ -1,5 +1,4 @@
 use Rattle.std.proofs.Common.{◌≡◌, ℕ, ◌≤◌, List, map, sym, ap, ◌∙◌, subst}
-use Rattle.redo_record.specs.declared.packet.Packet.{Packet}
 use Rattle.volume_model.specs.Plan.{Plan}
 use Rattle.volume_model.specs.Client.{ClientGroup, group_point_of}
 use Rattle.volume_model.specs.ClientPoints.{raised}
@@ -7,7 +6,8 @@ use Rattle.volume_model.specs.ClientMessages.{with_places, later_group}
 use Rattle.wire.specs.declared.label.Place.{Place}
 use Rattle.wire.specs.Message.{place_of, messages_of}
 use Rattle.writer_core.specs.Groups.{groups_in, standings_plan}
-use Rattle.writer_core.specs.Covered.{CoversFront, CoversLog}
+use Rattle.writer_core.specs.Log.{packets_in}
+use Rattle.writer_core.specs.Covered.{CoversLog}
 use Rattle.writer_core.specs.Raised.{AreRaised, HaveJoined}
 use Rattle.writer_core.specs.Writers.{client_of}
 use Rattle.writer_core.proofs.Covering.{covers-raised}
@@ -25,18 +25,16 @@ invariant_of-self-in-Break-branch-3 c =
     let same : groups_in c.follow.new.self ≡ groups_in self.standings = c.in_err-follow.ensures.same in
     record {
       assigned = self.assigned;
-      within = self.within;
-      growing = self.growing;
       raised = subst (λ p. AreRaised p (groups_in c.follow.new.self)) (sym c.in_err-follow.ensures.plan) (subst (AreRaised plan) (sym same) self.raised);
       joined = subst (λ p. HaveJoined p (groups_in c.follow.new.self)) (sym c.in_err-follow.ensures.plan) (subst (HaveJoined plan) (sym same) self.joined);
       front = self.front;
-      covers = subst (λ (gs : List ClientGroup). CoversLog self.covered (group_point_of gs) self.log.items) (sym same) self.covers;
+      covers = subst (λ (gs : List ClientGroup). CoversLog self.covered (group_point_of gs) (packets_in self.log)) (sym same) self.covers;
     }
 
 -- ---- the groups are moved and raised
 
-pub follow-requires-2-clause-front : goal.follow-requires-2-clause-front
-follow-requires-2-clause-front c =
+pub follow-requires-2 : goal.follow-requires-2
+follow-requires-2 c =
     let self = c.args.self.now in
     let places = map place_of c.as_slice-places.result.now in
     let plan = standings_plan c.follow.new.self in
@@ -44,8 +42,7 @@ follow-requires-2-clause-front c =
     let now : groups_in c.raise.new.self ≡ raised plan (with_places later_group old places) = c.raise.ensures.groups ∙ ap (raised plan) c.in_ok-follow.ensures.groups in
     let rises : (k : ℕ) → group_point_of old k ≤ group_point_of (groups_in c.raise.new.self) k =
     λ k. subst (λ (groups : List ClientGroup). group_point_of old k ≤ group_point_of groups k) (sym now) (group_point_of-with_places plan old places k) in
-    subst (λ (log : List Packet). CoversFront self.covered (group_point_of (groups_in c.raise.new.self)) log) (sym c.as_slice.ensures.value)
-    (covers-raised self.covered (group_point_of old) (group_point_of (groups_in c.raise.new.self)) self.log.items rises self.covers.front)
+    covers-raised self.covered (group_point_of old) (group_point_of (groups_in c.raise.new.self)) (packets_in self.log) rises self.covers.front
 
 pub invariant_of-self-2-clause-raised : goal.invariant_of-self-2-clause-raised
 invariant_of-self-2-clause-raised c =

@@ -1,0 +1,181 @@
+-- A log whose records stand in two lists, one behind the other.
+use Rattle.std.proofs.Common.{◌≡◌, ℕ, zero, suc, ◌+◌, ◌-◌, ◌<◌, ◌≤◌, Bool, true, ◌&&◌, nat_eq, ◌⊎◌, List, [], ◌∷◌, ◌++◌, map, length, get_or, take, drop, Option, Some, None, if◌then◌else◌, append_assoc, refl, sym, ap, ap₂, ◌∙◌, subst, inl, inr, arith}
+use Rattle.std.specs.Prelude.{◌==◌}
+use Rattle.std.specs.List.{AllZip}
+use Rattle.std.proofs.lemmas.Bool.{and_parts, lt-ltb}
+use Rattle.std.proofs.lemmas.List.{append-nil, get_or-map, length-map, nil_from_length, take_all, take_more, take-append-drop}
+use Rattle.volume_model.specs.Lists.{IsIn, added, every}
+use Rattle.volume_model.specs.Redo.{Redo, spelling, numbers_before, last_lsn, record_at, of_group, with_record}
+use Rattle.volume_model.proofs.Basics.{IsIn-added, IsIn-append_right}
+use Rattle.volume_model.proofs.Chains.{record_at-some, record_at-there}
+use Rattle.redo_record.specs.declared.packet.Packet.{Packet}
+use Rattle.redo_record.specs.declared.record_set.RecordSet.{RecordSet}
+use Rattle.redo_record.specs.Order.{IsInOrder, ComesAfter}
+use Rattle.redo_record.specs.Packet.{packet_redo}
+use Rattle.redo_record.specs.RecordSet.{packets_of, records_of}
+use Rattle.redo_record.specs.Shared.{packets_in}
+use Rattle.redo_record.proofs.Before.{IsBefore}
+use Rattle.redo_record.proofs.Copied.{IsCopy, redos-copied}
+use Rattle.redo_record.proofs.Parts.{part-shown}
+use Rattle.redo_record.proofs.Places.{IsOrdered, ordered-from, with_record-after}
+use Rattle.writer_core.specs.Logs.{log_of, log_of_set, is_growing}
+use Rattle.writer_core.specs.declared.log.Log.{Log}
+use Rattle.writer_core.proofs.Growing.{both}
+use Rattle.writer_core.proofs.Finding.{in-added, record_at-in, record_at-none}
+
+-- ---- the records of a set
+
+pub shown-set : (set : RecordSet) → map packet_redo (packets_of set) ≡ records_of set
+shown-set set = part-shown packet_redo (packets_in set.packets.shared.packets) set.packets.from set.packets.len
+
+pub log_of-set : (set : RecordSet) → log_of (packets_of set) ≡ log_of_set set
+log_of-set set = ap (λ (rs : List Redo). added rs []) (shown-set set)
+
+-- ---- two lists
+
+added-append : (xs ys : List Packet) (kept : List Redo) → added (map packet_redo (xs ++ ys)) kept ≡ added (map packet_redo ys) (added (map packet_redo xs) kept)
+added-append [] ys kept = refl
+added-append (x ∷ xs) ys kept = added-append xs ys (packet_redo x ∷ kept)
+
+-- the newer records stand before the older ones
+pub log_of-append : (xs ys : List Packet) → log_of (xs ++ ys) ≡ added (map packet_redo ys) (log_of xs)
+log_of-append xs ys = added-append xs ys []
+
+-- a log grows up to each of its records
+pub older-grows : (rs : List Redo) (kept : List Redo) → is_growing (added rs kept) ≡ true → is_growing kept ≡ true
+older-grows [] kept h = h
+older-grows (r ∷ rs) kept h = (both (last_lsn kept) r.lsn (is_growing kept) (older-grows rs (r ∷ kept) h)).1
+
+-- and from each of them on
+front-grows : (newer kept : List Redo) → is_growing (newer ++ kept) ≡ true → is_growing newer ≡ true
+front-grows [] kept h = refl
+front-grows (r ∷ []) kept h =
+    let (above, rest) = both (last_lsn kept) r.lsn (is_growing kept) h in
+    ap (λ b. b && true) (lt-ltb 0 r.lsn (omega arith))
+front-grows (r ∷ s ∷ newer) kept h =
+    let (above, rest) = both s.lsn r.lsn (is_growing (s ∷ newer ++ kept)) h in
+    ap₂ (λ a b. a && b) (lt-ltb s.lsn r.lsn above) (front-grows (s ∷ newer) kept rest)
+
+newer-grows : (rs newer kept : List Redo) → is_growing (added rs (newer ++ kept)) ≡ true → is_growing (added rs newer) ≡ true
+newer-grows [] newer kept h = front-grows newer kept h
+newer-grows (r ∷ rs) newer kept h = newer-grows rs (r ∷ newer) kept h
+
+-- the front of a log grows, and so does the rest
+pub found-grows : (xs ys : List Packet) → is_growing (log_of (xs ++ ys)) ≡ true → is_growing (log_of xs) ≡ true
+found-grows xs ys h = older-grows (map packet_redo ys) (log_of xs) (ap is_growing (sym (log_of-append xs ys)) ∙ h)
+
+pub issued-grows : (xs ys : List Packet) → is_growing (log_of (xs ++ ys)) ≡ true → is_growing (log_of ys) ≡ true
+issued-grows xs ys h = newer-grows (map packet_redo ys) [] (log_of xs) (ap is_growing (sym (log_of-append xs ys)) ∙ h)
+
+-- ---- the record of a number
+
+module _ (xs ys : List Packet) (grows : is_growing (log_of (xs ++ ys)) ≡ true) (n : ℕ) where
+  in-whole : (r : Redo) → IsIn r (map packet_redo ys) ⊎ IsIn r (log_of xs) → IsIn r (log_of (xs ++ ys))
+  in-whole r i = subst (IsIn r) (sym (log_of-append xs ys)) (in-added (map packet_redo ys) (log_of xs) r i)
+
+  at-whole : (r : Redo) → IsIn r (log_of (xs ++ ys)) → r.lsn ≡ n → record_at (log_of (xs ++ ys)) n ≡ Some r
+  at-whole r i e = subst (λ m. record_at (log_of (xs ++ ys)) m ≡ Some r) e (record_at-in (log_of (xs ++ ys)) grows r i)
+
+  -- it is one of the front
+  pub at-found : (r : Redo) → record_at (log_of xs) n ≡ Some r → record_at (log_of (xs ++ ys)) n ≡ Some r
+  at-found r found = let (i, e) = record_at-some (log_of xs) n r found in at-whole r (in-whole r (inr i)) e
+
+  missing : (log : List Redo) → record_at log n ≡ None → (r : Redo) → IsIn r log → r.lsn ≡ n → ⊥
+  missing log none r i e =
+      let (s, found) = record_at-there log r i in
+      apart s (sym (subst (λ m. record_at log m ≡ Some s) e found) ∙ none)
+    where
+      apart : (s : Redo) → Some s ≡ None → ⊥
+      apart s h = cc
+
+  of-issued : (r : Redo) → IsIn r (log_of ys) → IsIn r (map packet_redo ys)
+  of-issued r i = elim (IsIn-added (map packet_redo ys) [] r i) [ inl j ↦ j | inr j ↦ absurd j ]
+
+  -- it is none of the front
+  pub at-issued : record_at (log_of xs) n ≡ None → record_at (log_of (xs ++ ys)) n ≡ record_at (log_of ys) n
+  at-issued none = go (record_at (log_of ys) n) refl
+    where
+      go : (found : Option Redo) → record_at (log_of ys) n ≡ found → record_at (log_of (xs ++ ys)) n ≡ record_at (log_of ys) n
+      go (Some r) found = (let (i, e) = record_at-some (log_of ys) n r found in at-whole r (in-whole r (inl (of-issued r i))) e ∙ sym found)
+      go None found =
+          record_at-none (log_of (xs ++ ys)) n (λ r i e. elim (IsIn-added (map packet_redo ys) (log_of xs) r (subst (IsIn r) (log_of-append xs ys) i)) [
+            | inl j ↦ missing (log_of ys) found r (in-added (map packet_redo ys) [] r (inl j)) e
+            | inr j ↦ missing (log_of xs) none r j e
+          ])
+          ∙ sym found
+
+-- ---- what fewer records leave
+
+-- the first of the rest's packets, behind the front
+pub taken-behind : (xs ys : List Packet) (n : ℕ) → length xs ≤ n → xs ++ take (n - length xs) ys ≡ take n (xs ++ ys)
+taken-behind [] ys n h = (let whole : n - 0 ≡ n = omega arith in ap (λ m. take m ys) whole)
+taken-behind (x ∷ xs) ys zero h = absurd (omega arith)
+taken-behind (x ∷ xs) ys (suc n) h =
+    let fewer : suc n - length (x ∷ xs) ≡ n - length xs = omega arith in
+    ap (λ m. x ∷ xs ++ take m ys) fewer ∙ ap (λ (ps : List Packet). x ∷ ps) (taken-behind xs ys n (omega arith))
+
+pub taken-grows : (packets : List Packet) (n : ℕ) → is_growing (log_of packets) ≡ true → is_growing (log_of (take n packets)) ≡ true
+taken-grows packets n h = found-grows (take n packets) (drop n packets) (subst (λ (ps : List Packet). is_growing (log_of ps) ≡ true) (sym (take-append-drop n packets)) h)
+
+-- the clones of both lists
+pub joined-copied : (set other : RecordSet) (ys zs : List Packet) → records_of other ≡ records_of set → AllZip IsCopy ys zs → log_of (packets_of other ++ zs) ≡ log_of (packets_of set ++ ys)
+joined-copied set other ys zs same copied =
+    log_of-append (packets_of other) zs
+    ∙ ap (λ (rs : List Redo). added rs (log_of (packets_of other))) (redos-copied ys zs copied)
+    ∙ ap (added (map packet_redo ys)) (log_of-set other ∙ ap (λ (rs : List Redo). added rs []) same ∙ sym (log_of-set set))
+    ∙ sym (log_of-append (packets_of set) ys)
+
+-- how many packets a set has
+pub length-set : (set : RecordSet) → length (packets_of set) ≡ length (records_of set)
+length-set set = sym (length-map (packets_of set) packet_redo) ∙ ap length (shown-set set)
+
+pub length-same : (set other : RecordSet) → records_of other ≡ records_of set → length (packets_of other) ≡ length (packets_of set)
+length-same set other same = length-set other ∙ ap length same ∙ sym (length-set set)
+
+-- a set with no record has no packet
+pub no-packets : (set : RecordSet) → records_of set ≡ [] → packets_of set ≡ []
+no-packets set none = nil_from_length (packets_of set) (length-set set ∙ ap length none)
+
+-- ---- the records of one group
+
+added-more : (rs : List Redo) (r : Redo) (kept : List Redo) → added (rs ++ r ∷ []) kept ≡ r ∷ added rs kept
+added-more [] r kept = refl
+added-more (s ∷ rs) r kept = added-more rs r (s ∷ kept)
+
+-- one record more of a list
+module _ (packets : List Packet) (records : List Redo) (i : ℕ) (p : Packet) (listed : map packet_redo packets ≡ records) (within : i < length packets) (is : p ≡ get_or packets i p) where
+  pub one-more : added (take (i + 1) records) [] ≡ packet_redo p ∷ added (take i records) []
+  one-more =
+      let inside : i < length records = subst (λ n. i < n) (sym (length-map packets packet_redo) ∙ ap length listed) within in
+      let here : packet_redo p ≡ get_or records i (packet_redo p) = ap packet_redo is ∙ sym (get_or-map packet_redo packets i p (packet_redo p) within) ∙ ap (λ l. get_or l i (packet_redo p)) listed in
+      ap (λ (rs : List Redo). added rs []) (take_more records i (packet_redo p) inside ∙ ap (λ r. take i records ++ r ∷ []) (sym here)) ∙ added-more (take i records) (packet_redo p) []
+
+  pub of_group-more : (group : ℕ) (b : Bool) → nat_eq (packet_redo p).group group ≡ b → of_group group (added (take (i + 1) records) []) ≡ (if b then with_record (packet_redo p) (of_group group (added (take i records) [])) else of_group group (added (take i records) []))
+  of_group-more group b test = ap (of_group group) one-more ∙ ap (λ (t : Bool). if t then with_record (packet_redo p) (of_group group (added (take i records) [])) else of_group group (added (take i records) [])) test
+
+-- all records of a list
+pub of_group-end : (group : ℕ) (packets : List Packet) (records : List Redo) (i : ℕ) → map packet_redo packets ≡ records → length packets ≤ i → of_group group (added (take i records) []) ≡ of_group group (added records [])
+of_group-end group packets records i listed end = ap (λ (rs : List Redo). of_group group (added rs [])) (take_all i records (subst (λ n. n ≤ i) (sym (length-map packets packet_redo) ∙ ap length listed) end))
+
+before-here : (older : List Redo) (r : Redo) (rest : List Redo) → IsOrdered (older ++ r ∷ rest) → ComesAfter older r
+unfolding IsBefore
+before-here (x ∷ older) r rest o s (inl e) = subst (λ z. numbers_before (spelling z) (spelling r) ≡ true) (sym e) (o.0 r (IsIn-append_right older (r ∷ rest) r (inl refl)))
+before-here (x ∷ older) r rest o s (inr i) = before-here older r rest o.1 s i
+before-here [] r rest o s i = absurd i
+
+all-of : (group : ℕ) (rs older kept : List Redo) → of_group group older ≡ kept → IsOrdered (kept ++ rs) → every (λ r. r.group == group) rs ≡ true → of_group group (added rs older) ≡ kept ++ rs
+all-of group [] older kept is order all = is ∙ sym (append-nil kept)
+all-of group (r ∷ rs) older kept is order all =
+    let parts : (nat_eq r.group group ≡ true) × (every (λ s. s.group == group) rs ≡ true) = and_parts _ _ all in
+    let one : of_group group (r ∷ older) ≡ kept ++ r ∷ [] =
+    ap (λ b. if b then with_record r (of_group group older) else of_group group older) parts.0 ∙ ap (with_record r) is ∙ with_record-after r kept (before-here kept r rs order) in
+    let split : (kept ++ r ∷ []) ++ rs ≡ kept ++ r ∷ rs = append_assoc kept (r ∷ []) rs in
+    all-of group rs (r ∷ older) (kept ++ r ∷ []) one (subst IsOrdered (sym split) order) parts.1 ∙ split
+
+-- a set all of whose records are of the group
+pub of_group-all : (group : ℕ) (rs : List Redo) → IsInOrder rs → every (λ r. r.group == group) rs ≡ true → of_group group (added rs []) ≡ rs
+of_group-all group rs order all = all-of group rs [] [] refl (ordered-from rs order) all
+
+-- what a log began with grows
+pub begun-grows : (log : Log) → is_growing (log_of_set log.found) ≡ true
+begun-grows log = ap is_growing (sym (log_of-set log.found)) ∙ found-grows (packets_of log.found) log.issued.items log.growing

@@ -1,0 +1,29 @@
+//! What is read off packets that stand in growing LSN.
+
+ghost use Rattle.std.specs.Prelude.{◌≡◌, true, option_copied, option_map};
+ghost use Rattle.volume_model.specs.Redo.{last_lsn, record_at};
+ghost use Rattle.redo_record.specs.Packet.{packet_redo};
+ghost use Rattle.writer_core.specs.Logs.{log_of, is_growing};
+
+use redo_record::Packet;
+
+/// The last LSN, 0 where there is none.
+pub fn last_lsn(log: &[Packet]) -> u64
+    ensures { result ≡ last_lsn (log_of log.now) }
+{
+    log.last().map_or(0, |packet| packet.lsn())
+}
+
+/// The record of an LSN, where there is one.
+pub fn record_at(log: &[Packet], lsn: u64) -> Option<&Packet>
+    requires { is_growing (log_of log.now) ≡ true }
+    ensures { option_map packet_redo (option_copied result) ≡ record_at (log_of log.now) lsn }
+{
+    let place = log.partition_point(|packet| packet.lsn() < lsn);
+    let packet = log.get(place)?;
+    if packet.lsn() == lsn {
+        Some(packet)
+    } else {
+        None
+    }
+}
