@@ -3,9 +3,7 @@
 ghost use Rattle.std.specs.Prelude.{◌≡◌, ◌≤◌, ◌++◌, IfOk, OnOk, codes, decimal, is_err, map, string_bytes};
 ghost use Rattle.std.specs.List.{list_any};
 ghost use Rattle.std.specs.Option.{option_copied};
-ghost use Rattle.volume_model.specs.Redo.{last_lsn};
 ghost use Rattle.plan.specs.CheckedModel.{checked_model};
-ghost use Rattle.writer_core.specs.Logs.{log_of};
 ghost use Rattle.world.specs.Outcomes.{find_of, opened_of};
 ghost use Rattle.plan.specs.Sums.{sum_below};
 ghost use Rattle.jobs.specs.Told.{TellsOf, counts_line, each_line, find_line, first_if, next_lsn, plan_line, refused_line, rest_if, writer_line};
@@ -16,7 +14,6 @@ use crate::reply::Reply;
 use drivers::Driven;
 use itoa::Buffer;
 use plan::CheckedPlan;
-use redo_record::Packet;
 use script::Step;
 use std::alloc::{AllocError, Global};
 use volume_model::Fault;
@@ -176,23 +173,11 @@ fn add_steps(
     Ok(())
 }
 
-/// The last LSN of a log, or 0 for an empty one.
-fn last_lsn(log: &[Packet]) -> u64
-    ensures { result ≡ last_lsn (log_of log.now) }
-{
-    match log.last() {
-        Some(packet) => packet.lsn(),
-        None => 0,
-    }
-}
-
 /// The LSN of the writer's next record: one above the greater of its log's last LSN, else 0, and its span's start.
 fn next_lsn(writer: &WriterEnd) -> u64
     ensures { result ≡ next_lsn (opened_of writer.now) }
 {
-    last_lsn(writer.log.as_slice())
-        .max(writer.start)
-        .saturating_add(1)
+    writer.log.last_lsn().max(writer.start).saturating_add(1)
 }
 
 /// Adds the line of an opened writer.

@@ -189,7 +189,10 @@ fn opening(rt: HostRuntime) -> Result<(), Fail> {
     assert_eq!(rt; writer.issue(alloc, &[change])?.len(), 1);
     let log = writer.log();
     assert_eq!(rt; log.len(), 4);
-    assert_eq!(rt; (log[3].lsn(), log[3].record().prev_volume), (14, 3));
+    assert_eq!(rt;
+        (log.packet(3).lsn(), log.packet(3).record().prev_volume),
+        (14, 3)
+    );
     assert!(rt; writer.resend(14).is_ok());
     assert_eq!(rt; writer.resend(4).err(), Some(Fault::NoLogRecord));
     Ok(())

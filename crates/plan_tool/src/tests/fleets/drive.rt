@@ -35,7 +35,7 @@ impl Ending {
     /// Of the first writer its volume epoch, its durable point and the LSN of its last record.
     pub fn writer(&self) -> Option<(u32, u64, u64)> {
         let writer = self.outcome.writers.first()?;
-        let last = writer.log.last()?;
+        let last = writer.log.record_at(writer.log.last_lsn())?;
         Some((writer.volume, writer.durable, last.lsn()))
     }
 
