@@ -58,10 +58,18 @@ impl Desk {
             return 0;
         }
         match self.told(rt, event) {
-            Told::Made { first, count } if 1 <= place && place <= count => {
+            Told::Made { first, count, .. } if 1 <= place && place <= count => {
                 first.checked_add(place - 1).unwrap_or(0)
             }
             _ => 0,
+        }
+    }
+
+    /// The number of the entry that the order with an index was made as, for which it waits. None where it was refused.
+    pub fn entry<R: Wait>(&self, rt: &R, order: usize) -> Option<u64> {
+        match self.told(rt, order) {
+            Told::Made { number, .. } => Some(number),
+            _ => None,
         }
     }
 

@@ -14,9 +14,10 @@ use crate::caller::{Caller, callers};
 use crate::desk::Desk;
 use crate::hand::{Hand, Part};
 use crate::nodes::{Node, receivers};
+use crate::replay::{Replay, Replayed};
 use crate::run::Run;
 use crate::tally::Tally;
-use crate::threads::{Crew, run_all};
+use crate::threads::{Crew, Left, run_all};
 use crate::turns::{Turn, turns};
 use journal::{Pass, Row, Site};
 use node_fleet::{Base, Fleet, MailSeats, Mailboxes};
@@ -27,7 +28,7 @@ use std::marker::Brand;
 use std::sync::{Arc, Wait};
 use std::thread::Threads;
 use volume_model::Fault;
-use world::{Event, Outcome, run};
+use world::{Event, Outcome};
 
 /// How many client slots there are.
 const SLOTS: u32 = 64;
@@ -94,21 +95,22 @@ struct Stage {
     mail: Mailboxes,
 }
 
-/// Runs so many drivers and these nodes on threads of their own, and takes their passes back. There are seats for one more
-/// than there are threads.
+/// Runs so many drivers and these nodes on threads of their own, and takes their passes back, with what a run of the
+/// journal's events by the world came to. There are seats for one more than there are threads.
 fn ran<'f, 'a, L: Site + Send + Sync, R: Threads + Wait + Sync>(
     rt: &'f R,
     alloc: Global,
     fleet: &'f Fleet<'a, L>,
     stage: &'f Stage,
-    plan: &'f CheckedPlan,
+    plan: &'f Arc<CheckedPlan>,
     script: &'f Script,
     workers: u8,
     nodes: &'f [Node],
     mut passes: Vec<Pass<'a, L>>,
     seats: Vec<MailSeats>,
-) -> Result<Vec<Pass<'a, L>>, AllocError>
-    requires nodes { HasNodes (checked_model plan.now) stage.now.mail }
+) -> Result<Left<'a, L>, Fault>
+    requires plan { checked_model (arc_value plan.now) ≡ L.plan }
+    requires nodes { HasNodes (checked_model (arc_value plan.now)) stage.now.mail }
     requires seats { All (λ s. AreSeatsOf stage.now.mail s) seats.items }
 {
     let run = Run {
@@ -123,14 +125,15 @@ fn ran<'f, 'a, L: Site + Send + Sync, R: Threads + Wait + Sync>(
     let served = hands(alloc, &run, served, &mut passes, &mut callers)?;
     let drivers = hands(alloc, &run, driven, &mut passes, &mut callers)?;
     let Some(closer) = callers.pop() else {
-        return Err(AllocError);
+        return Err(Fault::NoMemory);
     };
     let crew = Crew {
         nodes: served,
         drivers,
         closer,
+        replay: Replay::new(plan),
     };
-    run_all(rt, alloc, &stage.desk.go, crew, nodes)
+    run_all(rt, alloc, run, crew, nodes)
 }
 
 /// Whether some event was refused.
@@ -147,11 +150,13 @@ fn agrees(outcome: &Outcome, events: &Vec<Event>, steps: usize) -> bool
     !refuses(outcome.results.as_slice()) && events.len() == steps
 }
 
-/// What a closed fleet leaves of a run in which so many orders were made and refused.
+/// What a closed fleet leaves of a run in which so many orders were made and refused. What the world says of these events,
+/// where they were run already, isn't asked again.
 fn ended<'a, L: Site>(
     alloc: Global,
     fleet: Fleet<'a, L>,
     passes: Vec<Pass<'a, L>>,
+    replayed: Replayed<L>,
     plan: &Arc<CheckedPlan>,
     tally: Tally,
 ) -> Result<Driven, Fault>
@@ -164,7 +169,7 @@ fn ended<'a, L: Site>(
 {
     let journal = fleet.close(passes);
     let events = journal.events(alloc)?;
-    let outcome = run(alloc, plan, events.as_slice())?;
+    let outcome = replayed.outcome_of(alloc, plan, events.as_slice())?;
     let agrees = agrees(&outcome, &events, tally.made);
     Ok(Driven {
         steps: tally.made,
@@ -201,14 +206,14 @@ fn drive_over<'a, L: Site + Send + Sync, R: Threads + Wait + Sync>(
         mail,
     };
     let count = passes.len();
-    let passes = ran(
+    let Left { passes, replayed } = ran(
         rt, alloc, &fleet, &stage, plan, script, workers, nodes, passes, seats,
     )?;
     if passes.len() != count {
         return Err(Fault::NoMemory);
     }
     let tally = stage.desk.counts(rt)?;
-    ended(alloc, fleet, passes, plan, tally)
+    ended(alloc, fleet, passes, replayed, plan, tally)
 }
 
 /// Runs a script on a new fleet, with a thread for each of these nodes.

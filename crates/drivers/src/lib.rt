@@ -1,12 +1,15 @@
 //! A script, run on threads: drivers take its lines in turn, and each node takes its messages on a thread of its own.
 #![tactic(auto)]
 
+mod alike;
 mod caller;
 mod calls;
+mod course;
 mod desk;
 mod driving;
 mod hand;
 mod nodes;
+mod replay;
 mod run;
 mod tally;
 mod threads;

@@ -49,7 +49,7 @@ impl<'f, 'a, L: Site> Run<'f, 'a, L> {
     }
 
     /// The number of the message that an order delivers, whose index this is.
-    fn message<R: Wait>(&self, rt: &R, index: usize, order: &Order) -> u64 {
+    pub fn message<R: Wait>(&self, rt: &R, index: usize, order: &Order) -> u64 {
         match order {
             Order::DeliverFrom { event, place, .. } | Order::TakeFrom { event, place, .. } => {
                 self.desk.message(rt, index, *event as usize, *place)

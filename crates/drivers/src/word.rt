@@ -1,9 +1,9 @@
 //! What one order came to, told once to all that wait for it.
 
 use journal::Receipt;
-use std::hint::spin_loop;
 use std::sync::Wait;
 use std::sync::atomic::{AtomicU64, Ordering};
+use std::thread::yield_now;
 use volume_model::Fault;
 
 /// Nothing is told yet.
@@ -21,14 +21,14 @@ const STARVED: u64 = 3;
 /// The order was made. What the state is above this is the number of its messages.
 const MADE: u64 = 4;
 
-/// How often a thread looks before it sleeps: for about as long as another one takes to wake and to make a step.
-const LOOKS: u32 = 1000;
+/// How often a thread looks before it sleeps. Between two looks it lets another thread run, which may be the one that tells.
+const LOOKS: u32 = 100;
 
 /// What an order came to.
 #[derive(Clone, Copy)]
 pub enum Told {
-    /// It was made, with so many messages, of which the first has this number.
-    Made { first: u64, count: u64 },
+    /// It was made, as the entry of the journal with this number, with so many messages, of which the first has this one.
+    Made { number: u64, first: u64, count: u64 },
     /// It was refused.
     Refused,
     /// It was refused for want of memory.
@@ -46,6 +46,7 @@ impl Told {
     {
         match call {
             Ok(receipt) => Told::Made {
+                number: receipt.number as u64,
                 first: receipt.first_message,
                 count: receipt.made as u64,
             },
@@ -59,7 +60,10 @@ impl Told {
 #[derive(Drop)]
 pub struct Word {
     state: AtomicU64,
-    /// The number of the first message; written before the state, so whoever reads a state that says so finds it.
+    /// The number of its entry. This and the next are written before the state, so whoever reads a state that says so finds
+    /// them.
+    number: AtomicU64,
+    /// The number of the first message.
     first: AtomicU64,
 }
 
@@ -68,6 +72,7 @@ impl Word {
     pub fn new() -> Word {
         Word {
             state: AtomicU64::new(UNTOLD),
+            number: AtomicU64::new(0),
             first: AtomicU64::new(0),
         }
     }
@@ -75,7 +80,12 @@ impl Word {
     /// Tells it, and wakes all that sleep until it is told.
     pub fn tell(&self, told: Told) {
         let state = match told {
-            Told::Made { first, count } => {
+            Told::Made {
+                number,
+                first,
+                count,
+            } => {
+                self.number.store(number, Ordering::Release);
                 if count > 0 {
                     self.first.store(first, Ordering::Release);
                 }
@@ -96,13 +106,14 @@ impl Word {
             REFUSED => Some(Told::Refused),
             STARVED => Some(Told::Starved),
             made => Some(Told::Made {
+                number: self.number.load(Ordering::Acquire),
                 first: self.first.load(Ordering::Acquire),
                 count: made - MADE,
             }),
         }
     }
 
-    /// What it came to, for which it waits: it looks again and again for a short while, and then sleeps.
+    /// What it came to, for which it waits: it looks again and again for a short while, in which others may run, and then sleeps.
     pub fn wait<R: Wait>(&self, rt: &R) -> Told {
         let mut looks = 0;
         for _ in rt.forever() {
@@ -112,7 +123,7 @@ impl Word {
             }
             if looks < LOOKS {
                 looks += 1;
-                spin_loop();
+                yield_now();
             } else if state == AWAITED || self.start_sleeping() {
                 self.state.park(rt, AWAITED as u32);
             }

@@ -55,7 +55,7 @@ total_on late plan old new event result ne steps so_far total =
     total_made-push so_far result ∙ omega (arith, more, total)
 
 -- one list of events after another
-run-append : (plan : Plan) (world : World) (earlier later : List Event) → run plan world (earlier ++ later) ≡ run plan (run plan world earlier) later
+pub run-append : (plan : Plan) (world : World) (earlier later : List Event) → run plan world (earlier ++ later) ≡ run plan (run plan world earlier) later
 run-append plan world [] later = refl
 run-append plan world (event ∷ earlier) later = run-append plan (after plan world event) earlier later
 

@@ -8,6 +8,7 @@ mod authority_step;
 mod birth;
 mod client;
 mod client_step;
+mod course;
 mod ending;
 mod event;
 mod node_step;
@@ -21,6 +22,7 @@ mod writing;
 
 pub use acts::{AuthorityAct, ClientAct};
 pub use client::{Client, ClientState};
+pub use course::{Course, Followed, run_course};
 pub use event::{Event, Order};
 pub use nodes::slot;
 pub use outcome::{FindEnd, Outcome, WriterEnd};

@@ -20,7 +20,7 @@ use volume_model::{
 };
 
 /// What is told of an event; want of memory ends the run.
-fn told(step: Result<u64, Fault>) -> Result<Result<u64, Fault>, Fault>
+pub(crate) fn told(step: Result<u64, Fault>) -> Result<Result<u64, Fault>, Fault>
     ensures same { IfOk result (λ told. told ≡ step) }
     ensures some { IfOk result (λ told. told ≢ Err NoMemory) }
     ensures memory { IfErr result (λ e. e ≡ NoMemory) }
