@@ -11,4 +11,5 @@ mod RewritingLaws
 mod Rooms
 mod Spelled
 mod Thresholds
+mod TokenLaws
 mod WritingLaws

@@ -40,6 +40,10 @@ not_closed levels (Token.boolean b ∷ ts) after d s = refl
 not_closed levels (Token.null ∷ ts) after d s = refl
 not_closed levels (Token.bad ∷ ts) after d s = refl
 
+-- where a value stands a list goes on
+pub going_on : {levels : ℕ} {now at after : List Token} {d : Data} → at ≡ now → Spells levels at after d → (after_end_array now ≡ None) × (at ≡ now)
+going_on {levels = levels} {at = at} {after = after} {d = d} same s = (subst (λ ts. after_end_array ts ≡ None) same (not_closed levels at after d s), same)
+
 -- ---- objects
 
 pub ended : (levels : ℕ) (found : Members) (before after : List Token) → read_key before ≡ Some (None, after) → Completes levels found before after found

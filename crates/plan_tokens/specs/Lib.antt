@@ -2,6 +2,7 @@ pub mod Certificates
 pub mod Configurations
 pub mod Expressions
 pub mod Heads
+pub mod Lexemes
 pub mod Plans
 pub mod Puts
 pub mod Rewritten

@@ -13,9 +13,9 @@ ghost use Rattle.plan_tokens.specs.Rewritten.{parent_data};
 ghost use Rattle.plan_tokens.specs.Spelled.{Spells, SpellsSome};
 
 use crate::expressions::expression;
+use crate::reader::Reader;
 use crate::rules::begun;
-use crate::tokens::{any_key, begin_array, begin_object, digits, end, key, null, number_to};
-use json::{Reader, Token};
+use crate::tokens::{any_key, begin_array, begin_object, end, is, key, null, number, number_to};
 use plan::Configuration;
 use quorum_expr::{Lists, MemberSet};
 use refutation::{Certificate, MAX_DEPTH, Refutation};
@@ -39,15 +39,13 @@ pub(crate) fn certificate(
 ) -> Option<Option<Certificate<Global>>>
     ensures { IfSome result (λ c. SpellsSome 81 reader.old reader.new (λ d. certificate_or_null d ≡ Ok (option_map certificate_rule c))) }
 {
-    match reader.next() {
-        Some(Token::Null) => Some(None),
-        Some(Token::BeginObject) => {
-            let tree = begun(alloc, reader, MAX_DEPTH)?;
-            let certificate = checked(tree)?;
-            Some(Some(certificate))
-        }
-        _ => None,
+    if reader.take_object() {
+        let tree = begun(alloc, reader, MAX_DEPTH)?;
+        let certificate = checked(tree)?;
+        return Some(Some(certificate));
     }
+    null(reader)?;
+    Some(None)
 }
 
 /// The certificate of the step to a configuration, which the root doesn't have.
@@ -66,14 +64,11 @@ fn step(alloc: Global, reader: &mut Reader<'_>, number: u8) -> Option<Option<Cer
 pub(crate) fn number_or_null(reader: &mut Reader<'_>) -> Option<Option<u64>>
     ensures { IfSome result (λ p. Spells 0 reader.old reader.new (parent_data p)) }
 {
-    match reader.next() {
-        Some(Token::Null) => Some(None),
-        Some(Token::Number(text)) => {
-            let number = digits(text)?;
-            Some(Some(number))
-        }
-        _ => None,
+    if reader.take_null() {
+        return Some(None);
     }
+    let number = number(reader)?;
+    Some(Some(number))
 }
 
 /// The number of a parent, or null.
@@ -195,13 +190,13 @@ fn after_key(
     reader: &mut Reader<'_>,
     is_weighted: bool,
     number: u8,
-    first: &str,
+    first: &[u8],
 ) -> Option<Configuration>
     ensures { IfSome result (λ x. (before : List SpecToken) → read_key before ≡ Some (Some first.now, reader.old) → SpellsSome 82 (token.begin_object ∷ before) reader.new (IsConfiguration is_weighted number x)) }
 {
-    if first == "parent" {
+    if is(first, "parent") {
         parent_first(alloc, reader, is_weighted, number)
-    } else if first == "full" {
+    } else if is(first, "full") {
         full_first(alloc, reader, is_weighted, number)
     } else {
         None

@@ -7,11 +7,12 @@ ghost use Rattle.json.specs.Token.{Token as SpecToken};
 ghost use Rattle.plan_tokens.specs.Rewritten.{Copies, EndsThreshold};
 
 use crate::puts::{
-    close_array, close_object, open_array, open_object, put_digits, put_key, put_number_at,
-    put_numbers, put_text,
+    close_array, close_object, open_array, open_object, put_key, put_number, put_number_at,
+    put_numbers, put_word,
 };
-use crate::tokens::{end, key, number_to, small_numbers};
-use json::{Reader, Token, Writer};
+use crate::reader::Reader;
+use crate::tokens::{end, key, number, number_to, small_numbers, word};
+use json::Writer;
 use std::alloc::Global;
 
 /// The weights of the children of a threshold after their key, and its end.
@@ -29,11 +30,11 @@ fn copy_given_weights(alloc: Global, reader: &mut Reader<'_>, writer: &mut Write
 fn copy_weights(alloc: Global, reader: &mut Reader<'_>, writer: &mut Writer) -> Option<()>
     ensures { OnSome result (EndsThreshold reader.old reader.new writer.old writer.new) }
 {
-    match reader.next_key() {
-        Ok(None) => close_object(writer),
-        Ok(Some(name)) if name == "weights" => copy_given_weights(alloc, reader, writer),
-        _ => None,
+    if reader.take_end_object() {
+        return close_object(writer);
     }
+    key(reader, "weights")?;
+    copy_given_weights(alloc, reader, writer)
 }
 
 /// An expression of at most so many levels.
@@ -49,11 +50,11 @@ pub(crate) fn copy_tree(
     if levels == 0 {
         return None;
     }
-    match reader.next() {
-        Some(Token::Number(text)) => put_digits(writer, text),
-        Some(Token::BeginObject) => copy_threshold(alloc, reader, writer, levels - 1),
-        _ => None,
+    if reader.take_object() {
+        return copy_threshold(alloc, reader, writer, levels - 1);
     }
+    let number = number(reader)?;
+    put_number(writer, number)
 }
 
 /// A threshold after its brace, whose children have at most so many levels.
@@ -86,11 +87,11 @@ fn copy_children(
 ) -> Option<()>
     ensures { OnSome result (Copies (2 * levels + 1) reader.old reader.new writer.old writer.new) }
 {
-    match reader.next() {
-        Some(Token::String(word)) => put_text(writer, word),
-        Some(Token::BeginArray) => copy_row(alloc, reader, writer, levels),
-        _ => None,
+    if reader.take_array() {
+        return copy_row(alloc, reader, writer, levels);
     }
+    let word = word(reader)?;
+    put_word(writer, word)
 }
 
 /// Children after their bracket.

@@ -16,8 +16,8 @@ ghost use Rattle.plan.specs.PlanData.{names_only};
 ghost use Rattle.plan_tokens.specs.Spelled.{SpellsSome};
 ghost use Rattle.plan_tokens.specs.Expressions.{SpellsFormula, SpellsRow, EndsThreshold, IsNamed};
 
-use crate::tokens::{begin_array, digits, end, key, number_to, push, small_numbers};
-use json::{Reader, Token};
+use crate::reader::Reader;
+use crate::tokens::{end, is, key, number, number_to, push, small_numbers, word};
 use quorum_expr::{Expr, Lists, MEMBERS, MemberSet, valid};
 use std::alloc::Global;
 
@@ -25,14 +25,14 @@ use std::alloc::Global;
 pub(crate) const LEVELS: u8 = 6;
 
 /// The members that a word stands for.
-fn named(lists: &Lists, word: &str) -> Option<MemberSet>
+fn named(lists: &Lists, word: &[u8]) -> Option<MemberSet>
     ensures { IfSome result (IsNamed lists.now word.now) }
 {
-    if word == "all" {
+    if is(word, "all") {
         Some(lists.members)
-    } else if word == "full" {
+    } else if is(word, "full") {
         Some(lists.full)
-    } else if word == "tail" {
+    } else if is(word, "tail") {
         Some(lists.members.difference(lists.full))
     } else {
         None
@@ -108,11 +108,11 @@ fn weights(
     ensures read { OnSome result (EndsThreshold lists.now (length row.old) reader.old reader.new (λ ws. HaveWeights ws 0 row.new)) }
     ensures same { OnSome result (formulas_of row.new ≡ formulas_of row.old) }
 {
-    match reader.next_key() {
-        Ok(None) => Some(()),
-        Ok(Some(name)) if name == "weights" => given_weights(alloc, reader, lists, row),
-        _ => None,
+    if reader.take_end_object() {
+        return Some(());
     }
+    key(reader, "weights")?;
+    given_weights(alloc, reader, lists, row)
 }
 
 /// An expression of at most so many levels.
@@ -123,18 +123,13 @@ fn tree(alloc: Global, reader: &mut Reader<'_>, lists: &Lists, levels: u8) -> Op
     if levels == 0 {
         return None;
     }
-    match reader.next() {
-        Some(Token::Number(text)) => {
-            let number = digits(text)?;
-            let leaf = member(lists, number)?;
-            Some(leaf)
-        }
-        Some(Token::BeginObject) => {
-            let whole = threshold(alloc, reader, lists, levels - 1)?;
-            Some(whole)
-        }
-        _ => None,
+    if reader.take_object() {
+        let whole = threshold(alloc, reader, lists, levels - 1)?;
+        return Some(whole);
     }
+    let number = number(reader)?;
+    let leaf = member(lists, number)?;
+    Some(leaf)
 }
 
 /// A threshold after its brace, whose children have at most so many levels.
@@ -169,18 +164,14 @@ fn children(
     if levels == 0 {
         return None;
     }
-    match reader.next() {
-        Some(Token::String(word)) => {
-            let members = named(lists, word)?;
-            let row = each_member(alloc, members)?;
-            Some(row)
-        }
-        Some(Token::BeginArray) => {
-            let row = row(alloc, reader, lists, levels)?;
-            Some(row)
-        }
-        _ => None,
+    if reader.take_array() {
+        let row = row(alloc, reader, lists, levels)?;
+        return Some(row);
     }
+    let word = word(reader)?;
+    let members = named(lists, word)?;
+    let row = each_member(alloc, members)?;
+    Some(row)
 }
 
 /// Children after their bracket.

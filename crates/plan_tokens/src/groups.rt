@@ -5,8 +5,8 @@ ghost use Rattle.plan_tokens.specs.Configurations.{AreConfigurations, AreGroups,
 ghost use Rattle.plan_tokens.specs.Spelled.{SpellsSome};
 
 use crate::configurations::configuration;
+use crate::reader::Reader;
 use crate::tokens::{begin_array, begin_object, end, key, push};
-use json::Reader;
 use plan::{Configuration, Group};
 use std::alloc::Global;
 

@@ -8,10 +8,8 @@ ghost use Rattle.refutation.specs.Writing.{side_text, number_data};
 ghost use Rattle.plan_tokens.specs.Spelled.{Spells, Goes};
 ghost use Rattle.plan_tokens.specs.Heads.{rule_text, rule_first, side_members, item_members, head_members, HeadInRange, HeadAfter, IsOpening, OpeningInRange};
 
-use crate::tokens::{
-    any_key, digits, key, number_to, small_number_pairs, small_numbers, text, word,
-};
-use json::{Reader, Token};
+use crate::reader::Reader;
+use crate::tokens::{any_key, is, key, number_to, small_number_pairs, small_numbers, text, word};
 use refutation::Side;
 use std::alloc::Global;
 
@@ -66,12 +64,12 @@ pub(crate) enum Opening {
 }
 
 /// The side that a word names.
-fn side_named(word: &str) -> Option<Side>
+fn side_named(word: &[u8]) -> Option<Side>
     ensures { IfSome result (λ side. word.now ≡ side_text side) }
 {
-    if word == "left" {
+    if is(word, "left") {
         Some(Side::Left)
-    } else if word == "right" {
+    } else if is(word, "right") {
         Some(Side::Right)
     } else {
         None
@@ -88,20 +86,20 @@ fn side(reader: &mut Reader<'_>) -> Option<Side>
 }
 
 /// The rule that a word names.
-fn rule_named(word: &str) -> Option<RuleName>
+fn rule_named(word: &[u8]) -> Option<RuleName>
     ensures { IfSome result (λ name. word.now ≡ rule_text name) }
 {
-    if word == "clash" {
+    if is(word, "clash") {
         Some(RuleName::Clash)
-    } else if word == "match" {
+    } else if is(word, "match") {
         Some(RuleName::Match)
-    } else if word == "dead" {
+    } else if is(word, "dead") {
         Some(RuleName::Dead)
-    } else if word == "open" {
+    } else if is(word, "open") {
         Some(RuleName::Open)
-    } else if word == "pick" {
+    } else if is(word, "pick") {
         Some(RuleName::Pick)
-    } else if word == "split" {
+    } else if is(word, "split") {
         Some(RuleName::Split)
     } else {
         None
@@ -315,10 +313,10 @@ fn left_item(alloc: Global, reader: &mut Reader<'_>, left: u16) -> Option<Head>
     ensures small { IfSome result HeadInRange }
 {
     let second = any_key(reader)?;
-    if second == "right" {
+    if is(second, "right") {
         let head = clash_right(reader, left)?;
         Some(head)
-    } else if second == "pairs" {
+    } else if is(second, "pairs") {
         let head = match_pairs(alloc, reader, left)?;
         Some(head)
     } else {
@@ -331,30 +329,24 @@ fn left_first(alloc: Global, reader: &mut Reader<'_>) -> Option<Opening>
     ensures read { IfSome result (λ o. (before : List SpecToken) → read_key before ≡ Some (Some (codes "left"), reader.old) → IsOpening before reader.new o) }
     ensures small { IfSome result OpeningInRange }
 {
-    match reader.next() {
-        Some(Token::BeginObject) => Some(Opening::Left),
-        Some(Token::Number(text)) => {
-            let left = digits(text)?;
-            if left > 65_535 {
-                return None;
-            }
-            let head = left_item(alloc, reader, left as u16)?;
-            Some(Opening::Head(head))
-        }
-        _ => None,
+    if reader.take_object() {
+        return Some(Opening::Left);
     }
+    let left = item(reader)?;
+    let head = left_item(alloc, reader, left)?;
+    Some(Opening::Head(head))
 }
 
 /// The head of a rule after its first key.
-fn by_key(alloc: Global, reader: &mut Reader<'_>, first: &str) -> Option<Head>
+fn by_key(alloc: Global, reader: &mut Reader<'_>, first: &[u8]) -> Option<Head>
     ensures read { IfSome result (HeadAfter first.now reader.old reader.new) }
     ensures small { IfSome result HeadInRange }
 {
-    if first == "rule" {
+    if is(first, "rule") {
         name_first(alloc, reader)
-    } else if first == "item" {
+    } else if is(first, "item") {
         item_first(reader)
-    } else if first == "children" {
+    } else if is(first, "children") {
         children_first(alloc, reader)
     } else {
         None
@@ -367,7 +359,7 @@ pub(crate) fn read_opening(alloc: Global, reader: &mut Reader<'_>) -> Option<Ope
     ensures small { IfSome result OpeningInRange }
 {
     let first = any_key(reader)?;
-    if first == "left" {
+    if is(first, "left") {
         let opening = left_first(alloc, reader)?;
         return Some(opening);
     }

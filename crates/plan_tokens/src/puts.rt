@@ -8,7 +8,6 @@ ghost use Rattle.refutation.specs.Ranges.{IsPairInRange};
 ghost use Rattle.refutation.specs.Writing.{number_data, numbers_data, pair_data, pairs_data};
 ghost use Rattle.plan_tokens.specs.Puts.{Puts, PutsMember, PutsToken};
 
-use crate::tokens::{long_number, short_number};
 use json::Writer;
 
 /// A key.
@@ -60,6 +59,16 @@ pub(crate) fn put_text(writer: &mut Writer, text: &str) -> Option<()>
     writer.string(text).ok()
 }
 
+/// A text, where it is one.
+pub(crate) fn put_word(writer: &mut Writer, word: &[u8]) -> Option<()>
+    ensures { OnSome result (Puts (string word.now) writer.old writer.new) }
+{
+    match str::from_utf8(word) {
+        Ok(text) => put_text(writer, text),
+        Err(_) => None,
+    }
+}
+
 /// How a number of one digit is written.
 fn digit_text(number: u64) -> Option<&'static str>
     ensures { IfSome result (λ s. s.now ≡ decimal number) }
@@ -86,19 +95,6 @@ pub(crate) fn put_number(writer: &mut Writer, number: u64) -> Option<()>
     match digit_text(number) {
         Some(text) => writer.number(text).ok(),
         None => writer.u64(number).ok(),
-    }
-}
-
-/// The number that a text writes in digits alone.
-pub(crate) fn put_digits(writer: &mut Writer, text: &str) -> Option<()>
-    ensures { OnSome result ((n : ℕ) × (number_of text.now ≡ Some (unsigned n)) × Puts (number_data n) writer.old writer.new) }
-{
-    match short_number(text) {
-        Some(_) => writer.number(text).ok(),
-        None => {
-            let number = long_number(text)?;
-            put_number(writer, number)
-        }
     }
 }
 

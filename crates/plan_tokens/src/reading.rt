@@ -11,8 +11,8 @@ ghost use Rattle.plan_tokens.specs.Plans.{EndsPlan, IsBorn, IsWhole, with_format
 ghost use Rattle.plan_tokens.specs.Spelled.{SpellsSome};
 
 use crate::groups::groups;
-use crate::tokens::{any_key, begin_object, end, key, number};
-use json::{Reader, Scratch};
+use crate::reader::Reader;
+use crate::tokens::{any_key, begin_object, end, is, key, number};
 use plan::{Format, Group, Plan, PlanFault};
 use std::alloc::Global;
 
@@ -132,13 +132,13 @@ fn after_format(
     alloc: Global,
     reader: &mut Reader<'_>,
     format: Format,
-    second: &str,
+    second: &[u8],
 ) -> Option<Plan>
     ensures { IfSome result (λ p. (before : List SpecToken) (d : Data) → read_key before ≡ Some (Some second.now, reader.old) → format_of d ≡ Ok format → EndsPlan (with_format d no_members) before reader.new (plan_data p)) }
 {
-    if second == "lal" {
+    if is(second, "lal") {
         after_lal(alloc, reader, format)
-    } else if second == "groups" {
+    } else if is(second, "groups") {
         groups_lal(alloc, reader, format)
     } else {
         None
@@ -172,12 +172,12 @@ fn born_first(alloc: Global, reader: &mut Reader<'_>) -> Option<Plan>
 }
 
 /// A plan after its first key.
-fn after_key(alloc: Global, reader: &mut Reader<'_>, first: &str) -> Option<Plan>
+fn after_key(alloc: Global, reader: &mut Reader<'_>, first: &[u8]) -> Option<Plan>
     ensures { IfSome result (λ p. (before : List SpecToken) → read_key before ≡ Some (Some first.now, reader.old) → EndsPlan no_members before reader.new (plan_data p)) }
 {
-    if first == "format" {
+    if is(first, "format") {
         format_first(alloc, reader)
-    } else if first == "born" {
+    } else if is(first, "born") {
         born_first(alloc, reader)
     } else {
         None
@@ -198,15 +198,9 @@ fn document(alloc: Global, reader: &mut Reader<'_>) -> Option<Plan>
 fn parsed(alloc: Global, text: &str) -> Option<Plan>
     ensures { IfSome result (λ p. SpellsSome 86 (tokens text.now) [] (λ d. plan_in d ≡ Ok (plan_data p))) }
 {
-    let mut scratch = Scratch::new(alloc);
-    let Ok(mut reader) = Reader::new(text, &mut scratch) else {
-        return None;
-    };
+    let mut reader = Reader::new(text.as_bytes());
     let plan = document(alloc, &mut reader)?;
-    match reader.next() {
-        None => Some(plan),
-        Some(_) => None,
-    }
+    if reader.is_at_end() { Some(plan) } else { None }
 }
 
 /// The plan that a text spells, read off its tokens, where its keys come in the order of the format or in that of the alphabet;

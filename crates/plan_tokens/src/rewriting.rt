@@ -20,9 +20,10 @@ use crate::groups::CONFIGURATIONS;
 use crate::puts::{
     close_array, close_object, open_array, open_object, put_key, put_null, put_number, put_numbers,
 };
+use crate::reader::Reader;
 use crate::skipping::skip_value;
-use crate::tokens::{any_key, begin_array, begin_object, end, key, small_numbers};
-use json::{Reader, Writer};
+use crate::tokens::{any_key, begin_array, begin_object, end, is, key, small_numbers};
+use json::Writer;
 use refutation::Certificate;
 use std::alloc::Global;
 
@@ -152,14 +153,14 @@ fn copy_after_key(
     writer: &mut Writer,
     number: usize,
     certificates: &[Option<Certificate<Global>>],
-    first: &str,
+    first: &[u8],
 ) -> Option<()>
     requires { number < 64 }
     ensures { OnSome result ((before : List SpecToken) → read_key before ≡ Some (Some first.now, reader.old) → SpellsSome 82 (token.begin_object ∷ before) reader.new (IsConfigurationRewritten number (certificate_values certificates.now) writer.old writer.new)) }
 {
-    if first == "parent" {
+    if is(first, "parent") {
         copy_parent_first(alloc, reader, writer, number, certificates)
-    } else if first == "full" {
+    } else if is(first, "full") {
         copy_full_first(alloc, reader, writer, number, certificates)
     } else {
         None

@@ -12,8 +12,8 @@ ghost use Rattle.plan_tokens.specs.Rules.{rule_data, rules_data, EachInRange};
 ghost use Rattle.plan_tokens.specs.Spelled.{Spells, Goes, Completes};
 
 use crate::heads::{Head, Opening, read_opening};
+use crate::reader::Reader;
 use crate::tokens::{begin_array, begin_object, end, key, number_to, push, text};
-use json::Reader;
 use refutation::Refutation;
 use std::alloc::Global;
 

@@ -1,7 +1,7 @@
 //! Tokens one by one: keys, ends, whole numbers and lists of them.
 
 ghost use Rattle.std.specs.Prelude.{◌≡◌, ◌-◌, ◌<◌, ◌≤◌, ◌∷◌, ◌++◌, [], Some, None, Ok, IfSome, OnSome, All, decimal, length};
-ghost use Rattle.std.specs.Char.{digit_value};
+ghost use Rattle.std.specs.Bool.{OnTrue};
 ghost use Rattle.json.specs.Json.{read_key};
 ghost use Rattle.json.specs.Token as token;
 ghost use Rattle.serde_json.specs.Data.{array, null, string, unsigned};
@@ -10,77 +10,18 @@ ghost use Rattle.refutation.specs.Ranges.{IsPairInRange};
 ghost use Rattle.refutation.specs.Writing.{number_data, numbers_data, pair_data, pairs_data};
 ghost use Rattle.plan_tokens.specs.Spelled.{Spells};
 
-use json::{Reader, Token};
+use crate::reader::Reader;
 use std::alloc::Global;
 
 /// How many numbers of a list there is room for at first: as many as take no more memory than one would.
 const NUMBERS: usize = 24;
 
-/// The number that one digit writes.
-fn digit(byte: u8) -> Option<u64>
-    ensures small { IfSome result (λ n. digit_value byte < 10) }
-    ensures is { IfSome result (λ n. n ≡ byte - 48) }
-{
-    if byte.is_ascii_digit() {
-        Some(u64::from(byte - b'0'))
-    } else {
-        None
-    }
-}
-
-/// The number that a text writes in one digit, or in two of which the first isn't 0.
-pub(crate) fn short_number(text: &str) -> Option<u64>
-    ensures small { IfSome result (λ n. n < 100) }
-    ensures is { IfSome result (λ n. text.now ≡ decimal n) }
-{
-    let bytes = text.as_bytes();
-    if bytes.len() == 1 {
-        let number = digit(bytes[0])?;
-        return Some(number);
-    }
-    if bytes.len() != 2 || bytes[0] == b'0' {
-        return None;
-    }
-    let tens = digit(bytes[0])?;
-    let ones = digit(bytes[1])?;
-    Some(10 * tens + ones)
-}
-
-/// The number that a text writes in digits alone, without a sign.
-pub(crate) fn long_number(text: &str) -> Option<u64>
-    ensures { IfSome result (λ n. number_of text.now ≡ Some (unsigned n)) }
-{
-    let bytes = text.as_bytes();
-    if bytes.is_empty() || bytes[0] == b'+' {
-        return None;
-    }
-    match fast_float::parse_u64(bytes) {
-        Ok(n) => Some(n),
-        Err(_) => None,
-    }
-}
-
-/// The number that a text writes in digits alone.
-pub(crate) fn digits(text: &str) -> Option<u64>
-    ensures { IfSome result (λ n. number_of text.now ≡ Some (unsigned n)) }
-{
-    match short_number(text) {
-        Some(n) => Some(n),
-        None => long_number(text),
-    }
-}
-
 /// A whole number.
 pub(crate) fn number(reader: &mut Reader<'_>) -> Option<u64>
     ensures { IfSome result (λ n. Spells 0 reader.old reader.new (number_data n)) }
 {
-    match reader.next() {
-        Some(Token::Number(text)) => match digits(text) {
-            Some(n) => Some(n),
-            None => None,
-        },
-        _ => None,
-    }
+    let n = reader.number()?;
+    Some(n)
 }
 
 /// A whole number up to a limit.
@@ -92,14 +33,19 @@ pub(crate) fn number_to(reader: &mut Reader<'_>, most: u64) -> Option<u64>
     if n <= most { Some(n) } else { None }
 }
 
+/// Whether a word is this one.
+pub(crate) fn is(word: &[u8], wanted: &str) -> bool
+    ensures { OnTrue result (word.now ≡ wanted.now) }
+{
+    word == wanted.as_bytes()
+}
+
 /// A text.
-pub(crate) fn word<'a>(reader: &mut Reader<'a>) -> Option<&'a str>
+pub(crate) fn word<'a>(reader: &mut Reader<'a>) -> Option<&'a [u8]>
     ensures { IfSome result (λ s. Spells 0 reader.old reader.new (string s.now)) }
 {
-    match reader.next() {
-        Some(Token::String(text)) => Some(text),
-        _ => None,
-    }
+    let word = reader.word()?;
+    Some(word)
 }
 
 /// This text.
@@ -107,36 +53,33 @@ pub(crate) fn text(reader: &mut Reader<'_>, wanted: &str) -> Option<()>
     ensures { OnSome result (Spells 0 reader.old reader.new (string wanted.now)) }
 {
     let found = word(reader)?;
-    if found == wanted { Some(()) } else { None }
+    if is(found, wanted) { Some(()) } else { None }
 }
 
 /// This key.
 pub(crate) fn key(reader: &mut Reader<'_>, name: &str) -> Option<()>
     ensures { OnSome result (read_key reader.old ≡ Some (Some name.now, reader.new)) }
 {
-    match reader.next_key() {
-        Ok(Some(found)) if found == name => Some(()),
-        _ => None,
-    }
+    let found = reader.key()?;
+    if is(found, name) { Some(()) } else { None }
 }
 
 /// Whichever key is next.
-pub(crate) fn any_key<'a>(reader: &mut Reader<'a>) -> Option<&'a str>
+pub(crate) fn any_key<'a>(reader: &mut Reader<'a>) -> Option<&'a [u8]>
     ensures { IfSome result (λ k. read_key reader.old ≡ Some (Some k.now, reader.new)) }
 {
-    match reader.next_key() {
-        Ok(Some(found)) => Some(found),
-        _ => None,
-    }
+    let found = reader.key()?;
+    Some(found)
 }
 
 /// The end of an object.
 pub(crate) fn end(reader: &mut Reader<'_>) -> Option<()>
     ensures { OnSome result (read_key reader.old ≡ Some (None, reader.new)) }
 {
-    match reader.next_key() {
-        Ok(None) => Some(()),
-        _ => None,
+    if reader.take_end_object() {
+        Some(())
+    } else {
+        None
     }
 }
 
@@ -144,30 +87,21 @@ pub(crate) fn end(reader: &mut Reader<'_>) -> Option<()>
 pub(crate) fn null(reader: &mut Reader<'_>) -> Option<()>
     ensures { OnSome result (Spells 0 reader.old reader.new null) }
 {
-    match reader.next() {
-        Some(Token::Null) => Some(()),
-        _ => None,
-    }
+    if reader.take_null() { Some(()) } else { None }
 }
 
 /// The beginning of an object.
 pub(crate) fn begin_object(reader: &mut Reader<'_>) -> Option<()>
     ensures { OnSome result (reader.old ≡ token.begin_object ∷ reader.new) }
 {
-    match reader.next() {
-        Some(Token::BeginObject) => Some(()),
-        _ => None,
-    }
+    if reader.take_object() { Some(()) } else { None }
 }
 
 /// The beginning of an array.
 pub(crate) fn begin_array(reader: &mut Reader<'_>) -> Option<()>
     ensures { OnSome result (reader.old ≡ token.begin_array ∷ reader.new) }
 {
-    match reader.next() {
-        Some(Token::BeginArray) => Some(()),
-        _ => None,
-    }
+    if reader.take_array() { Some(()) } else { None }
 }
 
 /// One more value behind the others.

@@ -13,10 +13,11 @@ ghost use Rattle.plan_tokens.specs.Rewritten.{born_members, head_members, number
 ghost use Rattle.plan_tokens.specs.Spelled.{SpellsSome};
 
 use crate::puts::{close_object, open_object, put_key, put_number_at};
+use crate::reader::Reader;
 use crate::rewriting::copy_groups;
 use crate::sizes::room_for;
-use crate::tokens::{any_key, begin_object, end, key, number};
-use json::{Reader, Scratch, Writer};
+use crate::tokens::{any_key, begin_object, end, is, key, number};
+use json::Writer;
 use refutation::Certificate;
 use std::alloc::{AllocError, Global};
 
@@ -104,13 +105,13 @@ fn copy_after_third(
     certificates: &[Option<Certificate<Global>>],
     format: u64,
     lal: u64,
-    third: &str,
+    third: &[u8],
 ) -> Option<()>
     ensures { OnSome result ((before : List SpecToken) → read_key before ≡ Some (Some third.now, reader.old) → EndsPlanRewritten (certificate_values certificates.now) (number_members format None lal) before reader.new writer.old writer.new) }
 {
-    if third == "groups" {
+    if is(third, "groups") {
         copy_groups_last(alloc, reader, writer, certificates, format, None, lal)
-    } else if third == "born" {
+    } else if is(third, "born") {
         copy_born_groups(alloc, reader, writer, certificates, format, lal)
     } else {
         None
@@ -139,13 +140,13 @@ fn copy_after_second(
     writer: &mut Writer,
     certificates: &[Option<Certificate<Global>>],
     format: u64,
-    second: &str,
+    second: &[u8],
 ) -> Option<()>
     ensures { OnSome result ((before : List SpecToken) → read_key before ≡ Some (Some second.now, reader.old) → EndsPlanRewritten (certificate_values certificates.now) (head_members format None) before reader.new writer.old writer.new) }
 {
-    if second == "lal" {
+    if is(second, "lal") {
         copy_after_lal(alloc, reader, writer, certificates, format)
-    } else if second == "groups" {
+    } else if is(second, "groups") {
         copy_groups_first(alloc, reader, writer, certificates, format, None)
     } else {
         None
@@ -188,13 +189,13 @@ fn copy_after_key(
     reader: &mut Reader<'_>,
     writer: &mut Writer,
     certificates: &[Option<Certificate<Global>>],
-    first: &str,
+    first: &[u8],
 ) -> Option<()>
     ensures { OnSome result ((before : List SpecToken) → read_key before ≡ Some (Some first.now, reader.old) → EndsPlanRewritten (certificate_values certificates.now) no_members before reader.new writer.old writer.new) }
 {
-    if first == "format" {
+    if is(first, "format") {
         copy_format_first(alloc, reader, writer, certificates)
-    } else if first == "born" {
+    } else if is(first, "born") {
         copy_born_first(alloc, reader, writer, certificates)
     } else {
         None
@@ -236,15 +237,13 @@ fn quick_text(
 ) -> Option<Vec<u8>>
     ensures { IfSome result (λ bytes. IsRewritten (certificate_values certificates.now) text.now bytes.items) }
 {
-    let mut scratch = Scratch::new(alloc);
-    let Ok(mut reader) = Reader::new(text, &mut scratch) else {
-        return None;
-    };
+    let mut reader = Reader::new(text.as_bytes());
     let mut writer = writer_of(alloc, room)?;
     copy_plan(alloc, &mut reader, &mut writer, certificates)?;
-    match reader.next() {
-        None => Some(writer.into_inner()),
-        Some(_) => None,
+    if reader.is_at_end() {
+        Some(writer.into_inner())
+    } else {
+        None
     }
 }
 

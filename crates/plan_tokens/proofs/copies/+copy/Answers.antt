@@ -1,23 +1,22 @@
 use Rattle.std.proofs.Common.{◌≡◌, ◌+◌, ◌*◌, ◌∷◌, codes, sym, subst, refl, arith, None}
 use Rattle.json.specs.Json.{after_end_array}
-use Rattle.json.specs.Reads.{token_of}
 use Rattle.json.specs.Token.{Token}
 use Rattle.serde_json.specs.Data.{no_members, object, put, string, member}
 use Rattle.refutation.specs.Writing.{number_data}
 use Rattle.plan_tokens.specs.Spelled.{Spells}
-use Rattle.plan_tokens.proofs.Spelled.{up, completes_up, number_read, string_read, with_key, braced}
+use Rattle.plan_tokens.proofs.Spelled.{going_on, up, completes_up, with_key, braced}
 use Rattle.plan_tokens.proofs.Putting.{then_put, opened, one_more}
 use Rattle.plan_tokens.proofs.RewritingLaws.{no_child, child_more, row_copied}
 use Rattle.plan_tokens.proofs.copies.+copy.Goals as goal
 
-pub copy_tree-returns-in-Some-Number : goal.copy_tree-returns-in-Some-Number
-copy_tree-returns-in-Some-Number t c =
-    let begins : c.args.reader.now ≡ token_of c.in-Some-Number.field-0 ∷ c.next.new.self = grind arith in
-    let is : c.args.reader.now ≡ Token.number c.in-Some-Number.text.now ∷ c.next.new.self = grind (arith, begins) in
-    then_put c.put_digits.result c.put_digits.ensures (λ p. record {
-      value = number_data p.0;
-      spells = up 0 (2 * c.args.levels) (omega arith) (subst (λ ts. Spells 0 ts c.next.new.self (number_data p.0)) (sym is) (number_read c.in-Some-Number.text.now p.0 c.next.new.self p.1));
-      holds = p.2;
+pub copy_tree-returns : goal.copy_tree-returns
+copy_tree-returns t c =
+    let same : c.take_object.new.self ≡ c.args.reader.now = grind arith in
+    let n = c.in_ok-number.number in
+    then_put c.put_number.result c.put_number.ensures (λ p. record {
+      value = number_data n;
+      spells = up 0 (2 * c.args.levels) (omega arith) (subst (λ ts. Spells 0 ts c.number.new.reader (number_data n)) same c.in_ok-number.ensures);
+      holds = p;
     })
 
 pub copy_threshold-returns : goal.copy_threshold-returns
@@ -42,13 +41,13 @@ copy_threshold-returns t c =
       holds = whole.puts;
     })
 
-pub copy_children-returns-in-Some-String : goal.copy_children-returns-in-Some-String
-copy_children-returns-in-Some-String t c =
-    let begins : c.args.reader.now ≡ token_of c.in-Some-String.field-0 ∷ c.next.new.self = grind arith in
-    let is : c.args.reader.now ≡ Token.string c.in-Some-String.word.now ∷ c.next.new.self = grind (arith, begins) in
-    then_put c.put_text.result c.put_text.ensures (λ p. record {
-      value = string c.in-Some-String.word.now;
-      spells = up 0 (2 * c.args.levels + 1) (omega arith) (subst (λ ts. Spells 0 ts c.next.new.self (string c.in-Some-String.word.now)) (sym is) (string_read c.in-Some-String.word.now c.next.new.self));
+pub copy_children-returns : goal.copy_children-returns
+copy_children-returns t c =
+    let same : c.take_array.new.self ≡ c.args.reader.now = grind arith in
+    let word = c.in_ok-word.word.now in
+    then_put c.put_word.result c.put_word.ensures (λ p. record {
+      value = string word;
+      spells = up 0 (2 * c.args.levels + 1) (omega arith) (subst (λ ts. Spells 0 ts c.word.new.reader (string word)) same c.in_ok-word.ensures);
       holds = p;
     })
 
@@ -57,7 +56,8 @@ copy_row-children-init t c = record { read = no_child (2 * c.args.levels) c.args
 
 pub copy_row-children-preserved : goal.copy_row-children-preserved
 copy_row-children-preserved t c =
-    let going : (after_end_array c.children.reader ≡ None) × (c.take_end_array.new.self ≡ c.children.reader) = grind arith in
+    let same : c.take_end_array.new.self ≡ c.children.reader = grind arith in
+    let going : (after_end_array c.children.reader ≡ None) × (c.take_end_array.new.self ≡ c.children.reader) = going_on same c.in_ok-copy_tree.ensures.spells in
     record { read = child_more (2 * c.args.levels) _ c.children.reader c.take_end_array.new.self c.copy_tree.new.reader _ c.children.writer c.copy_tree.new.writer c.children.invariant.read going c.in_ok-copy_tree.ensures }
 
 pub copy_row-returns : goal.copy_row-returns

@@ -2,7 +2,6 @@ use Rattle.std.proofs.Common.{◌≡◌, ◌<◌, ◌+◌, ◌*◌, ◌∷◌, �
 use Rattle.std.proofs.lemmas.List.{length-map, map-append, with_items_is}
 use Rattle.std.specs.Vec.{with_items}
 use Rattle.json.specs.Json.{after_end_array}
-use Rattle.json.specs.Reads.{token_of}
 use Rattle.json.specs.Token.{Token}
 use Rattle.serde_json.specs.Data.{no_members, object, put, string}
 use Rattle.volume_model.specs.Formula.{at_least}
@@ -12,36 +11,36 @@ use Rattle.quorum_expr.specs.Forms.{formulas_of, HaveWeights}
 use Rattle.quorum_expr.specs.Reading.{child_count, weighing}
 use Rattle.quorum_expr.proofs.Rows.{weights_pushed, choice_read}
 use Rattle.plan_tokens.specs.Spelled.{Spells}
-use Rattle.plan_tokens.proofs.Spelled.{up, completes_up, number_read, string_read, with_key, braced}
+use Rattle.plan_tokens.proofs.Spelled.{going_on, up, completes_up, with_key, braced}
 use Rattle.plan_tokens.proofs.Thresholds.{named_row, row_more, row_read, threshold_spelled}
 use Rattle.plan_tokens.proofs.expressions.+expression.Goals as goal
 
-pub tree-returns-in_ok-leaf-in-Some-Number : goal.tree-returns-in_ok-leaf-in-Some-Number
-tree-returns-in_ok-leaf-in-Some-Number t c =
-    let begins : c.args.reader.now ≡ token_of c.in-Some-Number.field-0 ∷ c.next.new.self = grind arith in
-    let is : c.args.reader.now ≡ Token.number c.in-Some-Number.text.now ∷ c.next.new.self = grind (arith, begins) in
-    let n = c.in_ok-number-in-Some-Number.number in
+pub tree-returns : goal.tree-returns
+tree-returns t c =
+    let same : c.take_object.new.self ≡ c.args.reader.now = grind arith in
+    let n = c.in_ok-number.number in
     let some : 0 < c.args.levels = omega arith in
     record {
       value = number_data n;
-      spells = up 0 (2 * c.args.levels) (omega arith) (subst (λ ts. Spells 0 ts c.next.new.self (number_data n)) (sym is) (number_read c.in-Some-Number.text.now n c.next.new.self c.in_ok-number-in-Some-Number.ensures));
-      holds = λ good. c.in_ok-leaf-in-Some-Number.ensures c.args.levels some;
+      spells = up 0 (2 * c.args.levels) (omega arith) (subst (λ ts. Spells 0 ts c.number.new.reader (number_data n)) same c.in_ok-number.ensures);
+      holds = λ good. c.in_ok-leaf.ensures c.args.levels some;
     }
 
-pub children-returns-in_ok-row-in-Some-String-clause-read : goal.children-returns-in_ok-row-in-Some-String-clause-read
-children-returns-in_ok-row-in-Some-String-clause-read t c =
-    let begins : c.args.reader.now ≡ token_of c.in-Some-String.field-0 ∷ c.next.new.self = grind arith in
-    let is : c.args.reader.now ≡ Token.string c.in-Some-String.word.now ∷ c.next.new.self = grind (arith, begins) in
+pub children-returns-clause-read : goal.children-returns-clause-read
+children-returns-clause-read t c =
+    let same : c.take_array.new.self ≡ c.args.reader.now = grind arith in
+    let word = c.in_ok-word.word.now in
     let some : 0 < c.args.levels = omega arith in
     record {
-      value = string c.in-Some-String.word.now;
-      spells = up 0 (2 * c.args.levels + 1) (omega arith) (subst (λ ts. Spells 0 ts c.next.new.self (string c.in-Some-String.word.now)) (sym is) (string_read c.in-Some-String.word.now c.next.new.self));
-      holds = named_row c.args.lists.now c.args.levels c.in-Some-String.word.now c.in_ok-members-in-Some-String.members (formulas_of c.in_ok-row-in-Some-String.row.items) some c.in_ok-members-in-Some-String.ensures c.in_ok-row-in-Some-String.ensures.read;
+      value = string word;
+      spells = up 0 (2 * c.args.levels + 1) (omega arith) (subst (λ ts. Spells 0 ts c.word.new.reader (string word)) same c.in_ok-word.ensures);
+      holds = named_row c.args.lists.now c.args.levels word c.in_ok-members.members (formulas_of c.in_ok-row-2.row.items) some c.in_ok-members.ensures c.in_ok-row-2.ensures.read;
     }
 
 pub row-children-preserved : goal.row-children-preserved
 row-children-preserved t c =
-    let going : (after_end_array c.children.reader ≡ None) × (c.take_end_array.new.self ≡ c.children.reader) = grind arith in
+    let same : c.take_end_array.new.self ≡ c.children.reader = grind arith in
+    let going : (after_end_array c.children.reader ≡ None) × (c.take_end_array.new.self ≡ c.children.reader) = going_on same c.in_ok-child.ensures.spells in
     record {
       read = row_more c.args.lists.now c.args.levels _ c.children.reader c.take_end_array.new.self c.tree.new.reader (formulas_of c.children.row.items) (formulas_of c.push.new.list.items) (formula_of c.in_ok-child.child)
           (ap formulas_of c.in_ok-push.ensures ∙ map-append _ c.children.row.items _) c.children.invariant.read going c.in_ok-child.ensures;

@@ -2,12 +2,14 @@ use Rattle.std.proofs.Common.{◌≡◌, ◌+◌, length, arith, None, subst, ru
 use Rattle.json.specs.Json.{after_end_array}
 use Rattle.plan_tokens.specs.Configurations.{IsConfiguration}
 use Rattle.plan_tokens.specs.Spelled.{SpellsSome}
+use Rattle.plan_tokens.proofs.Spelled.{going_on}
 use Rattle.plan_tokens.proofs.GroupLaws.{configuration_more, configurations_read, length-more}
 use Rattle.plan_tokens.proofs.groups.configurations.Goals as goal
 
 pub all-preserved : goal.all-preserved
 all-preserved c =
-    let going : (after_end_array c.all.reader ≡ None) × (c.take_end_array.new.self ≡ c.all.reader) = grind arith in
+    let same : c.take_end_array.new.self ≡ c.all.reader = grind arith in
+    let going : (after_end_array c.all.reader ≡ None) × (c.take_end_array.new.self ≡ c.all.reader) = going_on same c.in_ok-next.ensures.spells in
     let number : c.len-in-all.result ≡ length c.all.list.items = search rules in
     let more : length c.push.new.list.items ≡ length c.all.list.items + 1 = rw c.in_ok-push.ensures (length-more c.all.list.items c.in_ok-next.next) in
     let before : c.len.result ≡ length c.all.list.items = search rules in

@@ -1,6 +1,7 @@
 use Rattle.std.proofs.Common.{◌≡◌, arith, None}
 use Rattle.json.specs.Json.{after_end_array}
 use Rattle.plan_tokens.specs.Certificates.{certificate_values}
+use Rattle.plan_tokens.proofs.Spelled.{going_on}
 use Rattle.plan_tokens.proofs.RewritingLaws.{no_configuration, configuration_more, configurations_read}
 use Rattle.plan_tokens.proofs.rewriting.copy_configurations.Goals as goal
 
@@ -9,7 +10,8 @@ all-init c = record { read = no_configuration (certificate_values c.args.certifi
 
 pub all-preserved : goal.all-preserved
 all-preserved c =
-    let going : (after_end_array c.all.reader ≡ None) × (c.take_end_array.new.self ≡ c.all.reader) = grind arith in
+    let same : c.take_end_array.new.self ≡ c.all.reader = grind arith in
+    let going : (after_end_array c.all.reader ≡ None) × (c.take_end_array.new.self ≡ c.all.reader) = going_on same c.in_ok-copy_configuration.ensures.spells in
     record {
       read = configuration_more (certificate_values c.args.certificates.now) c.all.number _ c.all.reader c.take_end_array.new.self c.copy_configuration.new.reader c.args.writer.now c.all.writer c.copy_configuration.new.writer c.all.invariant.read going c.in_ok-copy_configuration.ensures;
       few = omega arith;

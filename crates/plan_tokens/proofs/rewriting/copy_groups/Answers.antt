@@ -1,6 +1,7 @@
 use Rattle.std.proofs.Common.{◌≡◌, ◌∙◌, ◌-◌, ◌*◌, ap, sym, subst, drop, arith, None}
 use Rattle.json.specs.Json.{after_end_array}
 use Rattle.plan_tokens.specs.Certificates.{certificate_values}
+use Rattle.plan_tokens.proofs.Spelled.{going_on}
 use Rattle.plan_tokens.proofs.Putting.{then_put}
 use Rattle.plan_tokens.proofs.RewritingLaws.{GroupsSoFar, no_group, group_more, groups_read, values-drop}
 use Rattle.plan_tokens.proofs.rewriting.copy_groups.Goals as goal
@@ -10,7 +11,8 @@ all-init c = record { read = no_group (certificate_values c.args.certificates.no
 
 pub all-preserved : goal.all-preserved
 all-preserved c =
-    let going : (after_end_array c.all.reader ≡ None) × (c.take_end_array.new.self ≡ c.all.reader) = grind arith in
+    let same : c.take_end_array.new.self ≡ c.all.reader = grind arith in
+    let going : (after_end_array c.all.reader ≡ None) × (c.take_end_array.new.self ≡ c.all.reader) = going_on same c.in_ok-number.ensures.read.spells in
     let n = c.in_ok-number.number in
     let rest = c.all.rest in
     let left : drop (2 * n - 1) (certificate_values rest.now) ≡ certificate_values c.after-rest.result.now = sym (values-drop (2 * n - 1) rest.now) ∙ ap certificate_values (sym c.after-rest.ensures) in

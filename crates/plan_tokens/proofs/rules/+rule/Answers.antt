@@ -8,7 +8,7 @@ use Rattle.refutation.proofs.Rules.{rule_of-Dead, rule_of-Clash, rule_of-Open, r
 use Rattle.plan_tokens.specs.Heads.{head_members}
 use Rattle.plan_tokens.specs.Rules.{rule_data, rules_data}
 use Rattle.plan_tokens.specs.Spelled.{Spells, Goes}
-use Rattle.plan_tokens.proofs.Spelled.{up, with_key, ended, passed, list_read}
+use Rattle.plan_tokens.proofs.Spelled.{going_on, up, with_key, ended, passed, list_read}
 use Rattle.plan_tokens.proofs.Branches.{whole, last_key, object_read, joined-rules, in_range-more}
 use Rattle.plan_tokens.proofs.rules.+rule.Goals as goal
 
@@ -79,7 +79,8 @@ with_head-returns-in_ok-left-in-Split-clause-read t c = λ before goes.
 
 pub branches-branches-preserved : goal.branches-branches-preserved
 branches-branches-preserved t c =
-    let going : (after_end_array c.branches.reader ≡ None) × (c.take_end_array.new.self ≡ c.branches.reader) = grind arith in
+    let same : c.take_end_array.new.self ≡ c.branches.reader = grind arith in
+    let going : (after_end_array c.branches.reader ≡ None) × (c.take_end_array.new.self ≡ c.branches.reader) = going_on same c.in_ok-branch.ensures.read in
     record {
       read = passed rule_data (2 * c.args.levels + 1) _ c.branches.reader c.take_end_array.new.self c.rule.new.reader c.branches.rules.items c.push.new.list.items c.in_ok-branch.branch c.in_ok-push.ensures c.branches.invariant.read going c.in_ok-branch.ensures.read;
       ranges = in_range-more c.branches.rules.items c.push.new.list.items c.in_ok-branch.branch c.in_ok-push.ensures c.branches.invariant.ranges c.in_ok-branch.ensures.ranges;

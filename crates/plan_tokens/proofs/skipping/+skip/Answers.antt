@@ -1,38 +1,26 @@
-use Rattle.std.proofs.Common.{◌≡◌, ◌∷◌, None, true, false, sym, subst, arith}
+use Rattle.std.proofs.Common.{◌≡◌, ◌∷◌, None, true, false, subst, arith}
 use Rattle.json.specs.Json.{after_end_array}
-use Rattle.json.specs.Reads.{token_of}
 use Rattle.json.specs.Token.{Token}
-use Rattle.serde_json.specs.Data.{null, string}
-use Rattle.refutation.specs.Writing.{number_data}
 use Rattle.plan_tokens.specs.Spelled.{Spells}
 use Rattle.plan_tokens.specs.Skipped.{IsValue, KeyOrEnd}
-use Rattle.plan_tokens.proofs.Spelled.{up, number_read, string_read, null_read}
-use Rattle.plan_tokens.proofs.Passing.{a_value, item_more, items_passed, no_key, key_more, keys_passed}
+use Rattle.plan_tokens.proofs.Spelled.{going_on, up}
+use Rattle.plan_tokens.proofs.Passing.{item_more, items_passed, no_key, key_more, keys_passed}
+use Rattle.plan_tokens.proofs.Putting.{then_put}
 use Rattle.plan_tokens.proofs.skipping.+skip.Goals as goal
 
-pub skip_value-returns-in_ok-digits-in-Some-Number : goal.skip_value-returns-in_ok-digits-in-Some-Number
-skip_value-returns-in_ok-digits-in-Some-Number t c =
-    let begins : c.args.reader.now ≡ token_of c.in-Some-Number.field-0 ∷ c.next.new.self = grind arith in
-    let is : c.args.reader.now ≡ Token.number c.in-Some-Number.text.now ∷ c.next.new.self = grind (arith, begins) in
-    let n = c.in_ok-digits-in-Some-Number.field-0 in
-    a_value c.args.levels c.args.reader.now c.next.new.self (number_data n) (up 0 c.args.levels (omega arith) (subst (λ ts. Spells 0 ts c.next.new.self (number_data n)) (sym is) (number_read c.in-Some-Number.text.now n c.next.new.self c.in_ok-digits-in-Some-Number.ensures)))
-
-pub skip_value-returns-in-Some-String : goal.skip_value-returns-in-Some-String
-skip_value-returns-in-Some-String t c =
-    let begins : c.args.reader.now ≡ token_of c.in-Some-String.field-0 ∷ c.next.new.self = grind arith in
-    let text = c.in-Some-String.field-0-0.now in
-    let is : c.args.reader.now ≡ Token.string text ∷ c.next.new.self = grind (arith, begins) in
-    a_value c.args.levels c.args.reader.now c.next.new.self (string text) (up 0 c.args.levels (omega arith) (subst (λ ts. Spells 0 ts c.next.new.self (string text)) (sym is) (string_read text c.next.new.self)))
-
-pub skip_value-returns-in-Some-Null : goal.skip_value-returns-in-Some-Null
-skip_value-returns-in-Some-Null t c =
-    let begins : c.args.reader.now ≡ token_of c.in-Some-Null.field-0 ∷ c.next.new.self = grind arith in
-    let is : c.args.reader.now ≡ Token.null ∷ c.next.new.self = grind (arith, begins) in
-    a_value c.args.levels c.args.reader.now c.next.new.self null (up 0 c.args.levels (omega arith) (subst (λ ts. Spells 0 ts c.next.new.self null) (sym is) (null_read c.next.new.self)))
+pub skip_value-returns : goal.skip_value-returns
+skip_value-returns t c =
+    let same : c.take_array.new.self ≡ c.args.reader.now = grind arith in
+    then_put c.skip_leaf-2.result c.skip_leaf-2.ensures (λ s. record {
+      value = s.value;
+      spells = up 0 c.args.levels (omega arith) (subst (λ ts. Spells 0 ts c.skip_leaf-2.new.reader s.value) same s.spells);
+      holds = s.holds;
+    })
 
 pub skip_items-items-preserved : goal.skip_items-items-preserved
 skip_items-items-preserved t c =
-    let going : (after_end_array c.items.reader ≡ None) × (c.take_end_array.new.self ≡ c.items.reader) = grind arith in
+    let same : c.take_end_array.new.self ≡ c.items.reader = grind arith in
+    let going : (after_end_array c.items.reader ≡ None) × (c.take_end_array.new.self ≡ c.items.reader) = going_on same c.in_ok-skip_value.ensures.spells in
     item_more c.args.levels c.args.reader.now c.items.reader c.take_end_array.new.self c.skip_value.new.reader c.items.invariant going c.in_ok-skip_value.ensures
 
 pub skip_items-returns : goal.skip_items-returns
