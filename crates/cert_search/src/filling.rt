@@ -20,7 +20,7 @@ pub fn empty_places(
 ) -> Result<Vec<Option<Answer>>, AllocError>
     ensures { IfOk result (λ v. ArePlaces budget (all_lent claims.now) v.items) }
 {
-    let mut places = Vec::new(alloc);
+    let mut places = Vec::with_capacity(alloc, claims.len())?;
     for _ in claims {
         places.push(None)?;
     }

@@ -58,7 +58,7 @@ fn answers(
     ensures answers { IfOk result (λ v. AreAnswers budget (all_lent claims.now) (map rule_in v.items)) }
     ensures memory { IfErr result (λ e. e ≡ NoMemory) }
 {
-    let mut answers = Vec::new(alloc);
+    let mut answers = Vec::with_capacity(alloc, claims.len())?;
     for at in 0..claims.len() {
         answers.push(answer(alloc, claims, budget, places, at)?)?;
     }

@@ -1,7 +1,6 @@
 mod Branches
 mod ConfigurationLaws
 mod Converted
-mod Digits
 mod GroupLaws
 mod Passing
 mod Plans
@@ -12,4 +11,5 @@ mod Rooms
 mod Spelled
 mod Thresholds
 mod TokenLaws
+mod WriterLaws
 mod WritingLaws

@@ -24,16 +24,6 @@ then_put None h f = tt
 
 -- ---- single tokens
 
--- a token that the writer took
-pub token_put : {E : Type 0} (r : Result (Unit {0}) E) (old new : Written) (t : Token) → Writes r old new t → OnSome (result_ok r) (PutsToken t old new)
-token_put (Ok u) old new t w = record { tokens = w.ok; before = w.room.0 }
-token_put (Err e) old new t w = tt
-
--- the same of a value of one token
-pub value_put : {E : Type 0} (r : Result (Unit {0}) E) (old new : Written) (t : Token) (d : Data) → (PutsToken t old new → Puts d old new) → Writes r old new t → OnSome (result_ok r) (Puts d old new)
-value_put (Ok u) old new t d is w = is (record { tokens = w.ok; before = w.room.0 })
-value_put (Err e) old new t d is w = tt
-
 pub null_put : (old new : Written) → PutsToken Token.null old new → Puts null old new
 null_put old new t = record { value = (json.null, t.tokens, refl, omega arith, refl); before = t.before }
 

@@ -27,12 +27,7 @@ blank_passed t rest x is (inr (inl e)) = ap (lex between) (is ∙ ap (λ y. y �
 blank_passed t rest x is (inr (inr (inl e))) = ap (lex between) (is ∙ ap (λ y. y ∷ rest) e)
 blank_passed t rest x is (inr (inr (inr e))) = ap (lex between) (is ∙ ap (λ y. y ∷ rest) e)
 
--- before a comma or a closing bracket a word ends, and there is no colon
-pub word_ends : (t rest : List ℕ) (x : ℕ) → t ≡ x ∷ rest → (x ≡ 44) ⊎ ((x ≡ 93) ⊎ (x ≡ 125)) → ends_word t ≡ true
-word_ends t rest x is (inl e) = ap ends_word (is ∙ ap (λ y. y ∷ rest) e)
-word_ends t rest x is (inr (inl e)) = ap ends_word (is ∙ ap (λ y. y ∷ rest) e)
-word_ends t rest x is (inr (inr e)) = ap ends_word (is ∙ ap (λ y. y ∷ rest) e)
-
+-- before a comma or a closing bracket there is no colon
 pub no_colon : (t rest : List ℕ) (x : ℕ) → t ≡ x ∷ rest → (x ≡ 44) ⊎ ((x ≡ 93) ⊎ (x ≡ 125)) → begins_colon (lex between t) ≡ false
 unfolding lex
 no_colon t rest x is (inl e) = ap (λ s. begins_colon (lex between s)) (is ∙ ap (λ y. y ∷ rest) e)

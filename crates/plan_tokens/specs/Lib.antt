@@ -9,3 +9,4 @@ pub mod Rewritten
 pub mod Rules
 pub mod Skipped
 pub mod Spelled
+pub mod Writers

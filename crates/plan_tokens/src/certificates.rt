@@ -13,7 +13,7 @@ use crate::puts::{
     close_array, close_object, open_array, open_object, put_key, put_null, put_number_at,
     put_numbers, put_pairs, put_text_at,
 };
-use json::Writer;
+use crate::writer::Writer;
 use refutation::{Certificate, Refutation, Side};
 use std::alloc::{Allocator, Global};
 
@@ -38,10 +38,20 @@ fn put_dead(writer: &mut Writer, side: Side, item: u16) -> Option<()>
     close_object(writer)
 }
 
+/// A rule that the first items clash.
+fn put_first_clash(writer: &mut Writer) -> Option<()>
+    ensures { OnSome result (Puts (clash_data 0 0) writer.old writer.new) }
+{
+    writer.first_clash()
+}
+
 /// A rule that two items clash.
 fn put_clash(writer: &mut Writer, left: u16, right: u16) -> Option<()>
     ensures { OnSome result (Puts (clash_data left right) writer.old writer.new) }
 {
+    if left == 0 && right == 0 {
+        return put_first_clash(writer);
+    }
     open_object(writer)?;
     put_number_at(writer, "left", u64::from(left))?;
     put_number_at(writer, "right", u64::from(right))?;

@@ -12,7 +12,7 @@ use crate::puts::{
 };
 use crate::reader::Reader;
 use crate::tokens::{end, key, number, number_to, small_numbers, word};
-use json::Writer;
+use crate::writer::Writer;
 use std::alloc::Global;
 
 /// The weights of the children of a threshold after their key, and its end.

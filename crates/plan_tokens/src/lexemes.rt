@@ -70,7 +70,7 @@ fn is_ended(left: &[u8]) -> bool
 }
 
 /// Whether a byte stands in a string for itself.
-fn is_plain(byte: u8) -> bool
+pub(crate) fn is_plain(byte: u8) -> bool
     ensures { OnTrue result (IsPlain byte) }
 {
     match byte {

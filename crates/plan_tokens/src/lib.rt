@@ -16,6 +16,7 @@ mod rules;
 mod sizes;
 mod skipping;
 mod tokens;
+mod writer;
 mod writing;
 
 pub use reading::{read_in_order, read_plan};

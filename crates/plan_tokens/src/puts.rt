@@ -8,55 +8,55 @@ ghost use Rattle.refutation.specs.Ranges.{IsPairInRange};
 ghost use Rattle.refutation.specs.Writing.{number_data, numbers_data, pair_data, pairs_data};
 ghost use Rattle.plan_tokens.specs.Puts.{Puts, PutsMember, PutsToken};
 
-use json::Writer;
+use crate::writer::Writer;
 
 /// A key.
 pub(crate) fn put_key(writer: &mut Writer, name: &str) -> Option<()>
     ensures { OnSome result (PutsToken (token.key name.now) writer.old writer.new) }
 {
-    writer.key(name).ok()
+    writer.key(name)
 }
 
 /// The beginning of an object.
 pub(crate) fn open_object(writer: &mut Writer) -> Option<()>
     ensures { OnSome result (PutsToken token.begin_object writer.old writer.new) }
 {
-    writer.begin_object().ok()
+    writer.begin_object()
 }
 
 /// The end of an object.
 pub(crate) fn close_object(writer: &mut Writer) -> Option<()>
     ensures { OnSome result (PutsToken token.end_object writer.old writer.new) }
 {
-    writer.end_object().ok()
+    writer.end_object()
 }
 
 /// The beginning of a list.
 pub(crate) fn open_array(writer: &mut Writer) -> Option<()>
     ensures { OnSome result (PutsToken token.begin_array writer.old writer.new) }
 {
-    writer.begin_array().ok()
+    writer.begin_array()
 }
 
 /// The end of a list.
 pub(crate) fn close_array(writer: &mut Writer) -> Option<()>
     ensures { OnSome result (PutsToken token.end_array writer.old writer.new) }
 {
-    writer.end_array().ok()
+    writer.end_array()
 }
 
 /// A null.
 pub(crate) fn put_null(writer: &mut Writer) -> Option<()>
     ensures { OnSome result (Puts null writer.old writer.new) }
 {
-    writer.null().ok()
+    writer.null()
 }
 
 /// A text.
 pub(crate) fn put_text(writer: &mut Writer, text: &str) -> Option<()>
     ensures { OnSome result (Puts (string text.now) writer.old writer.new) }
 {
-    writer.string(text).ok()
+    writer.string(text)
 }
 
 /// A text, where it is one.
@@ -93,8 +93,8 @@ pub(crate) fn put_number(writer: &mut Writer, number: u64) -> Option<()>
     ensures { OnSome result (Puts (number_data number) writer.old writer.new) }
 {
     match digit_text(number) {
-        Some(text) => writer.number(text).ok(),
-        None => writer.u64(number).ok(),
+        Some(text) => writer.number(text),
+        None => writer.long_number(number),
     }
 }
 

@@ -23,7 +23,7 @@ use crate::puts::{
 use crate::reader::Reader;
 use crate::skipping::skip_value;
 use crate::tokens::{any_key, begin_array, begin_object, end, is, key, small_numbers};
-use json::Writer;
+use crate::writer::Writer;
 use refutation::Certificate;
 use std::alloc::Global;
 

@@ -1,6 +1,7 @@
 //! Texts of plans, with other certificates.
 
 ghost use Rattle.std.specs.Prelude.{◌≡◌, List, [], Some, None, IfOk, IfSome, OnSome, IsOkAnd, Ok, codes, length, map, option_map};
+ghost use Rattle.std.specs.Str.{IsUtf8};
 ghost use Rattle.json.specs.Json.{read_key};
 ghost use Rattle.json.specs.Token.{Token as SpecToken};
 ghost use Rattle.json.specs.Written.{Written};
@@ -17,7 +18,7 @@ use crate::reader::Reader;
 use crate::rewriting::copy_groups;
 use crate::sizes::room_for;
 use crate::tokens::{any_key, begin_object, end, is, key, number};
-use json::Writer;
+use crate::writer::Writer;
 use refutation::Certificate;
 use std::alloc::{AllocError, Global};
 
@@ -227,6 +228,17 @@ fn writer_of(alloc: Global, room: usize) -> Option<Writer>
     }
 }
 
+/// Bytes that are a text of the encoding.
+fn valid(bytes: Vec<u8>) -> Option<Vec<u8>>
+    ensures same { IfSome result (λ text. text.items ≡ bytes.items) }
+    ensures valid { IfSome result (λ text. IsUtf8 text.items) }
+{
+    match simdutf8::basic::from_utf8(&bytes) {
+        Ok(_) => Some(bytes),
+        Err(_) => None,
+    }
+}
+
 /// The text of a plan with these certificates, where nothing stands behind it and its keys come in the order of the format or in that of the
 /// alphabet; none for another text, or where memory runs out.
 fn quick_text(
@@ -240,11 +252,11 @@ fn quick_text(
     let mut reader = Reader::new(text.as_bytes());
     let mut writer = writer_of(alloc, room)?;
     copy_plan(alloc, &mut reader, &mut writer, certificates)?;
-    if reader.is_at_end() {
-        Some(writer.into_inner())
-    } else {
-        None
+    if !reader.is_at_end() {
+        return None;
     }
+    let bytes = valid(writer.into_text())?;
+    Some(bytes)
 }
 
 /// The same of the bytes of a text that has claims.
