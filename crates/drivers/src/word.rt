@@ -1,9 +1,9 @@
 //! What one order came to, told once to all that wait for it.
 
 use journal::Receipt;
-use std::hint::spin_loop;
 use std::sync::Wait;
 use std::sync::atomic::{AtomicU64, Ordering};
+use std::thread::yield_now;
 use volume_model::Fault;
 
 /// Nothing is told yet.
@@ -21,8 +21,8 @@ const STARVED: u64 = 3;
 /// The order was made. What the state is above this is the number of its messages.
 const MADE: u64 = 4;
 
-/// How often a thread looks before it sleeps: for about as long as another one takes to wake and to make a step.
-const LOOKS: u32 = 1000;
+/// How often a thread looks before it sleeps. Between two looks it lets another thread run, which may be the one that tells.
+const LOOKS: u32 = 100;
 
 /// What an order came to.
 #[derive(Clone, Copy)]
@@ -102,7 +102,7 @@ impl Word {
         }
     }
 
-    /// What it came to, for which it waits: it looks again and again for a short while, and then sleeps.
+    /// What it came to, for which it waits: it looks again and again for a short while, in which others may run, and then sleeps.
     pub fn wait<R: Wait>(&self, rt: &R) -> Told {
         let mut looks = 0;
         for _ in rt.forever() {
@@ -112,7 +112,7 @@ impl Word {
             }
             if looks < LOOKS {
                 looks += 1;
-                spin_loop();
+                yield_now();
             } else if state == AWAITED || self.start_sleeping() {
                 self.state.park(rt, AWAITED as u32);
             }

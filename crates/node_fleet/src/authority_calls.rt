@@ -8,6 +8,7 @@ ghost use Rattle.node_fleet.specs.Halts.{Halts};
 
 use crate::fleet::Fleet;
 use crate::halt::Halt;
+use crate::locking::taken;
 use journal::{Pass, Receipt, Site};
 use std::sync::Wait;
 use volume_model::Fault;
@@ -24,8 +25,8 @@ impl<'a, L: Site> Fleet<'a, L> {
         ensures told { Halts (event_by act) result (steps_of pass.old) (steps_of pass.new) (notes_of pass.old) (notes_of pass.new) }
         ensures seat { seat_of pass.new ≡ seat_of pass.old }
     {
-        let mut actor = self.authority.lock(rt);
-        let mut log = self.journal.lock(rt);
+        let mut actor = taken(rt, &self.authority);
+        let mut log = taken(rt, &self.journal);
         actor.act(
             rt,
             self.alloc,

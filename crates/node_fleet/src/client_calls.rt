@@ -12,6 +12,7 @@ use crate::client_deed::ClientDeed;
 use crate::client_tried::tried;
 use crate::fleet::Fleet;
 use crate::halt::Halt;
+use crate::locking::taken;
 use crate::step::refused;
 use journal::{Log, Pass, Receipt, Site, Who};
 use std::sync::{Mutex, Wait};
@@ -84,7 +85,7 @@ impl<'a, L: Site> Fleet<'a, L> {
         if pass.reserve().is_err() {
             return Halt::Refused(Fault::NoMemory);
         }
-        let mut log = self.journal.lock(rt);
+        let mut log = taken(rt, &self.journal);
         if volume == 1 || log.has_place(Who::Client(volume)) {
             return Halt::Again;
         }
@@ -119,13 +120,13 @@ impl<'a, L: Site> Fleet<'a, L> {
         let Some(client) = self.client(volume) else {
             return Err(self.refuse_slotless(rt, pass, volume, deed));
         };
-        let mut actor = client.lock(rt);
+        let mut actor = taken(rt, client);
         if actor.volume() != volume {
             return Err(Halt::Again);
         }
         let raises = moves(&deed);
         let receipt = {
-            let mut log = self.journal.lock(rt);
+            let mut log = taken(rt, &self.journal);
             actor.act(rt, self.alloc, &self.height, &mut log, pass, deed)?
         };
         if raises {

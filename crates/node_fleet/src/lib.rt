@@ -14,6 +14,7 @@ mod deed;
 mod fleet;
 mod gate;
 mod halt;
+mod locking;
 mod mail;
 mod node;
 mod node_calls;

@@ -14,6 +14,7 @@ use crate::deed::NodeDeed;
 use crate::fleet::Fleet;
 use crate::gate::StepGate;
 use crate::halt::Halt;
+use crate::locking::taken;
 use crate::node::NodeActor;
 use journal::{Letter, Log, Pass, Receipt, Site};
 use std::sync::{Mutex, Wait};
@@ -81,7 +82,7 @@ impl<'a, L: Site> Fleet<'a, L> {
             for _ in rt.forever() {}
             unreachable!()
         }
-        let mut log = self.journal.lock(rt);
+        let mut log = taken(rt, &self.journal);
         self.refuse_missing(&mut log, pass, event)
     }
 
@@ -101,7 +102,7 @@ impl<'a, L: Site> Fleet<'a, L> {
         ensures found { IfOk result (λ letter. letter_number letter ≡ message) }
         ensures own { IfErr result (λ fault. Unmade message (steps_of pass.old) fault) }
     {
-        let mut log = self.journal.lock(rt);
+        let mut log = taken(rt, &self.journal);
         if u64::from(group) >= log.joined() {
             let event = Event::Deliver {
                 group,
@@ -131,7 +132,7 @@ impl<'a, L: Site> Fleet<'a, L> {
         ensures found { IfErr result (λ halt. halt ≢ Refused NoMessage) }
         ensures seat { seat_of pass.new ≡ seat_of pass.old }
     {
-        let mut actor = node.lock(rt);
+        let mut actor = taken(rt, node);
         if actor.group() != group || actor.member() != member {
             return Err(Halt::Again);
         }
@@ -202,11 +203,11 @@ impl<'a, L: Site> Fleet<'a, L> {
         ensures found { IfErr result (λ halt. halt ≢ Refused NoMessage) }
         ensures seat { seat_of pass.new ≡ seat_of pass.old }
     {
-        let mut actor = node.lock(rt);
+        let mut actor = taken(rt, node);
         if actor.group() != group || actor.member() != member {
             return Err(Halt::Again);
         }
-        let mut log = self.journal.lock(rt);
+        let mut log = taken(rt, &self.journal);
         actor.act(rt, self.alloc, &self.height, &mut log, pass, deed)
     }
 

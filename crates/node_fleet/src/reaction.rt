@@ -4,6 +4,7 @@ ghost use Rattle.std.specs.Prelude.{◌≡◌};
 
 use crate::gate::StepGate;
 use crate::halt::Halt;
+use crate::locking::taken;
 use crate::node::NodeActor;
 use crate::step::{ready, refused};
 use height::Height;
@@ -145,11 +146,11 @@ impl<L: Site> NodeActor<L> {
         match self.prepare(alloc, letter) {
             Ok(prepared) => {
                 gate.prepared(prepared.answers());
-                let mut log = journal.lock(rt);
+                let mut log = taken(rt, journal);
                 self.receive(rt, height, &mut log, pass, letter, prepared)
             }
             Err(fault) => {
-                let mut log = journal.lock(rt);
+                let mut log = taken(rt, journal);
                 self.decline(height, &mut log, pass, letter, fault)
             }
         }
