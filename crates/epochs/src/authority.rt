@@ -31,8 +31,10 @@ impl Authority {
     ghost use Rattle.wire.specs.Message.{place_of};
     ghost use Rattle.epochs.specs.Authority.{authority_of, authority_plan, told, grew};
 
-    /// The authority of a new volume: volume epoch 1 is assigned, and each group that is there at birth stands at its root. Fails for want of
-    /// memory alone.
+    /// The authority of a new volume: volume epoch 1 is assigned, and each group that is there at birth stands at its root.
+    ///
+    /// # Errors
+    /// `NoMemory` where a growth was refused.
     pub fn new(alloc: Global, plan: Arc<CheckedPlan>) -> Result<Authority, Fault>
         ensures authority { AnswersNew authority_of (Ok (opening (checked_model (arc_value plan))).authority) result }
         ensures plan { IfOk result (λ a. authority_plan a ≡ checked_model (arc_value plan)) }
@@ -87,7 +89,10 @@ impl Authority {
         Ok(places)
     }
 
-    /// Whether it would assign a volume epoch: `EpochsSpent` where none is left. Takes no memory.
+    /// Whether it would assign a volume epoch. Takes no memory.
+    ///
+    /// # Errors
+    /// `EpochsSpent` where no volume epoch is left.
     pub fn admits_assign(&self) -> Result<(), Fault>
         ensures { result ≡ refusal_of (assigned (authority_plan self.now) (authority_of self.now)) }
     {
@@ -97,8 +102,11 @@ impl Authority {
         Ok(())
     }
 
-    /// Assigns the next volume epoch, and makes the View that begins its recovery. `EpochsSpent` where no volume epoch is left,
-    /// `NoMemory` where there is no memory for the View.
+    /// Assigns the next volume epoch, and makes the View that begins its recovery.
+    ///
+    /// # Errors
+    /// `EpochsSpent` where no volume epoch is left, and `NoMemory` where there is no memory for the View; the authority is what it was
+    /// then.
     pub fn assign(&mut self, alloc: Global) -> Result<Message, Fault>
         ensures answers { Answers told (assigned (authority_plan self.old) (authority_of self.old)) (authority_of self.old) result (authority_of self.new) }
         ensures plan { authority_plan self.new ≡ authority_plan self.old }
@@ -135,8 +143,10 @@ impl Authority {
         Ok(child)
     }
 
-    /// Whether it would lead a group to a child of its configuration: else `NoGroup` where no such group has joined, `NotInPlan` where the
-    /// group's configuration has no such child. Takes no memory.
+    /// Whether it would lead a group to a child of its configuration. Takes no memory.
+    ///
+    /// # Errors
+    /// `NoGroup` where no such group has joined, and `NotInPlan` where the group's configuration has no such child.
     pub fn admits_advance(&self, group: u8, configuration: u32) -> Result<(), Fault>
         ensures { result ≡ refusal_of (advanced (authority_plan self.now) (authority_of self.now) group configuration) }
     {
@@ -146,8 +156,10 @@ impl Authority {
         }
     }
 
-    /// Leads a group to a child of its configuration, and makes the message that tells its nodes. Refused as
-    /// [`Authority::admits_advance`] says. Takes no memory.
+    /// Leads a group to a child of its configuration, and makes the message that tells its nodes. Takes no memory.
+    ///
+    /// # Errors
+    /// As [`Authority::admits_advance`] says; the authority is what it was then.
     pub fn advance(&mut self, group: u8, configuration: u32) -> Result<Message, Fault>
         ensures answers { AnswersAlways told (advanced (authority_plan self.old) (authority_of self.old) group configuration) (authority_of self.old) result (authority_of self.new) }
         ensures plan { authority_plan self.new ≡ authority_plan self.old }
@@ -163,8 +175,10 @@ impl Authority {
         }))
     }
 
-    /// Whether it would tell the client of a volume epoch where the groups stand: `Superseded` for any but the last volume epoch. Takes no
-    /// memory.
+    /// Whether it would tell the client of a volume epoch where the groups stand. Takes no memory.
+    ///
+    /// # Errors
+    /// `Superseded` for any but the last volume epoch.
     pub fn admits_refresh(&self, volume: u32) -> Result<(), Fault>
         ensures { result ≡ refusal_of (refreshed (authority_plan self.now) (authority_of self.now) volume) }
     {
@@ -174,8 +188,10 @@ impl Authority {
         Ok(())
     }
 
-    /// Tells the client of the last volume epoch where the groups stand now. `Superseded` for any other volume epoch, `NoMemory` where
-    /// there is no memory for the View.
+    /// Tells the client of the last volume epoch where the groups stand now.
+    ///
+    /// # Errors
+    /// `Superseded` for any other volume epoch, and `NoMemory` where there is no memory for the View.
     pub fn refresh(&self, alloc: Global, volume: u32) -> Result<Message, Fault>
         ensures { Answers told (refreshed (authority_plan self.now) (authority_of self.now) volume) (authority_of self.now) result (authority_of self.now) }
     {
@@ -187,7 +203,10 @@ impl Authority {
             places: self.places(alloc)?,
         }))
     }
-    /// Whether it would let the next group join: `AllGrown` where every group of the plan has joined. Takes no memory.
+    /// Whether it would let the next group join. Takes no memory.
+    ///
+    /// # Errors
+    /// `AllGrown` where every group of the plan has joined.
     pub fn admits_grow(&self) -> Result<(), Fault>
         ensures { result ≡ refusal_of (grown (authority_plan self.now) (authority_of self.now)) }
     {
@@ -197,8 +216,10 @@ impl Authority {
         Ok(())
     }
 
-    /// Lets the next group join, which stands at its root. Refused as [`Authority::admits_grow`] says, and `NoMemory` where there is no
-    /// memory for its number.
+    /// Lets the next group join, which stands at its root.
+    ///
+    /// # Errors
+    /// As [`Authority::admits_grow`] says, and `NoMemory` where there is no memory for its place; the authority is what it was then.
     pub fn grow(&mut self) -> Result<(), Fault>
         ensures answers { Answers grew (grown (authority_plan self.old) (authority_of self.old)) (authority_of self.old) result (authority_of self.new) }
         ensures plan { authority_plan self.new ≡ authority_plan self.old }

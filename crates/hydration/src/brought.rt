@@ -60,6 +60,9 @@ fn newest_brought<'a>(copies: &'a [Collected], last: &'a Lineage) -> &'a Lineage
 }
 
 /// The newest lineage of the complete copies, and none where there is no such copy.
+///
+/// # Errors
+/// Where a growth was refused.
 pub(crate) fn newest_copied(alloc: Global, copies: &[Collected]) -> Result<Lineage, AllocError>
     ensures { IfOk result (λ lineage. lineage_of lineage ≡ newest (brought (all_collected copies.now))) }
 {
@@ -79,6 +82,9 @@ fn united_records(alloc: Global, copy: &Collected) -> Result<RecordSet, AllocErr
 }
 
 /// All records of the complete copies that are live in the lineage, copy by copy.
+///
+/// # Errors
+/// Where a growth was refused.
 pub(crate) fn copied_in(
     alloc: Global,
     lineage: &Lineage,

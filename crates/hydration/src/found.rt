@@ -35,7 +35,10 @@ pub fn newest_with<'a>(copies: &'a [Copied], last: &'a Lineage) -> &'a Lineage
     }
 }
 
-/// A set of records with all those of the copies that are live in the lineage. Fails for want of memory alone.
+/// A set of records with all those of the copies that are live in the lineage.
+///
+/// # Errors
+/// Where a growth was refused.
 pub fn with_found(
     alloc: Global,
     lineage: &Lineage,

@@ -106,8 +106,11 @@ impl Hydration {
         )
     }
 
-    /// Makes ready to keep a piece of what a member says that it holds: makes the room and the copy. `NotAddressed` where the sender is
-    /// no member, `BadPiece` where it can't be a piece beside those that are kept of the member.
+    /// Makes ready to keep a piece of what a member says that it holds: makes the room and the copy. What is kept stays what it was.
+    ///
+    /// # Errors
+    /// `NotAddressed` where the sender is no member, `BadPiece` where it can't be a piece beside those that are kept of the member, and
+    /// `NoMemory` where neither applies and a growth was refused.
     pub fn prepare(&mut self, report: &CopyReport) -> Result<Keeping, Fault>
         ensures copy { Answers kept_by (kept_after report.now (copies_of self.old)) (copies_of self.old) result (copies_of self.old) }
         ensures ready { IfOk result (CanKeep self.new) }
@@ -144,7 +147,9 @@ impl Hydration {
     }
 
     /// Keeps a piece of what a member says that it holds: of each member one series is kept, and the first piece of each number.
-    /// `NotAddressed` where the sender is no member, `BadPiece` where it can't be a piece beside those that are kept of the member.
+    ///
+    /// # Errors
+    /// As [`Hydration::prepare`] says; what is kept is what it was then.
     pub fn take(&mut self, report: &CopyReport) -> Result<(), Fault>
         ensures { Answers just (kept_after report.now (copies_of self.old)) (copies_of self.old) result (copies_of self.new) }
     {

@@ -30,7 +30,10 @@ impl Pieces {
     ghost use Rattle.hydration.specs.Pieces.{seen_pieces};
     ghost use Rattle.hydration.specs.Changes.{CanChange, changed};
 
-    /// The first piece of a series, of which no other is kept. Fails for want of memory alone.
+    /// The first piece of a series, of which no other is kept.
+    ///
+    /// # Errors
+    /// Where a growth was refused.
     pub fn first(
         alloc: Global,
         series: u64,
@@ -115,7 +118,10 @@ impl Pieces {
     }
 
     /// Makes ready to keep a piece of this series: makes the room and the copy, and nothing where the piece of this number is kept
-    /// already. Fails for want of memory alone.
+    /// already. What is kept stays what it was.
+    ///
+    /// # Errors
+    /// Where a growth was refused.
     pub fn prepare(&mut self, piece: u16, contents: &Contents) -> Result<Change, AllocError>
         requires { piece < (seen_pieces self.old).of }
         ensures change { IfOk result (λ change. changed change (seen_pieces self.old) ≡ with_piece (seen_pieces self.old) (piece_in piece (seen_pieces self.old).of) (contents_of contents.now)) }
@@ -133,7 +139,10 @@ impl Pieces {
     }
 
     /// Makes ready to keep a piece of a copy: a complete copy is left as it is, a later one replaces the kept pieces, and an earlier one
-    /// changes nothing. Fails for want of memory alone.
+    /// changes nothing. What is kept stays what it was.
+    ///
+    /// # Errors
+    /// Where a growth was refused.
     pub fn prepare_series(
         &mut self,
         alloc: Global,
@@ -187,7 +196,10 @@ impl Pieces {
         }
     }
 
-    /// The records of all kept pieces, as a set. Fails for want of memory alone.
+    /// The records of all kept pieces, as a set.
+    ///
+    /// # Errors
+    /// Where a growth was refused.
     pub fn join(&self, alloc: Global) -> Result<RecordSet, AllocError>
         ensures { IfOk result (λ set. records_of set ≡ united (contents_in (seen_pieces self.now))) }
     {
@@ -195,7 +207,10 @@ impl Pieces {
         joined(alloc, parts)
     }
 
-    /// The records of all pieces that are kept once the change is made, as a set. Fails for want of memory alone.
+    /// The records of all pieces that are kept once the change is made, as a set.
+    ///
+    /// # Errors
+    /// Where a growth was refused.
     pub fn join_with(&self, alloc: Global, change: &Change) -> Result<RecordSet, AllocError>
         ensures { IfOk result (λ set. records_of set ≡ united (contents_in (changed change.now (seen_pieces self.now)))) }
     {

@@ -19,14 +19,20 @@ use serde_json::Value;
 use std::alloc::Global;
 use volume_model::Fault;
 
-/// The value at a key of an object. `Malformed` where there is none.
+/// The value at a key of an object.
+///
+/// # Errors
+/// [`Fault::Malformed`] where there is none, or the value is no object.
 pub fn value_at<'v>(value: &'v Value, key: &str) -> Result<&'v Value, Fault>
     ensures { Gives (λ v. view v.now) result (at_key key.now (view value.now)) }
 {
     value.get(key).ok_or(Fault::Malformed)
 }
 
-/// A whole number from 0. `Malformed` for another value.
+/// A whole number from 0.
+///
+/// # Errors
+/// [`Fault::Malformed`] for another value.
 pub fn whole(value: &Value) -> Result<u64, Fault>
     ensures given { Gives (λ n. n) result (whole_of (view value.now)) }
     ensures own { IfErr result (λ fault. fault ≢ Fault.NoMemory) }

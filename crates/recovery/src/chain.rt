@@ -11,6 +11,9 @@ use redo_record::{Packet, RecordSet};
 use std::alloc::{AllocError, Global};
 
 /// The first record of each LSN of a set: the set itself, shared with it, where no LSN stands twice.
+///
+/// # Errors
+/// Where a growth was refused.
 pub fn firsts(alloc: Global, set: &RecordSet) -> Result<RecordSet, AllocError>
     ensures growing { IfOk result (λ firsts. is_growing (log_of_set firsts) ≡ true) }
     ensures same { IfOk result (λ firsts. (n : ℕ) → record_at (log_of_set firsts) n ≡ record_at (records_of set.now) n) }
@@ -73,6 +76,9 @@ fn chain_packets(alloc: Global, records: &[Packet], lsn: u64) -> Result<Vec<Pack
 }
 
 /// The chain by `prev_volume` from an LSN down to 0: a part of the records, shared with them, where no others stand between.
+///
+/// # Errors
+/// Where a growth was refused.
 pub fn chain_of(alloc: Global, records: &RecordSet, lsn: u64) -> Result<RecordSet, AllocError>
     requires growing { is_growing (log_of_set records.now) ≡ true }
     requires there { is_some (chain_from lsn (log_of_set records.now) lsn) ≡ true }

@@ -24,7 +24,10 @@ pub fn is_growing(records: &[Packet]) -> bool
 }
 
 /// The cut of records that stand in growing LSN: the greatest consistency point from which `prev_volume` leads through the records
-/// down to 0, else 0. Fails for want of memory alone.
+/// down to 0, else 0.
+///
+/// # Errors
+/// `NoMemory` where a growth was refused.
 pub fn cut_of(alloc: Global, records: &[Packet]) -> Result<u64, Fault>
     requires { is_growing (log_of records.now) ≡ true }
     ensures { Gives (λ cut. cut) result (Ok (cut_of (log_of records.now))) }

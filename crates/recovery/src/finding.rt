@@ -19,8 +19,10 @@ use std::alloc::Global;
 use volume_model::Fault;
 use writer_core::Standings;
 
-/// What a recovery of this volume epoch finds in the reports that it has. `LsnSpent` where its own numbers would begin above the
-/// greatest.
+/// What a recovery of this volume epoch finds in the reports that it has.
+///
+/// # Errors
+/// `LsnSpent` where its own numbers would begin above the greatest, and `NoMemory`, which may come before it, where a growth was refused.
 pub fn find(alloc: Global, volume: u32, standings: &Standings) -> Result<Found, Fault>
     requires assigned { 1 ≤ volume }
     requires older { are_older volume (groups_in standings.now) ≡ true }

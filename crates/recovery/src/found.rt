@@ -29,7 +29,10 @@ impl Found {
     ghost use Rattle.recovery.specs.Finds.{IsFindOf};
 
     /// What the recovery had found that has become this writer. The writer that a volume is born with was none: of it that is no record,
-    /// and its lineage. Fails for want of memory alone.
+    /// and its lineage.
+    ///
+    /// # Errors
+    /// Where a growth was refused.
     pub fn of_writer(writer: &Writer) -> Result<Found, AllocError>
         ensures { IfOk result (IsFindOf (client_of writer.now)) }
     {

@@ -36,7 +36,10 @@ impl Led {
         self.numbers.binary_search(&number).is_ok()
     }
 
-    /// Adds a number that none of these is above. Fails for want of memory alone.
+    /// Adds a number that none of these is above.
+    ///
+    /// # Errors
+    /// Where a growth was refused.
     pub fn push(&mut self, number: u64) -> Result<(), AllocError>
         requires { (n : ℕ) → is_led self.old n ≡ true → n ≤ number }
         ensures { OnOk result ((n : ℕ) → is_led self.new n ≡ (if number == n then true else is_led self.old n)) }

@@ -56,8 +56,11 @@ impl Recovery {
         Ok(view)
     }
 
-    /// Whether a message makes a recovery: `NotAddressed` where it is no View, `NotInPlan` where its places aren't those of the plan's
-    /// first groups, of all that are there at birth at least, each at one of its configurations. Takes no memory.
+    /// Whether a message makes a recovery. Takes no memory.
+    ///
+    /// # Errors
+    /// `NotAddressed` where it is no View, and `NotInPlan` where its places aren't those of the plan's first groups, of all that are there
+    /// at birth at least, each at one of its configurations.
     pub fn admits_birth(plan: &CheckedPlan, message: &Message) -> Result<(), Fault>
         ensures refusal { result ≡ refusal_of (birth_of (checked_model plan.now) (message_of message.now)) }
         ensures own { IfErr result (λ fault. fault ≢ NoMemory) }
@@ -68,7 +71,10 @@ impl Recovery {
         }
     }
 
-    /// A recovery from its first View, with one Fence a group of the View. Refused as [`Recovery::admits_birth`] says.
+    /// A recovery from its first View, with one Fence a group of the View.
+    ///
+    /// # Errors
+    /// As [`Recovery::admits_birth`] says, and `NoMemory` where a growth was refused.
     pub fn new(
         alloc: Global,
         plan: Arc<CheckedPlan>,
@@ -107,8 +113,11 @@ impl Recovery {
         self.standings.plan().groups()
     }
 
-    /// Whether a later View can be taken: `NotAddressed` where it is one of another volume epoch, `NotInPlan` where its places aren't
-    /// those of the plan's first groups, of all that are there at birth at least, each at one of its configurations. Takes no memory.
+    /// Whether a later View can be taken. Takes no memory.
+    ///
+    /// # Errors
+    /// `NotAddressed` where it is one of another volume epoch, and `NotInPlan` where its places aren't those of the plan's first groups, of
+    /// all that are there at birth at least, each at one of its configurations.
     pub fn admits_view(&self, view: &View) -> Result<(), Fault>
         ensures refusal { result ≡ refusal_of (taken (recovery_plan self.now) (recovery_volume self.now) (client_of self.now) (message_of (Message.View view.now))) }
         ensures epoch { OnOk result (view.now.volume ≡ recovery_volume self.now) }
@@ -125,7 +134,10 @@ impl Recovery {
     }
 
     /// Takes a later View. Each group moves to its place where that is one of a later epoch, which a group that is new always is; for each
-    /// such group it makes a Fence before its cut, when the group's reports no longer count, and the group's Installs after it. Refused as [`Recovery::admits_view`] says.
+    /// such group it makes a Fence before its cut, when the group's reports no longer count, and the group's Installs after it.
+    ///
+    /// # Errors
+    /// As [`Recovery::admits_view`] says, and `NoMemory` where a growth was refused; the recovery is what it was then.
     pub fn view(&mut self, alloc: Global, view: &View) -> Result<Vec<Message>, Fault>
         ensures answers { Answers acted (taken (recovery_plan self.old) (recovery_volume self.old) (client_of self.old) (message_of (Message.View view.now))) (client_of self.old) result (client_of self.new) }
         ensures plan { recovery_plan self.new ≡ recovery_plan self.old }
@@ -147,8 +159,10 @@ impl Recovery {
         }
     }
 
-    /// Whether what a node says that it holds can be taken: `NotAddressed` where it isn't said to this recovery, of a group of the volume
-    /// with records of that group, by a member. Takes no memory.
+    /// Whether what a node says that it holds can be taken. Takes no memory.
+    ///
+    /// # Errors
+    /// `NotAddressed` where it isn't said to this recovery, of a group of the volume with records of that group, by a member.
     pub fn admits_report(&self, report: &Report) -> Result<(), Fault>
         ensures refusal { result ≡ refusal_of (taken (recovery_plan self.now) (recovery_volume self.now) (client_of self.now) (message_of (Message.Report report.now))) }
         ensures can { OnOk result (is_for (recovery_volume self.now) (recovery_plan self.now).groups (message_of (Message.Report report.now)) ≡ true) }
@@ -160,8 +174,11 @@ impl Recovery {
         Ok(())
     }
 
-    /// Takes what a node says that it holds. Refused as [`Recovery::admits_report`] says. It counts before the cut, where its membership
-    /// epoch is the group's and its lineage is older than the recovery, and it is the member's first; else it changes nothing.
+    /// Takes what a node says that it holds. It counts before the cut, where its membership epoch is the group's and its lineage is older
+    /// than the recovery, and it is the member's first; else it changes nothing.
+    ///
+    /// # Errors
+    /// As [`Recovery::admits_report`] says, and `NoMemory` where a growth was refused; the recovery is what it was then.
     pub fn take_report(&mut self, report: &Report) -> Result<(), Fault>
         ensures answers { Answers silent (taken (recovery_plan self.old) (recovery_volume self.old) (client_of self.old) (message_of (Message.Report report.now))) (client_of self.old) result (client_of self.new) }
         ensures plan { recovery_plan self.new ≡ recovery_plan self.old }
@@ -178,8 +195,10 @@ impl Recovery {
         Ok(())
     }
 
-    /// Whether an acknowledgement can be taken: `NotAddressed` where it isn't one to this recovery, of a group of the volume and a
-    /// member. Takes no memory.
+    /// Whether an acknowledgement can be taken. Takes no memory.
+    ///
+    /// # Errors
+    /// `NotAddressed` where it isn't one to this recovery, of a group of the volume and a member.
     pub fn admits_ack(&self, ack: &Ack) -> Result<(), Fault>
         ensures refusal { result ≡ refusal_of (taken (recovery_plan self.now) (recovery_volume self.now) (client_of self.now) (message_of (Message.Ack ack.now))) }
         ensures can { OnOk result (is_for (recovery_volume self.now) (recovery_plan self.now).groups (message_of (Message.Ack ack.now)) ≡ true) }
@@ -191,8 +210,10 @@ impl Recovery {
         Ok(())
     }
 
-    /// Takes an acknowledgement. Refused as [`Recovery::admits_ack`] says. It is counted after the cut, where its membership epoch is at
-    /// most the group's; else it changes nothing.
+    /// Takes an acknowledgement. It is counted after the cut, where its membership epoch is at most the group's; else it changes nothing.
+    ///
+    /// # Errors
+    /// As [`Recovery::admits_ack`] says, and `NoMemory` where a growth was refused; the recovery is what it was then.
     pub fn take_ack(&mut self, ack: &Ack) -> Result<(), Fault>
         ensures answers { Answers silent (taken (recovery_plan self.old) (recovery_volume self.old) (client_of self.old) (message_of (Message.Ack ack.now))) (client_of self.old) result (client_of self.new) }
         ensures plan { recovery_plan self.new ≡ recovery_plan self.old }
@@ -219,9 +240,12 @@ impl Recovery {
         find(alloc, self.volume, &self.standings)
     }
 
-    /// Whether it can cut the log that the reports hold: `AlreadyDone` where it has cut, `NotReady` where in some group the senders of its
-    /// reports are no read set, `LsnSpent` where its own numbers would begin above the greatest; want of memory may come before
-    /// `LsnSpent`, since the log is found first.
+    /// Whether it can cut the log that the reports hold.
+    ///
+    /// # Errors
+    /// `AlreadyDone` where it has cut, `NotReady` where in some group the senders of its reports are no read set, and `LsnSpent` where its
+    /// own numbers would begin above the greatest; `NoMemory`, which may come before `LsnSpent`, since the log is found first, where a
+    /// growth was refused.
     pub fn admits_cut(&self, alloc: Global) -> Result<(), Fault>
         ensures { AnswersLate is_spent admitted (refusal_of (cut_client (recovery_plan self.now) (recovery_volume self.now) (client_of self.now))) tt result tt }
     {
@@ -232,7 +256,10 @@ impl Recovery {
     }
 
     /// Cuts the log that the reports hold, and makes the Installs of what it has found, one a piece of a group: the newest
-    /// lineage with its own entry, and the log up to the cut. Refused as [`Recovery::admits_cut`] says.
+    /// lineage with its own entry, and the log up to the cut.
+    ///
+    /// # Errors
+    /// As [`Recovery::admits_cut`] says; the recovery is what it was then.
     pub fn cut(&mut self, alloc: Global) -> Result<Vec<Message>, Fault>
         ensures answers { AnswersLate is_spent acted (cut_client (recovery_plan self.old) (recovery_volume self.old) (client_of self.old)) (client_of self.old) result (client_of self.new) }
         ensures plan { recovery_plan self.new ≡ recovery_plan self.old }
@@ -272,8 +299,10 @@ impl Recovery {
         self.found.as_ref()
     }
 
-    /// Whether it can become a writer: `NotReady` before its cut, and until the members of a write set of each group have acknowledged
-    /// what it installed. Takes no memory.
+    /// Whether it can become a writer. Takes no memory.
+    ///
+    /// # Errors
+    /// `NotReady` before its cut, and until the members of a write set of each group have acknowledged what it installed.
     pub fn admits_open(&self) -> Result<(), Fault>
         ensures refusal { result ≡ refusal_of (opened (recovery_plan self.now) (client_of self.now)) }
         ensures cut { OnOk result (has_cut (client_of self.now).stage ≡ true) }
@@ -285,8 +314,10 @@ impl Recovery {
         Ok(())
     }
 
-    /// The writer that it becomes once the members of a write set of each group have acknowledged what it installed; `NotReady` before
-    /// that, and the recovery is handed back as it was. Takes no memory.
+    /// The writer that it becomes once the members of a write set of each group have acknowledged what it installed. Takes no memory.
+    ///
+    /// # Errors
+    /// As [`Recovery::admits_open`] says, with the recovery as it was.
     pub fn open(self) -> Result<Writer, (Fault, Recovery)>
         ensures opens { Opens (opened (recovery_plan self) (client_of self)) self result }
         ensures plan { IfOk result (λ w. writer_plan w ≡ recovery_plan self) }

@@ -27,6 +27,9 @@ fn newest_reported<'a>(standings: &'a [Standing], last: &'a Lineage) -> &'a Line
 }
 
 /// The newest lineage of all reports, and none where there is no report.
+///
+/// # Errors
+/// Where a growth was refused.
 pub fn newest_lineage(alloc: Global, standings: &[Standing]) -> Result<Lineage, AllocError>
     ensures { IfOk result (λ lineage. lineage_of lineage ≡ newest (reports_in (groups_of standings.now))) }
 {
@@ -35,6 +38,9 @@ pub fn newest_lineage(alloc: Global, standings: &[Standing]) -> Result<Lineage, 
 }
 
 /// All reported records that are live in the lineage.
+///
+/// # Errors
+/// Where a growth was refused.
 pub fn found_in(
     alloc: Global,
     lineage: &Lineage,

@@ -17,6 +17,9 @@ use wire::{Fence, Message, Place};
 use writer_core::{Standings, group_installs, label_at};
 
 /// One Fence a group of the view.
+///
+/// # Errors
+/// Where a growth was refused.
 pub fn fences(alloc: Global, volume: u32, standings: &Standings) -> Result<Vec<Message>, AllocError>
     ensures { IfOk result (λ messages. messages_of messages.items ≡ fences (length (groups_in standings.now)) volume (place_of (groups_in standings.now)) (λ group. true)) }
 {
@@ -31,6 +34,9 @@ pub fn fences(alloc: Global, volume: u32, standings: &Standings) -> Result<Vec<M
 }
 
 /// One Fence for each group that these places raise.
+///
+/// # Errors
+/// Where a growth was refused.
 pub fn later_fences(
     alloc: Global,
     volume: u32,
@@ -54,6 +60,9 @@ pub fn later_fences(
 }
 
 /// The Installs of what was found for all groups of the view, in order of group, then piece.
+///
+/// # Errors
+/// Where a growth was refused.
 pub fn installs(
     alloc: Global,
     volume: u32,
@@ -72,6 +81,9 @@ pub fn installs(
 }
 
 /// The Installs of what was found for each group that these places raise, in order of group, then piece.
+///
+/// # Errors
+/// Where a growth was refused.
 pub fn later_installs(
     alloc: Global,
     volume: u32,
