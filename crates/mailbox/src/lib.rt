@@ -13,7 +13,7 @@ use std::thread::yield_now;
 
 /// How often a thread looks for a letter before it sleeps. Between two looks it lets another thread run, which may be the one
 /// that posts.
-const LOOKS: u32 = 100;
+const LOOKS: u32 = 20;
 
 /// A message's number, or None, the closing letter.
 pub type Letter = Option<u64>;

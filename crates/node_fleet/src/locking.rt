@@ -8,7 +8,7 @@ use std::thread::yield_now;
 const LOOKS: u32 = 20;
 
 /// How often it lets another thread run before it sleeps.
-const TURNS: u32 = 100;
+const TURNS: u32 = 20;
 
 /// Takes a lock, for which it waits.
 pub(crate) fn taken<'m, T, R: Wait>(rt: &R, lock: &'m Mutex<T>) -> MutexGuard<'m, T> {
