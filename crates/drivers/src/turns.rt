@@ -29,7 +29,7 @@ pub fn turns(alloc: Global, script: &Script, drivers: u8) -> Result<Vec<Turn>, A
         if !step.has_event {
             behind = made.len();
         } else if made.len() < orders {
-            let driver = (step.line.saturating_sub(1) % usize::from(drivers)) as u8;
+            let driver = (step.line.saturating_sub(1) % u32::from(drivers)) as u8;
             made.push(Turn { driver, behind })?;
         }
     }

@@ -86,7 +86,7 @@ fn first_told(
 }
 
 /// Adds the line of a step whose event was refused.
-fn add_refusal(text: &mut String, line: usize, fault: Fault) -> Result<(), AllocError>
+fn add_refusal(text: &mut String, line: u32, fault: Fault) -> Result<(), AllocError>
     ensures { OnOk result (string_bytes text.new ≡ string_bytes text.old ++ refused_line line fault) }
 {
     write!(text, "{line} refused {fault}\n")
@@ -117,23 +117,23 @@ fn add_count(text: &mut String, made: u64) -> Result<(), AllocError>
 }
 
 /// Adds the line of a step whose event made so many messages.
-fn add_made(text: &mut String, line: usize, made: u64) -> Result<(), AllocError>
+fn add_made(text: &mut String, line: u32, made: u64) -> Result<(), AllocError>
     ensures { OnOk result (string_bytes text.new ≡ string_bytes text.old ++ (decimal line ++ codes " ok " ++ decimal made ++ codes "\n")) }
 {
-    add_number(text, line as u64)?;
+    add_number(text, u64::from(line))?;
     add_count(text, made)
 }
 
 /// Adds the line of a step that has no event.
-fn add_wait(text: &mut String, line: usize) -> Result<(), AllocError>
+fn add_wait(text: &mut String, line: u32) -> Result<(), AllocError>
     ensures { OnOk result (string_bytes text.new ≡ string_bytes text.old ++ (decimal line ++ codes " ok 0\n")) }
 {
-    add_number(text, line as u64)?;
+    add_number(text, u64::from(line))?;
     text.push_str(" ok 0\n")
 }
 
 /// Adds what is told of a step's event.
-fn add_told(text: &mut String, line: usize, told: &Result<u64, Fault>) -> Result<(), AllocError>
+fn add_told(text: &mut String, line: u32, told: &Result<u64, Fault>) -> Result<(), AllocError>
     ensures { OnOk result (AppendsLine line (Some told.now) (string_bytes text.old) (string_bytes text.new)) }
 {
     match told {
@@ -145,7 +145,7 @@ fn add_told(text: &mut String, line: usize, told: &Result<u64, Fault>) -> Result
 /// Adds a step's line.
 fn add_step(
     text: &mut String,
-    line: usize,
+    line: u32,
     told: Option<&Result<u64, Fault>>,
 ) -> Result<(), AllocError>
     ensures { OnOk result (AppendsLine line (option_copied told.entry) (string_bytes text.old) (string_bytes text.new)) }

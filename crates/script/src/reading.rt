@@ -1,6 +1,6 @@
 //! The lines of a script in turn: one event a line.
 
-ghost use Rattle.std.specs.Prelude.{◌≡◌, ◌≤◌, ◌↔◌, IfOk, IsTrue, OnOk};
+ghost use Rattle.std.specs.Prelude.{◌≡◌, ◌<◌, ◌≤◌, ◌↔◌, IfOk, IsTrue, OnOk, vec_len};
 ghost use Rattle.std.specs.Str.{IsUtf8};
 ghost use Rattle.script.specs.Seen.{seen};
 ghost use Rattle.script.specs.Script.{AddsLine, ReadsScript, kept_in, stop_at, with_line};
@@ -18,14 +18,16 @@ const SCRIPT_BYTES: usize = 16_777_216;
 /// The most lines of a script.
 const SCRIPT_LINES: usize = 100_000;
 
-/// A line that does something.
+/// A line that does something. There may be many.
 #[derive(Clone, Copy)]
 pub struct Step {
     /// Its number, from 1.
-    pub line: usize,
+    pub line: u32,
     /// Whether it has an event; a `wait` has none.
     pub has_event: bool,
 }
+
+const _: () = prove!(size_of::<Step>() <= 8);
 
 /// What a script does, line by line.
 #[derive(Drop)]
@@ -68,9 +70,10 @@ fn index_of(events: usize) -> Result<u32, AllocError>
 
 /// Adds a line. `events` has the index of each earlier line's event.
 fn keep(script: &mut Script, events: &mut Vec<Option<u32>>, line: Line) -> Result<(), AllocError>
+    requires { vec_len events.old < SCRIPT_LINES }
     ensures { OnOk result (kept_in script.new events.new.items ≡ with_line (kept_in script.old events.old.items) (seen line)) }
 {
-    let number = events.len() + 1;
+    let number = events.len() as u32 + 1;
     match line {
         Line::Empty => events.push(None)?,
         Line::Wait => {
@@ -107,7 +110,8 @@ fn add_line(
     line: &[u8],
     is_text: bool,
 ) -> Result<(), Fault>
-    requires { IsTrue is_text → IsUtf8 line.now }
+    requires text { IsTrue is_text → IsUtf8 line.now }
+    requires few { vec_len events.old < SCRIPT_LINES }
     ensures { AddsLine line.now (kept_in script.old events.old.items) result (kept_in script.new events.new.items) }
 {
     if !is_text && !is_utf8(line) {

@@ -1,0 +1,594 @@
+"""What the cores' calls answer over plans, told by a small program: see refusals.py."""
+
+CORES = r"""//! What the cores answer over plans.
+
+ghost use Rattle.std.specs.Prelude.{◌≡◌, ◌<◌, ◌≤◌, IfOk, Ok, length, map};
+ghost use Rattle.plan.specs.LentClaims.{all_lent};
+ghost use Rattle.plan.specs.Plan.{plan_data};
+ghost use Rattle.plan.specs.PlanClaims.{claims_in};
+ghost use Rattle.plan.specs.PlanText.{plan_of};
+ghost use Rattle.plan_tokens.specs.Rewritten.{HasClaims};
+ghost use Rattle.cert_search.specs.Answers.{rule_in, AreAnswersOf};
+
+use crate::Told;
+use crate::texts::PLANS;
+use cert_search::{Gate, search_all, search_one};
+use plan::{
+    CheckedPlan, Configuration, LentClaim, NamedClaim, Plan, PlanFault, check_plan, claims, lent_claims,
+};
+use quorum_checker::{Claim, FaultAt, check};
+use quorum_expr::{Expr, MemberSet, copy_in, dual_in, holds, valid};
+use refutation::Certificate;
+use std::alloc::{AllocError, Global};
+use std::sync::Wait;
+use std::thread::Threads;
+use volume_model::Fault;
+
+/// How many nodes are tried for a claim at most.
+const BUDGET: u64 = 100_000;
+
+/// Which calls are made over the plans.
+#[derive(Clone, Copy)]
+enum Part {
+    /// `read_plan`, by tokens and by a JSON value.
+    Reading,
+    /// `lent_claims` and `claims`.
+    Claims,
+    /// `check`, of claims that are lent and of such that aren't, and `check_plan`.
+    Checking,
+    /// `copy_in` of expressions and of certificates, and `dual_in`.
+    Copying,
+    /// `search_one`, and `search_all` by so many workers.
+    Searching(u8),
+    /// `write_plan`, by tokens and by a JSON value.
+    Writing,
+}
+
+/// Sees nothing.
+#[derive(Drop)]
+struct Blind;
+
+impl Gate for Blind {
+    fn started(&self, _claim: usize) {}
+
+    fn finished(&self, _claim: usize) {}
+}
+
+/// A plan that is read, once more where memory ran out; so all calls below.
+fn read(alloc: Global, text: &[u8]) -> Result<Plan, PlanFault>
+    ensures { IfOk result (λ plan. plan_of text.now ≡ Ok (plan_data plan)) }
+{
+    match plan_tokens::read_plan(alloc, text) {
+        Ok(plan) => Ok(plan),
+        Err(fault) => {
+            if fault.kind() != Fault::NoMemory {
+                return Err(fault);
+            }
+            plan_tokens::read_plan(alloc, text)
+        }
+    }
+}
+
+/// The same by a JSON value.
+fn read_by_value(alloc: Global, text: &[u8]) -> Result<Plan, PlanFault> {
+    match plan::read_plan(alloc, text) {
+        Ok(plan) => Ok(plan),
+        Err(fault) => {
+            if fault.kind() != Fault::NoMemory {
+                return Err(fault);
+            }
+            plan::read_plan(alloc, text)
+        }
+    }
+}
+
+fn lent<'p>(alloc: Global, plan: &'p Plan) -> Result<Vec<LentClaim<'p>>, PlanFault>
+    ensures { IfOk result (λ v. claims_in (plan_data plan.entry.now) ≡ Ok (all_lent v.items)) }
+{
+    match lent_claims(alloc, plan) {
+        Ok(list) => Ok(list),
+        Err(fault) => {
+            if fault.kind() != Fault::NoMemory {
+                return Err(fault);
+            }
+            lent_claims(alloc, plan)
+        }
+    }
+}
+
+fn listed(alloc: Global, plan: &Plan) -> Result<Vec<NamedClaim>, PlanFault> {
+    match claims(alloc, plan) {
+        Ok(list) => Ok(list),
+        Err(fault) => {
+            if fault.kind() != Fault::NoMemory {
+                return Err(fault);
+            }
+            claims(alloc, plan)
+        }
+    }
+}
+
+fn checked(alloc: Global, plan: Plan) -> Result<CheckedPlan, PlanFault> {
+    match check_plan(alloc, plan) {
+        Ok(checked) => Ok(checked),
+        Err(refused) => {
+            if refused.0.kind() != Fault::NoMemory {
+                return Err(refused.0);
+            }
+            match check_plan(alloc, refused.1) {
+                Ok(checked) => Ok(checked),
+                Err(again) => Err(again.0),
+            }
+        }
+    }
+}
+
+fn refuted(
+    alloc: Global,
+    claim: &Claim<Global>,
+    certificate: &Certificate<Global>,
+) -> Result<(), FaultAt> {
+    match check(alloc, claim, certificate) {
+        Ok(()) => Ok(()),
+        Err(at) => {
+            if at.fault != Fault::NoMemory {
+                return Err(at);
+            }
+            check(alloc, claim, certificate)
+        }
+    }
+}
+
+fn refuted_lent(
+    alloc: Global,
+    claim: &LentClaim<'_>,
+    certificate: &Certificate<Global>,
+) -> Result<(), FaultAt> {
+    match claim.check(alloc, certificate) {
+        Ok(()) => Ok(()),
+        Err(at) => {
+            if at.fault != Fault::NoMemory {
+                return Err(at);
+            }
+            claim.check(alloc, certificate)
+        }
+    }
+}
+
+fn claim_of(alloc: Global, lent: &LentClaim<'_>) -> Result<Claim<Global>, Fault> {
+    match lent.claim_in(alloc) {
+        Ok(claim) => Ok(claim),
+        Err(_) => lent.claim_in(alloc),
+    }
+}
+
+fn certificate_copied(
+    alloc: Global,
+    certificate: &Certificate<Global>,
+) -> Result<Certificate<Global>, Fault> {
+    match certificate.copy_in(alloc) {
+        Ok(copy) => Ok(copy),
+        Err(_) => certificate.copy_in(alloc),
+    }
+}
+
+fn expression_copied(alloc: Global, expr: &Expr<Global>) -> Result<Expr<Global>, Fault> {
+    match copy_in(expr, alloc) {
+        Ok(copy) => Ok(copy),
+        Err(_) => copy_in(expr, alloc),
+    }
+}
+
+fn searched<H: Threads + Wait + Sync>(
+    rt: &H,
+    alloc: Global,
+    plan: &Plan,
+    workers: u8,
+) -> Result<Vec<Option<Certificate<Global>>>, Fault>
+    requires { (0 < workers) × (workers ≤ 16) }
+    ensures { IfOk result (λ v. AreAnswersOf 100000 (claims_in (plan_data plan.now)) (map rule_in v.items)) }
+{
+    let workers = usize::from(workers);
+    match search_all(rt, alloc, plan, workers, BUDGET, &Blind) {
+        Ok(found) => Ok(found),
+        Err(fault) => {
+            if fault != Fault::NoMemory {
+                return Err(fault);
+            }
+            search_all(rt, alloc, plan, workers, BUDGET, &Blind)
+        }
+    }
+}
+
+fn searched_one(
+    alloc: Global,
+    claim: &Claim<Global>,
+) -> Result<Option<Certificate<Global>>, Fault> {
+    match search_one(alloc, claim, BUDGET) {
+        Ok(found) => Ok(found),
+        Err(_) => search_one(alloc, claim, BUDGET),
+    }
+}
+
+fn written(
+    alloc: Global,
+    text: &[u8],
+    certificates: &[Option<Certificate<Global>>],
+) -> Result<Vec<u8>, AllocError>
+    requires { HasClaims text.now (length certificates.now) }
+{
+    match plan_tokens::write_plan(alloc, text, certificates) {
+        Ok(line) => Ok(line),
+        Err(_) => plan_tokens::write_plan(alloc, text, certificates),
+    }
+}
+
+fn written_by_value(
+    alloc: Global,
+    text: &[u8],
+    certificates: &[Option<Certificate<Global>>],
+) -> Result<Vec<u8>, PlanFault>
+    requires { HasClaims text.now (length certificates.now) }
+{
+    match plan::write_plan(alloc, text, certificates) {
+        Ok(line) => Ok(line),
+        Err(_) => plan::write_plan(alloc, text, certificates),
+    }
+}
+
+/// Adds in which of the sets of the first members an expression holds, and what is wrong with it.
+fn of_expression(
+    expr: &Expr<Global>,
+    members: MemberSet,
+    story: &mut String,
+) -> Result<(), AllocError> {
+    match valid(expr) {
+        Ok(()) => story.push_str("valid ")?,
+        Err(fault) => write!(story, "{fault} ")?,
+    }
+    let mut first = MemberSet::empty();
+    for member in 0..64u8 {
+        if members.contains(member) {
+            first = first.with(member);
+            story.push_str(if holds(expr, first) { "+" } else { "-" })?;
+        }
+    }
+    story.push_str(";")
+}
+
+/// Adds what a configuration says.
+fn of_configuration(this: &Configuration, story: &mut String) -> Result<(), AllocError> {
+    let (members, full) = (this.members.len(), this.full.len());
+    let (meets, step) = (this.meets.is_some(), this.step.is_some());
+    write!(story, "{members} {full} {meets} {step} ")?;
+    match this.parent {
+        Some(parent) => write!(story, "{parent};")?,
+        None => story.push_str("root;")?,
+    }
+    of_expression(&this.read, this.members, story)?;
+    of_expression(&this.write, this.members, story)
+}
+
+/// Adds what a plan says.
+fn of_plan(plan: &Plan, story: &mut String) -> Result<(), AllocError> {
+    let (lal, born, groups) = (plan.lal, plan.born, plan.groups.len());
+    write!(story, "plan {lal} {born} {groups};")?;
+    for group in &plan.groups {
+        for this in &group.configurations {
+            of_configuration(this, story)?;
+        }
+    }
+    Ok(())
+}
+
+/// Adds how long a text is, and a sum of its bytes by their places.
+fn of_bytes(text: &[u8], story: &mut String) -> Result<(), AllocError> {
+    let mut sum = 0u64;
+    for byte in text {
+        sum = sum.wrapping_mul(31).wrapping_add(u64::from(*byte));
+    }
+    let length = text.len();
+    write!(story, "text {length} {sum};")
+}
+
+/// Adds whether a certificate refutes a claim.
+fn of_verdict(verdict: Result<(), FaultAt>, story: &mut String) -> Result<(), AllocError> {
+    match verdict {
+        Ok(()) => story.push_str("refuted;"),
+        Err(fault) => write!(story, "{fault};"),
+    }
+}
+
+/// `read_plan`
+fn reading(alloc: Global, text: &[u8], story: &mut String) -> Result<(), AllocError> {
+    match read(alloc, text) {
+        Ok(plan) => of_plan(&plan, story)?,
+        Err(fault) => write!(story, "{fault};")?,
+    }
+    match read_by_value(alloc, text) {
+        Ok(plan) => of_plan(&plan, story),
+        Err(fault) => write!(story, "{fault};"),
+    }
+}
+
+/// Adds the sides of a claim.
+fn of_claim(claim: &Claim<Global>, members: MemberSet, story: &mut String) -> Result<(), AllocError> {
+    let clear = claim.clear.len();
+    write!(story, "claim {clear} ")?;
+    of_expression(&claim.left, members, story)?;
+    of_expression(&claim.right, members, story)
+}
+
+/// Adds a claim that is lent, and the same in memory of its own.
+fn of_lent(alloc: Global, lent: &LentClaim<'_>, story: &mut String) -> Result<(), AllocError> {
+    let (group, configuration, step) = (lent.group, lent.configuration, lent.parent.is_some());
+    write!(story, "{group} {configuration} {step} ")?;
+    match claim_of(alloc, lent) {
+        Ok(claim) => of_claim(&claim, lent.this.members, story),
+        Err(fault) => write!(story, "{fault};"),
+    }
+}
+
+/// Adds a claim that isn't lent.
+fn of_named(named: &NamedClaim, story: &mut String) -> Result<(), AllocError> {
+    let (group, configuration, step) = (named.group, named.configuration, named.step);
+    write!(story, "{group} {configuration} {step} ")?;
+    of_claim(&named.claim, MemberSet::empty().complement(), story)
+}
+
+/// `lent_claims`
+fn lending(alloc: Global, plan: &Plan, story: &mut String) -> Result<(), AllocError> {
+    match lent(alloc, plan) {
+        Ok(list) => {
+            for claim in &list {
+                of_lent(alloc, claim, story)?;
+            }
+            Ok(())
+        }
+        Err(fault) => write!(story, "{fault};"),
+    }
+}
+
+/// `claims`
+fn listing(alloc: Global, plan: &Plan, story: &mut String) -> Result<(), AllocError> {
+    match listed(alloc, plan) {
+        Ok(list) => {
+            for claim in &list {
+                of_named(claim, story)?;
+            }
+            Ok(())
+        }
+        Err(fault) => write!(story, "{fault};"),
+    }
+}
+
+/// The certificate of a claim that the plan has.
+fn certificate_of<'p>(lent: &LentClaim<'p>) -> Option<&'p Certificate<Global>> {
+    match lent.parent {
+        Some(_) => lent.this.step.as_ref(),
+        None => lent.this.meets.as_ref(),
+    }
+}
+
+/// `check`, of a claim that is lent and of one that isn't.
+fn checking_claim(
+    alloc: Global,
+    lent: &LentClaim<'_>,
+    certificate: &Certificate<Global>,
+    story: &mut String,
+) -> Result<(), AllocError> {
+    of_verdict(refuted_lent(alloc, lent, certificate), story)?;
+    match claim_of(alloc, lent) {
+        Ok(claim) => of_verdict(refuted(alloc, &claim, certificate), story),
+        Err(fault) => write!(story, "{fault};"),
+    }
+}
+
+/// `copy_in`, of a certificate and of the expressions of its claim's configuration, whose copies are checked.
+fn copying_claim(
+    alloc: Global,
+    lent: &LentClaim<'_>,
+    certificate: &Certificate<Global>,
+    story: &mut String,
+) -> Result<(), AllocError> {
+    for expr in [&lent.this.read, &lent.this.write] {
+        match expression_copied(alloc, expr) {
+            Ok(copy) => of_expression(&copy, lent.this.members, story)?,
+            Err(fault) => write!(story, "{fault};")?,
+        }
+    }
+    match certificate_copied(alloc, certificate) {
+        Ok(copy) => of_verdict(refuted_lent(alloc, lent, &copy), story),
+        Err(fault) => write!(story, "{fault};"),
+    }
+}
+
+/// Makes a call for each claim that has a certificate.
+fn each_certified(
+    alloc: Global,
+    plan: &Plan,
+    copies: bool,
+    story: &mut String,
+) -> Result<(), AllocError> {
+    match lent(alloc, plan) {
+        Ok(list) => {
+            for claim in &list {
+                match certificate_of(claim) {
+                    Some(certificate) if copies => copying_claim(alloc, claim, certificate, story)?,
+                    Some(certificate) => checking_claim(alloc, claim, certificate, story)?,
+                    None => story.push_str("none;")?,
+                }
+            }
+            Ok(())
+        }
+        Err(fault) => write!(story, "{fault};"),
+    }
+}
+
+/// `check_plan`
+fn checking_plan(alloc: Global, plan: Plan, story: &mut String) -> Result<(), AllocError> {
+    match checked(alloc, plan) {
+        Ok(_) => story.push_str("yes;"),
+        Err(fault) => write!(story, "{fault};"),
+    }
+}
+
+/// Adds what was found of a claim, and whether it refutes it.
+fn of_found(
+    alloc: Global,
+    claim: &LentClaim<'_>,
+    found: Option<&Certificate<Global>>,
+    story: &mut String,
+) -> Result<(), AllocError> {
+    match found {
+        Some(certificate) => of_verdict(refuted_lent(alloc, claim, certificate), story),
+        None => story.push_str("unfound;"),
+    }
+}
+
+/// `search_one`
+fn searching_one(
+    alloc: Global,
+    lent: &LentClaim<'_>,
+    story: &mut String,
+) -> Result<(), AllocError> {
+    let Ok(claim) = claim_of(alloc, lent) else {
+        return story.push_str("no claim;");
+    };
+    match searched_one(alloc, &claim) {
+        Ok(found) => of_found(alloc, lent, found.as_ref(), story),
+        Err(fault) => write!(story, "{fault};"),
+    }
+}
+
+/// `search_all`, and `search_one` where one worker searches.
+fn searching<H: Threads + Wait + Sync>(
+    rt: &H,
+    alloc: Global,
+    plan: &Plan,
+    workers: u8,
+    story: &mut String,
+) -> Result<(), AllocError>
+    requires { (0 < workers) × (workers ≤ 16) }
+{
+    let Ok(list) = lent(alloc, plan) else {
+        return story.push_str("no claims;");
+    };
+    match searched(rt, alloc, plan, workers) {
+        Ok(found) => {
+            for (claim, found) in list.iter().zip(found.iter()) {
+                of_found(alloc, claim, found.as_ref(), story)?;
+            }
+        }
+        Err(fault) => write!(story, "{fault};")?,
+    }
+    if workers == 1 {
+        for claim in &list {
+            searching_one(alloc, claim, story)?;
+        }
+    }
+    Ok(())
+}
+
+/// Adds the text of a plan that is written with certificates, by both ways.
+fn of_written(
+    alloc: Global,
+    text: &[u8],
+    found: &[Option<Certificate<Global>>],
+    story: &mut String,
+) -> Result<(), AllocError>
+    requires { HasClaims text.now (length found.now) }
+{
+    match written(alloc, text, found) {
+        Ok(line) => of_bytes(line.as_slice(), story)?,
+        Err(_) => story.push_str("no text;")?,
+    }
+    match written_by_value(alloc, text, found) {
+        Ok(line) => of_bytes(line.as_slice(), story),
+        Err(fault) => write!(story, "{fault};"),
+    }
+}
+
+/// `write_plan`, with the certificates that are found.
+fn writing<H: Threads + Wait + Sync>(
+    rt: &H,
+    alloc: Global,
+    text: &[u8],
+    story: &mut String,
+) -> Result<(), AllocError> {
+    let Ok(plan) = read(alloc, text) else {
+        return story.push_str("no plan;");
+    };
+    let Ok(_list) = lent(alloc, &plan) else {
+        return story.push_str("no claims;");
+    };
+    match searched(rt, alloc, &plan, 1) {
+        Ok(found) => of_written(alloc, text, found.as_slice(), story),
+        Err(fault) => write!(story, "{fault};"),
+    }
+}
+
+/// The calls over a plan.
+fn over_plan<H: Threads + Wait + Sync>(
+    rt: &H,
+    alloc: Global,
+    part: Part,
+    plan: Plan,
+    story: &mut String,
+) -> Result<(), AllocError> {
+    match part {
+        Part::Claims => {
+            lending(alloc, &plan, story)?;
+            listing(alloc, &plan, story)
+        }
+        Part::Checking => {
+            each_certified(alloc, &plan, false, story)?;
+            checking_plan(alloc, plan, story)
+        }
+        Part::Copying => each_certified(alloc, &plan, true, story),
+        Part::Searching(workers) => searching(rt, alloc, &plan, workers.clamp(1, 16), story),
+        Part::Reading | Part::Writing => Ok(()),
+    }
+}
+
+/// The calls over a plan's text.
+fn over_text<H: Threads + Wait + Sync>(
+    rt: &H,
+    alloc: Global,
+    part: Part,
+    text: &[u8],
+    story: &mut String,
+) -> Result<(), AllocError> {
+    match part {
+        Part::Reading => reading(alloc, text, story),
+        Part::Writing => writing(rt, alloc, text, story),
+        _ => match read(alloc, text) {
+            Ok(plan) => over_plan(rt, alloc, part, plan, story),
+            Err(fault) => write!(story, "{fault};"),
+        },
+    }
+}
+
+/// What the cores answer over the plans.
+fn cores<H: Threads + Wait + Sync>(rt: &H, alloc: Global, part: Part) -> Told {
+    let mut story = String::with_capacity(alloc, 65_536)?;
+    for text in PLANS {
+        over_text(rt, alloc, part, text.as_bytes(), &mut story)?;
+    }
+    Ok(story)
+}
+
+/// Tells the story of a name.
+pub fn told<H: Threads + Wait + Sync>(rt: &H, alloc: Global, name: &str) -> Told {
+    let part = match name {
+        "reading" => Part::Reading,
+        "claims" => Part::Claims,
+        "checking" => Part::Checking,
+        "copying" => Part::Copying,
+        "searching" => Part::Searching(1),
+        "searching by three" => Part::Searching(3),
+        _ => Part::Writing,
+    };
+    cores(rt, alloc, part)
+}
+"""
