@@ -51,9 +51,11 @@ impl<L: Site> AuthorityActor<L> {
     ///
     /// # Errors
     /// [`Again`](Halt::Again) where the journal doesn't have the authority as it stands here. Else, and these are
-    /// noted: what [`AuthorityAct::admitted_by`] says, `NoSlot` where a volume epoch is to be assigned and that of the
-    /// last slot was, and `JournalFull` where no cell is left; and `NoMemory`, which isn't noted. The authority is what
-    /// it was then.
+    /// noted: the authority's own refusal, as [`AuthorityAct::admitted_by`] gives it, which is `EpochsSpent` where no
+    /// volume epoch is left, `NoGroup` where no such group has joined, `NotInPlan` where its configuration has no such
+    /// child, `Superseded` where the client's volume epoch isn't the last one assigned, or `AllGrown` where every group
+    /// has joined; then `NoSlot` where a volume epoch is to be assigned and that of the last slot was, and `JournalFull`
+    /// where no cell is left; and `NoMemory`, which isn't noted. The authority is what it was then.
     pub fn act<'a, R: Wait>(
         &mut self,
         rt: &R,

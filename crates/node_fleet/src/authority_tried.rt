@@ -45,8 +45,11 @@ fn is_spent(authority: &Authority, act: AuthorityAct, slots: u32) -> bool
     }
 }
 
-/// Tries what the authority is asked to do, where the journal is full or not. Its own refusals come first, then
-/// `NoSlot`, then `JournalFull`; where it isn't done the authority is what it was.
+/// Tries what the authority is asked to do, where the journal is full or not.
+///
+/// # Errors
+/// Its own refusals come first, then `NoSlot`, then `JournalFull`, and `NoMemory` where none of these applies and a growth
+/// was refused. The authority is what it was then.
 pub(crate) fn tried(
     alloc: Global,
     authority: &mut Authority,

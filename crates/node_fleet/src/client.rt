@@ -104,9 +104,12 @@ impl<L: Site> ClientActor<L> {
     ///
     /// # Errors
     /// `NoMessage` where no step has made the message that it is to take, which isn't noted. [`Again`](Halt::Again)
-    /// where the journal doesn't have the client as it stands here. Else, and these are noted: what [`Client::admits`]
-    /// and [`Client::admits_open`] say, and `JournalFull` where no cell is left; and `NoMemory`, which isn't noted. The
-    /// client is what it was then.
+    /// where the journal doesn't have the client as it stands here. Else, and these are noted: the client's own refusal,
+    /// as [`Client::admits`] and [`Client::admits_open`] give it, which is `NoActor` before its birth, `NotAddressed` or
+    /// `NotInPlan` of a message, `AlreadyDone`, `NotReady` or `LsnSpent` of a cut, `AlreadyDone` or `NotReady` of an
+    /// opening, `NotOpen` of what an open writer alone does, `BadTransaction`, `NotJoined`, `LsnSpent` or `LimitReached`
+    /// of an issue, `NoLogRecord` of a resend, or `NoGroup` of a read; then `JournalFull` where no cell is left; and
+    /// `NoMemory`, which isn't noted. The client is what it was then.
     pub fn act<'a, R: Wait>(
         &mut self,
         rt: &R,

@@ -79,8 +79,11 @@ fn act(
     }
 }
 
-/// Tries what a client is asked to do, where the journal is full or not. Its own refusals come first, then
-/// `JournalFull`; where it isn't done the client is what it was.
+/// Tries what a client is asked to do, where the journal is full or not.
+///
+/// # Errors
+/// Its own refusals come first, then `JournalFull`; and `NoMemory` where a growth was refused. The client is what it was
+/// then.
 pub(crate) fn tried(
     alloc: Global,
     client: &mut Client,

@@ -12,10 +12,9 @@ pub struct Journal<'a, L: Site> {
 }
 
 impl<'a, L: Site> Journal<'a, L> {
-    ghost use Rattle.std.specs.Prelude.{◌≡◌, IfOk, length};
+    ghost use Rattle.std.specs.Prelude.{◌≡◌, IfErr, IfOk, length};
     ghost use Rattle.volume_model.specs.Journal.{events};
     ghost use Rattle.volume_model.specs.declared.fault.Fault.TheVariants.{NoMemory};
-    ghost use Rattle.std.specs.Prelude.{IfErr};
     ghost use Rattle.world.specs.Events.{events_of};
     ghost use Rattle.journal.specs.Passes.{journal_of};
     ghost use Rattle.node_fleet.specs.Journals.{entries_in};
@@ -34,7 +33,10 @@ impl<'a, L: Site> Journal<'a, L> {
         self.log.len()
     }
 
-    /// A copy of its events, in order. `NoMemory` where a growth was refused.
+    /// A copy of its events, in order.
+    ///
+    /// # Errors
+    /// `NoMemory` where a growth was refused.
     pub fn events(&self, alloc: Global) -> Result<Vec<Event>, Fault>
         ensures events { IfOk result (λ made. events_of made.items ≡ events (entries_in self.now)) }
         ensures memory { IfErr result (λ fault. fault ≡ NoMemory) }

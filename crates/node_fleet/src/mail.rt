@@ -99,7 +99,7 @@ impl Mailboxes {
     /// have made no step.
     ///
     /// # Errors
-    /// Want of memory.
+    /// Where a growth was refused.
     pub fn new(
         alloc: Global,
         plan: &CheckedPlan,

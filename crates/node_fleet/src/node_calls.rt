@@ -152,7 +152,7 @@ impl<'a, L: Site> Fleet<'a, L> {
     ///
     /// # Errors
     /// `NoActor` where the plan names no such node or its group hasn't joined, `NoMessage` where no step has made the message, which isn't noted,
-    /// then the node's own refusal, as `Segment::deliver` gives it, and `JournalFull` where no cell is left.
+    /// then the node's own refusal, as [`NodeActor::react`] gives it, and `JournalFull` where no cell is left.
     /// `NoMemory`, which isn't noted, where a growth was refused.
     pub fn deliver<R: Wait, G: StepGate>(
         &self,

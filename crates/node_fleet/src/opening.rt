@@ -1,9 +1,10 @@
 //! A new fleet, with its passes.
 
-ghost use Rattle.std.specs.Prelude.{◌≡◌, ◌+◌, All, [], IfOk, vec_len};
+ghost use Rattle.std.specs.Prelude.{◌≡◌, ◌+◌, All, [], IfErr, IfOk, vec_len};
 ghost use Rattle.std.specs.Arc.{arc_value};
 ghost use Rattle.height.specs.Seats.{table_of, top_table, height_of};
 ghost use Rattle.board.specs.Seats.{IsSeatIn};
+ghost use Rattle.volume_model.specs.declared.fault.Fault.TheVariants.{NoMemory};
 ghost use Rattle.plan.specs.CheckedModel.{checked_model};
 ghost use Rattle.journal.specs.Tokens.{ids_of};
 ghost use Rattle.journal.specs.Passes.{notes_of, steps_of};
@@ -62,6 +63,7 @@ fn client<L: Site>(
 ) -> Result<ClientActor<L>, Fault>
     requires plan { checked_model (arc_value plan.now) ≡ L.plan }
     requires history { history.now.seen.log ≡ [] }
+    ensures memory { IfErr result (λ fault. fault ≡ NoMemory) }
 {
     let client = if volume == 1 {
         Client::first(alloc, plan.clone()?)?
@@ -81,7 +83,8 @@ fn clients<L: Site>(
 ) -> Result<Vec<Mutex<ClientActor<L>>>, Fault>
     requires plan { checked_model (arc_value plan.now) ≡ L.plan }
     requires history { history.now.seen.log ≡ [] }
-    ensures { IfOk result (λ made. vec_len made ≡ slots + 1) }
+    ensures count { IfOk result (λ made. vec_len made ≡ slots + 1) }
+    ensures memory { IfErr result (λ fault. fault ≡ NoMemory) }
 {
     let mut made = Vec::with_capacity(alloc, slots as usize + 1)?;
     made.push(Mutex::new(client(alloc, plan, 0, history)?))?;
@@ -101,6 +104,7 @@ fn node<L: Site>(
 ) -> Result<Option<Mutex<NodeActor<L>>>, Fault>
     requires plan { checked_model (arc_value plan.now) ≡ L.plan }
     requires history { history.now.seen.log ≡ [] }
+    ensures memory { IfErr result (λ fault. fault ≡ NoMemory) }
 {
     if !plan.names(group, member) {
         return Ok(None);
@@ -117,6 +121,7 @@ fn nodes<L: Site>(
 ) -> Result<Vec<Option<Mutex<NodeActor<L>>>>, Fault>
     requires plan { checked_model (arc_value plan.now) ≡ L.plan }
     requires history { history.now.seen.log ≡ [] }
+    ensures memory { IfErr result (λ fault. fault ≡ NoMemory) }
 {
     let mut made = Vec::new(alloc);
     for group in 0..plan.groups() {
@@ -148,6 +153,7 @@ impl<'a, L: Site> Fleet<'a, L> {
         requires base { IsBaseOf L.table L.board L.history L.name L.parts base }
         ensures count { IfOk result (λ f. vec_len f.1 ≡ passes_of base) }
         ensures fresh { IfOk result (λ f. All (λ p. (steps_of p ≡ []) × (notes_of p ≡ [])) f.1.items) }
+        ensures memory { IfErr result (λ fault. fault ≡ NoMemory) }
     {
         let Base {
             height,

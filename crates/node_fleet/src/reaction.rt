@@ -122,10 +122,16 @@ impl<L: Site> NodeActor<L> {
     /// journal is free, then takes the letter and enters the step.
     ///
     /// # Errors
-    /// [`Again`](Halt::Again) where the journal doesn't have the node as it stands here, or not the letter. Else the
-    /// first that applies of `NoActor` (where the node's group hasn't joined), `NotAddressed`, `StaleMember`, `AheadMember`, `NotWhole`, `AlreadyWhole`, `StaleVolume`,
-    /// `Full`, `NotInstalled`, `NotInPlan`, `TailSegment` and `PointAhead`, and `JournalFull` where no cell is left,
-    /// which are noted; and `NoMemory`, which isn't noted. The node is then what it was. It is never `NoMessage`.
+    /// [`Again`](Halt::Again) where the journal doesn't have the node as it stands here, or not the letter. Else, and these are noted:
+    /// `NoActor` where the node's group hasn't joined; the first that applies to a message of its kind, as
+    /// [`Segment::prepare`](segment_core::Segment::prepare) gives it: `NotAddressed` where it isn't for this node,
+    /// `AlreadyWhole` of a copy where the node is whole, `StaleMember` and `AheadMember` where it is at a later or an earlier membership
+    /// epoch, `NotWhole` where it isn't whole yet, `StaleVolume` where it has promised a later volume epoch, `NotInstalled` where its
+    /// lineage isn't that of the volume epoch, `Full` where it would hold more records than it may, or an Install has too many pieces,
+    /// `BadPiece` where it can't be a piece beside those that are kept, `NotInPlan` of a step to a place that the plan doesn't have,
+    /// `SeriesSpent` where it has told as many copies as it may, `TailSegment` where it keeps no whole pages, and `PointAhead` where it
+    /// isn't complete up to the point; then `JournalFull` where no cell is left. And `NoMemory`, which isn't noted. The node is then
+    /// what it was. It is never `NoMessage`.
     pub fn react<'a, R: Wait, G: StepGate>(
         &mut self,
         rt: &R,
