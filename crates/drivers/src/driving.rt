@@ -233,12 +233,10 @@ fn drive_fleet<L: Site + Send + Sync, R: Threads + Wait + Sync>(
 {
     let callers = nodes.len() + usize::from(workers) + 1;
     let (mail, seats) = Mailboxes::new(alloc, plan, callers)?;
-    match Fleet::<L>::new(alloc, row, base, plan.clone()?, SLOTS) {
-        Ok((fleet, passes)) => drive_over(
-            rt, alloc, fleet, passes, mail, seats, plan, script, workers, nodes,
-        ),
-        Err(_) => Err(Fault::NoMemory),
-    }
+    let (fleet, passes) = Fleet::<L>::new(alloc, row, base, plan.clone()?, SLOTS)?;
+    drive_over(
+        rt, alloc, fleet, passes, mail, seats, plan, script, workers, nodes,
+    )
 }
 
 /// Runs a script over a checked plan on a fleet with 64 client slots: so many drivers take the lines in turn, a thread for
