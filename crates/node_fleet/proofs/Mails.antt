@@ -117,12 +117,16 @@ none_past [] i e = omega arith
 none_past (x ∷ xs) zero e = absurd cc
 none_past (x ∷ xs) (suc i) e = let rest = none_past xs i e in omega arith
 
--- a mailbox stands where the plan names the node
-abbrev pub IsHome : Plan → ℕ → Option Mailbox → Type 0
+-- something stands where the plan names the node
+abbrev pub IsHome : {A : Type 0} → Plan → ℕ → Option A → Type 0
 IsHome plan k m = is_some m ≡ is_named plan (k / 64) (k % 64)
 
-module _ (plan : Plan) (ms : List (Option Mailbox)) (long : length ms ≡ plan.groups * 64) (low : LowFor plan) (homes : (k : ℕ) (m : Option Mailbox) → slice_get ms k ≡ Some m → IsHome plan k m) where
-  within : (g m : ℕ) → m < 64 → (found : Option (Option Mailbox)) → slice_get ms (slot_of g m) ≡ found → is_some (in_slot found) ≡ is_named plan g m
+-- the same of each place
+abbrev pub AreHomes : {A : Type 0} → Plan → List (Option A) → Type 0
+AreHomes {A} plan ms = (k : ℕ) (m : Option A) → slice_get ms k ≡ Some m → IsHome plan k m
+
+module _ {A : Type 0} (plan : Plan) (ms : List (Option A)) (long : length ms ≡ plan.groups * 64) (low : LowFor plan) (homes : AreHomes plan ms) where
+  within : (g m : ℕ) → m < 64 → (found : Option (Option A)) → slice_get ms (slot_of g m) ≡ found → is_some (in_slot found) ≡ is_named plan g m
   within g m below None e =
       let past = none_past ms (slot_of g m) e in
       let beyond : plan.groups ≤ g = omega arith in

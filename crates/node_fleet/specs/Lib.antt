@@ -6,6 +6,7 @@ pub mod Halts
 pub mod Journals
 pub mod Mails
 pub mod Nodes
+pub mod Places
 pub mod Ready
 pub mod Tried
 pub mod Volumes

@@ -8,6 +8,8 @@ ghost use Rattle.height.specs.Seats.{table_of};
 ghost use Rattle.board.specs.Seats.{board_table};
 ghost use Rattle.plan.specs.CheckedModel.{checked_model};
 ghost use Rattle.journal.proofs.Plans.{Plan-set};
+ghost use Rattle.std.proofs.Props.{props};
+ghost use Rattle.node_fleet.specs.Places.{HasEach};
 
 use crate::authority::AuthorityActor;
 use crate::client::ClientActor;
@@ -40,6 +42,7 @@ pub struct Fleet<'a, L: Site> {
     ghost table: { table_of height ≡ L.table } by { Coded-set table_id_coded (table_of height) L.table },
     ghost board_table: { board_table board ≡ L.board } by { Coded-set table_id_coded (board_table board) L.board },
     ghost slots_are: { slots ≡ L.slots },
+    ghost each: { HasEach L.plan nodes.items } by { Prim.hlevel props },
 }
 
 impl<'a, L: Site> Fleet<'a, L> {

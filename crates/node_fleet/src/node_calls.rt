@@ -33,13 +33,15 @@ fn event(group: u8, member: u8, deed: NodeDeed) -> Event
 }
 
 impl<'a, L: Site> Fleet<'a, L> {
-    ghost use Rattle.std.specs.Prelude.{◌≢◌, false, IfOk, OnOk};
+    ghost use Rattle.std.specs.Prelude.{◌≢◌, false, IfNone, IfOk, OnOk};
     ghost use Rattle.volume_model.specs.Plan.{is_named};
     ghost use Rattle.volume_model.specs.declared.fault.Fault.TheVariants.{NoMessage};
     ghost use Rattle.node_fleet.specs.declared.halt.Halt.TheVariants.{Refused};
 
-    // The node of a member of a group, if there is one.
-    fn node(&self, group: u8, member: u8) -> Option<&Mutex<NodeActor<L>>> {
+    // The node of a member of a group, and none where the plan doesn't name it.
+    fn node(&self, group: u8, member: u8) -> Option<&Mutex<NodeActor<L>>>
+        ensures { IfNone result (is_named L.plan group member ≡ false) }
+    {
         let slot = slot(self.nodes.len(), group, member)?;
         self.nodes[slot].as_ref()
     }
@@ -62,26 +64,14 @@ impl<'a, L: Site> Fleet<'a, L> {
         Fault::NoActor
     }
 
-    // Refuses what is asked of a node that isn't there. The plan doesn't name it: else it waits for good, which nothing
-    // brings about.
-    fn refuse_absent<R: Wait>(
-        &self,
-        rt: &R,
-        pass: &mut Pass<'a, L>,
-        group: u8,
-        member: u8,
-        event: Event,
-    ) -> Fault
-        requires of { is_named L.plan group member ≡ false → IsOfNone L.plan (event_of event) }
+    // Refuses what is asked of a node that the plan doesn't name.
+    fn refuse_absent<R: Wait>(&self, rt: &R, pass: &mut Pass<'a, L>, event: Event) -> Fault
+        requires of { IsOfNone L.plan (event_of event) }
         ensures steps { steps_of pass.new ≡ steps_of pass.old }
         ensures seat { seat_of pass.new ≡ seat_of pass.old }
         ensures note { AddsNote (event_of event) result (steps_of pass.old) (notes_of pass.old) (notes_of pass.new) }
         ensures found { result ≢ NoMessage }
     {
-        if self.plan.names(group, member) {
-            for _ in rt.forever() {}
-            unreachable!()
-        }
         let mut log = taken(rt, &self.journal);
         self.refuse_missing(&mut log, pass, event)
     }
@@ -173,7 +163,7 @@ impl<'a, L: Site> Fleet<'a, L> {
                 member,
                 message,
             };
-            return Err(self.refuse_absent(rt, pass, group, member, event));
+            return Err(self.refuse_absent(rt, pass, event));
         };
         let letter = match self.find(rt, pass, group, member, message) {
             Ok(letter) => letter,
@@ -229,7 +219,7 @@ impl<'a, L: Site> Fleet<'a, L> {
         ensures seat { seat_of pass.new ≡ seat_of pass.old }
     {
         let Some(node) = self.node(group, member) else {
-            return Err(self.refuse_absent(rt, pass, group, member, event(group, member, deed)));
+            return Err(self.refuse_absent(rt, pass, event(group, member, deed)));
         };
         for _ in rt.forever() {
             match self.try_node(rt, pass, node, group, member, deed) {

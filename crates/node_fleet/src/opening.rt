@@ -1,13 +1,15 @@
 //! A new fleet, with its passes.
 
-ghost use Rattle.std.specs.Prelude.{◌≡◌, ◌+◌, All, [], IfErr, IfOk, vec_len};
+ghost use Rattle.std.specs.Prelude.{◌≡◌, ◌+◌, All, [], IfErr, IfOk, is_some, vec_len};
 ghost use Rattle.std.specs.Arc.{arc_value};
 ghost use Rattle.height.specs.Seats.{table_of, top_table, height_of};
 ghost use Rattle.board.specs.Seats.{IsSeatIn};
 ghost use Rattle.volume_model.specs.declared.fault.Fault.TheVariants.{NoMemory};
+ghost use Rattle.volume_model.specs.Plan.{is_named};
 ghost use Rattle.plan.specs.CheckedModel.{checked_model};
 ghost use Rattle.journal.specs.Tokens.{ids_of};
 ghost use Rattle.journal.specs.Passes.{notes_of, steps_of};
+ghost use Rattle.node_fleet.specs.Places.{HasEach};
 
 use crate::authority::AuthorityActor;
 use crate::base::Base;
@@ -26,7 +28,7 @@ use volume_model::Fault;
 use world::Client;
 
 /// How many members a group can have.
-const MEMBERS: u8 = 64;
+const MEMBERS: usize = 64;
 
 // Passes that have made no step, one for each seat of the board, with a part of the ledger each.
 fn passes<'a, L: Site>(
@@ -104,6 +106,7 @@ fn node<L: Site>(
 ) -> Result<Option<Mutex<NodeActor<L>>>, Fault>
     requires plan { checked_model (arc_value plan.now) ≡ L.plan }
     requires history { history.now.seen.log ≡ [] }
+    ensures there { IfOk result (λ made. is_some made ≡ is_named L.plan group member) }
     ensures memory { IfErr result (λ fault. fault ≡ NoMemory) }
 {
     if !plan.names(group, member) {
@@ -113,7 +116,7 @@ fn node<L: Site>(
     Ok(Some(Mutex::new(actor)))
 }
 
-// The nodes of the groups, 64 a group.
+// The nodes that the plan names, each in its slot, of which there are 64 a group.
 fn nodes<L: Site>(
     alloc: Global,
     plan: &Arc<CheckedPlan>,
@@ -121,13 +124,13 @@ fn nodes<L: Site>(
 ) -> Result<Vec<Option<Mutex<NodeActor<L>>>>, Fault>
     requires plan { checked_model (arc_value plan.now) ≡ L.plan }
     requires history { history.now.seen.log ≡ [] }
+    ensures each { IfOk result (λ made. HasEach L.plan made.items) }
     ensures memory { IfErr result (λ fault. fault ≡ NoMemory) }
 {
     let mut made = Vec::new(alloc);
-    for group in 0..plan.groups() {
-        for member in 0..MEMBERS {
-            made.push(node(alloc, plan, group, member, history)?)?;
-        }
+    for slot in 0..usize::from(plan.groups()) * MEMBERS {
+        let (group, member) = ((slot / MEMBERS) as u8, (slot % MEMBERS) as u8);
+        made.push(node(alloc, plan, group, member, history)?)?;
     }
     Ok(made)
 }

@@ -1,0 +1,9 @@
+use Rattle.std.proofs.Common.{◌≡◌, vec_len}
+use Rattle.node_fleet.proofs.Mails.{AreHomes}
+use Rattle.node_fleet.proofs.opening.nodes.Given as goal
+
+abbrev pub invariant-loop-slot : goal.invariant-loop-slot
+invariant-loop-slot g l = record {
+  long : vec_len l.made ≡ l.slot;
+  homes : AreHomes g.L.Site.plan l.made.items;
+}
