@@ -4,7 +4,7 @@ use Rattle.volume_model.specs.declared.fault.Fault.{Fault}
 use Rattle.volume_model.specs.Told.{refusal}
 use Rattle.volume_model.specs.Plan.{Plan}
 use Rattle.volume_model.specs.World.{Authority, AuthorityStep, Event, World, of_authority, step}
-use Rattle.volume_model.specs.Actor.{Actor, actor_of, Agree}
+use Rattle.volume_model.specs.Actor.{Actor, Agree}
 use Rattle.world.specs.declared.acts.AuthorityAct.{AuthorityAct}
 use Rattle.world.specs.declared.acts.AuthorityAct.TheVariants as act
 use Rattle.world.specs.Acts.{authority_acted}

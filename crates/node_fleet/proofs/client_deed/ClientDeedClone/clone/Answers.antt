@@ -1,4 +1,4 @@
-use Rattle.std.proofs.Common.{◌≡◌, sym, ap, ◌∙◌}
+use Rattle.std.proofs.Common.{sym, ap, ◌∙◌}
 use Rattle.volume_model.specs.World.Event.{Issue}
 use Rattle.writer_core.proofs.Copied.{copied}
 use Rattle.node_fleet.specs.Deeds.{event_by}

@@ -3,7 +3,6 @@ use Rattle.volume_model.specs.Plan.{Plan}
 use Rattle.volume_model.specs.Journal.{Entry, events}
 use Rattle.plan.specs.CheckedModel.{checked_model}
 use Rattle.world.specs.Outcomes.{KeepsPromises}
-use Rattle.journal.specs.Passes.{journal_of}
 use Rattle.journal.specs.Standing.{NamesEarlier}
 use Rattle.node_fleet.specs.Journals.{entries_in}
 use Rattle.node_fleet.proofs.fleet.Fleet.close.Goals as goal

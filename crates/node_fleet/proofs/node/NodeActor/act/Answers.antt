@@ -1,8 +1,6 @@
-use Rattle.std.proofs.Common.{◌≡◌, List, length, Ok, Err, sym, ap, ◌∙◌, subst}
-use Rattle.volume_model.specs.declared.fault.Fault.{Fault}
+use Rattle.std.proofs.Common.{List, length, Err, sym, ap, ◌∙◌, subst}
 use Rattle.volume_model.specs.declared.fault.Fault.TheVariants.{JournalFull, NoActor}
 use Rattle.volume_model.specs.Actor.{actor_of}
-use Rattle.volume_model.specs.Answer.{Fails}
 use Rattle.volume_model.specs.Judging.{Exact}
 use Rattle.volume_model.specs.Journal.{Entry, world_at}
 use Rattle.volume_model.specs.Node.{Node, NodeStep}
