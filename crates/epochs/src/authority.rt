@@ -203,6 +203,7 @@ impl Authority {
             places: self.places(alloc)?,
         }))
     }
+
     /// Whether it would let the next group join. Takes no memory.
     ///
     /// # Errors
