@@ -22,6 +22,9 @@ use refutation::{Certificate, MAX_DEPTH, Refutation};
 use std::alloc::{Allocator, Global};
 use volume_model::Fault;
 
+/// How many nodes the rules that look at items may try for each rule of a certificate.
+const TRIES: u64 = 8;
+
 /// How many nodes of a certificate are worth one more table than the first ones.
 const NODES_A_TABLE: u64 = 16;
 
@@ -205,7 +208,7 @@ fn smaller<A: Allocator>(
         return Ok(None);
     };
     let size = (fewest.size() as u64).max(1);
-    let budget = budget.min(ITEM_WORK / size);
+    let budget = budget.min(ITEM_WORK / size).min(u64::from(most) * TRIES);
     let found = at_once(alloc, claim, &fewest, budget, most)?;
     let below = most_of(&found, most);
     match by_orders(alloc, claim, &fewest, below)? {
@@ -215,8 +218,8 @@ fn smaller<A: Allocator>(
 }
 
 /// A certificate that refutes a claim with fewer rules than one that is at hand, or none where no such is found: by the pairs of
-/// subexpressions that close with the fewest rules, by the rules that look at items, or by cases of members. The budget bounds how many
-/// nodes the rules that look at items try; the other searches take so long as the certificate is large.
+/// subexpressions that close with the fewest rules, by the rules that look at items, or by cases of members. How long it takes is bounded
+/// by how large the certificate is, and by the budget.
 ///
 /// # Errors
 /// [`NoMemory`](Fault::NoMemory).
