@@ -1,4 +1,3 @@
-use Rattle.std.proofs.Math.Nat.{le_of_lt}
 use borrow.Author.Count.{falls}
 use Rattle.refutation.proofs.Rules.{branch_below, pick_below, match_below, open_below, left_below, right_below}
 use Rattle.cert_search.proofs.sizes.+length.Goals as goal

@@ -1,4 +1,4 @@
-use Rattle.std.proofs.Common.{◌+◌, ◌*◌, ◌≤◌, drop, map}
+use Rattle.std.proofs.Common.{◌+◌, ◌*◌, map}
 use Rattle.refutation.specs.Rule.{branches_of, branch_depth, depth_of}
 use Rattle.refutation.specs.Refutation.{rule_of}
 use Rattle.cert_search.proofs.sizes.+length.Given as goal
