@@ -5,7 +5,7 @@ use Rattle.cert_search.specs.declared.hand.Hand.{Hand}
 use Rattle.cert_search.specs.declared.working.Found.{Found}
 use Rattle.cert_search.specs.declared.working.Worked.{Worked}
 use Rattle.plan.specs.PlanClaims.{PlacedClaim}
-use Rattle.cert_search.specs.Hands.{own_deque, deques_of, names_of, deque_at, IsOfDeal, AreDealt, ShareDeques, SameDeal, HasEnded, IsThrough}
+use Rattle.cert_search.specs.Hands.{own_deque, deque_at, IsOfDeal, AreDealt, ShareDeques, SameDeal, HasEnded, IsThrough}
 use Rattle.cert_search.specs.Sights.{name_at}
 use Rattle.cert_search.specs.Settled.{AreOfDeal, AllHad, HadOnce, EachHad}
 use Rattle.cert_search.specs.Places.{AreWorked, IsWork}

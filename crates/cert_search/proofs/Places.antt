@@ -25,13 +25,13 @@ empty budget claims places long none = record {
 }
 
 -- what stands where nothing was written
-elsewhere : {A : Type 0} (xs : List A) (j i : ℕ) (v x : A) → i ≢ j → slice_get (slice_set xs j v) i ≡ Some x → slice_get xs i ≡ Some x
+pub elsewhere : {A : Type 0} (xs : List A) (j i : ℕ) (v x : A) → i ≢ j → slice_get (slice_set xs j v) i ≡ Some x → slice_get xs i ≡ Some x
 elsewhere xs j i v x other h =
     let inside : i < length xs = omega (arith, slice_get_within (slice_set xs j v) i x h, length-set xs j v) in
     slice_get-get_or xs i x inside ∙ ap Some (sym (get_or-set_other xs j i v x other) ∙ get_or_from_slice_get (slice_set xs j v) i x x h)
 
 -- what stands where it was written
-here : {A : Type 0} (xs : List A) (i : ℕ) (v x : A) → slice_get (slice_set xs i v) i ≡ Some x → v ≡ x
+pub here : {A : Type 0} (xs : List A) (i : ℕ) (v x : A) → slice_get (slice_set xs i v) i ≡ Some x → v ≡ x
 here xs i v x h =
     let inside : i < length xs = omega (arith, slice_get_within (slice_set xs i v) i x h, length-set xs i v) in
     sym (get_or-set_same xs i v x inside) ∙ get_or_from_slice_get (slice_set xs i v) i x x h

@@ -7,3 +7,4 @@ pub mod Sights
 pub mod Dealing
 pub mod Hands
 pub mod Settled
+pub mod Smaller

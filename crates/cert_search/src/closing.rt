@@ -27,7 +27,7 @@ pub struct Closing<B: Allocator> {
 }
 
 /// What the pairs of a match of two choices weigh at least.
-fn wanted(of: &Choice, others: &Choice) -> usize {
+pub fn wanted(of: &Choice, others: &Choice) -> usize {
     (of.needed().saturating_add(others.needed())).saturating_sub(1)
 }
 
@@ -51,7 +51,7 @@ pub fn equal_members(one: &Part, of: &Choice, other: &Part, others: &Choice) -> 
 }
 
 /// The weights of up to 64 subexpressions.
-fn weights(parts: &[Part]) -> [u8; 64] {
+pub fn weights(parts: &[Part]) -> [u8; 64] {
     let mut weights = [0u8; 64];
     for (weight, part) in weights.iter_mut().zip(parts) {
         *weight = part.weight;

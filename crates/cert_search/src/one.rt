@@ -17,7 +17,7 @@ use crate::leaves::has_counterexample;
 use crate::parts::parts_of;
 use crate::plain::plain_tree;
 use crate::rules::{Search, refute};
-use crate::state::{Row, State};
+use crate::state::State;
 use bumpalo::Bump;
 use quorum_checker::{Claim, check, children};
 use quorum_expr::{Expr, MemberSet};
@@ -29,7 +29,7 @@ use volume_model::Fault;
 const PLAIN_NODES: u64 = 100;
 
 /// How many states the rules that look at items may try, times the number of subexpressions that each of them looks at.
-const ITEM_WORK: u64 = 700_000;
+pub const ITEM_WORK: u64 = 700_000;
 
 /// The same of the cases of members, which look at less.
 const CASE_WORK: u64 = 100_000_000;
@@ -52,7 +52,7 @@ fn judged<A: Allocator>(
 }
 
 /// The certificate that a tree is, where it refutes the claim.
-fn certified<A: Allocator>(
+pub fn certified<A: Allocator>(
     alloc: Global,
     claim: &Claim<A>,
     tree: Refutation<Global>,
@@ -68,7 +68,7 @@ fn certified<A: Allocator>(
 }
 
 /// The certificate that a copy of a tree is, where it refutes the claim.
-fn copy_certified<A: Allocator, B: Allocator>(
+pub fn copy_certified<A: Allocator, B: Allocator>(
     alloc: Global,
     claim: &Claim<A>,
     tree: Refutation<B>,
@@ -140,18 +140,7 @@ fn searched<A: Allocator, B: Allocator + Clone>(
     let size = (closing.size() as u64).max(1);
     let lefts = [&claim.left];
     let rights = [&claim.right];
-    let state = State {
-        left: Row {
-            before: 0,
-            items: &lefts,
-            absent: claim.clear,
-        },
-        right: Row {
-            before: 0,
-            items: &rights,
-            absent: MemberSet::empty(),
-        },
-    };
+    let state = State::new(&lefts, &rights, (claim.clear, MemberSet::empty()));
     search.budget = (budget / 2).min(ITEM_WORK / size);
     if let Some(tree) = refute(search, &state, MAX_DEPTH)? {
         return Ok(Some(tree));

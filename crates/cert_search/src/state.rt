@@ -126,6 +126,26 @@ impl<'a, A: Allocator> Row<'a, A> {
 }
 
 impl<'a, A: Allocator> State<'a, A> {
+    /// The state with these items, and these members absent from the left side and from the right one.
+    pub fn new(
+        lefts: &'a [&'a Expr<A>],
+        rights: &'a [&'a Expr<A>],
+        absent: (MemberSet, MemberSet),
+    ) -> State<'a, A> {
+        State {
+            left: Row {
+                before: 0,
+                items: lefts,
+                absent: absent.0,
+            },
+            right: Row {
+                before: 0,
+                items: rights,
+                absent: absent.1,
+            },
+        }
+    }
+
     /// The items of a side.
     pub fn row(&self, side: Side) -> Row<'a, A> {
         match side {

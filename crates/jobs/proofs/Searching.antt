@@ -3,7 +3,7 @@ use Rattle.std.proofs.Common.{◌≡◌, ◌∙◌, ap, sym, refl, ℕ, ◌+◌,
 use mir.Val.{bool_byte}
 use Rattle.std.specs.Prelude.{IsOkAnd}
 use Rattle.std.specs.List.{list_any}
-use Rattle.std.proofs.lemmas.List.{append_assoc, append-nil}
+use Rattle.std.proofs.lemmas.List.{append_assoc, append-nil, length-map}
 use Rattle.std.proofs.Math.Seq.{drop-length}
 use Rattle.std.specs.declared.alloc.Global.{Global}
 use Rattle.refutation.specs.declared.certificate.Certificate.{Certificate}
@@ -11,7 +11,9 @@ use Rattle.refutation.specs.Rule.{Rule}
 use Rattle.plan.specs.declared.lent.LentClaim.{LentClaim}
 use Rattle.plan.specs.LentClaims.{all_lent, lent_placed}
 use Rattle.plan.specs.PlanClaims.{PlacedClaim}
+use Rattle.plan_tokens.specs.Rewritten.{HasClaims}
 use Rattle.cert_search.specs.Answers.{rule_in}
+use Rattle.cert_search.specs.Smaller.{AreNoLarger}
 use Rattle.jobs.specs.Searched.{TellsSearch}
 use Rattle.jobs.specs.Unfound.{found_status, unfound_line, unfound_lines}
 
@@ -45,6 +47,16 @@ no_one false e = refl
 -- the status 0 says that no claim is without a rule
 pub no_gap : (rules : List (Option Rule)) → found_status rules ≡ 0 → list_any (λ rule. is_none rule) rules ≡ false
 no_gap rules e = no_one (list_any (λ rule. is_none rule) rules) e
+
+-- a text has a place for each of its claims, whatever smaller ones stand there
+pub still_claims : (text : List ℕ) (olds news : List (Option (Certificate Global))) → HasClaims text (length olds) → AreNoLarger (map rule_in olds) (map rule_in news) → HasClaims text (length news)
+still_claims text olds news has are = record {
+  plan = has.plan;
+  is = has.is;
+  claims = has.claims;
+  listed = has.listed;
+  places = sym (length-map news rule_in) ∙ are.as_many ∙ length-map olds rule_in ∙ has.places;
+}
 
 -- one claim more
 pub unfound_more : (claims : List LentClaim) (left later : List (Option (Certificate Global))) (i : ℕ) (claim : LentClaim) (certificate : Option (Certificate Global)) (all old new : List ℕ)

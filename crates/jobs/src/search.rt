@@ -9,7 +9,7 @@ ghost use Rattle.plan.specs.PlanClaims.{claims_in};
 ghost use Rattle.plan.specs.PlanData.{PlanData};
 ghost use Rattle.plan.specs.Written.{rewritten};
 ghost use Rattle.plan_tokens.specs.Rewritten.{HasClaims};
-ghost use Rattle.cert_search.specs.Answers.{rule_in, AreAnswersOf};
+ghost use Rattle.cert_search.specs.Answers.{rule_in, AreAnswers, AreAnswersOf};
 ghost use Rattle.jobs.specs.Answers.{AnswersOf, file_of};
 ghost use Rattle.jobs.specs.Searched.{IsPlanLine, SearchesTo, TellsSearch, claims_of, found_answer};
 ghost use Rattle.jobs.specs.Stops.{StopsBy};
@@ -21,7 +21,7 @@ use crate::fallible::FallibleRead;
 use crate::files::Source;
 use crate::inputs::{contents, plan_in};
 use crate::reply::{Found, Stop};
-use cert_search::{Gate, search_all};
+use cert_search::{Gate, make_smaller, search_all};
 use command_line::Job;
 use plan::{LentClaim, Plan, claim_name, lent_claims, shown_claims_certify};
 use plan_tokens::write_plan;
@@ -32,6 +32,9 @@ use std::thread::Threads;
 
 /// How many nodes are tried for a claim at most.
 const BUDGET: u64 = 100_000;
+
+/// How many bytes a plan's text may have.
+const PLAN_BYTES: usize = 16_777_216;
 
 /// Lets the search go on, and tells nobody of it.
 struct NoGate;
@@ -85,6 +88,31 @@ fn plan_line(
             line.push(b'\n')?;
             Ok(line)
         }
+        Err(_) => Err(Stop::NoMemory),
+    }
+}
+
+/// The line of a text's plan with these certificates, or with smaller ones in their places where the line would be too long.
+fn fitting_line(
+    alloc: Global,
+    text: &[u8],
+    claims: &[LentClaim<'_>],
+    certificates: &mut Vec<Option<Certificate<Global>>>,
+) -> Result<Vec<u8>, Stop<'static>>
+    requires claims { HasClaims text.now (length certificates.old.items) }
+    requires answers { AreAnswers 100000 (all_lent claims.now) (map rule_in certificates.old.items) }
+    ensures line { IfOk result (λ line. (plan : PlanData) × (rewritten text.now (map rule_in certificates.new.items) ≡ Ok plan) × IsPlanLine plan line.items) }
+    ensures answers { AreAnswers 100000 (all_lent claims.now) (map rule_in certificates.new.items) }
+    ensures stop { IfErr result (λ stop. stop ≡ NoMemory) }
+{
+    let line = plan_line(alloc, text, certificates)?;
+    if line.len() <= PLAN_BYTES {
+        return Ok(line);
+    }
+    let excess = line.len() - PLAN_BYTES;
+    drop(line);
+    match make_smaller(alloc, claims, BUDGET, excess, certificates) {
+        Ok(()) => plan_line(alloc, text, certificates),
         Err(_) => Err(Stop::NoMemory),
     }
 }
@@ -157,8 +185,8 @@ fn searched<H: Threads + Wait + Sync>(
     shown_claims_certify();
     let plan = plan_in(alloc, text)?;
     let claims = claims_of(alloc, &plan)?;
-    let certificates = answers(rt, alloc, &plan, workers)?;
-    let line = plan_line(alloc, text, &certificates)?;
+    let mut certificates = answers(rt, alloc, &plan, workers)?;
+    let line = fitting_line(alloc, text, &claims, &mut certificates)?;
     let unfound = unfound(alloc, &claims, &certificates)?;
     let status = u8::from(has_gap(&certificates));
     Ok(Found {

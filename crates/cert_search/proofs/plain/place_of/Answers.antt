@@ -1,4 +1,4 @@
-use Rattle.std.proofs.Common.{◌∙◌, sym}
+use Rattle.std.proofs.Common.{sym}
 use Rattle.quorum_expr.specs.Expr.{formula_of}
 use Rattle.cert_search.specs.Plain.{is_member}
 use Rattle.cert_search.proofs.Pairs.{found_at, not_at}

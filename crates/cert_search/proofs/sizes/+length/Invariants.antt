@@ -1,0 +1,11 @@
+use Rattle.std.proofs.Common.{◌+◌, ◌*◌, map}
+use Rattle.refutation.specs.Rule.{branches_of, branch_depth, depth_of}
+use Rattle.refutation.specs.Refutation.{rule_of}
+use Rattle.cert_search.proofs.sizes.+length.Given as goal
+
+-- the depth, with a rule above its branches
+abbrev pub decreases-with_rule : goal.decreases-with_rule
+decreases-with_rule g l = 2 * depth_of (rule_of l.rule.now)
+
+abbrev pub decreases-with_branches : goal.decreases-with_branches
+decreases-with_branches g l = 2 * branch_depth (branches_of (map rule_of l.then.now)) + 1
