@@ -45,4 +45,5 @@ pub use one::{search_in, search_one};
 pub use searching::search_all;
 pub use settling::settle;
 pub use shrinking::make_smaller;
+pub use sizes::rules_in;
 pub use smaller::search_smaller;

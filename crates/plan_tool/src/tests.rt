@@ -15,6 +15,7 @@ mod said;
 mod scarce;
 mod scripts;
 mod searches;
+mod smaller;
 mod stops;
 mod texts;
 mod volumes;
