@@ -1,17 +1,16 @@
-use Rattle.std.proofs.Common.{◌≡◌, ◌∙◌, ap, ap₂, sym, subst, List, Option, Result, Ok, is_none, map}
+use Rattle.std.proofs.Common.{◌≡◌, ◌∙◌, ap, ap₂, sym, subst, List, Option, Ok, is_none, map}
 use Rattle.std.specs.List.{list_any}
 use Rattle.std.specs.declared.alloc.Global.{Global}
 use Rattle.refutation.specs.declared.certificate.Certificate.{Certificate}
 use Rattle.refutation.specs.Certificate.{certificate_rule}
-use Rattle.plan.specs.declared.fault.PlanFault.{PlanFault}
+use Rattle.plan.specs.declared.lent.LentClaim.{LentClaim}
 use Rattle.plan.specs.Plan.{plan_data}
-use Rattle.plan.specs.PlanClaims.{PlacedClaim}
 use Rattle.plan.specs.PlanData.{PlanData}
 use Rattle.plan.specs.LentClaims.{all_lent}
 use Rattle.plan.specs.WithCertificates.{with_certificates}
 use Rattle.plan.specs.Written.{rewritten}
 use Rattle.plan.proofs.Reread.{ok_is}
-use Rattle.cert_search.specs.Answers.{rule_in, AreAnswersOf}
+use Rattle.cert_search.specs.Answers.{rule_in, AreAnswers}
 use Rattle.jobs.specs.Searched.{IsPlanLine}
 use Rattle.jobs.specs.Unfound.{found_status, unfound_lines}
 use Rattle.jobs.proofs.Findings.{all_shown, rewritten-is}
@@ -27,9 +26,9 @@ returns-clause-told g c =
     let rules_of = λ (xs : List (Option (Certificate Global))). map rule_in xs in
     let rules = rules_of answers in
     let listed = c.in_ok-claims.ensures.claims in
-    let answered = c.in_ok-line.ensures.answers in
+    let answered : AreAnswers 100000 claims rules = subst (λ (xs : List LentClaim). AreAnswers 100000 (all_lent xs) rules) (sym c.deref.ensures.value) c.in_ok-line.ensures.answers in
     let line = c.in_ok-line.ensures.line in
-    let given : rewritten text rules ≡ Ok line.0 = ap (λ xs. rewritten text (rules_of xs)) (sym c.deref.ensures.value) ∙ line.1 in
+    let given : rewritten text rules ≡ Ok line.0 = line.1 in
     let is : line.0 ≡ with_certificates plan rules = ok_is line.0 (with_certificates plan rules) (sym given ∙ rewritten-is text plan claims rules c.in_ok-plan.ensures.plan listed) in
     let gap = λ (xs : List (Option (Certificate Global))). list_any (λ x. is_none x) xs in
     let byte : c.from-status.result ≡ status_by c.has_gap.result = status-is c.has_gap.result c.from-status.result c.from-status.ensures in
