@@ -22,7 +22,7 @@ const STARVED: u64 = 3;
 const MADE: u64 = 4;
 
 /// How often a thread looks before it sleeps. Between two looks it lets another thread run, which may be the one that tells.
-const LOOKS: u32 = 50;
+const LOOKS: u32 = 100;
 
 /// What an order came to.
 #[derive(Clone, Copy)]
