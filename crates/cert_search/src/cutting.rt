@@ -12,14 +12,21 @@ use quorum_expr::{Expr, MEMBERS, MemberSet};
 use refutation::{Refutation, Side};
 use std::alloc::{AllocError, Allocator, Global};
 
-/// What is cut into cases, how many nodes its tree may still have, and how many tables may still be made.
+/// How many tables may still be made, and how many states the cases of members alone may still try.
+#[derive(Clone, Copy)]
+pub struct Bounds {
+    pub tables: u64,
+    pub tries: u64,
+}
+
+/// What is cut into cases, how many nodes its tree may still have, and how much may still be done for it.
 #[derive(Drop)]
 pub struct Cutting<'c, A: Allocator> {
     pub alloc: Global,
     pub left: &'c Expr<A>,
     pub right: &'c Expr<A>,
     pub nodes: u64,
-    pub tables: u64,
+    pub bounds: Bounds,
 }
 
 /// A case: the members that are absent from each side, those whose cases are left, and how many levels its tree may have.
@@ -44,9 +51,9 @@ impl<'c, A: Allocator> Cutting<'c, A> {
 
     /// The table of a case, where one more may be made.
     fn table(&mut self, case: &Case<'_>) -> Result<Option<Fewest<Global>>, AllocError> {
-        match self.tables.checked_sub(1) {
+        match self.bounds.tables.checked_sub(1) {
             Some(rest) => {
-                self.tables = rest;
+                self.bounds.tables = rest;
                 fewest_of(&self.alloc, self.left, self.right, case.absent)
             }
             None => Ok(None),
@@ -62,16 +69,16 @@ impl<'c, A: Allocator> Cutting<'c, A> {
         let lefts = [self.left];
         let rights = [self.right];
         let state = State::new(&lefts, &rights, case.absent);
+        let whole = most.min(self.nodes).min(self.bounds.tries);
         let mut search = Search {
             arena: self.alloc,
-            budget: most.min(self.nodes),
+            budget: whole,
         };
-        let whole = search.budget;
         let tree = split(&mut search, &state, Side::Left, case.members, case.levels)?;
+        let spent = whole.saturating_sub(search.budget);
+        self.bounds.tries = self.bounds.tries.saturating_sub(spent);
         if tree.is_some() {
-            self.nodes = self
-                .nodes
-                .saturating_sub(whole.saturating_sub(search.budget));
+            self.nodes = self.nodes.saturating_sub(spent);
         }
         Ok(tree)
     }

@@ -10,7 +10,7 @@ use refutation::Side;
 use std::alloc::{AllocError, Allocator};
 
 /// How many pairs a table has at most.
-const PAIRS: usize = 1 << 20;
+const PAIRS: usize = 1 << 16;
 
 /// How a pair is closed by few nodes.
 #[derive(Drop)]
@@ -218,6 +218,11 @@ impl<B: Allocator> Fewest<B> {
         }
         let chosen = self.offers(of, others, &mates).choose(wanted)?;
         Some(Few::Match(mates, chosen))
+    }
+
+    /// How many pairs there are.
+    pub fn pairs(&self) -> usize {
+        self.nodes.len()
     }
 
     /// How many subexpressions there are on both sides.

@@ -32,7 +32,7 @@ const PLAIN_NODES: u64 = 100;
 pub const ITEM_WORK: u64 = 700_000;
 
 /// The same of the cases of members, which look at less.
-const CASE_WORK: u64 = 100_000_000;
+pub const CASE_WORK: u64 = 100_000_000;
 
 /// A certificate, where it refutes the claim.
 fn judged<A: Allocator>(
@@ -184,7 +184,10 @@ fn unplain<A: Allocator, B: Allocator + Clone>(
     }
 }
 
-/// The certificate of a claim, by a search whose tables lie in an arena.
+/// The certificate of a claim, or none where the search gave up, as [`search_one`] gives it, by a search whose tables lie in an arena.
+///
+/// # Errors
+/// [`NoMemory`](Fault::NoMemory).
 pub fn search_in<A: Allocator, B: Allocator + Clone>(
     alloc: Global,
     arena: &B,

@@ -7,10 +7,10 @@ ghost use Rattle.refutation.specs.Limits.{nodes_of};
 ghost use Rattle.quorum_checker.specs.Claim.{first_state};
 ghost use Rattle.quorum_checker.specs.Refutes.{Refutes};
 
-use crate::cutting::{Case, Cutting, cut};
+use crate::cutting::{Bounds, Case, Cutting, cut};
 use crate::few::few_tree;
 use crate::fewest::{Fewest, fewest_of};
-use crate::one::{ITEM_WORK, certified, copy_certified};
+use crate::one::{CASE_WORK, ITEM_WORK, certified, copy_certified};
 use crate::order::Order;
 use crate::rules::{Search, refute};
 use crate::sizes::rules_in;
@@ -30,6 +30,9 @@ const NODES_A_TABLE: u64 = 16;
 
 /// How many tables are made at most for each order of a claim's cases, however small its certificate.
 const TABLES: u64 = 16;
+
+/// How many pairs the tables of an order have together at most.
+const TABLE_WORK: u64 = 4_000_000;
 
 /// A certificate, where it has fewer rules than so many.
 fn below(certificate: Option<Certificate<Global>>, most: u32) -> Option<Certificate<Global>>
@@ -108,7 +111,7 @@ fn by_cases<A: Allocator>(
     alloc: Global,
     claim: &Claim<A>,
     members: &[u8],
-    tables: u64,
+    bounds: Bounds,
     most: u32,
 ) -> Result<Option<Certificate<Global>>, Fault>
     ensures refutes { IfOk result (λ answer. IfSome answer (λ c. Refutes (certificate_rule c) (first_state claim.now))) }
@@ -120,7 +123,7 @@ fn by_cases<A: Allocator>(
         left: &claim.left,
         right: &claim.right,
         nodes: u64::from(most).saturating_sub(1),
-        tables,
+        bounds,
     };
     let case = Case {
         absent: (claim.clear, MemberSet::empty()),
@@ -162,6 +165,16 @@ fn at_once<A: Allocator>(
     }
 }
 
+/// How much is done for each order of a claim's cases: more for a certificate of many rules, and less where the expressions are large.
+fn bounds_of(fewest: &Fewest<Global>, most: u32) -> Bounds {
+    let pairs = (fewest.pairs() as u64).max(1);
+    let size = (fewest.size() as u64).max(1);
+    Bounds {
+        tables: (u64::from(most) / NODES_A_TABLE + TABLES).min(TABLE_WORK / pairs),
+        tries: CASE_WORK / size,
+    }
+}
+
 /// The smaller certificate by cases of members, in one order and in the other.
 fn by_orders<A: Allocator>(
     alloc: Global,
@@ -173,12 +186,12 @@ fn by_orders<A: Allocator>(
     ensures fewer { IfOk result (λ answer. IfSome answer (λ c. nodes_of (certificate_rule c) < most)) }
     ensures memory { IfErr result (λ e. e ≡ NoMemory) }
 {
-    let tables = u64::from(most) / NODES_A_TABLE + TABLES;
+    let bounds = bounds_of(fewest, most);
     let members = fewest.members(&alloc, Order::Differences)?;
-    let found = by_cases(alloc, claim, members.as_slice(), tables, most)?;
+    let found = by_cases(alloc, claim, members.as_slice(), bounds, most)?;
     let below = most_of(&found, most);
     let members = fewest.members(&alloc, Order::Losses)?;
-    match by_cases(alloc, claim, members.as_slice(), tables, below)? {
+    match by_cases(alloc, claim, members.as_slice(), bounds, below)? {
         Some(certificate) => Ok(Some(certificate)),
         None => Ok(found),
     }
