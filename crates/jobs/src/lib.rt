@@ -4,6 +4,7 @@
 mod fallible;
 mod files;
 mod inputs;
+mod leaving;
 mod outputs;
 mod performing;
 mod reply;

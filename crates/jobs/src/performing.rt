@@ -15,6 +15,7 @@ ghost use Rattle.jobs.specs.declared.reply.Stop.TheVariants.{NoMemory};
 use crate::fallible::{FallibleRead, FallibleWrite};
 use crate::files::Source;
 use crate::inputs::checked;
+use crate::leaving::leave;
 use crate::outputs::{Output, deliver};
 use crate::reply::{Reply, Stop};
 use crate::running::{fleet, run};
@@ -46,7 +47,11 @@ fn check<'a, P: FallibleRead>(
     ensures reason { FailsByRead P.answers plan.old plan.new }
 {
     match checked(alloc, name, plan) {
-        Ok(plan) => plan_told(alloc, &plan),
+        Ok(plan) => {
+            let told = plan_told(alloc, &plan);
+            leave(plan);
+            told
+        }
         Err(stop) => Err(stop),
     }
 }

@@ -12,6 +12,7 @@ ghost use Rattle.jobs.specs.declared.reply.Stop.TheVariants.{NoMemory};
 use crate::fallible::FallibleRead;
 use crate::files::Source;
 use crate::inputs::{PlanAndScript, plan_and_script};
+use crate::leaving::leave;
 use crate::reply::{Reply, Stop};
 use crate::told::{fleet_lines, run_lines};
 use command_line::Job;
@@ -31,7 +32,13 @@ fn ran(alloc: Global, both: PlanAndScript) -> Result<Reply, Stop<'static>>
     let PlanAndScript { plan, script } = both;
     let Script { steps, orders } = script;
     match run_orders(alloc, &plan, orders) {
-        Ok(outcome) => Ok(run_lines(alloc, steps.as_slice(), &outcome)?),
+        Ok(outcome) => {
+            let told = run_lines(alloc, steps.as_slice(), &outcome)?;
+            leave(outcome);
+            leave(steps);
+            leave(plan);
+            Ok(told)
+        }
         Err(_) => Err(Stop::NoMemory),
     }
 }
@@ -66,7 +73,11 @@ fn driven<H: Threads + Wait + Sync>(
     ensures stop { IfErr result (λ stop. stop ≡ NoMemory) }
 {
     match drive(rt, alloc, plan, script, workers) {
-        Ok(driven) => Ok(fleet_lines(alloc, &driven)?),
+        Ok(driven) => {
+            let told = fleet_lines(alloc, &driven)?;
+            leave(driven);
+            Ok(told)
+        }
         Err(_) => Err(Stop::NoMemory),
     }
 }

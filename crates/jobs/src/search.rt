@@ -20,6 +20,7 @@ ghost use Rattle.jobs.specs.declared.reply.Stop.TheVariants.{NoMemory};
 use crate::fallible::FallibleRead;
 use crate::files::Source;
 use crate::inputs::{contents, plan_in};
+use crate::leaving::leave;
 use crate::reply::{Found, Stop};
 use cert_search::{Gate, make_smaller, search_all};
 use command_line::Job;
@@ -189,6 +190,9 @@ fn searched<H: Threads + Wait + Sync>(
     let line = fitting_line(alloc, text, &claims, &mut certificates)?;
     let unfound = unfound(alloc, &claims, &certificates)?;
     let status = u8::from(has_gap(&certificates));
+    leave(certificates);
+    leave(claims);
+    leave(plan);
     Ok(Found {
         status,
         plan: line,

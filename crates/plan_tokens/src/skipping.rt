@@ -20,6 +20,7 @@ fn pass_key(reader: &mut Reader<'_>) -> Option<bool>
 
 /// A text, a null, a whole number, or a list or an object of such values, of at most so many levels.
 #[cycle(skip)]
+#[inline(always)]
 pub(crate) fn skip_value(reader: &mut Reader<'_>, levels: u8) -> Option<()>
     ensures { OnSome result (IsValue levels reader.old reader.new) }
 {

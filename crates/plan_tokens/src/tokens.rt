@@ -16,6 +16,9 @@ use std::alloc::Global;
 /// How many numbers of a list there is room for at first: as many as take no more memory than one would.
 const NUMBERS: usize = 24;
 
+/// How many pairs of numbers there is room for at first, likewise.
+const PAIRS: usize = NUMBERS / 2;
+
 /// The number that one digit writes.
 fn digit(byte: u8) -> Option<u64>
     ensures small { IfSome result (λ n. digit_value byte < 10) }
@@ -218,7 +221,7 @@ pub(crate) fn small_number_pairs(alloc: Global, reader: &mut Reader<'_>) -> Opti
     ensures small { IfSome result (λ v. All IsPairInRange v.items) }
 {
     begin_array(reader)?;
-    let mut pairs = Vec::new(alloc);
+    let mut pairs = Vec::with_capacity(alloc, PAIRS).ok()?;
     while !reader.take_end_array() {
         let pair = pair(reader)?;
         push(&mut pairs, pair)?;
