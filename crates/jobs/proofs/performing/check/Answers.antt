@@ -9,7 +9,7 @@ use Rattle.jobs.proofs.performing.check.Goals as goal
 
 pub returns-in-Ok-clause-answers : goal.returns-in-Ok-clause-answers
 returns-in-Ok-clause-answers g c =
-    plan_tells (file_of g.P.Read.remaining c.args.name.now c.args.plan.now c.checked.new.plan) c.in-Ok.plan c.plan_told.result c.in-Ok.ensures.plan c.plan_told.ensures.yes c.plan_told.ensures.line c.plan_told.ensures.stop
+    plan_tells (file_of g.P.Read.remaining c.args.name.now c.args.plan.now c.checked.new.plan) c.in-Ok.plan c.plan_told-told.result c.in-Ok.ensures.plan c.plan_told-told.ensures.yes c.plan_told-told.ensures.line c.plan_told-told.ensures.stop
 
 pub returns-in-Err-clause-answers : goal.returns-in-Err-clause-answers
 returns-in-Err-clause-answers g c =
