@@ -1,0 +1,111 @@
+#!/usr/bin/env python3
+"""Builds plan_tool without its proof, nearly as it will be built over one, so that what a change gains is known before anything of it is proved.
+
+    python3 bench/draft.py OUT [--inline FUNCTION..]
+
+`rt try` translates the program, which takes some four minutes of a processor. Of the module that it makes the run-time checks are taken out, functions
+are marked as their sources mark them (`inline(always)`, `inline(never)`), those that are named behind `--inline` (as `runs::runs::Runs::put`) too, and the
+kit's clang compiles it in some two minutes more. The module stays beside OUT as OUT.module, and is taken again while it is newer than all sources, so that
+more functions are tried in two minutes each.
+
+Nothing is proved of OUT, and it takes some 10 per cent more instructions than the program as it is built over its proof (a search of 2,032 plain claims 103
+million for 94): compare one draft with another, by `valgrind --tool=callgrind` where other work is on the machine.
+"""
+import os
+import pathlib
+import re
+import shutil
+import subprocess
+import sys
+import tempfile
+import time
+
+TOP = pathlib.Path(__file__).resolve().parent.parent
+KIT = pathlib.Path(shutil.which("rt")).resolve().parent.parent
+CLANG = KIT / "toolchain" / "bin" / "clang"
+FUNCTION = re.compile(r"(?:pub(?:\([^)]*\))? )?(?:const )?(?:unsafe )?fn (\w+)")
+UNUSED = [' sanitize_address "frame-pointer"="all"', ' "probe-stack"="inline-asm" "stack-probe-size"="3072"']
+
+
+def sources():
+    """The folder of sources of each crate, of the repository's and of the kit's."""
+    for folder in [*(TOP / "crates").glob("*/src"), *(KIT / "rattle").glob("*/src"), *(KIT / "rattle").glob("*/*/src")]:
+        yield folder.parent.name, folder
+
+
+def marks():
+    """Which functions the sources mark, by crate, module and name."""
+    found = {}
+    for crate, folder in sources():
+        for file in folder.rglob("*.rt"):
+            module = "::".join(file.relative_to(folder).with_suffix("").parts).removesuffix("::mod")
+            mark = None
+            for line in map(str.strip, file.read_text(errors="replace").splitlines()):
+                if line in ("#[inline(always)]", "#[inline(never)]"):
+                    mark = "alwaysinline" if "always" in line else "noinline"
+                named = FUNCTION.match(line)
+                if named and mark:
+                    found.setdefault((crate, named[1]), []).append(("" if module in ("lib", "main") else module, mark))
+                if named:
+                    mark = None
+    return found
+
+
+def mark_of(name, found, inline):
+    """The mark of a function of the module, if it has one."""
+    name = re.sub(r"::<#.*", "", name)
+    *above, last = name.split("::")
+    crate, within = (above or [""])[0], "::".join(above[1:])
+    if name in inline:
+        return "alwaysinline"
+    return next((mark for module, mark in found.get((crate, last), []) if within == module or within.startswith(f"{module}::") or not module), None)
+
+
+def marked(line, found, inline):
+    """The first line of a function, with its mark."""
+    name = re.search(r'@"?([^"(]+)"?\(', line)
+    mark = name and mark_of(name[1], found, inline)
+    return re.sub(r" (#\d+) \{$", rf" {mark} \1 {{", line) if mark else line
+
+
+def translated(module):
+    """Has `rt try` translate the program, and takes the module while the program runs."""
+    with tempfile.TemporaryDirectory() as room:
+        words = ["rt", "try", "--seconds", "900", "--", "check", str(TOP / "examples" / "six_copies.json")]
+        ran = subprocess.Popen(words, cwd=TOP / "crates" / "plan_tool", env={**os.environ, "TMPDIR": room}, stdout=subprocess.DEVNULL)
+        while ran.poll() is None:
+            for made in pathlib.Path(room).rglob("module.bc"):
+                try:
+                    shutil.copyfile(made, f"{module}.new")
+                except FileNotFoundError:
+                    pass
+            time.sleep(0.1)
+    pathlib.Path(f"{module}.new").rename(module)
+
+
+def main(out, *words):
+    inline = set(words[words.index("--inline") + 1 :]) if "--inline" in words else set()
+    module = pathlib.Path(f"{out}.module")
+    newest = max(file.stat().st_mtime for _, folder in sources() for file in folder.rglob("*.rt"))
+    if not module.exists() or module.stat().st_mtime < newest:
+        translated(module)
+    how = ["-x", "ir", str(module), "-w", "-S", "-emit-llvm", "-o", "-"]
+    text = subprocess.run([CLANG, *how], check=True, stdout=subprocess.PIPE, text=True).stdout
+    text = text.replace("call void @llvm.trap()\n", "\n").replace('"target-cpu"="x86-64"', '"target-cpu"="x86-64-v2"')
+    for it in UNUSED:
+        text = text.replace(it, "")
+    text = text.replace("= { }", "= { nounwind }")
+    found = marks()
+    lines = [marked(line, found, inline) if line.startswith("define") else line for line in text.split("\n")]
+    with tempfile.TemporaryDirectory() as room:
+        source, made = pathlib.Path(room, "it.ll"), pathlib.Path(room, "it.o")
+        source.write_text("\n".join(lines))
+        subprocess.run([CLANG, "-O3", "-c", "-x", "ir", str(source), "-o", str(made), "-w"], check=True)
+        libraries = [KIT / "c" / "libos_c.a", KIT / "c" / "liblibc_c.a"]
+        subprocess.run(["gcc", "-o", out, str(made), *map(str, libraries), "-lpthread", "-lm"], check=True)
+
+
+if __name__ == "__main__":
+    if len(sys.argv) < 2:
+        sys.exit(__doc__)
+    main(*sys.argv[1:])
