@@ -1,15 +1,10 @@
 -- A text that grows by lines.
-use Rattle.std.proofs.Common.{◌≡◌, ◌∙◌, ap, sym, subst, ℕ, ◌+◌, ◌<◌, List, [], ◌∷◌, ◌++◌, Option, Some, Result, Ok, Err, OnOk, length, drop, get_or, map, refl, add-one, drop-cons, Bool}
+use Rattle.std.proofs.Common.{◌≡◌, ◌∙◌, ap, sym, subst, ℕ, ◌+◌, ◌<◌, List, [], ◌∷◌, ◌++◌, Option, Some, Result, Ok, Err, OnOk, length, drop, get_or, map, refl, add-one, drop-cons}
 use Rattle.std.proofs.lemmas.List.{append_assoc, append-nil}
 use Rattle.std.proofs.Math.Seq.{drop-length}
 use Rattle.volume_model.specs.declared.fault.Fault.{Fault}
-use Rattle.volume_model.specs.Outcome.{Find, Opened}
-use Rattle.volume_model.specs.Plan.{Plan}
-use Rattle.drivers.specs.Driven.{IsDriven}
-use Rattle.drivers.specs.declared.driving.Driven.{Driven}
 use Rattle.jobs.specs.Told.{AreLinesOf, IsLineOf, Telling, Told, counts_line, each_line, first_if, refused_line, rest_if, tellings}
 use Rattle.jobs.specs.Told.AreLinesOf.{none, more}
-use Rattle.jobs.specs.ToldFleet.{TellsDriven, TellsFleet, fleet_status, fleet_text}
 use Rattle.jobs.specs.ToldLines.{AppendsLine, AppendsLines}
 use Rattle.script.specs.declared.reading.Step.{Step}
 
@@ -65,22 +60,3 @@ lines_all view line xs i old now end so_far = let nothing : drop i xs ≡ [] = r
 
 pub same_counts : {a b c x y z : ℕ} → a ≡ x → b ≡ y → c ≡ z → counts_line a b c ≡ counts_line x y z
 same_counts p q r = rw (p, q, r) refl
-
--- ---- a run on threads
-
-same_text : (steps refused : ℕ) {writers writers' : List Opened} {finds finds' : List Find} {agrees agrees' : Bool} → writers ≡ writers' → finds ≡ finds' → agrees ≡ agrees'
-    → fleet_text steps refused writers finds agrees ≡ fleet_text steps refused writers' finds' agrees'
-same_text steps refused p q r = rw (p, q, r) refl
-
--- what tells of what threads have left tells of the fleet's run
-pub fleet_tells : (plan : Plan) (orders : ℕ) (driven : Driven) (status : ℕ) (text : List ℕ) → IsDriven plan orders driven → TellsDriven driven status text → TellsFleet plan orders status text
-fleet_tells plan orders driven status text left told = record {
-  entries = left.entries;
-  runs = left.runs;
-  promises = left.promises;
-  steps = driven.steps;
-  refused = driven.refused;
-  counted = left.lines;
-  text_is = told.text_is ∙ same_text driven.steps driven.refused left.outcome.writers_are left.outcome.finds_are left.agrees;
-  status_is = told.status_is ∙ ap (fleet_status driven.refused) left.agrees;
-}

@@ -2,8 +2,9 @@
 
 use std::mem;
 
-/// Leaves a value's memory to the end of the process, which gives back all of it at once. A job is the last that a process does, and
-/// a plan or what was told of a run is in so many pieces that dropping them one by one would be felt.
+/// Leaves a value's memory to the end of the process, which gives back all of it at once. A program ends behind its job, and a plan, or
+/// what was told of a run, is in so many pieces that dropping them one by one would be felt. Where a process does one job after another,
+/// it keeps what each held.
 pub(crate) fn leave<T: Drop>(value: T) {
     mem::forget(value);
 }
