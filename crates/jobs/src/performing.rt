@@ -195,7 +195,7 @@ fn perform_search<H: Threads + Wait + Sync, P: FallibleRead, O: FallibleWrite, E
 
 /// Does a job on the contents of its files, writes what it says, and gives the exit status: 0 for yes, 1 for a refusal, 2 for
 /// an input that can't be used, which is written to `err` alone, or an output that can't be written. The script is read by `run`
-/// and `fleet` alone, and `fleet` and `search` alone start threads. The memory of what was read and made is left to the process's end.
+/// and `fleet` alone, and `fleet` and `search` alone start threads. Memory that it takes may be left to the end of the process.
 pub fn perform<
     H: Threads + Wait + Sync,
     P: FallibleRead,
