@@ -69,17 +69,26 @@ def marked(line, found, inline):
     return re.sub(r" (#\d+) \{$", rf" {mark} \1 {{", line) if mark else line
 
 
+def made_in(room):
+    """The module that lies below a folder, if it does by now."""
+    return next((pathlib.Path(folder, "module.bc") for folder, _, files in os.walk(room) if "module.bc" in files), None)
+
+
 def translated(module):
     """Has `rt try` translate the program, and takes the module while the program runs."""
     with tempfile.TemporaryDirectory() as room:
         words = ["rt", "try", "--seconds", "900", "--", "check", str(TOP / "examples" / "six_copies.json")]
         ran = subprocess.Popen(words, cwd=TOP / "crates" / "plan_tool", env={**os.environ, "TMPDIR": room}, stdout=subprocess.DEVNULL)
+        taken = None
         while ran.poll() is None:
-            for folder, _, files in os.walk(room):
-                with contextlib.suppress(FileNotFoundError):
-                    if "module.bc" in files:
-                        shutil.copyfile(f"{folder}/module.bc", f"{module}.new")
+            made = made_in(room)
+            with contextlib.suppress(FileNotFoundError):
+                if made and made.stat().st_mtime_ns != taken:
+                    taken = made.stat().st_mtime_ns
+                    shutil.copyfile(made, f"{module}.new")
             time.sleep(0.1)
+    if ran.returncode or taken is None:
+        sys.exit("rt try made no program: run it in crates/plan_tool to see why")
     pathlib.Path(f"{module}.new").rename(module)
 
 
