@@ -22,7 +22,7 @@ use Rattle.lineage.specs.declared.lineage.Lineage.{Lineage}
 use Rattle.lineage.specs.Lineage.{lineage_of}
 use Rattle.volume_model.specs.Lineage as model_lineage
 use Rattle.volume_model.specs.Redo.{Redo}
-use Rattle.std.specs.Prelude.{Vec}
+use Rattle.std.specs.Prelude.{Box, Vec}
 use Rattle.std.specs.Global.{Global}
 
 -- a node that isn't whole becomes what its copies make of it
@@ -60,8 +60,8 @@ module _ (plan : model.Plan) (group member : ℕ) (node : Node) (h : Hydrated) (
   late = ap (may_want_memory is_full) steps ∙ late_whole node h
 
 -- the step that was made ready is that of the whole node
-pub whole_step : (s : Segment) (h : Hydrated) (answers : Vec Message Global) (volume : ℕ) (lineage : Lineage) (records : Records)
-    → answers.items ≡ [] → volume ≡ max s.volume h.volume → lineage_of lineage ≡ h.contents.lineage → records_of records ≡ h.contents.records
+pub whole_step : (s : Segment) (h : Hydrated) (answers : Vec Message Global) (volume : ℕ) (lineage : Lineage) (records : Box Records Global)
+    → answers.items ≡ [] → volume ≡ max s.volume h.volume → lineage_of lineage ≡ h.contents.lineage → records_of records.value ≡ h.contents.records
     → hydration_of s ≡ Ok (record { made = []; node = whole_node (node_of s) h })
     → hydration_of s ≡ Ok (step_of (record { answers = answers; effect = Effect.Hydrate volume lineage records }) (node_of s))
 whole_step s h answers volume lineage records silent greater same held steps =

@@ -26,10 +26,10 @@ effected Count node = record node { copied = suc node.copied }
 effected (Move place) node = record node { place = place_of place; copies = []; install = None }
 effected (Gather volume change) node = record node { volume = volume; install = changed_by change node.install }
 effected (Replace volume lineage records) node =
-    record node { volume = volume; contents = record { lineage = lineage_of lineage; records = records_of records }; install = None }
+    record node { volume = volume; contents = record { lineage = lineage_of lineage; records = records_of records.value }; install = None }
 effected (Keep keeping) node = record node { copies = kept_by keeping node.copies }
 effected (Hydrate volume lineage records) node =
-    record node { volume = volume; whole = true; contents = record { lineage = lineage_of lineage; records = records_of records } }
+    record node { volume = volume; whole = true; contents = record { lineage = lineage_of lineage; records = records_of records.value } }
 effected Restart node = restarted node
 
 -- what the step makes of a node

@@ -28,7 +28,7 @@ pub enum Effect {
     Replace {
         volume: u32,
         lineage: Lineage,
-        records: Records,
+        records: Box<Records>,
     },
     /// A piece of a copy is kept.
     Keep(Keeping),
@@ -36,7 +36,7 @@ pub enum Effect {
     Hydrate {
         volume: u32,
         lineage: Lineage,
-        records: Records,
+        records: Box<Records>,
     },
     /// All pieces are dropped.
     Restart,

@@ -61,6 +61,14 @@ impl Records {
         }
     }
 
+    /// The same in memory of their own, so that what moves them moves a pointer.
+    pub fn boxed(alloc: Global, set: &RecordSet) -> Result<Box<Records>, AllocError>
+        ensures { IfOk result (λ records. records_of records.value ≡ sets.records_of set.now) }
+    {
+        let records = Records::from_set(alloc, set)?;
+        Ok(Box::new(alloc, records)?)
+    }
+
     /// The records of a set that is one chain, the last of which has this number. Fails for want of memory alone.
     fn of_one_chain(alloc: Global, set: &RecordSet, last: u64) -> Result<Records, AllocError>
         requires { IsOneChain 0 (sets.records_of set.now) last }

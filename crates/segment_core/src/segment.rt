@@ -235,7 +235,7 @@ impl Segment {
         ensures ready { IfOk result (λ prepared. CanTake self.now prepared.effect) }
     {
         let lineage = install.contents.lineage.clone()?;
-        let records = Records::from_set(alloc, found)?;
+        let records = Records::boxed(alloc, found)?;
         let scl = records.complete_point();
         let effect = Effect::Replace {
             volume: install.label.volume,
@@ -633,7 +633,7 @@ impl Segment {
         if contents.records.len() > MOST_RECORDS {
             return Err(Fault::Full);
         }
-        let records = Records::from_set(alloc, &contents.records)?;
+        let records = Records::boxed(alloc, &contents.records)?;
         Ok(Prepared {
             answers: Vec::new(alloc),
             effect: Effect::Hydrate {
@@ -707,7 +707,7 @@ impl Segment {
             } => {
                 self.volume = volume;
                 self.lineage = lineage;
-                self.records = records;
+                self.records = Box::into_inner(records);
                 self.assembly.clear();
             }
             Effect::Keep(keeping) => self.copies.keep(keeping),
@@ -719,7 +719,7 @@ impl Segment {
             } => {
                 self.volume = volume;
                 self.lineage = lineage;
-                self.records = records;
+                self.records = Box::into_inner(records);
                 self.whole = true;
             }
         }
