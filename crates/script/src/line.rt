@@ -48,6 +48,7 @@ pub enum Line {
     Order(Order),
 }
 
+#[inline(always)]
 fn verb_of(word: &str) -> Option<Verb>
     ensures { result ≡ verb_in word.now }
 {
@@ -72,6 +73,7 @@ fn verb_of(word: &str) -> Option<Verb>
 }
 
 /// The verb that these bytes are.
+#[inline(always)]
 fn verb_by(word: &[u8]) -> Option<Verb>
     ensures { result ≡ verb_in word.now }
 {
@@ -82,6 +84,7 @@ fn verb_by(word: &[u8]) -> Option<Verb>
 }
 
 /// The words after `deliver`, where a line begins with it.
+#[inline(always)]
 fn after_deliver(line: &[u8]) -> Option<&[u8]>
     ensures { IfSome result (λ words. line.now ≡ codes "deliver " ++ words.now) }
 {
@@ -109,6 +112,7 @@ fn is_silent(line: &[u8]) -> bool
 }
 
 /// What a line does, or that it isn't one of a script. `events` has the index of each earlier line's event.
+#[inline(always)]
 pub fn line_of(alloc: Global, text: &[u8], events: &[Option<u32>]) -> Result<Line, Fault>
     ensures { ReadsBy seen (option_map (seen_deed events.now) (deed_of (length events.now) text.now)) result }
 {
@@ -133,6 +137,7 @@ pub fn line_of(alloc: Global, text: &[u8], events: &[Option<u32>]) -> Result<Lin
 }
 
 /// What a verb says with the words after it.
+#[inline(always)]
 fn said_by(alloc: Global, verb: Verb, words: Parts, events: &[Option<u32>]) -> Result<Line, Fault>
     requires { words.separator ≡ 32 }
     ensures { ReadsBy seen (option_map (seen_deed events.now) (said_by (length events.now) verb (parts_left words.entry))) result }
@@ -157,6 +162,7 @@ fn said_by(alloc: Global, verb: Verb, words: Parts, events: &[Option<u32>]) -> R
 }
 
 /// The line that makes an event happen.
+#[inline(always)]
 fn line_by(alloc: Global, event: Event) -> Result<Line, AllocError>
     ensures { IfOk result (λ line. seen line ≡ Seen.Asks (Asked.Fixed (event_of event))) }
 {

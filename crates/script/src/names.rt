@@ -13,6 +13,7 @@ use volume_model::Fault;
 use world::{Event, Order};
 
 /// `L.K`, where L is one of so many earlier lines: the line and the place.
+#[inline(always)]
 fn name_of(name: &[u8], earlier: usize) -> Result<(u64, u64), Fault>
     ensures { ReadsBy (λ n. (n.0, n.1)) (name_in earlier (sides_in name.now)) result }
 {
@@ -26,6 +27,7 @@ fn name_of(name: &[u8], earlier: usize) -> Result<(u64, u64), Fault>
 }
 
 /// The same of the only word that is left.
+#[inline(always)]
 fn last_name(words: Parts, earlier: usize) -> Result<(u64, u64), Fault>
     requires { words.separator ≡ 32 }
     ensures { ReadsBy (λ n. (n.0, n.1)) (only_name earlier (parts_left words.entry)) result }
@@ -37,6 +39,7 @@ fn last_name(words: Parts, earlier: usize) -> Result<(u64, u64), Fault>
 }
 
 /// `deliver G M L.K`, where L is an earlier line.
+#[inline(always)]
 pub fn deliver(alloc: Global, mut words: Parts, events: &[Option<u32>]) -> Result<Order, Fault>
     requires { words.separator ≡ 32 }
     ensures { ReadsBy (λ order. Seen.Asks (asked_by order)) (option_map (seen_deed events.now) (deliver_in (length events.now) (parts_left words.entry))) result }
@@ -49,6 +52,7 @@ pub fn deliver(alloc: Global, mut words: Parts, events: &[Option<u32>]) -> Resul
 }
 
 /// The delivery of a message of a line with this event.
+#[inline(always)]
 fn delivery(
     alloc: Global,
     group: u8,

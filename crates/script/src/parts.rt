@@ -19,6 +19,7 @@ pub struct Parts<'a> {
 }
 
 /// The first part of a text and, after a separator, the others.
+#[inline(always)]
 fn split_first(text: &[u8], separator: u8) -> (&[u8], Option<&[u8]>)
     ensures { slice_split (λ b. b == separator) text.now ≡ result.0.now ∷ left_of separator result.1 }
 {
@@ -55,6 +56,7 @@ impl<'a> Parts<'a> {
     }
 
     /// How many are left.
+    #[inline(always)]
     pub fn len(&self) -> usize
         ensures { result ≡ length (parts_left self.now) }
     {
@@ -65,6 +67,7 @@ impl<'a> Parts<'a> {
     }
 
     /// Whether none is left.
+    #[inline(always)]
     pub fn is_empty(&self) -> bool
         ensures { IsTrue result ↔ (parts_left self.now ≡ []) }
     {
@@ -72,6 +75,7 @@ impl<'a> Parts<'a> {
     }
 
     /// Takes the first that is left.
+    #[inline(always)]
     pub fn take_first(&mut self) -> Option<&'a [u8]>
         ensures part { MatchOption result (parts_left self.old ≡ []) (λ part. parts_left self.old ≡ part.now ∷ parts_left self.new) }
         ensures between { self.new.separator ≡ self.old.separator }
@@ -82,6 +86,7 @@ impl<'a> Parts<'a> {
     }
 
     /// Takes the first that is left, a number of at most `most`.
+    #[inline(always)]
     pub fn take_number(&mut self, most: u64) -> Result<u64, Fault>
         ensures number { ReadsBy (λ number. (number, parts_left self.new)) (first_number most (parts_left self.old)) result }
         ensures between { self.new.separator ≡ self.old.separator }
@@ -95,6 +100,7 @@ impl<'a> Parts<'a> {
     }
 
     /// Takes the first that is left, the number of a group or a member, at most 255.
+    #[inline(always)]
     pub fn take_id(&mut self) -> Result<u8, Fault>
         ensures number { ReadsBy (λ number. (number, parts_left self.new)) (first_number 255 (parts_left self.old)) result }
         ensures between { self.new.separator ≡ self.old.separator }
@@ -103,6 +109,7 @@ impl<'a> Parts<'a> {
     }
 
     /// Takes the first that is left, the number of a volume epoch, a configuration or a block, below 2^32.
+    #[inline(always)]
     pub fn take_block(&mut self) -> Result<u32, Fault>
         ensures number { ReadsBy (λ number. (number, parts_left self.new)) (first_number 4294967295 (parts_left self.old)) result }
         ensures between { self.new.separator ≡ self.old.separator }
@@ -111,6 +118,7 @@ impl<'a> Parts<'a> {
     }
 
     /// Takes the first that is left, an offset in a block, below 2^16.
+    #[inline(always)]
     pub fn take_offset(&mut self) -> Result<u16, Fault>
         ensures { ReadsBy (λ number. (number, parts_left self.new)) (first_number 65535 (parts_left self.old)) result }
     {
@@ -118,6 +126,7 @@ impl<'a> Parts<'a> {
     }
 
     /// Takes the first that is left, an LSN, below 2^64.
+    #[inline(always)]
     pub fn take_lsn(&mut self) -> Result<u64, Fault>
         ensures { ReadsBy (λ number. (number, parts_left self.new)) (first_number 18446744073709551615 (parts_left self.old)) result }
     {
@@ -125,6 +134,7 @@ impl<'a> Parts<'a> {
     }
 
     /// Nothing more may be left.
+    #[inline(always)]
     pub fn end(self) -> Result<(), Fault>
         ensures { Reads (ended (parts_left self.entry)) result }
     {
@@ -136,6 +146,7 @@ impl<'a> Parts<'a> {
     }
 
     /// All that are left, with the separators between them.
+    #[inline(always)]
     pub fn rest(self) -> Option<&'a [u8]>
         ensures { left_of self.entry.separator result ≡ parts_left self.entry }
     {
@@ -143,6 +154,7 @@ impl<'a> Parts<'a> {
     }
 
     /// The one that is left, if it is the only one.
+    #[inline(always)]
     pub fn one(mut self) -> Option<&'a [u8]>
         ensures { MatchOption result (length (parts_left self.entry) ≢ 1) (λ part. parts_left self.entry ≡ part.now ∷ []) }
     {

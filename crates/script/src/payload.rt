@@ -8,6 +8,7 @@ use std::alloc::Global;
 use volume_model::Fault;
 
 /// The value of a hexadecimal digit in lower case.
+#[inline(always)]
 fn digit(byte: u8) -> Result<u8, Fault>
     ensures { Reads (digit_in byte) result }
 {
@@ -19,6 +20,7 @@ fn digit(byte: u8) -> Result<u8, Fault>
 }
 
 /// The byte of two hexadecimal digits.
+#[inline(always)]
 fn byte_of(high: u8, low: u8) -> Result<u8, Fault>
     ensures { Reads (byte_in high low) result }
 {

@@ -129,6 +129,7 @@ impl Records {
     }
 
     /// Where the record would stand, `None` where it is held already.
+    #[inline(always)]
     pub fn place_for(&self, packet: &Packet) -> Option<Place>
         ensures { MatchOption result (IsHeldIn (records_of self.now) (packet_redo packet.now)) (λ place. StandsAt place self.now.ordered (packet_redo packet.now)) }
     {
@@ -179,6 +180,7 @@ impl Records {
     ///
     /// # Errors
     /// Where a growth was refused.
+    #[inline(always)]
     pub fn prepare(
         &mut self,
         alloc: Global,
@@ -211,6 +213,7 @@ impl Records {
     }
 
     /// Takes a record that is made ready to enter. Takes no memory.
+    #[inline(always)]
     pub fn enter(&mut self, entrant: Entrant)
         requires { CanEnter self.old entrant }
         ensures { records_of self.new ≡ with_record (packet_redo entrant.packet) (records_of self.old) }

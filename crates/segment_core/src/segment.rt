@@ -178,6 +178,7 @@ impl Segment {
     }
 
     /// The step that acknowledges what is held after it.
+    #[inline(always)]
     fn acknowledged(
         &self,
         alloc: Global,
@@ -289,6 +290,7 @@ impl Segment {
     }
 
     /// Makes ready to take a record of its group.
+    #[inline(always)]
     fn prepare_record(
         &mut self,
         alloc: Global,
@@ -555,6 +557,7 @@ impl Segment {
     }
 
     /// Makes ready for a message, as [`Segment::prepare`] does.
+    #[inline(always)]
     fn prepared(&mut self, alloc: Global, message: &Message) -> Result<Prepared, Fault>
         ensures step { Answers step_of (reaction_of self.old (message_of message.now)) (node_of self.old) result (node_of self.old) }
         ensures ready { IfOk result (λ prepared. CanTake self.new prepared.effect) }
@@ -584,6 +587,7 @@ impl Segment {
     /// # Errors
     /// The first refusal that applies to a message of its kind, from `StaleVolume` to `SeriesSpent`, or `NotAddressed` for one that isn't
     /// for this segment and `NotInPlan` for a step that the plan doesn't have; `NoMemory` where none applies and a growth was refused.
+    #[inline(always)]
     pub fn prepare(&mut self, alloc: Global, message: &Message) -> Result<Prepared, Fault>
         ensures step { Answers step_of (reaction_of self.old (message_of message.now)) (node_of self.old) result (node_of self.old) }
         ensures ready { IfOk result (λ prepared. IsReady self.new prepared) }
@@ -662,6 +666,7 @@ impl Segment {
     /// # Errors
     /// Of [`NodeAct::Deliver`] as [`Segment::prepare`], of [`NodeAct::Hydrate`] as [`Segment::hydrate`], of [`NodeAct::Offer`] as
     /// [`Segment::offer`]; `NoMemory` where none applies and a growth was refused.
+    #[inline(always)]
     pub fn prepare_act(&mut self, alloc: Global, act: NodeAct<'_>) -> Result<Prepared, Fault>
         ensures step { AnswersLate (act_late act.entry) step_of (act_of self.old act.entry) (node_of self.old) result (node_of self.old) }
         ensures ready { IfOk result (λ prepared. IsReady self.new prepared) }
@@ -680,6 +685,7 @@ impl Segment {
     }
 
     /// Takes the effect of a step.
+    #[inline(always)]
     fn take(&mut self, effect: Effect)
         requires { CanTake self.old effect }
         ensures node { node_of self.new ≡ effected effect (node_of self.old) }
@@ -726,6 +732,7 @@ impl Segment {
     }
 
     /// Takes a step that it was made ready for, and answers the messages that the step makes. Takes no memory.
+    #[inline(always)]
     pub fn apply(&mut self, prepared: Prepared) -> Vec<Message>
         requires { IsReady self.old prepared }
         ensures answers { result.items ≡ answers_of prepared }
