@@ -1,5 +1,6 @@
 //! What a run leaves to be told.
 
+use crate::actors::Actors;
 use recovery::Found;
 use volume_model::Fault;
 use writer_core::Log;
@@ -35,4 +36,6 @@ pub struct Outcome {
     pub writers: Vec<WriterEnd>,
     /// The recoveries that have cut, in growing volume epoch. One that has become a writer is both.
     pub finds: Vec<FindEnd>,
+    /// The actors as the run left them, and all messages: their memory is given back with the outcome, whenever that is.
+    pub(crate) actors: Actors,
 }

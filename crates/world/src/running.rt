@@ -62,6 +62,7 @@ fn outcome_of(alloc: Global, plan: &Arc<CheckedPlan>, events: &[Event]) -> Resul
         results,
         writers,
         finds,
+        actors,
     })
 }
 
@@ -96,6 +97,7 @@ fn outcome_of_orders(
         results,
         writers,
         finds,
+        actors,
     })
 }
 
