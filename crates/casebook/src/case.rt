@@ -1,6 +1,5 @@
 //! What a book asks for, and what is due.
 
-use crate::said::Said;
 use std::alloc::{AllocError, Global};
 
 /// A text of the plan, and what stands in its place.
@@ -28,8 +27,6 @@ pub struct Question<'b> {
 }
 
 impl<'b> Question<'b> {
-    ghost use Rattle.std.specs.Prelude.{◌≡◌, ◌↔◌, IsTrue, string_bytes};
-
     /// A question that asks for nothing yet, and to which nothing is due.
     pub fn new(alloc: Global) -> Question<'b> {
         Question {
@@ -40,13 +37,6 @@ impl<'b> Question<'b> {
             told: String::new(alloc),
             checked: None,
         }
-    }
-
-    /// Whether the exit status and the text on standard error are those that are due.
-    pub fn is_told(&self, said: &Said) -> bool
-        ensures { IsTrue result ↔ ((said.now.status ≡ self.now.status) × (string_bytes said.now.told ≡ string_bytes self.now.told)) }
-    {
-        said.status == self.status && said.told == self.told
     }
 }
 

@@ -2,6 +2,7 @@
 
 use command_line::{Action, Job};
 use jobs::{Output, Source, perform};
+use judging::Said;
 use std::alloc::{AllocError, Global};
 use std::io;
 use std::sync::Wait;
@@ -9,14 +10,6 @@ use std::thread::Threads;
 
 /// A plan's text, or why it can't be read.
 pub type PlanText = Result<String, io::Error>;
-
-/// The exit status of a job, and both of its outputs.
-#[derive(Drop)]
-pub struct Said {
-    pub status: u8,
-    pub printed: String,
-    pub told: String,
-}
 
 /// What a job says of a plan and of a script.
 pub fn say<H: Threads + Wait + Sync>(

@@ -1,9 +1,10 @@
 //! Cases that are tried.
 
 use crate::case::{Case, Question};
-use crate::said::{PlanText, Said, checked, say};
+use crate::said::{PlanText, checked, say};
 use crate::wrong::Wrong;
 use command_line::{Job, job};
+use judging::Said;
 use std::alloc::{AllocError, Global};
 use std::fs;
 use std::sync::Wait;
@@ -41,7 +42,8 @@ fn try_job<H: Threads + Wait + Sync>(
     texts: &Texts<'_>,
 ) -> Result<Said, Wrong> {
     let said = say(threads, alloc, job, texts.plan, texts.script)?;
-    if question.is_told(&said) && prints(threads, alloc, question, said.printed.as_str())? {
+    let is_told = said.is(question.status, question.told.as_str());
+    if is_told && prints(threads, alloc, question, said.printed.as_str())? {
         Ok(said)
     } else {
         Err(Wrong::Answer {

@@ -10,3 +10,4 @@ pub mod Answers
 pub mod Read
 pub mod Unfound
 pub mod Searched
+pub mod Explained

@@ -1,6 +1,7 @@
 //! A job, done on the contents of its files: what is answered to it, printed and told.
 #![tactic(auto)]
 
+mod explaining;
 mod fallible;
 mod files;
 mod inputs;
@@ -12,6 +13,7 @@ mod running;
 mod search;
 mod told;
 
+pub use explaining::{NO_MEMORY, explain};
 pub use fallible::{FallibleRead, FallibleWrite};
 pub use files::{ReadFault, Source};
 pub use outputs::{Output, WriteFailed, deliver};

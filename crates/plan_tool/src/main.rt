@@ -2,24 +2,20 @@
 #![tactic(auto)]
 
 ghost use Rattle.std.specs.Prelude.{◌≡◌, ◌≤◌, None, false};
-ghost use Rattle.jobs.specs.Streams.{Ends, is_unread, left_of};
-ghost use Rattle.plan_tool.specs.Explained.{Explains};
+ghost use Rattle.jobs.specs.Streams.{is_unread, left_of};
 
 #[cfg(test)]
 mod tests;
 
-use command_line::{Usage, job};
-use jobs::{Output, Source, deliver, perform};
+use command_line::job;
+use jobs::{NO_MEMORY, Output, Source, deliver, explain, perform};
 use std::alloc::{AllocError, Global};
-use std::io::{ErrorKind, Write};
+use std::io::ErrorKind;
 use std::process::ExitCode;
 use std::rt::Files;
 use std::sync::Wait;
 use std::thread::Threads;
 use std::{env, fs, io};
-
-/// What is said where memory ran out.
-const NO_MEMORY: &str = "input: 9 NoMemory\n";
 
 /// The words of the command line, or the line of why there are none.
 fn words(rt: &HostRuntime, alloc: Global) -> Result<Vec<String>, &'static str> {
@@ -47,23 +43,6 @@ fn source<R: Files>(rt: &R, name: Option<&str>) -> Source<R::File>
         Some(name) => fs::open(rt, name),
         None => Err(io::Error::from(ErrorKind::NotFound)),
     })
-}
-
-/// Says what is to be known of the words: the help or the version where they ask for it, else the mistake.
-fn explain<O: Write, E: Write>(
-    alloc: Global,
-    usage: &Usage,
-    out: &mut Output<O>,
-    err: &mut Output<E>,
-) -> u8
-    ensures status { result ≤ 2 }
-    ensures given { Ends O.contents E.contents (Explains usage.now) result out.old out.new err.old err.new }
-{
-    match format!(in alloc; "{usage}") {
-        Ok(text) if usage.is_asked_for() => deliver(0, text.as_bytes(), b"", out, err),
-        Ok(text) => deliver(2, b"", text.as_bytes(), out, err),
-        Err(_) => deliver(2, b"", NO_MEMORY.as_bytes(), out, err),
-    }
 }
 
 /// Reads the words of the command line, and does what they ask for; a search and a fleet start their threads by

@@ -1,10 +1,9 @@
 //! Whether what was printed keeps what the volume promises.
 
-ghost use Rattle.std.specs.Prelude.{◌↔◌, ◌≤◌, ◌<◌, IsTrue};
-
 use crate::broken::Broken;
 use crate::outcome::{Find, Outcome, Writer};
 use crate::written::Issue;
+use judging::{is_given, stands};
 use std::alloc::{AllocError, Global};
 
 /// The last record of a transaction that was issued.
@@ -21,20 +20,6 @@ pub struct Shown {
     pub acknowledged: u64,
     /// Pairs of a writer and a later recovery that were compared.
     pub finds: u64,
-}
-
-/// Whether an acknowledged commit stands in what a later recovery has found.
-fn stands(durable: u64, cut: u64) -> bool
-    ensures { IsTrue result ↔ (durable ≤ cut) }
-{
-    durable <= cut
-}
-
-/// Whether a number was given before the next one.
-fn is_given(number: u64, next: u64) -> bool
-    ensures { IsTrue result ↔ (number < next) }
-{
-    number < next
 }
 
 /// Whether each line of a script has its answer, in order.

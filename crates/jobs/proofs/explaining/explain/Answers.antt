@@ -2,9 +2,9 @@ use Rattle.std.proofs.Common.{[], refl}
 use Rattle.std.proofs.lemmas.Bool.{both_ways}
 use Rattle.jobs.specs.Answer.{line_answer, no_memory, printed}
 use Rattle.jobs.proofs.Given.{ends_as}
-use Rattle.plan_tool.specs.Explained.{Explains}
-use Rattle.plan_tool.specs.Explained.Explains.{asked_for, mistaken, wanting}
-use Rattle.plan_tool.proofs.explain.Goals as goal
+use Rattle.jobs.specs.Explained.{Explains}
+use Rattle.jobs.specs.Explained.Explains.{asked_for, mistaken, wanting}
+use Rattle.jobs.proofs.explaining.explain.Goals as goal
 use Rattle.std.specs.Prelude.{true}
 
 pub returns-in-Ok-clause-given : goal.returns-in-Ok-clause-given

@@ -1,0 +1,31 @@
+//! What is said where the words of the command line name no job.
+
+ghost use Rattle.std.specs.Prelude.{◌≤◌};
+ghost use Rattle.jobs.specs.Streams.{Ends};
+ghost use Rattle.jobs.specs.Explained.{Explains};
+
+use crate::outputs::{Output, deliver};
+use command_line::Usage;
+use std::alloc::Global;
+use std::io::Write;
+
+/// What is said where memory ran out.
+pub const NO_MEMORY: &str = "input: 9 NoMemory\n";
+
+/// Says what is to be known of the words: the help or the version where they ask for it, to standard output with status 0, else the
+/// mistake, to standard error with status 2; want of memory is told there too.
+pub fn explain<O: Write, E: Write>(
+    alloc: Global,
+    usage: &Usage,
+    out: &mut Output<O>,
+    err: &mut Output<E>,
+) -> u8
+    ensures status { result ≤ 2 }
+    ensures given { Ends O.contents E.contents (Explains usage.now) result out.old out.new err.old err.new }
+{
+    match format!(in alloc; "{usage}") {
+        Ok(text) if usage.is_asked_for() => deliver(0, text.as_bytes(), b"", out, err),
+        Ok(text) => deliver(2, b"", text.as_bytes(), out, err),
+        Err(_) => deliver(2, b"", NO_MEMORY.as_bytes(), out, err),
+    }
+}
