@@ -2,38 +2,20 @@
 //! that steal from one another.
 #![tactic(auto)]
 
-mod cases;
-mod closed;
-mod closing;
-mod cutting;
 mod dealing;
 mod deque;
-mod equals;
-mod few;
-mod fewest;
 mod filling;
 mod gate;
-mod grid;
 mod hand;
-mod leaves;
-mod lists;
-mod matching;
-mod members;
-mod needs;
-mod offers;
 mod one;
-mod order;
 mod own;
-mod parts;
 mod plain;
 mod reach;
-mod rules;
 mod searching;
 mod settling;
 mod shrinking;
 mod sizes;
 mod smaller;
-mod state;
 mod table;
 mod working;
 mod worth;

@@ -10,29 +10,17 @@ ghost use Rattle.quorum_checker.specs.Refutes.{Refutes};
 ghost use Rattle.cert_search.specs.Answers.{rule_in, IsAnswer};
 ghost use Rattle.cert_search.specs.Plain.{IsPlain};
 
-use crate::cases::split;
-use crate::closed::closed;
-use crate::closing::Closing;
-use crate::leaves::has_counterexample;
-use crate::parts::parts_of;
 use crate::plain::plain_tree;
-use crate::rules::{Search, refute};
-use crate::state::State;
 use bumpalo::Bump;
 use quorum_checker::{Claim, check, children};
-use quorum_expr::{Expr, MemberSet};
-use refutation::{Certificate, MAX_DEPTH, MAX_NODES, Refutation, Side};
-use std::alloc::{AllocError, Allocator, Global};
+use quorum_expr::Expr;
+use refutation::{Certificate, Refutation};
+use std::alloc::{Allocator, Global};
+use tree_search::{Tree, find_tree};
 use volume_model::Fault;
 
 /// The budget from which on plain claims are found: their trees have at most so many nodes.
 const PLAIN_NODES: u64 = 100;
-
-/// How many states the rules that look at items may try, times the number of subexpressions that each of them looks at.
-pub const ITEM_WORK: u64 = 700_000;
-
-/// The same of the cases of members, which look at less.
-pub const CASE_WORK: u64 = 100_000_000;
 
 /// A certificate, where it refutes the claim.
 fn judged<A: Allocator>(
@@ -104,57 +92,8 @@ fn plain<A: Allocator>(
     certified(alloc, claim, tree)
 }
 
-/// The pairs of subexpressions of a claim that close.
-fn closing_of<A: Allocator, B: Allocator + Clone>(
-    arena: &B,
-    claim: &Claim<A>,
-) -> Result<Option<Closing<B>>, AllocError> {
-    let Some(lefts) = parts_of(arena, &claim.left, claim.clear)? else {
-        return Ok(None);
-    };
-    let Some(rights) = parts_of(arena, &claim.right, MemberSet::empty())? else {
-        return Ok(None);
-    };
-    Ok(Some(Closing::new(arena.clone()?, lefts, rights)?))
-}
-
-/// What refutes a claim whose two expressions close by themselves.
-fn whole<B: Allocator>(
-    search: &mut Search<Global>,
-    closing: &Closing<B>,
-) -> Result<Option<Refutation<Global>>, AllocError> {
-    match (closing.left(0), closing.right(0)) {
-        (Some(one), Some(other)) => closed(search, closing, one, other, MAX_DEPTH),
-        _ => Ok(None),
-    }
-}
-
-/// What refutes a claim that isn't closed by pairs: by the rules that look at items, then by the cases of members. Half of the budget
-/// is for either, and less of it where the expressions are large.
-fn searched<A: Allocator, B: Allocator + Clone>(
-    search: &mut Search<B>,
-    claim: &Claim<A>,
-    closing: &Closing<B>,
-    budget: u64,
-) -> Result<Option<Refutation<B>>, AllocError> {
-    let size = (closing.size() as u64).max(1);
-    let lefts = [&claim.left];
-    let rights = [&claim.right];
-    let state = State::new(&lefts, &rights, (claim.clear, MemberSet::empty()));
-    search.budget = (budget / 2).min(ITEM_WORK / size);
-    if let Some(tree) = refute(search, &state, MAX_DEPTH)? {
-        return Ok(Some(tree));
-    }
-    if has_counterexample(&state) {
-        return Ok(None);
-    }
-    search.budget = (budget / 2).min(CASE_WORK / size);
-    let members = closing.members(&search.arena)?;
-    split(search, &state, Side::Left, members.as_slice(), MAX_DEPTH)
-}
-
-/// The certificate of a claim, where it is found otherwise than by being plain: first by the pairs of its subexpressions that close,
-/// each by itself. Items, and trees that aren't read off these pairs, lie in an arena.
+/// The certificate of a claim, where it is found otherwise than by being plain. Tables and items lie in an arena, and trees that aren't
+/// read off the pairs of subexpressions that close.
 fn unplain<A: Allocator, B: Allocator + Clone>(
     alloc: Global,
     arena: &B,
@@ -164,22 +103,9 @@ fn unplain<A: Allocator, B: Allocator + Clone>(
     ensures refutes { IfOk result (λ answer. IfSome answer (λ c. Refutes (certificate_rule c) (first_state claim.now))) }
     ensures memory { IfErr result (λ e. e ≡ NoMemory) }
 {
-    let Some(closing) = closing_of(arena, claim)? else {
-        return Ok(None);
-    };
-    let mut pairs = Search {
-        arena: alloc,
-        budget: budget.min(u64::from(MAX_NODES)),
-    };
-    if let Some(tree) = whole(&mut pairs, &closing)? {
-        return certified(alloc, claim, tree);
-    }
-    let mut search = Search {
-        arena: arena.clone()?,
-        budget: 0,
-    };
-    match searched(&mut search, claim, &closing, budget)? {
-        Some(tree) => copy_certified(alloc, claim, tree),
+    match find_tree(alloc, arena, claim, budget)? {
+        Some(Tree::Kept(tree)) => certified(alloc, claim, tree),
+        Some(Tree::InArena(tree)) => copy_certified(alloc, claim, tree),
         None => Ok(None),
     }
 }

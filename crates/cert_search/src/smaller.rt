@@ -7,32 +7,19 @@ ghost use Rattle.refutation.specs.Limits.{nodes_of};
 ghost use Rattle.quorum_checker.specs.Claim.{first_state};
 ghost use Rattle.quorum_checker.specs.Refutes.{Refutes};
 
-use crate::cutting::{Bounds, Case, Cutting, cut};
-use crate::few::few_tree;
-use crate::fewest::{Fewest, fewest_of};
-use crate::one::{CASE_WORK, ITEM_WORK, certified, copy_certified};
-use crate::order::Order;
-use crate::rules::{Search, refute};
+use crate::one::{certified, copy_certified};
 use crate::sizes::rules_in;
-use crate::state::State;
 use bumpalo::Bump;
 use quorum_checker::Claim;
-use quorum_expr::MemberSet;
-use refutation::{Certificate, MAX_DEPTH, Refutation};
+use refutation::{Certificate, Refutation};
 use std::alloc::{Allocator, Global};
+use tree_search::{
+    Bounds, Fewest, Order, bounds_of, table_of, tree_by_cases, tree_by_items, tree_by_pairs,
+};
 use volume_model::Fault;
 
 /// How many nodes the rules that look at items may try for each rule of a certificate.
 const TRIES: u64 = 8;
-
-/// How many nodes of a certificate are worth one more table than the first ones.
-const NODES_A_TABLE: u64 = 16;
-
-/// How many tables are made at most for each order of a claim's cases, however small its certificate.
-const TABLES: u64 = 16;
-
-/// How many pairs the tables of an order have together at most.
-const TABLE_WORK: u64 = 4_000_000;
 
 /// A certificate, where it has fewer rules than so many.
 fn below(certificate: Option<Certificate<Global>>, most: u32) -> Option<Certificate<Global>>
@@ -73,10 +60,7 @@ fn by_pairs<A: Allocator>(
     ensures fewer { IfOk result (λ answer. IfSome answer (λ c. nodes_of (certificate_rule c) < most)) }
     ensures memory { IfErr result (λ e. e ≡ NoMemory) }
 {
-    if fewest.nodes(0, 0) >= most {
-        return Ok(None);
-    }
-    let tree = few_tree(&alloc, fewest, 0, 0, MAX_DEPTH)?;
+    let tree = tree_by_pairs(alloc, fewest, most)?;
     certified_below(alloc, claim, tree, most)
 }
 
@@ -84,6 +68,7 @@ fn by_pairs<A: Allocator>(
 fn by_items<A: Allocator>(
     alloc: Global,
     claim: &Claim<A>,
+    fewest: &Fewest<Global>,
     budget: u64,
     most: u32,
 ) -> Result<Option<Certificate<Global>>, Fault>
@@ -92,14 +77,7 @@ fn by_items<A: Allocator>(
     ensures memory { IfErr result (λ e. e ≡ NoMemory) }
 {
     let arena = Bump::new(alloc);
-    let mut search = Search {
-        arena: &arena,
-        budget,
-    };
-    let lefts = [&claim.left];
-    let rights = [&claim.right];
-    let state = State::new(&lefts, &rights, (claim.clear, MemberSet::empty()));
-    match refute(&mut search, &state, MAX_DEPTH)? {
+    match tree_by_items(&&arena, claim, fewest, budget)? {
         Some(tree) => Ok(below(copy_certified(alloc, claim, tree)?, most)),
         None => Ok(None),
     }
@@ -110,7 +88,8 @@ fn by_items<A: Allocator>(
 fn by_cases<A: Allocator>(
     alloc: Global,
     claim: &Claim<A>,
-    members: &[u8],
+    fewest: &Fewest<Global>,
+    order: Order,
     bounds: Bounds,
     most: u32,
 ) -> Result<Option<Certificate<Global>>, Fault>
@@ -118,19 +97,7 @@ fn by_cases<A: Allocator>(
     ensures fewer { IfOk result (λ answer. IfSome answer (λ c. nodes_of (certificate_rule c) < most)) }
     ensures memory { IfErr result (λ e. e ≡ NoMemory) }
 {
-    let mut cutting = Cutting {
-        alloc,
-        left: &claim.left,
-        right: &claim.right,
-        nodes: u64::from(most).saturating_sub(1),
-        bounds,
-    };
-    let case = Case {
-        absent: (claim.clear, MemberSet::empty()),
-        members,
-        levels: MAX_DEPTH,
-    };
-    let tree = cut(&mut cutting, &case)?;
+    let tree = tree_by_cases(alloc, claim, fewest, order, bounds, most)?;
     certified_below(alloc, claim, tree, most)
 }
 
@@ -159,19 +126,9 @@ fn at_once<A: Allocator>(
 {
     let found = by_pairs(alloc, claim, fewest, most)?;
     let below = most_of(&found, most);
-    match by_items(alloc, claim, budget, below)? {
+    match by_items(alloc, claim, fewest, budget, below)? {
         Some(certificate) => Ok(Some(certificate)),
         None => Ok(found),
-    }
-}
-
-/// How much is done for each order of a claim's cases: more for a certificate of many rules, and less where the expressions are large.
-fn bounds_of(fewest: &Fewest<Global>, most: u32) -> Bounds {
-    let pairs = (fewest.pairs() as u64).max(1);
-    let size = (fewest.size() as u64).max(1);
-    Bounds {
-        tables: (u64::from(most) / NODES_A_TABLE + TABLES).min(TABLE_WORK / pairs),
-        tries: CASE_WORK / size,
     }
 }
 
@@ -187,11 +144,9 @@ fn by_orders<A: Allocator>(
     ensures memory { IfErr result (λ e. e ≡ NoMemory) }
 {
     let bounds = bounds_of(fewest, most);
-    let members = fewest.members(&alloc, Order::Differences)?;
-    let found = by_cases(alloc, claim, members.as_slice(), bounds, most)?;
+    let found = by_cases(alloc, claim, fewest, Order::Differences, bounds, most)?;
     let below = most_of(&found, most);
-    let members = fewest.members(&alloc, Order::Losses)?;
-    match by_cases(alloc, claim, members.as_slice(), bounds, below)? {
+    match by_cases(alloc, claim, fewest, Order::Losses, bounds, below)? {
         Some(certificate) => Ok(Some(certificate)),
         None => Ok(found),
     }
@@ -216,12 +171,10 @@ fn smaller<A: Allocator>(
     ensures fewer { IfOk result (λ answer. IfSome answer (λ c. nodes_of (certificate_rule c) < most)) }
     ensures memory { IfErr result (λ e. e ≡ NoMemory) }
 {
-    let absent = (claim.clear, MemberSet::empty());
-    let Some(fewest) = fewest_of(&alloc, &claim.left, &claim.right, absent)? else {
+    let Some(fewest) = table_of(alloc, claim)? else {
         return Ok(None);
     };
-    let size = (fewest.size() as u64).max(1);
-    let budget = budget.min(ITEM_WORK / size).min(u64::from(most) * TRIES);
+    let budget = budget.min(u64::from(most) * TRIES);
     let found = at_once(alloc, claim, &fewest, budget, most)?;
     let below = most_of(&found, most);
     match by_orders(alloc, claim, &fewest, below)? {

@@ -9,6 +9,9 @@ use quorum_expr::Expr;
 use refutation::{Refutation, Side};
 use std::alloc::{AllocError, Allocator};
 
+/// How many states the rules that look at items may try, times the number of subexpressions that each of them looks at.
+pub const ITEM_WORK: u64 = 700_000;
+
 /// Where a search makes its items and trees, and how many nodes it may still try.
 #[derive(Drop)]
 pub struct Search<B: Allocator> {

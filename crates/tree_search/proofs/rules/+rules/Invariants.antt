@@ -1,5 +1,5 @@
 use Rattle.std.proofs.Common.{◌+◌, ◌*◌}
-use Rattle.cert_search.proofs.rules.+rules.Given as goal
+use Rattle.tree_search.proofs.rules.+rules.Given as goal
 
 -- The levels that a tree may still have, and below them which function calls which.
 abbrev pub decreases-refute : goal.decreases-refute

@@ -98,13 +98,13 @@ impl<B: Allocator> Fewest<B> {
     }
 
     /// How many nodes close a pair; [`NONE`] where it isn't closed.
-    pub fn nodes(&self, left: usize, right: usize) -> u32 {
+    pub(crate) fn nodes(&self, left: usize, right: usize) -> u32 {
         let place = self.place(left, right);
         self.nodes.get(place).copied().unwrap_or(NONE)
     }
 
     /// How a pair is closed by few nodes, where the pairs of children are known.
-    pub fn way(&self, left: usize, right: usize) -> Option<Few> {
+    pub(crate) fn way(&self, left: usize, right: usize) -> Option<Few> {
         let (one, other) = (self.lefts.at(left)?, self.rights.at(right)?);
         if !one.is_live {
             return Some(Few::Dead(Side::Left));
@@ -221,17 +221,17 @@ impl<B: Allocator> Fewest<B> {
     }
 
     /// How many pairs there are.
-    pub fn pairs(&self) -> usize {
+    pub(crate) fn pairs(&self) -> usize {
         self.nodes.len()
     }
 
     /// How many subexpressions there are on both sides.
-    pub fn size(&self) -> usize {
+    pub(crate) fn size(&self) -> usize {
         self.lefts.len().saturating_add(self.rights.len())
     }
 
     /// The members that matter on both sides, in an order in which their cases are tried.
-    pub fn members(&self, arena: &B, order: Order) -> Result<Vec<u8, B>, AllocError>
+    pub(crate) fn members(&self, arena: &B, order: Order) -> Result<Vec<u8, B>, AllocError>
     where
         B: Clone,
     {
@@ -244,12 +244,12 @@ impl<B: Allocator> Fewest<B> {
     }
 
     /// The number of a left choice's child.
-    pub fn left_child(&self, left: usize, child: u8) -> usize {
+    pub(crate) fn left_child(&self, left: usize, child: u8) -> usize {
         child_of(&self.lefts, left, child)
     }
 
     /// The number of a right choice's child.
-    pub fn right_child(&self, right: usize, child: u8) -> usize {
+    pub(crate) fn right_child(&self, right: usize, child: u8) -> usize {
         child_of(&self.rights, right, child)
     }
 }

@@ -7,6 +7,9 @@ use quorum_expr::MEMBERS;
 use refutation::{Refutation, Side};
 use std::alloc::{AllocError, Allocator};
 
+/// How many states the cases of members may try, times the number of subexpressions that each of them looks at.
+pub const CASE_WORK: u64 = 100_000_000;
+
 /// What refutes a state by the cases of these members, where it is found in trees of so many levels. Only the side that lost a member
 /// last is looked at for an item that can't hold.
 pub fn split<A: Allocator, B: Allocator + Clone>(

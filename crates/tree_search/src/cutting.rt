@@ -15,8 +15,8 @@ use std::alloc::{AllocError, Allocator, Global};
 /// How many tables may still be made, and how many states the cases of members alone may still try.
 #[derive(Clone, Copy)]
 pub struct Bounds {
-    pub tables: u64,
-    pub tries: u64,
+    pub(crate) tables: u64,
+    pub(crate) tries: u64,
 }
 
 /// What is cut into cases, how many nodes its tree may still have, and how much may still be done for it.

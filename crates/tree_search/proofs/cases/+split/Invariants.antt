@@ -1,4 +1,4 @@
-use Rattle.cert_search.proofs.cases.+split.Given as goal
+use Rattle.tree_search.proofs.cases.+split.Given as goal
 
 -- the levels that a tree may still have
 abbrev pub decreases-split : goal.decreases-split

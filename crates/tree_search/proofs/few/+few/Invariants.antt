@@ -1,5 +1,5 @@
 use Rattle.std.proofs.Common.{◌+◌, ◌*◌}
-use Rattle.cert_search.proofs.few.+few.Given as goal
+use Rattle.tree_search.proofs.few.+few.Given as goal
 
 -- The levels that a tree may still have, and below them which function calls which.
 abbrev pub decreases-few_tree : goal.decreases-few_tree

@@ -2,7 +2,6 @@
 
 ghost use Rattle.std.specs.Prelude.{◌<◌};
 
-use crate::plain::is_member;
 use quorum_expr::{Expr, MemberSet, holds};
 use refutation::Side;
 use std::alloc::{AllocError, Allocator};
@@ -121,7 +120,10 @@ impl<'a, A: Allocator> Row<'a, A> {
 
     /// The first item that is this member.
     pub fn place_of(&self, member: u8) -> Option<usize> {
-        self.items.iter().position(|item| is_member(member, *item))
+        self.items.iter().position(|item| match *item {
+            Expr::Member(own) => *own == member,
+            Expr::KOf { .. } => false,
+        })
     }
 }
 
