@@ -18,7 +18,7 @@ use crate::files::{ReadFault, Source};
 use crate::reply::Stop;
 use command_line::Job;
 use plan::{CheckedPlan, Plan, check_plan};
-use plan_tokens::read_plan;
+use plan_tokens::{Spelling, read_plan, read_spelled};
 use script::{Script, read_script};
 use std::alloc::Global;
 use std::sync::Arc;
@@ -44,12 +44,26 @@ pub fn contents<'a, R: FallibleRead>(
 }
 
 /// The plan that a text spells.
-pub fn plan_in(alloc: Global, text: &[u8]) -> Result<Plan, Stop<'static>>
+fn plan_in(alloc: Global, text: &[u8]) -> Result<Plan, Stop<'static>>
     ensures plan { IfOk result (λ plan. plan_of text.now ≡ Ok (plan_data plan)) }
     ensures stop { IfErr result (StopsBy (λ fault. plan_of text.now ≡ Err fault)) }
 {
     match read_plan(alloc, text) {
         Ok(plan) => Ok(plan),
+        Err(fault) => Err(Stop::of_plan(fault)),
+    }
+}
+
+/// The same, and how its thresholds are spelled where that is known.
+pub fn spelled_plan_in(
+    alloc: Global,
+    text: &[u8],
+) -> Result<(Plan, Option<Spelling>), Stop<'static>>
+    ensures plan { IfOk result (λ read. plan_of text.now ≡ Ok (plan_data read.0)) }
+    ensures stop { IfErr result (StopsBy (λ fault. plan_of text.now ≡ Err fault)) }
+{
+    match read_spelled(alloc, text) {
+        Ok(read) => Ok(read),
         Err(fault) => Err(Stop::of_plan(fault)),
     }
 }

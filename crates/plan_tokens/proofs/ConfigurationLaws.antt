@@ -23,7 +23,7 @@ use Rattle.refutation.specs.Writing.{number_data, certificate_data}
 use Rattle.refutation.proofs.ReadBack.{certificate_in-written}
 use Rattle.plan.specs.declared.configurations.Configuration.{Configuration}
 use Rattle.plan.specs.PlanText.{fields_of, parent_of, members_from, members_of, some_members_of, lists_of, certificate_or_null, is_null, step_of, configuration_in}
-use Rattle.plan_tokens.specs.Rewritten.{parent_data}
+use Rattle.plan_tokens.specs.Plans.{parent_data}
 use Rattle.plan_tokens.specs.Spelled.{Spells, SpellsSome}
 use Rattle.plan_tokens.specs.Configurations.{IsListed, IsConfiguration}
 use Rattle.plan_tokens.proofs.Spelled.{Passes, none_passed, one_passed, joined, joined-one, list_read, up, with_key, with_keys, ended, braced}
@@ -63,7 +63,7 @@ number-to : (n : ℕ) → n ≤ 63 → number_to 63 (number_data n) ≡ Ok n
 unfolding number_to
 number-to n h = let fits : nat_le n 63 ≡ true = grind (arith, nat_tests) in rw fits refl
 
-member-step : (least n : ℕ) (s : FinSet nat_cmp) (rest : Items) → n ≤ 63 → least ≤ n → members_from least s (item (number_data n) rest) ≡ members_from (n + 1) (insert s n) rest
+pub member-step : (least n : ℕ) (s : FinSet nat_cmp) (rest : Items) → n ≤ 63 → least ≤ n → members_from least s (item (number_data n) rest) ≡ members_from (n + 1) (insert s n) rest
 member-step least n s rest h k =
     let grows : nat_le least n ≡ true = grind (arith, nat_tests) in
     ap (λ r. r >>= λ m. if nat_le least m then members_from (m + 1) (insert s m) rest else Err Malformed) (number-to n h)

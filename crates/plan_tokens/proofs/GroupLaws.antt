@@ -27,7 +27,7 @@ length-more (y ∷ xs) x = omega (arith, length-more xs x)
 
 -- ---- configurations
 
-configurations-one : (w : Bool) (g c : ℕ) (ds : List Data) (d : Data) (xs : List ConfigurationData) (x : ConfigurationData) → configurations_in w g c (joined ds no_items) ≡ Ok xs → configuration_in w g (c + length ds) d ≡ Ok x
+pub configurations-one : (w : Bool) (g c : ℕ) (ds : List Data) (d : Data) (xs : List ConfigurationData) (x : ConfigurationData) → configurations_in w g c (joined ds no_items) ≡ Ok xs → configuration_in w g (c + length ds) d ≡ Ok x
     → configurations_in w g c (joined (ds ++ d ∷ []) no_items) ≡ Ok (xs ++ x ∷ [])
 configurations-one w g c [] d xs x h is =
     let none : [] ≡ xs = ok_is [] xs h in
@@ -81,7 +81,7 @@ group_read w d x are some few =
     let fits : is_from_1 64 (items_len are.items) ≡ true = let n : items_len are.items ≡ length x.configurations.items = are.count in grind (arith, nat_tests, n) in
     record { read = λ g. rw (are.is, fits) (are.read g) }
 
-groups-one : (w : Bool) (g : ℕ) (ds : List Data) (d : Data) (xs : List (List ConfigurationData)) (x : List ConfigurationData) → groups_in w g (joined ds no_items) ≡ Ok xs → ((h : ℕ) → group_in w h d ≡ Ok x)
+pub groups-one : (w : Bool) (g : ℕ) (ds : List Data) (d : Data) (xs : List (List ConfigurationData)) (x : List ConfigurationData) → groups_in w g (joined ds no_items) ≡ Ok xs → ((h : ℕ) → group_in w h d ≡ Ok x)
     → groups_in w g (joined (ds ++ d ∷ []) no_items) ≡ Ok (xs ++ x ∷ [])
 groups-one w g [] d xs x h is =
     let none : [] ≡ xs = ok_is [] xs h in

@@ -3,12 +3,12 @@ mod ConfigurationLaws
 mod Converted
 mod Digits
 mod GroupLaws
-mod Passing
 mod Plans
 mod PutRules
+mod PutPlans
+mod PutThresholds
 mod Putting
-mod RewritingLaws
 mod Rooms
 mod Spelled
+mod Texts
 mod Thresholds
-mod WritingLaws

@@ -50,14 +50,14 @@ row_weighing : (ws : Weights) (i : ℕ) (fs : List Formula) (left : ℕ) → row
 row_weighing ws i [] left = refl
 row_weighing ws i (f ∷ fs) left = ap (λ rest. or_then (shape_fault f left) rest) (row_weighing ws (i + 1) fs left)
 
-row_parts : (fs : List Formula) (f : Formula) (left : ℕ) → row_fault (each_once (fs ++ f ∷ [])) left ≡ None → (row_fault (each_once fs) left ≡ None) × (shape_fault f left ≡ None)
+pub row_parts : (fs : List Formula) (f : Formula) (left : ℕ) → row_fault (each_once (fs ++ f ∷ [])) left ≡ None → (row_fault (each_once fs) left ≡ None) × (shape_fault f left ≡ None)
 row_parts [] f left h = (refl, (both_none (shape_fault f left) None h).0)
 row_parts (g ∷ fs) f left h =
     let here = both_none (shape_fault g left) (row_fault (each_once (fs ++ f ∷ [])) left) h in
     let rest = row_parts fs f left here.1 in
     (ap (λ o. or_then o (row_fault (each_once fs) left)) here.0 ∙ rest.0, rest.1)
 
-each-one : (read : Data → Result Formula Fault) (ds : List Data) (d : Data) (fs : List Formula) (f : Formula) → each_of read (joined ds no_items) ≡ Ok fs → read d ≡ Ok f → each_of read (joined (ds ++ d ∷ []) no_items) ≡ Ok (fs ++ f ∷ [])
+pub each-one : (read : Data → Result Formula Fault) (ds : List Data) (d : Data) (fs : List Formula) (f : Formula) → each_of read (joined ds no_items) ≡ Ok fs → read d ≡ Ok f → each_of read (joined (ds ++ d ∷ []) no_items) ≡ Ok (fs ++ f ∷ [])
 each-one read [] d fs f h is =
     let none : [] ≡ fs = same_ok [] fs h in
     rw is (ap (λ gs. Ok (gs ++ f ∷ [])) none)
@@ -68,11 +68,11 @@ each-one read (e ∷ ds) d fs f h is =
     ap (λ r. r >>= λ g. each_of read (joined (ds ++ d ∷ []) no_items) >>= λ gs. Ok (g ∷ gs)) first.1
     ∙ ap (λ r. r >>= λ gs. Ok (first.0 ∷ gs)) (each-one read ds d rest.0 f rest.1 is) ∙ ap (λ gs. Ok (gs ++ f ∷ [])) all
 
-length-one : (ds : List Data) (d : Data) → items_len (joined (ds ++ d ∷ []) no_items) ≡ items_len (joined ds no_items) + 1
+pub length-one : (ds : List Data) (d : Data) → items_len (joined (ds ++ d ∷ []) no_items) ≡ items_len (joined ds no_items) + 1
 length-one [] d = refl
 length-one (e ∷ ds) d = omega (arith, length-one ds d)
 
-length-more : (fs : List Formula) (f : Formula) → length (fs ++ f ∷ []) ≡ length fs + 1
+pub length-more : (fs : List Formula) (f : Formula) → length (fs ++ f ∷ []) ≡ length fs + 1
 length-more [] f = refl
 length-more (g ∷ fs) f = omega (arith, length-more fs f)
 

@@ -4,7 +4,7 @@ pub mod Expressions
 pub mod Heads
 pub mod Plans
 pub mod Puts
-pub mod Rewritten
 pub mod Rules
-pub mod Skipped
 pub mod Spelled
+pub mod Thresholds
+pub mod WrittenPlans

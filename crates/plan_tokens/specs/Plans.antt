@@ -1,7 +1,7 @@
 -- What values spell of a plan.
 use Rattle.std.specs.Prelude.{◌≡◌, ℕ, true, List, length, map, Option, Some, None, Ok, codes}
 use Rattle.json.specs.Token.{Token}
-use Rattle.serde_json.specs.Data.{Data, object, Members, member, no_members}
+use Rattle.serde_json.specs.Data.{Data, null, object, Members, member, no_members}
 use Rattle.refutation.specs.Writing.{number_data}
 use Rattle.plan.specs.declared.configurations.Group.{Group}
 use Rattle.plan.specs.declared.formats.Format.{Format}
@@ -10,6 +10,11 @@ use Rattle.plan.specs.PlanData.{PlanData}
 use Rattle.plan.specs.Plan.{group_data}
 use Rattle.plan.specs.PlanText.{is_from_1, plan_in}
 use Rattle.plan_tokens.specs.Spelled.{Completes}
+
+-- a number, or null
+abbrev pub parent_data : Option ℕ → Data
+parent_data None = null
+parent_data (Some n) = number_data n
 
 -- how many of so many groups are there at birth: what the text says in format 3, and else all
 abbrev pub IsBorn : Format → Option ℕ → ℕ → ℕ → Type 0

@@ -3,15 +3,16 @@
 ghost use Rattle.std.specs.Prelude.{◌<◌, OnSome, codes};
 ghost use Rattle.serde_json.specs.Data.{string, no_members};
 ghost use Rattle.refutation.specs.Writing.{side_text, number_data, dead_data, clash_data};
-ghost use Rattle.plan.specs.Rewriting.{value_or_null, step_value};
+ghost use Rattle.plan.specs.Rewriting.{value_or_null};
+ghost use Rattle.plan_tokens.specs.Plans.{parent_data};
 ghost use Rattle.plan_tokens.specs.Heads.{side_members};
 ghost use Rattle.plan_tokens.specs.Puts.{Puts, PutsMember};
 ghost use Rattle.plan_tokens.specs.Rules.{rule_data, rules_data};
 ghost use Rattle.plan_tokens.specs.Certificates.{certificate_values, OpensTo, pick_members, match_members, PutsBetween, PutsLast};
 
 use crate::puts::{
-    close_array, close_object, open_array, open_object, put_key, put_null, put_number_at,
-    put_numbers, put_pairs, put_text_at,
+    close_array, close_object, open_array, open_object, put_key, put_null, put_number,
+    put_number_at, put_numbers, put_pairs, put_text_at,
 };
 use json::Writer;
 use refutation::{Certificate, Refutation, Side};
@@ -183,17 +184,12 @@ pub(crate) fn put_certificate_at(
     }
 }
 
-/// The certificate of a configuration's step, which configuration 0 doesn't have.
-pub(crate) fn put_step(
-    writer: &mut Writer,
-    certificates: &[Option<Certificate<Global>>],
-    number: usize,
-) -> Option<()>
-    requires { number < 64 }
-    ensures { OnSome result (Puts (step_value number (certificate_values certificates.now)) writer.old writer.new) }
+/// The number of a parent, or null.
+pub(crate) fn put_parent(writer: &mut Writer, parent: Option<u64>) -> Option<()>
+    ensures { OnSome result (Puts (parent_data parent) writer.old writer.new) }
 {
-    if number == 0 {
-        return put_null(writer);
+    match parent {
+        Some(number) => put_number(writer, number),
+        None => put_null(writer),
     }
-    put_certificate_at(writer, certificates, 2 * number)
 }

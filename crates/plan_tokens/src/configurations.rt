@@ -9,11 +9,12 @@ ghost use Rattle.refutation.specs.Limits.{is_certificate};
 ghost use Rattle.refutation.specs.Refutation.{rule_of};
 ghost use Rattle.plan.specs.PlanText.{certificate_or_null, members_of, parent_of, step_of};
 ghost use Rattle.plan_tokens.specs.Configurations.{IsConfiguration, IsListed};
-ghost use Rattle.plan_tokens.specs.Rewritten.{parent_data};
+ghost use Rattle.plan_tokens.specs.Plans.{parent_data};
 ghost use Rattle.plan_tokens.specs.Spelled.{Spells, SpellsSome};
 
 use crate::expressions::expression;
 use crate::rules::begun;
+use crate::spelling::Spelling;
 use crate::tokens::{any_key, begin_array, begin_object, digits, end, key, null, number_to};
 use json::{Reader, Token};
 use plan::Configuration;
@@ -103,7 +104,7 @@ fn members(reader: &mut Reader<'_>) -> Option<MemberSet>
 }
 
 /// The lists of a configuration that has members, some of which are full.
-fn lists(members: MemberSet, full: MemberSet, is_weighted: bool) -> Option<Lists>
+pub(crate) fn lists(members: MemberSet, full: MemberSet, is_weighted: bool) -> Option<Lists>
     ensures { IfSome result (IsListed members full is_weighted) }
 {
     if members.is_empty() {
@@ -125,6 +126,7 @@ fn parent_first(
     reader: &mut Reader<'_>,
     is_weighted: bool,
     number: u8,
+    spelling: &mut Spelling,
 ) -> Option<Configuration>
     ensures { IfSome result (λ x. (before : List SpecToken) → read_key before ≡ Some (Some (codes "parent"), reader.old) → SpellsSome 82 (token.begin_object ∷ before) reader.new (IsConfiguration is_weighted number x)) }
 {
@@ -135,9 +137,9 @@ fn parent_first(
     let full = members(reader)?;
     let lists = lists(all, full, is_weighted)?;
     key(reader, "read")?;
-    let read = expression(alloc, reader, &lists)?;
+    let read = expression(alloc, reader, &lists, spelling)?;
     key(reader, "write")?;
-    let write = expression(alloc, reader, &lists)?;
+    let write = expression(alloc, reader, &lists, spelling)?;
     key(reader, "meets")?;
     let meets = certificate(alloc, reader)?;
     key(reader, "step")?;
@@ -160,6 +162,7 @@ fn full_first(
     reader: &mut Reader<'_>,
     is_weighted: bool,
     number: u8,
+    spelling: &mut Spelling,
 ) -> Option<Configuration>
     ensures { IfSome result (λ x. (before : List SpecToken) → read_key before ≡ Some (Some (codes "full"), reader.old) → SpellsSome 82 (token.begin_object ∷ before) reader.new (IsConfiguration is_weighted number x)) }
 {
@@ -172,11 +175,11 @@ fn full_first(
     key(reader, "parent")?;
     let parent = parent(reader)?;
     key(reader, "read")?;
-    let read = expression(alloc, reader, &lists)?;
+    let read = expression(alloc, reader, &lists, spelling)?;
     key(reader, "step")?;
     let step = step(alloc, reader, number)?;
     key(reader, "write")?;
-    let write = expression(alloc, reader, &lists)?;
+    let write = expression(alloc, reader, &lists, spelling)?;
     end(reader)?;
     Some(Configuration {
         parent,
@@ -196,13 +199,14 @@ fn after_key(
     is_weighted: bool,
     number: u8,
     first: &str,
+    spelling: &mut Spelling,
 ) -> Option<Configuration>
     ensures { IfSome result (λ x. (before : List SpecToken) → read_key before ≡ Some (Some first.now, reader.old) → SpellsSome 82 (token.begin_object ∷ before) reader.new (IsConfiguration is_weighted number x)) }
 {
     if first == "parent" {
-        parent_first(alloc, reader, is_weighted, number)
+        parent_first(alloc, reader, is_weighted, number, spelling)
     } else if first == "full" {
-        full_first(alloc, reader, is_weighted, number)
+        full_first(alloc, reader, is_weighted, number, spelling)
     } else {
         None
     }
@@ -214,11 +218,12 @@ pub(crate) fn configuration(
     reader: &mut Reader<'_>,
     is_weighted: bool,
     number: u8,
+    spelling: &mut Spelling,
 ) -> Option<Configuration>
     ensures { IfSome result (λ x. SpellsSome 82 reader.old reader.new (IsConfiguration is_weighted number x)) }
 {
     begin_object(reader)?;
     let first = any_key(reader)?;
-    let whole = after_key(alloc, reader, is_weighted, number, first)?;
+    let whole = after_key(alloc, reader, is_weighted, number, first, spelling)?;
     Some(whole)
 }

@@ -16,6 +16,7 @@ ghost use Rattle.plan.specs.PlanData.{names_only};
 ghost use Rattle.plan_tokens.specs.Spelled.{SpellsSome};
 ghost use Rattle.plan_tokens.specs.Expressions.{SpellsFormula, SpellsRow, EndsThreshold, IsNamed};
 
+use crate::spelling::{Form, ListForm, Spelling};
 use crate::tokens::{begin_array, digits, end, key, number_to, push, small_numbers};
 use json::{Reader, Token};
 use quorum_expr::{Expr, Lists, MEMBERS, MemberSet, valid};
@@ -24,16 +25,16 @@ use std::alloc::Global;
 /// The most levels of an expression.
 pub(crate) const LEVELS: u8 = 6;
 
-/// The members that a word stands for.
-fn named(lists: &Lists, word: &str) -> Option<MemberSet>
-    ensures { IfSome result (IsNamed lists.now word.now) }
+/// The list that a word names, and its members.
+fn named(lists: &Lists, word: &str) -> Option<(ListForm, MemberSet)>
+    ensures { IfSome result (λ list. IsNamed lists.now word.now list.1) }
 {
     if word == "all" {
-        Some(lists.members)
+        Some((ListForm::All, lists.members))
     } else if word == "full" {
-        Some(lists.full)
+        Some((ListForm::Full, lists.full))
     } else if word == "tail" {
-        Some(lists.members.difference(lists.full))
+        Some((ListForm::Tail, lists.members.difference(lists.full)))
     } else {
         None
     }
@@ -81,6 +82,7 @@ fn given_weights(
     reader: &mut Reader<'_>,
     lists: &Lists,
     row: &mut [(u8, Expr<Global>)],
+    form: &mut Form,
 ) -> Option<()>
     ensures read { OnSome result ((before : List SpecToken) → read_key before ≡ Some (Some (codes "weights"), reader.old) → EndsThreshold lists.now (length row.old) before reader.new (λ ws. HaveWeights ws 0 row.new)) }
     ensures same { OnSome result (formulas_of row.new ≡ formulas_of row.old) }
@@ -94,6 +96,7 @@ fn given_weights(
         return None;
     }
     weigh(row, &weights);
+    form.has_weights = true;
     Some(())
 }
 
@@ -103,6 +106,7 @@ fn weights(
     reader: &mut Reader<'_>,
     lists: &Lists,
     row: &mut [(u8, Expr<Global>)],
+    form: &mut Form,
 ) -> Option<()>
     requires { HaveWeights None 0 row.old }
     ensures read { OnSome result (EndsThreshold lists.now (length row.old) reader.old reader.new (λ ws. HaveWeights ws 0 row.new)) }
@@ -110,14 +114,20 @@ fn weights(
 {
     match reader.next_key() {
         Ok(None) => Some(()),
-        Ok(Some(name)) if name == "weights" => given_weights(alloc, reader, lists, row),
+        Ok(Some(name)) if name == "weights" => given_weights(alloc, reader, lists, row, form),
         _ => None,
     }
 }
 
 /// An expression of at most so many levels.
 #[cycle(expression)]
-fn tree(alloc: Global, reader: &mut Reader<'_>, lists: &Lists, levels: u8) -> Option<Expr<Global>>
+fn tree(
+    alloc: Global,
+    reader: &mut Reader<'_>,
+    lists: &Lists,
+    levels: u8,
+    spelling: &mut Spelling,
+) -> Option<Expr<Global>>
     ensures { IfSome result (λ e. SpellsSome (2 * levels) reader.old reader.new (SpellsFormula lists.now levels (formula_of e))) }
 {
     if levels == 0 {
@@ -130,7 +140,7 @@ fn tree(alloc: Global, reader: &mut Reader<'_>, lists: &Lists, levels: u8) -> Op
             Some(leaf)
         }
         Some(Token::BeginObject) => {
-            let whole = threshold(alloc, reader, lists, levels - 1)?;
+            let whole = threshold(alloc, reader, lists, levels - 1, spelling)?;
             Some(whole)
         }
         _ => None,
@@ -144,14 +154,18 @@ fn threshold(
     reader: &mut Reader<'_>,
     lists: &Lists,
     levels: u8,
+    spelling: &mut Spelling,
 ) -> Option<Expr<Global>>
     ensures { IfSome result (λ e. SpellsSome (2 * levels + 2) (token.begin_object ∷ reader.old) reader.new (SpellsFormula lists.now (levels + 1) (formula_of e))) }
 {
+    let place = spelling.begin()?;
+    let mut form = Form::PLAIN;
     key(reader, "k")?;
     let k = number_to(reader, 65_535)?;
     key(reader, "of")?;
-    let mut of = children(alloc, reader, lists, levels)?;
-    weights(alloc, reader, lists, &mut of)?;
+    let mut of = children(alloc, reader, lists, levels, spelling, &mut form)?;
+    weights(alloc, reader, lists, &mut of, &mut form)?;
+    spelling.note(place, form);
     Some(Expr::KOf { k: k as u16, of })
 }
 
@@ -162,6 +176,8 @@ fn children(
     reader: &mut Reader<'_>,
     lists: &Lists,
     levels: u8,
+    spelling: &mut Spelling,
+    form: &mut Form,
 ) -> Option<Vec<(u8, Expr<Global>)>>
     ensures read { IfSome result (λ v. SpellsSome (2 * levels + 1) reader.old reader.new (SpellsRow lists.now levels (formulas_of v.items))) }
     ensures weights { IfSome result (λ v. HaveWeights None 0 v.items) }
@@ -171,12 +187,13 @@ fn children(
     }
     match reader.next() {
         Some(Token::String(word)) => {
-            let members = named(lists, word)?;
-            let row = each_member(alloc, members)?;
+            let list = named(lists, word)?;
+            let row = each_member(alloc, list.1)?;
+            form.list = list.0;
             Some(row)
         }
         Some(Token::BeginArray) => {
-            let row = row(alloc, reader, lists, levels)?;
+            let row = row(alloc, reader, lists, levels, spelling)?;
             Some(row)
         }
         _ => None,
@@ -190,13 +207,14 @@ fn row(
     reader: &mut Reader<'_>,
     lists: &Lists,
     levels: u8,
+    spelling: &mut Spelling,
 ) -> Option<Vec<(u8, Expr<Global>)>>
     ensures read { IfSome result (λ v. SpellsSome (2 * levels + 1) (token.begin_array ∷ reader.old) reader.new (SpellsRow lists.now levels (formulas_of v.items))) }
     ensures weights { IfSome result (λ v. HaveWeights None 0 v.items) }
 {
     let mut row = Vec::new(alloc);
     'children: while !reader.take_end_array() {
-        let child = tree(alloc, reader, lists, levels)?;
+        let child = tree(alloc, reader, lists, levels, spelling)?;
         push(&mut row, (1, child))?;
     }
     Some(row)
@@ -207,13 +225,14 @@ pub(crate) fn expression(
     alloc: Global,
     reader: &mut Reader<'_>,
     lists: &Lists,
+    spelling: &mut Spelling,
 ) -> Option<Expr<Global>>
     requires { is_subset lists.now.full lists.now.members ≡ true }
     ensures read { IfSome result (λ e. SpellsSome 12 reader.old reader.new (λ d. expression_in lists.now d ≡ Ok (formula_of e))) }
     ensures valid { IfSome result (λ e. expression_fault (formula_of e) ≡ None) }
     ensures own { IfSome result (λ e. names_only (formula_of e) lists.now.members ≡ true) }
 {
-    let expr = tree(alloc, reader, lists, LEVELS)?;
+    let expr = tree(alloc, reader, lists, LEVELS, spelling)?;
     match valid(&expr) {
         Ok(()) => Some(expr),
         Err(_) => None,

@@ -3,18 +3,19 @@
 
 mod certificates;
 mod configurations;
-mod copies;
 mod expressions;
 mod groups;
 mod heads;
 mod puts;
 mod reading;
-mod rewriting;
 mod rules;
 mod sizes;
-mod skipping;
+mod spelling;
 mod tokens;
 mod writing;
+mod written;
+mod written_expressions;
 
-pub use reading::{read_in_order, read_plan};
+pub use reading::{read_in_order, read_plan, read_spelled};
+pub use spelling::Spelling;
 pub use writing::write_plan;

@@ -11,6 +11,7 @@ ghost use Rattle.plan_tokens.specs.Plans.{EndsPlan, IsBorn, IsWhole, with_format
 ghost use Rattle.plan_tokens.specs.Spelled.{SpellsSome};
 
 use crate::groups::groups;
+use crate::spelling::Spelling;
 use crate::tokens::{any_key, begin_object, end, key, number};
 use json::{Reader, Scratch};
 use plan::{Format, Group, Plan, PlanFault};
@@ -79,36 +80,51 @@ fn whole(format: Format, lal: u64, born: Option<u64>, groups: Vec<Group>) -> Opt
 }
 
 /// A plan after its format and the key of its allowance, without a number of groups at birth.
-fn lal_groups(alloc: Global, reader: &mut Reader<'_>, format: Format) -> Option<Plan>
+fn lal_groups(
+    alloc: Global,
+    reader: &mut Reader<'_>,
+    format: Format,
+    spelling: &mut Spelling,
+) -> Option<Plan>
     ensures { IfSome result (λ p. (before : List SpecToken) (d : Data) → read_key before ≡ Some (Some (codes "lal"), reader.old) → format_of d ≡ Ok format → EndsPlan (with_format d no_members) before reader.new (plan_data p)) }
 {
     let lal = number(reader)?;
     key(reader, "groups")?;
-    let groups = groups(alloc, reader, format.is_weighted())?;
+    let groups = groups(alloc, reader, format.is_weighted(), spelling)?;
     end(reader)?;
     let plan = whole(format, lal, None, groups)?;
     Some(plan)
 }
 
 /// A plan after its format and the key of its allowance, with a number of groups at birth.
-fn lal_born_groups(alloc: Global, reader: &mut Reader<'_>, format: Format) -> Option<Plan>
+fn lal_born_groups(
+    alloc: Global,
+    reader: &mut Reader<'_>,
+    format: Format,
+    spelling: &mut Spelling,
+) -> Option<Plan>
     ensures { IfSome result (λ p. (before : List SpecToken) (d : Data) → read_key before ≡ Some (Some (codes "lal"), reader.old) → format_of d ≡ Ok format → EndsPlan (with_format d no_members) before reader.new (plan_data p)) }
 {
     let lal = number(reader)?;
     key(reader, "born")?;
     let born = number(reader)?;
     key(reader, "groups")?;
-    let groups = groups(alloc, reader, format.is_weighted())?;
+    let groups = groups(alloc, reader, format.is_weighted(), spelling)?;
     end(reader)?;
     let plan = whole(format, lal, Some(born), groups)?;
     Some(plan)
 }
 
 /// A plan after its format and the key of its groups.
-fn groups_lal(alloc: Global, reader: &mut Reader<'_>, format: Format) -> Option<Plan>
+fn groups_lal(
+    alloc: Global,
+    reader: &mut Reader<'_>,
+    format: Format,
+    spelling: &mut Spelling,
+) -> Option<Plan>
     ensures { IfSome result (λ p. (before : List SpecToken) (d : Data) → read_key before ≡ Some (Some (codes "groups"), reader.old) → format_of d ≡ Ok format → EndsPlan (with_format d no_members) before reader.new (plan_data p)) }
 {
-    let groups = groups(alloc, reader, format.is_weighted())?;
+    let groups = groups(alloc, reader, format.is_weighted(), spelling)?;
     key(reader, "lal")?;
     let lal = number(reader)?;
     end(reader)?;
@@ -117,13 +133,18 @@ fn groups_lal(alloc: Global, reader: &mut Reader<'_>, format: Format) -> Option<
 }
 
 /// A plan after its format and the key of its allowance.
-fn after_lal(alloc: Global, reader: &mut Reader<'_>, format: Format) -> Option<Plan>
+fn after_lal(
+    alloc: Global,
+    reader: &mut Reader<'_>,
+    format: Format,
+    spelling: &mut Spelling,
+) -> Option<Plan>
     ensures { IfSome result (λ p. (before : List SpecToken) (d : Data) → read_key before ≡ Some (Some (codes "lal"), reader.old) → format_of d ≡ Ok format → EndsPlan (with_format d no_members) before reader.new (plan_data p)) }
 {
     if format == Format::Growing {
-        lal_born_groups(alloc, reader, format)
+        lal_born_groups(alloc, reader, format, spelling)
     } else {
-        lal_groups(alloc, reader, format)
+        lal_groups(alloc, reader, format, spelling)
     }
 }
 
@@ -133,37 +154,38 @@ fn after_format(
     reader: &mut Reader<'_>,
     format: Format,
     second: &str,
+    spelling: &mut Spelling,
 ) -> Option<Plan>
     ensures { IfSome result (λ p. (before : List SpecToken) (d : Data) → read_key before ≡ Some (Some second.now, reader.old) → format_of d ≡ Ok format → EndsPlan (with_format d no_members) before reader.new (plan_data p)) }
 {
     if second == "lal" {
-        after_lal(alloc, reader, format)
+        after_lal(alloc, reader, format, spelling)
     } else if second == "groups" {
-        groups_lal(alloc, reader, format)
+        groups_lal(alloc, reader, format, spelling)
     } else {
         None
     }
 }
 
 /// A plan after the key of its format.
-fn format_first(alloc: Global, reader: &mut Reader<'_>) -> Option<Plan>
+fn format_first(alloc: Global, reader: &mut Reader<'_>, spelling: &mut Spelling) -> Option<Plan>
     ensures { IfSome result (λ p. (before : List SpecToken) → read_key before ≡ Some (Some (codes "format"), reader.old) → EndsPlan no_members before reader.new (plan_data p)) }
 {
     let format = format(reader)?;
     let second = any_key(reader)?;
-    let plan = after_format(alloc, reader, format, second)?;
+    let plan = after_format(alloc, reader, format, second, spelling)?;
     Some(plan)
 }
 
 /// A plan after the key of its number of groups at birth.
-fn born_first(alloc: Global, reader: &mut Reader<'_>) -> Option<Plan>
+fn born_first(alloc: Global, reader: &mut Reader<'_>, spelling: &mut Spelling) -> Option<Plan>
     ensures { IfSome result (λ p. (before : List SpecToken) → read_key before ≡ Some (Some (codes "born"), reader.old) → EndsPlan no_members before reader.new (plan_data p)) }
 {
     let born = number(reader)?;
     key(reader, "format")?;
     let format = format(reader)?;
     key(reader, "groups")?;
-    let groups = groups(alloc, reader, format.is_weighted())?;
+    let groups = groups(alloc, reader, format.is_weighted(), spelling)?;
     key(reader, "lal")?;
     let lal = number(reader)?;
     end(reader)?;
@@ -172,47 +194,52 @@ fn born_first(alloc: Global, reader: &mut Reader<'_>) -> Option<Plan>
 }
 
 /// A plan after its first key.
-fn after_key(alloc: Global, reader: &mut Reader<'_>, first: &str) -> Option<Plan>
+fn after_key(
+    alloc: Global,
+    reader: &mut Reader<'_>,
+    first: &str,
+    spelling: &mut Spelling,
+) -> Option<Plan>
     ensures { IfSome result (λ p. (before : List SpecToken) → read_key before ≡ Some (Some first.now, reader.old) → EndsPlan no_members before reader.new (plan_data p)) }
 {
     if first == "format" {
-        format_first(alloc, reader)
+        format_first(alloc, reader, spelling)
     } else if first == "born" {
-        born_first(alloc, reader)
+        born_first(alloc, reader, spelling)
     } else {
         None
     }
 }
 
 /// A plan as an object.
-fn document(alloc: Global, reader: &mut Reader<'_>) -> Option<Plan>
+fn document(alloc: Global, reader: &mut Reader<'_>, spelling: &mut Spelling) -> Option<Plan>
     ensures { IfSome result (λ p. SpellsSome 86 reader.old reader.new (λ d. plan_in d ≡ Ok (plan_data p))) }
 {
     begin_object(reader)?;
     let first = any_key(reader)?;
-    let plan = after_key(alloc, reader, first)?;
+    let plan = after_key(alloc, reader, first, spelling)?;
     Some(plan)
 }
 
 /// The plan that a text of the encoding spells, with nothing behind it.
-fn parsed(alloc: Global, text: &str) -> Option<Plan>
+fn parsed(alloc: Global, text: &str, spelling: &mut Spelling) -> Option<Plan>
     ensures { IfSome result (λ p. SpellsSome 86 (tokens text.now) [] (λ d. plan_in d ≡ Ok (plan_data p))) }
 {
     let mut scratch = Scratch::new(alloc);
     let Ok(mut reader) = Reader::new(text, &mut scratch) else {
         return None;
     };
-    let plan = document(alloc, &mut reader)?;
+    let plan = document(alloc, &mut reader, spelling)?;
     match reader.next() {
         None => Some(plan),
         Some(_) => None,
     }
 }
 
-/// The plan that a text spells, read off its tokens, where its keys come in the order of the format or in that of the alphabet;
-/// none for another text, for one with a fault, or where memory runs out.
-pub fn read_in_order(alloc: Global, text: &[u8]) -> Option<Plan>
-    ensures { IfSome result (λ p. plan_of text.now ≡ Ok (plan_data p)) }
+/// The plan that a text spells, read off its tokens, where its keys come in the order of the format or in that of the alphabet, and
+/// how its thresholds are spelled; none for another text, for one with a fault, or where memory runs out.
+pub fn read_in_order(alloc: Global, text: &[u8]) -> Option<(Plan, Spelling)>
+    ensures { IfSome result (λ read. plan_of text.now ≡ Ok (plan_data read.0)) }
 {
     if text.len() > MAX_TEXT {
         return None;
@@ -220,22 +247,39 @@ pub fn read_in_order(alloc: Global, text: &[u8]) -> Option<Plan>
     let Ok(valid) = simdutf8::basic::from_utf8(text) else {
         return None;
     };
-    let plan = parsed(alloc, valid)?;
-    Some(plan)
+    let mut spelling = Spelling::new(alloc);
+    let plan = parsed(alloc, valid, &mut spelling)?;
+    Some((plan, spelling))
 }
 
-/// The plan that a text spells.
+/// The plan that a text spells, and how its thresholds are spelled where that is known.
 ///
 /// # Errors
 /// The first fault in reading order: the text's size, its JSON, the keys and the format, how far numbers may run ahead, the
 /// number of groups, how many of them are there at birth, then group by group the number of its configurations, and for
 /// each of these its keys, parent, members, full members, read and write expression, and the certificates of its claims.
 /// `Malformed` is a value of another shape than a plan's, and `OverLimit` more than a limit.
+pub fn read_spelled(alloc: Global, text: &[u8]) -> Result<(Plan, Option<Spelling>), PlanFault>
+    ensures { Reads (λ read. plan_data read.0) result (plan_of text.now) }
+{
+    match read_in_order(alloc, text) {
+        Some((plan, spelling)) => Ok((plan, Some(spelling))),
+        None => match plan::read_plan(alloc, text) {
+            Ok(plan) => Ok((plan, None)),
+            Err(fault) => Err(fault),
+        },
+    }
+}
+
+/// The plan that a text spells.
+///
+/// # Errors
+/// Those of [`read_spelled`].
 pub fn read_plan(alloc: Global, text: &[u8]) -> Result<Plan, PlanFault>
     ensures { Reads plan_data result (plan_of text.now) }
 {
-    match read_in_order(alloc, text) {
-        Some(plan) => Ok(plan),
-        None => plan::read_plan(alloc, text),
+    match read_spelled(alloc, text) {
+        Ok((plan, _)) => Ok(plan),
+        Err(fault) => Err(fault),
     }
 }

@@ -64,6 +64,7 @@ pub(crate) fn long_number(text: &str) -> Option<u64>
 }
 
 /// The number that a text writes in digits alone.
+#[inline(always)]
 pub(crate) fn digits(text: &str) -> Option<u64>
     ensures { IfSome result (λ n. number_of text.now ≡ Some (unsigned n)) }
 {

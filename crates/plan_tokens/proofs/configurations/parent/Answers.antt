@@ -1,4 +1,4 @@
-use Rattle.plan_tokens.specs.Rewritten.{parent_data}
+use Rattle.plan_tokens.specs.Plans.{parent_data}
 use Rattle.plan_tokens.proofs.ConfigurationLaws.{parent_read}
 use Rattle.plan_tokens.proofs.configurations.parent.Goals as goal
 

@@ -36,7 +36,7 @@ children-returns-in_ok-row-in-Some-String-clause-read t c =
     record {
       value = string c.in-Some-String.word.now;
       spells = up 0 (2 * c.args.levels + 1) (omega arith) (subst (λ ts. Spells 0 ts c.next.new.self (string c.in-Some-String.word.now)) (sym is) (string_read c.in-Some-String.word.now c.next.new.self));
-      holds = named_row c.args.lists.now c.args.levels c.in-Some-String.word.now c.in_ok-members-in-Some-String.members (formulas_of c.in_ok-row-in-Some-String.row.items) some c.in_ok-members-in-Some-String.ensures c.in_ok-row-in-Some-String.ensures.read;
+      holds = named_row c.args.lists.now c.args.levels c.in-Some-String.word.now c.in_ok-list-in-Some-String.list.1 (formulas_of c.in_ok-row-in-Some-String.row.items) some c.in_ok-list-in-Some-String.ensures c.in_ok-row-in-Some-String.ensures.read;
     }
 
 pub row-children-preserved : goal.row-children-preserved
