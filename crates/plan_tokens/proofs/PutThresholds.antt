@@ -3,7 +3,7 @@ use Rattle.std.proofs.Common.{◌≡◌, ℕ, zero, suc, ◌+◌, ◌*◌, ◌<�
 use Rattle.std.specs.Prelude.{Bool, true, All}
 use Rattle.std.proofs.lemmas.List.{length-map, map-append, take_more}
 use Rattle.std.proofs.lemmas.List.Elements.{All-head, All-tail}
-use Rattle.json.specs.Token.{Token, begin_object, end_object, begin_array, end_array}
+use Rattle.json.specs.Token.{Token, begin_object, end_object, end_array}
 use Rattle.json.specs.Written.{Written}
 use Rattle.serde_json.specs.Data.{Data, array, object, depth, items_depth, no_items, member, no_members}
 use Rattle.serde_json.specs.Events.{items_len}
@@ -22,7 +22,7 @@ use Rattle.plan_tokens.specs.Expressions.{SpellsFormula, SpellsRow, threshold_me
 use Rattle.plan_tokens.specs.Puts.{Puts, PutsToken, PutsMember, Lists}
 use Rattle.plan_tokens.specs.Thresholds.{weights_in, PutsSome, PutsWeights, SpellsThreshold}
 use Rattle.plan_tokens.proofs.Spelled.{joined}
-use Rattle.plan_tokens.proofs.Putting.{opened, one_more, closed, listing, one_listed, listed}
+use Rattle.plan_tokens.proofs.Putting.{opened, one_more, closed, one_listed, listed}
 use Rattle.plan_tokens.proofs.Thresholds.{row_parts, each-one, length-one, length-more, form-once, form-weighted, weighted_members, small-fits, threshold_spelled}
 
 -- ---- weights
@@ -92,9 +92,6 @@ pub record RowPut (lists : declared.Lists) (levels : ℕ) (old now : Written) (f
   pub count : items_len (joined values no_items) ≡ length fs
   pub read : row_fault (each_once fs) levels ≡ None → each_of (formula_at lists levels) (joined values no_items) ≡ Ok fs
   pub nests : items_depth (joined values no_items) ≤ 2 * levels
-
-pub no_child : (lists : declared.Lists) (levels : ℕ) (old new : Written) → PutsToken begin_array old new → RowPut lists levels old new []
-no_child lists levels old new t = record { values = []; puts = listing old new t; count = refl; read = λ h. refl; nests = omega arith }
 
 pub child_more : (lists : declared.Lists) (levels : ℕ) (old between new : Written) (fs gs : List Formula) (f : Formula) → gs ≡ fs ++ f ∷ [] → RowPut lists levels old between fs → PutsSome (2 * levels) between new (SpellsFormula lists levels f) → RowPut lists levels old new gs
 child_more lists levels old between new fs gs f more so_far p =

@@ -65,9 +65,6 @@ with_key levels found key before at after d is s = record {
 pub follows : (levels : ℕ) (found more most : Members) (before at after : List Token) → Goes levels found before at more → Goes levels more at after most → Goes levels found before after most
 follows levels found more most before at after one two = record { ends = λ below end all h rest. one.ends below end all h (two.ends below end all h rest) }
 
-pub goes_up : (levels more : ℕ) (found most : Members) (before after : List Token) → levels ≤ more → Goes levels found before after most → Goes more found before after most
-goes_up levels more found most before after h one = record { ends = λ below end all k rest. one.ends below end all (omega arith) rest }
-
 -- a brace, and members to the end
 pub braced : (levels : ℕ) (before after : List Token) (all : Members) → Completes levels no_members before after all → Spells (suc levels) (Token.begin_object ∷ before) after (object all)
 braced levels before after all c = record {

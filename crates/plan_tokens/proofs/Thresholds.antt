@@ -25,7 +25,7 @@ use Rattle.quorum_expr.specs.Valid.{or_then, good_choice, shape_fault, row_fault
 use Rattle.quorum_expr.proofs.Rows.{row-read}
 use Rattle.plan_tokens.specs.Spelled.{Spells, SpellsSome}
 use Rattle.plan_tokens.specs.Expressions.{SpellsFormula, SpellsRow, IsNamed, threshold_members}
-use Rattle.plan_tokens.proofs.Spelled.{Passes, none_passed, one_passed, joined, bracketed}
+use Rattle.plan_tokens.proofs.Spelled.{Passes, one_passed, joined, bracketed}
 
 -- ---- steps that went well, and faults that aren't there
 
@@ -82,9 +82,6 @@ pub record RowSoFar (lists : Lists) (levels : ℕ) (start now : List Token) (fs 
   pub passes : Passes (2 * levels) start now values
   pub count : items_len (joined values no_items) ≡ length fs
   pub read : row_fault (each_once fs) levels ≡ None → each_of (formula_at lists levels) (joined values no_items) ≡ Ok fs
-
-pub no_row : (lists : Lists) (levels : ℕ) (start : List Token) → RowSoFar lists levels start start []
-no_row lists levels start = record { values = []; passes = none_passed (2 * levels) start; count = refl; read = λ h. refl }
 
 pub row_more : (lists : Lists) (levels : ℕ) (start now at after : List Token) (fs gs : List Formula) (f : Formula) → gs ≡ fs ++ f ∷ [] → RowSoFar lists levels start now fs → (after_end_array now ≡ None) × (at ≡ now) → SpellsSome (2 * levels) at after (SpellsFormula lists levels f)
     → RowSoFar lists levels start after gs

@@ -1,14 +1,12 @@
 //! Tokens one by one, put into a text: keys, ends, whole numbers and lists of them.
 
-ghost use Rattle.std.specs.Prelude.{◌≡◌, ◌≤◌, ◌<◌, ◌^◌, ℕ, All, IfSome, OnSome, Some, decimal};
+ghost use Rattle.std.specs.Prelude.{◌≡◌, IfSome, OnSome, decimal};
 ghost use Rattle.json.specs.Token as token;
-ghost use Rattle.serde_json.specs.Data.{array, null, string, unsigned};
-ghost use Rattle.serde_json.specs.Read.{number_of};
+ghost use Rattle.serde_json.specs.Data.{array, null, string};
 ghost use Rattle.refutation.specs.Ranges.{IsPairInRange};
 ghost use Rattle.refutation.specs.Writing.{number_data, numbers_data, pair_data, pairs_data};
 ghost use Rattle.plan_tokens.specs.Puts.{Puts, PutsMember, PutsToken};
 
-use crate::tokens::{long_number, short_number};
 use json::Writer;
 
 /// A key.
@@ -86,19 +84,6 @@ pub(crate) fn put_number(writer: &mut Writer, number: u64) -> Option<()>
     match digit_text(number) {
         Some(text) => writer.number(text).ok(),
         None => writer.u64(number).ok(),
-    }
-}
-
-/// The number that a text writes in digits alone.
-pub(crate) fn put_digits(writer: &mut Writer, text: &str) -> Option<()>
-    ensures { OnSome result ((n : ℕ) × (number_of text.now ≡ Some (unsigned n)) × Puts (number_data n) writer.old writer.new) }
-{
-    match short_number(text) {
-        Some(_) => writer.number(text).ok(),
-        None => {
-            let number = long_number(text)?;
-            put_number(writer, number)
-        }
     }
 }
 

@@ -32,7 +32,7 @@ fn digit(byte: u8) -> Option<u64>
 }
 
 /// The number that a text writes in one digit, or in two of which the first isn't 0.
-pub(crate) fn short_number(text: &str) -> Option<u64>
+fn short_number(text: &str) -> Option<u64>
     ensures small { IfSome result (λ n. n < 100) }
     ensures is { IfSome result (λ n. text.now ≡ decimal n) }
 {
@@ -50,7 +50,7 @@ pub(crate) fn short_number(text: &str) -> Option<u64>
 }
 
 /// The number that a text writes in digits alone, without a sign.
-pub(crate) fn long_number(text: &str) -> Option<u64>
+fn long_number(text: &str) -> Option<u64>
     ensures { IfSome result (λ n. number_of text.now ≡ Some (unsigned n)) }
 {
     let bytes = text.as_bytes();
