@@ -1,64 +1,109 @@
-use super::texts::checked;
+//! What the authority does and tells.
+
+use super::said::Said::{self, Count, Step, View, Yes};
+use super::said::said_by;
+use super::texts::{GROWING, checked};
 use epochs::Authority;
+use std::alloc::Global;
 use std::test::*;
-use volume_model::Fault;
-use wire::{Message, Place, StepTo};
+use volume_model::Fault::{self, AllGrown, NoGroup, NotInPlan, Superseded};
+use wire::Message;
 
 /// One group. Member 0 alone reads and writes; member 1 joins with the child of the root.
 const PLAN: &[u8] = b"{\"format\":1,\"lal\":10,\"groups\":[{\"configurations\":[\
 {\"parent\":null,\"members\":[0],\"full\":[0],\"read\":0,\"write\":0,\"meets\":{\"rule\":\"clash\",\"left\":0,\"right\":0},\"step\":null},\
 {\"parent\":0,\"members\":[0,1],\"full\":[0],\"read\":0,\"write\":0,\"meets\":{\"rule\":\"clash\",\"left\":0,\"right\":0},\"step\":{\"rule\":\"clash\",\"left\":0,\"right\":0}}]}]}";
 
-/// The child, where the group stands at membership epoch 2.
-const CHILD: Place = Place {
-    configuration: 1,
-    epoch: 2,
-};
+/// What the authority is asked, and what it is asked whether it may do it.
+#[derive(Clone, Copy)]
+enum Asked {
+    /// To lead a group to this child of its configuration.
+    Advance(u8, u32),
+    MayAdvance(u8, u32),
+    /// To assign the next volume epoch.
+    Assign,
+    MayAssign,
+    /// To tell the client of a volume epoch where the groups stand.
+    Refresh(u32),
+    MayRefresh(u32),
+    /// To let the next group join.
+    Grow,
+    MayGrow,
+    /// How many groups have joined.
+    Joined,
+}
 
-/// The step that a message tells, or why there is none.
-fn step_of(message: Result<Message, Fault>) -> Result<StepTo, Fault> {
-    match message? {
-        Message::StepTo(step) => Ok(step),
+/// What the authority is asked, and what it answers or why it refuses.
+type Row = (Asked, Result<Said, Fault>);
+
+/// The message that the authority makes.
+fn made(alloc: Global, authority: &mut Authority, asked: Asked) -> Result<Message, Fault> {
+    match asked {
+        Asked::Advance(group, configuration) => authority.advance(group, configuration),
+        Asked::Assign => authority.assign(alloc),
+        Asked::Refresh(volume) => authority.refresh(alloc, volume),
         _ => Err(Fault::NoMessage),
     }
 }
 
-/// The volume epoch of a View and the place of its only group, or why there is none.
-fn view_of(message: Result<Message, Fault>) -> Result<(u32, Place), Fault> {
-    match message? {
-        Message::View(view) => match view.places.as_slice() {
-            [place] => Ok((view.volume, *place)),
-            _ => Err(Fault::NoGroup),
-        },
-        _ => Err(Fault::NoMessage),
+/// What the authority answers.
+fn answer(alloc: Global, authority: &mut Authority, asked: Asked) -> Result<Said, Fault> {
+    match asked {
+        Asked::MayAdvance(group, configuration) => authority.admits_advance(group, configuration)?,
+        Asked::MayAssign => authority.admits_assign()?,
+        Asked::MayRefresh(volume) => authority.admits_refresh(volume)?,
+        Asked::MayGrow => authority.admits_grow()?,
+        Asked::Grow => authority.grow()?,
+        Asked::Joined => return Ok(Count(usize::from(authority.joined()))),
+        _ => return Ok(said_by(&made(alloc, authority, asked)?)),
     }
+    Ok(Yes)
 }
+
+/// The place of the first row that a new volume's authority doesn't keep to, `None` where it keeps to all.
+fn broken(alloc: Global, text: &[u8], rows: &[Row]) -> Result<Option<usize>, Fault> {
+    let mut authority = Authority::new(alloc, checked(alloc, text)?)?;
+    for (place, (asked, expected)) in rows.iter().enumerate() {
+        if answer(alloc, &mut authority, *asked) != *expected {
+            return Ok(Some(place));
+        }
+    }
+    Ok(None)
+}
+
+/// The group steps to the child, configuration 1 at membership epoch 2, and Views tell so.
+const STEPS_AND_VIEWS: &[Row] = &[
+    (Asked::MayAdvance(1, 0), Err(NoGroup)),
+    (Asked::MayAdvance(0, 1), Ok(Yes)),
+    (Asked::MayAssign, Ok(Yes)),
+    (Asked::MayRefresh(2), Err(Superseded)),
+    (Asked::Advance(1, 0), Err(NoGroup)),
+    (Asked::Advance(0, 0), Err(NotInPlan)),
+    (Asked::Advance(0, 1), Ok(Step(0, 1, 2))),
+    (Asked::Advance(0, 1), Err(NotInPlan)),
+    (Asked::Assign, Ok(View(2, 1, 1, 2))),
+    (Asked::Refresh(1), Err(Superseded)),
+    (Asked::Refresh(2), Ok(View(2, 1, 1, 2))),
+];
+
+/// The second group joins.
+const GROUPS_JOIN: &[Row] = &[
+    (Asked::Joined, Ok(Count(1))),
+    (Asked::MayAdvance(1, 0), Err(NoGroup)),
+    (Asked::Refresh(1), Ok(View(1, 1, 0, 1))),
+    (Asked::MayGrow, Ok(Yes)),
+    (Asked::Grow, Ok(Yes)),
+    (Asked::Joined, Ok(Count(2))),
+    (Asked::MayAdvance(1, 0), Err(NotInPlan)),
+    (Asked::Refresh(1), Ok(View(1, 2, 0, 1))),
+    (Asked::Assign, Ok(View(2, 2, 0, 1))),
+    (Asked::MayGrow, Err(AllGrown)),
+    (Asked::Grow, Err(AllGrown)),
+    (Asked::Joined, Ok(Count(2))),
+];
 
 #[test]
-fn steps_and_views(rt: HostRuntime) -> Result<(), Fail> {
-    let alloc = rt.alloc();
-    let mut authority = Authority::new(alloc, checked(alloc, PLAN)?)?;
-
-    assert_eq!(rt; authority.admits_advance(1, 0), Err(Fault::NoGroup));
-    assert_eq!(rt; authority.admits_advance(0, 1), Ok(()));
-    assert_eq!(rt; authority.admits_assign(), Ok(()));
-    assert_eq!(rt; authority.admits_refresh(2), Err(Fault::Superseded));
-    assert_eq!(rt; step_of(authority.advance(1, 0)), Err(Fault::NoGroup));
-    assert_eq!(rt; step_of(authority.advance(0, 0)), Err(Fault::NotInPlan));
-    assert_eq!(rt;
-        step_of(authority.advance(0, 1)),
-        Ok(StepTo {
-            group: 0,
-            place: CHILD
-        })
-    );
-    assert_eq!(rt; step_of(authority.advance(0, 1)), Err(Fault::NotInPlan));
-
-    assert_eq!(rt; view_of(authority.assign(alloc)), Ok((2, CHILD)));
-    assert_eq!(rt;
-        view_of(authority.refresh(alloc, 1)),
-        Err(Fault::Superseded)
-    );
-    assert_eq!(rt; view_of(authority.refresh(alloc, 2)), Ok((2, CHILD)));
-    Ok(())
+fn authorities(rt: HostRuntime) {
+    assert_eq!(rt; broken(rt.alloc(), PLAN, STEPS_AND_VIEWS), Ok(None));
+    assert_eq!(rt; broken(rt.alloc(), GROWING, GROUPS_JOIN), Ok(None));
 }

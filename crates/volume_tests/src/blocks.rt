@@ -1,52 +1,51 @@
+//! Pages of blocks, from the packets of several.
+
+use super::packets::{Line, chained, packet};
 use crate::picked::of_block;
 use pages::{BLOCK, page_of};
-use redo_record::{Packet, Payload, Record};
+use redo_record::RecordSet;
 use std::alloc::Global;
-use std::test::Fail;
+use std::test::*;
+use volume_model::Fault;
 
-/// A chained record that writes one byte at its own place.
-fn packet(alloc: Global, lsn: u64, byte: u8) -> Result<Packet, Fail> {
-    let Some(bytes) = Payload::new(&[byte]) else {
-        return Err(Fail::from("one byte"));
-    };
-    if lsn == 0 || lsn > 9 {
-        return Err(Fail::from("a small number"));
+/// The records 1, 2 and 3, which write 61, 62 and 63 to the first bytes of block 0. The last is a consistency point.
+fn three(alloc: Global) -> Result<RecordSet, Fault> {
+    let mut records = RecordSet::new(alloc);
+    for (lsn, offset, byte) in [(1, 0, 0x61), (2, 1, 0x62), (3, 2, 0x63)] {
+        let line = Line {
+            offset,
+            byte,
+            point: lsn == 3,
+            ..chained(lsn)
+        };
+        records.insert(packet(alloc, line)?)?;
     }
-    let record = Record {
-        lsn,
-        volume_epoch: 1,
-        prev_volume: lsn - 1,
-        prev_group: lsn - 1,
-        prev_block: lsn - 1,
-        group: 0,
-        block: 0,
-        offset: (lsn - 1) as u16,
-        bytes,
-        point: lsn == 3,
-    };
-    Ok(Packet::pack(alloc, record)?)
+    Ok(records)
 }
 
-/// The page of a block at a point, from those of the packets that are of the block.
-fn page(alloc: Global, packets: &[Packet], block: u32, point: u64) -> Result<[u8; BLOCK], Fail> {
-    let found = of_block(alloc, packets, block)?;
-    Ok(page_of(&found, block, point))
+/// Whether the page of a block at a point begins by these bytes and is empty behind them.
+fn begins_by(alloc: Global, block: u32, point: u64, bytes: [u8; 3]) -> Result<bool, Fault> {
+    let records = three(alloc)?;
+    let found = of_block(alloc, records.as_slice(), block)?;
+    let mut expected = [0; BLOCK];
+    expected[..3].copy_from_slice(&bytes);
+    Ok(page_of(&found, block, point).as_slice() == expected.as_slice())
 }
+
+/// A block, a point, and the bytes by which the page begins.
+const PAGES: &[(u32, u64, [u8; 3])] = &[
+    (1, 3, [0, 0, 0]),
+    (0, 2, [0x61, 0x62, 0]),
+    (0, 3, [0x61, 0x62, 0x63]),
+];
 
 #[test]
-fn three_bytes(rt: HostRuntime) -> Result<(), Fail> {
-    let alloc = rt.alloc();
-    let packets = [
-        packet(alloc, 1, 0x61)?,
-        packet(alloc, 2, 0x62)?,
-        packet(alloc, 3, 0x63)?,
-    ];
-    let mut bytes = [0; BLOCK];
-    assert_eq!(rt; page(alloc, &packets, 1, 3)?.as_slice(), bytes.as_slice());
-    bytes[0] = 0x61;
-    bytes[1] = 0x62;
-    assert_eq!(rt; page(alloc, &packets, 0, 2)?.as_slice(), bytes.as_slice());
-    bytes[2] = 0x63;
-    assert_eq!(rt; page(alloc, &packets, 0, 3)?.as_slice(), bytes.as_slice());
-    Ok(())
+fn three_bytes(rt: HostRuntime) {
+    for (block, point, bytes) in PAGES {
+        assert_eq!(rt;
+            begins_by(rt.alloc(), *block, *point, *bytes),
+            Ok(true),
+            "{block} at {point}"
+        );
+    }
 }

@@ -1,13 +1,19 @@
+//! A client from before its first View on: none yet, a recovery, and the writer that it becomes.
+
+use super::packets::contents;
+use super::said::Said::{self, Count, Recovers, Writes, Yes};
 use super::texts::{SIX, checked};
+use super::writers::changes;
 use epochs::Authority;
 use lineage::Lineage;
 use redo_record::RecordSet;
 use std::alloc::Global;
 use std::test::*;
-use volume_model::Fault;
-use wire::{Ack, Contents, Label, Message, Place, Report, View};
+use volume_model::Fault::{
+    self, AlreadyDone, NoActor, NotAddressed, NotOpen, NotReady, Superseded,
+};
+use wire::{Ack, Label, Message, Place, Report, View};
 use world::{AuthorityAct, Client, ClientAct, ClientState, Event};
-use writer_core::Change;
 
 /// The label under which volume epoch 2 speaks.
 const LABEL: Label = Label {
@@ -15,217 +21,251 @@ const LABEL: Label = Label {
     member: 1,
 };
 
-/// The client of volume epoch 2, before any View.
-fn unborn(alloc: Global) -> Result<Client, Fail> {
-    Ok(Client::unborn(checked(alloc, SIX)?, 2))
+/// What happens to a client, and what it is asked.
+#[derive(Clone, Copy)]
+enum Told {
+    /// It takes a View of volume epoch 2 that has the group at its root.
+    View,
+    /// It takes a member's report that it holds no record.
+    Report(u8),
+    /// It takes a member's acknowledgement that it holds all records up to 0.
+    Ack(u8),
+    /// It cuts the log.
+    Cut,
+    /// It issues a transaction of a change of block 0 of each of these groups.
+    Issue(&'static [u8]),
+    /// It sends the record of a number once more.
+    Resend(u64),
+    /// It asks for block 0 of group 0.
+    Read,
+    /// It becomes a writer.
+    Open,
+    /// Whether it can become a writer.
+    MayOpen,
+    /// What it is.
+    State,
+    /// Its volume epoch.
+    Volume,
+    /// How many groups the volume has.
+    Groups,
 }
 
-/// The writer that a volume is born with.
-fn first(alloc: Global) -> Result<Client, Fail> {
-    Ok(Client::first(alloc, checked(alloc, SIX)?)?)
-}
+/// What happens to a client, and what it answers or why it refuses.
+type Row = (Told, Result<Said, Fault>);
 
-/// A View of volume epoch 2 that has the group at its root.
-fn view(alloc: Global) -> Result<Message, Fail> {
+/// The message that it takes.
+fn message(alloc: Global, told: Told) -> Result<Message, Fault> {
     let root = Place {
         configuration: 0,
         epoch: 1,
     };
-    Ok(Message::View(View {
-        volume: 2,
-        places: vec![in alloc; root]?,
-    }))
-}
-
-/// A member says that it holds no record.
-fn report(alloc: Global, from: u8) -> Result<Message, Fail> {
-    let contents = Contents {
-        lineage: Lineage::birth(alloc)?,
-        records: RecordSet::new(alloc),
-    };
-    Ok(Message::Report(Report {
-        group: 0,
-        label: LABEL,
-        from,
-        contents: Box::new(alloc, contents)?,
-    }))
-}
-
-/// A member says that it holds all records up to 0.
-fn ack(from: u8) -> Message {
-    Message::Ack(Ack {
-        group: 0,
-        label: LABEL,
-        from,
-        scl: 0,
+    Ok(match told {
+        Told::View => Message::View(View {
+            volume: 2,
+            places: vec![in alloc; root]?,
+        }),
+        Told::Report(from) => Message::Report(Report {
+            group: 0,
+            label: LABEL,
+            from,
+            contents: contents(alloc, Lineage::birth(alloc)?, RecordSet::new(alloc))?,
+        }),
+        Told::Ack(from) => Message::Ack(Ack {
+            group: 0,
+            label: LABEL,
+            from,
+            scl: 0,
+        }),
+        _ => return Err(Fault::NoMessage),
     })
 }
 
-/// So many changes of block 0 of group 0.
-fn changes(alloc: Global, count: usize) -> Result<Vec<Change>, Fail> {
-    let mut changes = Vec::new(alloc);
-    for _ in 0..count {
-        changes.push(Change {
-            group: 0,
-            block: 0,
-            offset: 0,
-            bytes: vec![in alloc; 97]?,
-        })?;
-    }
-    Ok(changes)
-}
-
-/// How many messages an act makes, where the client judges before it as it answers.
-fn made(alloc: Global, client: &mut Client, act: ClientAct<'_>) -> Result<usize, Fault> {
+/// How many messages an act makes, where the client judges before it as it answers; `NoMemory` where it doesn't.
+fn made(alloc: Global, client: &mut Client, act: ClientAct<'_>) -> Result<Said, Fault> {
     let judged = client.admits(alloc, act);
     let answer = client.act(alloc, act);
     match (judged, answer) {
-        (Ok(()), Ok(made)) => Ok(made.len()),
+        (Ok(()), Ok(made)) => Ok(Count(made.len())),
         (Err(fault), Err(_)) => Err(fault),
         _ => Err(Fault::NoMemory),
     }
 }
 
-/// The client of volume epoch 2 once it has read three members and cut.
-fn installing(alloc: Global) -> Result<Client, Fail> {
-    let mut client = unborn(alloc)?;
-    client.act(alloc, ClientAct::Take(&view(alloc)?))?;
-    for from in 0..3 {
-        client.act(alloc, ClientAct::Take(&report(alloc, from)?))?;
+/// What the client answers to a question.
+fn shown(client: &Client, told: Told) -> Said {
+    match told {
+        Told::Volume => Count(client.volume() as usize),
+        Told::Groups => Count(usize::from(client.groups())),
+        _ => match client.state() {
+            ClientState::Unborn => Said::No,
+            ClientState::Recovery(_) => Recovers,
+            ClientState::Writer(_) => Writes,
+        },
     }
-    client.act(alloc, ClientAct::Cut)?;
-    Ok(client)
 }
 
-#[test]
-fn begins_by_a_view(rt: HostRuntime) -> Result<(), Fail> {
-    let alloc = rt.alloc();
-    let mut client = unborn(alloc)?;
-    assert_eq!(rt; (client.volume(), client.groups()), (2, 1));
-    assert_eq!(rt;
-        made(alloc, &mut client, ClientAct::Take(&ack(0))),
-        Err(Fault::NoActor)
-    );
-    assert_eq!(rt;
-        made(alloc, &mut client, ClientAct::Cut),
-        Err(Fault::NoActor)
-    );
-    assert_eq!(rt; client.admits_open(), Err(Fault::NoActor));
-    assert_eq!(rt;
-        made(alloc, &mut client, ClientAct::Take(&view(alloc)?)),
-        Ok(1)
-    );
-    assert!(rt; matches!(client.state(), ClientState::Recovery(_)));
-    assert_eq!(rt; (client.volume(), client.groups()), (2, 1));
-    Ok(())
-}
-
-#[test]
-fn refuses_what_is_for_others(rt: HostRuntime) -> Result<(), Fail> {
-    let alloc = rt.alloc();
-    let mut writer = first(alloc)?;
-    let mut recovery = installing(alloc)?;
-    let others = ClientAct::Take(&view(alloc)?);
-    assert_eq!(rt; made(alloc, &mut writer, others), Err(Fault::NotAddressed));
-    let stranger = ack(64);
-    assert_eq!(rt;
-        made(alloc, &mut recovery, ClientAct::Take(&stranger)),
-        Err(Fault::NotAddressed)
-    );
-    assert_eq!(rt; made(alloc, &mut recovery, ClientAct::Take(&ack(0))), Ok(0));
-    assert_eq!(rt;
-        made(alloc, &mut recovery, ClientAct::Resend { lsn: 1 }),
-        Err(Fault::NotOpen)
-    );
-    Ok(())
-}
-
-#[test]
-fn reads_cuts_and_opens(rt: HostRuntime) -> Result<(), Fail> {
-    let alloc = rt.alloc();
-    let mut client = installing(alloc)?;
-    assert_eq!(rt; client.admits_open(), Err(Fault::NotReady));
-    assert_eq!(rt; client.open(), Err(Fault::NotReady));
-    for from in 0..4 {
-        client.act(alloc, ClientAct::Take(&ack(from)))?;
+/// What the client answers.
+fn answer(alloc: Global, client: &mut Client, told: Told) -> Result<Said, Fault> {
+    match told {
+        Told::View | Told::Report(_) | Told::Ack(_) => {
+            made(alloc, client, ClientAct::Take(&message(alloc, told)?))
+        }
+        Told::Cut => made(alloc, client, ClientAct::Cut),
+        Told::Issue(groups) => made(alloc, client, ClientAct::Issue(&changes(alloc, groups)?)),
+        Told::Resend(lsn) => made(alloc, client, ClientAct::Resend { lsn }),
+        Told::Read => made(alloc, client, ClientAct::Read { group: 0, block: 0 }),
+        Told::Open => match client.open() {
+            Ok(()) => Ok(Yes),
+            Err(fault) => Err(fault),
+        },
+        Told::MayOpen => match client.admits_open() {
+            Ok(()) => Ok(Yes),
+            Err(fault) => Err(fault),
+        },
+        _ => Ok(shown(client, told)),
     }
-    assert_eq!(rt; client.admits_open(), Ok(()));
-    assert_eq!(rt; client.open(), Ok(()));
-    assert_eq!(rt; client.open(), Err(Fault::AlreadyDone));
-    let two = changes(alloc, 2)?;
-    assert_eq!(rt;
-        made(alloc, &mut client, ClientAct::Issue(two.as_slice())),
-        Ok(2)
-    );
-    Ok(())
 }
 
-#[test]
-fn the_first_is_open(rt: HostRuntime) -> Result<(), Fail> {
-    let alloc = rt.alloc();
-    let mut client = first(alloc)?;
-    assert!(rt; matches!(client.state(), ClientState::Writer(_)));
-    assert_eq!(rt; client.admits_open(), Err(Fault::AlreadyDone));
-    assert_eq!(rt;
-        made(alloc, &mut client, ClientAct::Cut),
-        Err(Fault::AlreadyDone)
-    );
-    let one = changes(alloc, 1)?;
-    assert_eq!(rt;
-        made(alloc, &mut client, ClientAct::Issue(one.as_slice())),
-        Ok(1)
-    );
-    assert_eq!(rt;
-        made(alloc, &mut client, ClientAct::Resend { lsn: 1 }),
-        Ok(1)
-    );
-    let asked = ClientAct::Read { group: 0, block: 0 };
-    assert_eq!(rt; made(alloc, &mut client, asked), Ok(1));
-    Ok(())
+/// The place of the first row that isn't kept to, `None` where all are: by the writer that a volume is born with, or by the client of
+/// volume epoch 2 before any View.
+fn broken(alloc: Global, first: bool, rows: &[Row]) -> Result<Option<usize>, Fault> {
+    let plan = checked(alloc, SIX)?;
+    let mut client = if first {
+        Client::first(alloc, plan)?
+    } else {
+        Client::unborn(plan, 2)
+    };
+    for (place, (told, expected)) in rows.iter().enumerate() {
+        if answer(alloc, &mut client, *told) != *expected {
+            return Ok(Some(place));
+        }
+    }
+    Ok(None)
 }
 
+/// A client is nothing before its first View, and a recovery from then on.
+const BEGINS_BY_A_VIEW: &[Row] = &[
+    (Told::Volume, Ok(Count(2))),
+    (Told::Groups, Ok(Count(1))),
+    (Told::Ack(0), Err(NoActor)),
+    (Told::Cut, Err(NoActor)),
+    (Told::MayOpen, Err(NoActor)),
+    (Told::View, Ok(Count(1))),
+    (Told::State, Ok(Recovers)),
+    (Told::Volume, Ok(Count(2))),
+    (Told::Groups, Ok(Count(1))),
+];
+
+/// A recovery that installs refuses what isn't for it, and what a writer alone does.
+const A_RECOVERY_REFUSES: &[Row] = &[
+    (Told::View, Ok(Count(1))),
+    (Told::Report(0), Ok(Count(0))),
+    (Told::Report(1), Ok(Count(0))),
+    (Told::Report(2), Ok(Count(0))),
+    (Told::Cut, Ok(Count(1))),
+    (Told::Ack(64), Err(NotAddressed)),
+    (Told::Ack(0), Ok(Count(0))),
+    (Told::Resend(1), Err(NotOpen)),
+];
+
+/// It becomes a writer once four have installed.
+const READS_CUTS_AND_OPENS: &[Row] = &[
+    (Told::View, Ok(Count(1))),
+    (Told::Report(0), Ok(Count(0))),
+    (Told::Report(1), Ok(Count(0))),
+    (Told::Report(2), Ok(Count(0))),
+    (Told::Cut, Ok(Count(1))),
+    (Told::MayOpen, Err(NotReady)),
+    (Told::Open, Err(NotReady)),
+    (Told::Ack(0), Ok(Count(0))),
+    (Told::Ack(1), Ok(Count(0))),
+    (Told::Ack(2), Ok(Count(0))),
+    (Told::Ack(3), Ok(Count(0))),
+    (Told::MayOpen, Ok(Yes)),
+    (Told::Open, Ok(Yes)),
+    (Told::Open, Err(AlreadyDone)),
+    (Told::Issue(&[0, 0]), Ok(Count(2))),
+];
+
+/// The writer that a volume is born with takes no View of another volume epoch, and doesn't open again.
+const THE_FIRST_IS_OPEN: &[Row] = &[
+    (Told::View, Err(NotAddressed)),
+    (Told::State, Ok(Writes)),
+    (Told::MayOpen, Err(AlreadyDone)),
+    (Told::Cut, Err(AlreadyDone)),
+    (Told::Issue(&[0]), Ok(Count(1))),
+    (Told::Resend(1), Ok(Count(1))),
+    (Told::Read, Ok(Count(1))),
+];
+
+/// What each table is of, whether its client is the first, and its rows.
+const TABLES: &[(&str, bool, &[Row])] = &[
+    ("begins by a view", false, BEGINS_BY_A_VIEW),
+    ("a recovery refuses", false, A_RECOVERY_REFUSES),
+    ("reads, cuts and opens", false, READS_CUTS_AND_OPENS),
+    ("the first is open", true, THE_FIRST_IS_OPEN),
+];
+
 #[test]
-fn events_are_copied(rt: HostRuntime) -> Result<(), Fail> {
-    let alloc = rt.alloc();
+fn clients(rt: HostRuntime) {
+    for (what, first, rows) in TABLES {
+        assert_eq!(rt; broken(rt.alloc(), *first, rows), Ok(None), "{what}");
+    }
+}
+
+/// The volume epoch and how many changes the copy of an issue of volume epoch 3 has that has two.
+fn copied_issue(alloc: Global) -> Result<(u32, usize), Fault> {
     let issue = Event::Issue {
         volume: 3,
-        changes: changes(alloc, 2)?,
+        changes: changes(alloc, &[0, 0])?,
     };
-    let Event::Issue { volume, changes } = issue.clone()? else {
-        return Err("the copy is the same event".into());
-    };
-    assert_eq!(rt; (volume, changes.len()), (3, 2));
+    match issue.clone()? {
+        Event::Issue { volume, changes } => Ok((volume, changes.len())),
+        _ => Err(Fault::NoMessage),
+    }
+}
+
+/// The group, the member and the number of the copy of an offer of 1, 2 and 3.
+fn copied_offer() -> Result<(u8, u8, u64), Fault> {
     let offer = Event::Offer {
         group: 1,
         member: 2,
         lsn: 3,
     };
-    assert!(rt;
-        matches!(
-            offer.clone()?,
-            Event::Offer {
-                group: 1,
-                member: 2,
-                lsn: 3
-            }
-        )
-    );
-    Ok(())
+    match offer.clone()? {
+        Event::Offer { group, member, lsn } => Ok((group, member, lsn)),
+        _ => Err(Fault::NoMessage),
+    }
 }
 
 #[test]
-fn the_authority_acts(rt: HostRuntime) -> Result<(), Fail> {
-    let alloc = rt.alloc();
+fn events_are_copied(rt: HostRuntime) {
+    assert_eq!(rt; copied_issue(rt.alloc()), Ok((3, 2)));
+    assert_eq!(rt; copied_offer(), Ok((1, 2, 3)));
+}
+
+/// What the authority judges and how it acts, each by an act alone.
+fn authority_acts(
+    alloc: Global,
+) -> Result<(Result<(), Fault>, u32, [Result<(), Fault>; 2]), Fault> {
     let mut authority = Authority::new(alloc, checked(alloc, SIX)?)?;
     let assign = AuthorityAct::Assign;
-    assert_eq!(rt; assign.admitted_by(&authority), Ok(()));
-    assert!(rt; assign.done_by(alloc, &mut authority).is_ok());
-    assert_eq!(rt; authority.last_volume(), 2);
+    let admitted = assign.admitted_by(&authority);
+    assign.done_by(alloc, &mut authority)?;
     let late = AuthorityAct::Refresh { volume: 1 };
-    assert_eq!(rt; late.admitted_by(&authority), Err(Fault::Superseded));
+    let judged = late.admitted_by(&authority);
+    let done = match late.done_by(alloc, &mut authority) {
+        Ok(_) => Ok(()),
+        Err(fault) => Err(fault),
+    };
+    Ok((admitted, authority.last_volume(), [judged, done]))
+}
+
+/// It assigns volume epoch 2, and tells the client of an earlier one nothing.
+#[test]
+fn the_authority_acts(rt: HostRuntime) {
     assert_eq!(rt;
-        late.done_by(alloc, &mut authority).err(),
-        Some(Fault::Superseded)
+        authority_acts(rt.alloc()),
+        Ok((Ok(()), 2, [Err(Superseded), Err(Superseded)]))
     );
-    Ok(())
 }

@@ -1,233 +1,222 @@
+//! Copies that members send to one that isn't whole, in pieces, and what they hold together.
+
+use super::packets::{chain, contents, recovered};
 use hydration::{Change, Copied, Hydration, Keeping, newest_with, senders, with_found};
 use lineage::Lineage;
 use quorum_expr::Expr;
-use redo_record::{Packet, Payload, Record, RecordSet};
+use redo_record::RecordSet;
 use std::alloc::Global;
 use std::test::*;
 use volume_model::Fault;
-use wire::{Contents, CopyReport};
-
-/// The records of epoch 1 above a number up to another.
-fn records(alloc: Global, before: u64, last: u64) -> Result<RecordSet, Fail> {
-    let mut records = RecordSet::new(alloc);
-    for back in before..last.min(1000) {
-        let record = Record {
-            lsn: back + 1,
-            volume_epoch: 1,
-            prev_volume: back,
-            prev_group: back,
-            prev_block: back,
-            group: 0,
-            block: 0,
-            offset: 0,
-            bytes: Payload::new(b"a").ok_or("one byte is a payload")?,
-            point: true,
-        };
-        records.insert(Packet::pack(alloc, record)?)?;
-    }
-    Ok(records)
-}
-
-/// What a member says, in one piece: it holds records 1 up to a number of epoch 1, under this lineage.
-fn report(alloc: Global, from: u8, lineage: Lineage, last: u64) -> Result<CopyReport, Fail> {
-    let records = records(alloc, 0, last)?;
-    Ok(CopyReport {
-        group: 0,
-        epoch: 2,
-        from,
-        series: 1,
-        piece: 0,
-        of: 1,
-        contents: Box::new(alloc, Contents { lineage, records })?,
-    })
-}
+use wire::CopyReport;
 
 /// A piece of a copy: its number, of how many it is, and its records, those above a number up to another.
 type Part = (u16, u16, u64, u64);
 
-/// A piece of member 0's copy of this number.
-fn piece(alloc: Global, series: u64, part: Part) -> Result<CopyReport, Fail> {
-    let (piece, of, before, last) = part;
-    let records = records(alloc, before, last)?;
-    let lineage = Lineage::birth(alloc)?;
+/// A lineage: the volume epoch of the volume's only recovery, and its cut.
+type Past = (u32, u64);
+
+/// The lineage that a volume is born with.
+const BIRTH: Past = (1, 0);
+
+/// What a member sends.
+#[derive(Clone, Copy)]
+enum Sent {
+    /// A piece of the copy of this number that member 0 sends, under the lineage of the birth.
+    Piece(u64, Part),
+    /// A member's first copy, in one piece: the records from 1 up to a number, under a lineage.
+    Copy(u8, Past, u64),
+}
+
+/// How copies of member 0 make a member whole, `None` where they don't: the volume epoch and the start of its lineage, and how many
+/// records it has. Or why a piece is refused.
+type Answer = Result<Option<(u32, u64, usize)>, Fault>;
+
+/// What is sent, and what the copies make then.
+type Row = (Sent, Answer);
+
+/// The message that a member sends at membership epoch 2.
+fn report(alloc: Global, sent: Sent) -> Result<CopyReport, Fault> {
+    let (from, (volume, cut), series, (piece, of, before, last)) = match sent {
+        Sent::Piece(series, part) => (0, BIRTH, series, part),
+        Sent::Copy(from, past, last) => (from, past, 1, (0, 1, 0, last)),
+    };
+    let lineage = recovered(alloc, volume, cut)?;
+    let records = chain(alloc, before.saturating_add(1), last)?;
     Ok(CopyReport {
         group: 0,
         epoch: 2,
-        from: 0,
+        from,
         series,
         piece,
         of,
-        contents: Box::new(alloc, Contents { lineage, records })?,
+        contents: contents(alloc, lineage, records)?,
     })
 }
 
-/// The lineage of a volume's first recovery, of epoch 2, with this cut and an allowance of 10.
-fn recovered(alloc: Global, cut: u64) -> Result<Lineage, Fail> {
-    let birth = Lineage::birth(alloc)?;
-    prove!(birth.last_epoch() < 2);
-    Ok(birth.extend(2, cut, 10)?)
+/// What the copies make.
+fn made(alloc: Global, hydration: &Hydration) -> Answer {
+    let Some(state) = hydration.finish(alloc, &Expr::Member(0))? else {
+        return Ok(None);
+    };
+    let start = state.contents.lineage.last_start();
+    Ok(Some((state.volume, start, state.contents.records.len())))
 }
 
-#[test]
-fn copies_of_a_read_set(rt: HostRuntime) -> Result<(), Fail> {
-    let alloc = rt.alloc();
-    let birth = Lineage::birth(alloc)?;
-    let mut hydration = Hydration::new(alloc);
-    assert_eq!(rt;
-        hydration.take(&report(alloc, 64, birth.clone()?, 1)?),
-        Err(Fault::NotAddressed)
-    );
-    assert_eq!(rt;
-        hydration.take(&report(alloc, 1, birth.clone()?, 5)?),
-        Ok(())
-    );
-    assert!(rt; hydration.finish(alloc, &Expr::Member(0))?.is_none());
-    assert_eq!(rt;
-        hydration.take(&report(alloc, 0, recovered(alloc, 3)?, 2)?),
-        Ok(())
-    );
-    assert_eq!(rt; hydration.take(&report(alloc, 0, birth, 9)?), Ok(()));
+/// Takes what is sent, and tells what the copies make then.
+fn answer(alloc: Global, hydration: &mut Hydration, sent: Sent) -> Answer {
+    hydration.take(&report(alloc, sent)?)?;
+    made(alloc, hydration)
+}
 
-    let state = hydration
-        .finish(alloc, &Expr::Member(0))?
-        .ok_or("0 has sent a copy")?;
-    assert_eq!(rt; state.volume, 2);
-    assert_eq!(rt; state.contents.lineage.last_start(), 13);
-    assert_eq!(rt; state.contents.records.len(), 3);
-    Ok(())
+/// The place of the first row that isn't kept to, `None` where all are.
+fn broken(alloc: Global, rows: &[Row]) -> Option<usize> {
+    let mut hydration = Hydration::new(alloc);
+    for (place, (sent, expected)) in rows.iter().enumerate() {
+        if answer(alloc, &mut hydration, *sent) != *expected {
+            return Some(place);
+        }
+    }
+    None
+}
+
+/// Of a member that isn't there; of one that isn't read; of member 0, whose lineage is the newer one; and another one of it, of which
+/// nothing is kept.
+const OF_A_READ_SET: &[Row] = &[
+    (Sent::Copy(64, BIRTH, 1), Err(Fault::NotAddressed)),
+    (Sent::Copy(1, BIRTH, 5), Ok(None)),
+    (Sent::Copy(0, (2, 3), 2), Ok(Some((2, 13, 3)))),
+    (Sent::Copy(0, BIRTH, 9), Ok(Some((2, 13, 3)))),
+];
+
+/// Pieces of two copies don't make one, and a sender counts once all pieces of one are there; after that nothing more of it is kept.
+const OF_TWO_COPIES: &[Row] = &[
+    (Sent::Piece(1, (0, 3, 0, 256)), Ok(None)),
+    (Sent::Piece(2, (0, 3, 0, 256)), Ok(None)),
+    (Sent::Piece(1, (1, 3, 256, 512)), Ok(None)),
+    (Sent::Piece(2, (2, 3, 512, 600)), Ok(None)),
+    (Sent::Piece(2, (2, 3, 512, 600)), Ok(None)),
+    (Sent::Piece(1, (2, 3, 512, 600)), Ok(None)),
+    (Sent::Piece(2, (1, 4, 256, 512)), Err(Fault::BadPiece)),
+    (Sent::Piece(2, (3, 3, 256, 512)), Err(Fault::BadPiece)),
+    (Sent::Piece(2, (1, 3, 256, 512)), Ok(Some((1, 0, 600)))),
+    (Sent::Piece(3, (0, 2, 600, 700)), Ok(Some((1, 0, 600)))),
+    (Sent::Piece(3, (0, 0, 0, 0)), Err(Fault::BadPiece)),
+    (Sent::Piece(2, (0, 2, 0, 256)), Err(Fault::BadPiece)),
+];
+
+/// The first piece of a number is kept, and the pieces may have any numbers of records, in any order.
+const IN_ANY_ORDER: &[Row] = &[
+    (Sent::Piece(1, (3, 4, 0, 4)), Ok(None)),
+    (Sent::Piece(1, (0, 4, 6, 9)), Ok(None)),
+    (Sent::Piece(1, (0, 4, 6, 20)), Ok(None)),
+    (Sent::Piece(1, (2, 4, 2, 7)), Ok(None)),
+    (Sent::Piece(1, (0, 5, 6, 9)), Err(Fault::BadPiece)),
+    (Sent::Piece(1, (1, 4, 9, 9)), Ok(Some((1, 0, 9)))),
+];
+
+/// One of more pieces than there may be, one with too many records, one of as many pieces and records as there may be, and one with none.
+const OF_EACH_SIZE: &[Row] = &[
+    (Sent::Piece(1, (0, 4097, 0, 1)), Err(Fault::BadPiece)),
+    (Sent::Piece(1, (0, 2, 0, 257)), Err(Fault::BadPiece)),
+    (Sent::Piece(1, (4095, 4096, 0, 256)), Ok(None)),
+    (Sent::Piece(2, (0, 1, 0, 0)), Ok(Some((1, 0, 0)))),
+];
+
+const TABLES: &[(&str, &[Row])] = &[
+    ("of a read set", OF_A_READ_SET),
+    ("of two copies", OF_TWO_COPIES),
+    ("in any order", IN_ANY_ORDER),
+    ("of each size", OF_EACH_SIZE),
+];
+
+#[test]
+fn pieces(rt: HostRuntime) {
+    for (what, rows) in TABLES {
+        assert_eq!(rt; broken(rt.alloc(), rows), None, "{what}");
+    }
+}
+
+/// Whether the sender's copy counts before it is kept, once it is, and after all were dropped, and whether it is kept once more.
+fn in_two_steps(alloc: Global) -> Result<[bool; 4], Fault> {
+    let mut hydration = Hydration::new(alloc);
+    let first = report(alloc, Sent::Copy(5, BIRTH, 1))?;
+    let keeping = hydration.prepare(&first)?;
+    let before = hydration.senders().contains(5);
+    hydration.keep(keeping);
+    let after = hydration.senders().contains(5);
+    let again = !matches!(hydration.prepare(&first)?, Keeping::At(0, Change::Nothing));
+    hydration.clear();
+    Ok([before, after, again, hydration.senders().len() > 0])
 }
 
 /// A copy is kept in two steps, only as its sender's first complete one, and all copies are dropped at once.
 #[test]
-fn copies_in_two_steps(rt: HostRuntime) -> Result<(), Fail> {
-    let alloc = rt.alloc();
-    let mut hydration = Hydration::new(alloc);
-    let first = report(alloc, 5, Lineage::birth(alloc)?, 1)?;
-    let keeping = hydration.prepare(&first)?;
-    assert_eq!(rt; hydration.senders().contains(5), false);
-    hydration.keep(keeping);
-    assert_eq!(rt; hydration.senders().contains(5), true);
-    assert!(rt; matches!(hydration.prepare(&first)?, Keeping::At(0, Change::Nothing)));
-    hydration.clear();
-    assert_eq!(rt; hydration.senders().len(), 0);
-    Ok(())
+fn copies_in_two_steps(rt: HostRuntime) {
+    assert_eq!(rt; in_two_steps(rt.alloc()), Ok([false, true, false, false]));
 }
 
-/// The rows that pieces are taken by: the number of the copy, the piece, and how many records make the member whole then, or why not.
-type Row = (u64, Part, Result<Option<usize>, Fault>);
-
-/// How many records the copies make a member whole by, `None` where they don't.
-fn found(alloc: Global, hydration: &Hydration) -> Result<Option<usize>, Fault> {
-    let state = hydration.finish(alloc, &Expr::Member(0))?;
-    Ok(state.map(|state| state.contents.records.len()))
+/// The copy of a member, under a lineage and with the records from 1 up to a number.
+fn copied(alloc: Global, from: u8, past: Past, last: u64) -> Result<Copied, Fault> {
+    let report = report(alloc, Sent::Copy(from, past, last))?;
+    Ok(Copied {
+        from,
+        contents: Box::into_inner(report.contents),
+    })
 }
 
-/// The place of the first row that isn't kept to, `None` where all are.
-fn broken(alloc: Global, rows: &[Row]) -> Result<Option<usize>, Fail> {
-    let mut hydration = Hydration::new(alloc);
-    for (place, (series, part, expected)) in rows.iter().enumerate() {
-        let report = piece(alloc, *series, *part)?;
-        let answer = match hydration.take(&report) {
-            Ok(()) => found(alloc, &hydration),
-            Err(fault) => Err(fault),
-        };
-        if answer != *expected {
-            return Ok(Some(place));
-        }
+/// Such copies.
+fn copies(alloc: Global, told: &[(u8, Past, u64)]) -> Result<Vec<Copied>, Fault> {
+    let mut copies: Vec<Copied> = Vec::new(alloc);
+    for (from, past, last) in told {
+        copies.push(copied(alloc, *from, *past, *last)?)?;
     }
-    Ok(None)
+    Ok(copies)
 }
 
-/// Pieces of two copies don't make one, and a sender counts once all pieces of one are there; after that nothing more of it is kept.
-#[test]
-fn pieces_of_two_copies(rt: HostRuntime) -> Result<(), Fail> {
-    let alloc = rt.alloc();
-    let rows = [
-        (1, (0, 3, 0, 256), Ok(None)),
-        (2, (0, 3, 0, 256), Ok(None)),
-        (1, (1, 3, 256, 512), Ok(None)),
-        (2, (2, 3, 512, 600), Ok(None)),
-        (2, (2, 3, 512, 600), Ok(None)),
-        (1, (2, 3, 512, 600), Ok(None)),
-        (2, (1, 4, 256, 512), Err(Fault::BadPiece)),
-        (2, (3, 3, 256, 512), Err(Fault::BadPiece)),
-        (2, (1, 3, 256, 512), Ok(Some(600))),
-        (3, (0, 2, 600, 700), Ok(Some(600))),
-        (3, (0, 0, 0, 0), Err(Fault::BadPiece)),
-        (2, (0, 2, 0, 256), Err(Fault::BadPiece)),
-    ];
-    assert_eq!(rt; broken(alloc, rows.as_slice())?, None);
-    Ok(())
+/// The newest lineage of copies and of what is kept, which is that of a recovery or, where there is none, no lineage.
+fn newest(alloc: Global, told: &[(u8, Past, u64)], kept: Option<Past>) -> Result<Past, Fault> {
+    let kept = match kept {
+        Some((volume, cut)) => recovered(alloc, volume, cut)?,
+        None => Lineage::empty(alloc),
+    };
+    let copies = copies(alloc, told)?;
+    let newest = newest_with(&copies, &kept);
+    Ok((newest.last_epoch(), newest.last_cut()))
 }
 
-/// The first piece of a number is kept, and the pieces may have any numbers of records, in any order.
+/// The records 1 to 5 under two lineages, of which the newer cut all above 3.
+const TWO: &[(u8, Past, u64)] = &[(0, (2, 3), 2), (2, BIRTH, 5)];
+
+/// Three copies, two of which know the same last volume epoch.
+const THREE: &[(u8, Past, u64)] = &[(4, BIRTH, 1), (5, (2, 3), 1), (1, (2, 5), 1)];
+
+/// Of two lineages with the same last volume epoch the first is the newest, and those of the copies come before what is kept.
 #[test]
-fn pieces_in_any_order(rt: HostRuntime) -> Result<(), Fail> {
-    let alloc = rt.alloc();
-    let rows = [
-        (1, (3, 4, 0, 4), Ok(None)),
-        (1, (0, 4, 6, 9), Ok(None)),
-        (1, (0, 4, 6, 20), Ok(None)),
-        (1, (2, 4, 2, 7), Ok(None)),
-        (1, (0, 5, 6, 9), Err(Fault::BadPiece)),
-        (1, (1, 4, 9, 9), Ok(Some(9))),
-    ];
-    assert_eq!(rt; broken(alloc, rows.as_slice())?, None);
-    let sizes = [
-        (1, (0, 4097, 0, 1), Err(Fault::BadPiece)),
-        (1, (0, 2, 0, 257), Err(Fault::BadPiece)),
-        (1, (4095, 4096, 0, 256), Ok(None)),
-        (2, (0, 1, 0, 0), Ok(Some(0))),
-    ];
-    assert_eq!(rt; broken(alloc, sizes.as_slice())?, None);
-    Ok(())
+fn newest_of_copies(rt: HostRuntime) {
+    for (copies, kept) in [
+        (TWO, None),
+        (&[], Some((2, 3))),
+        (THREE, None),
+        (THREE, Some((2, 7))),
+    ] {
+        assert_eq!(rt;
+            newest(rt.alloc(), copies, kept),
+            Ok((2, 3)),
+            "of {copies:?}"
+        );
+    }
 }
 
-/// What two copies hold together: records 1 to 5 under two lineages, of which the newer cut all above 3.
-#[test]
-fn what_copies_hold(rt: HostRuntime) -> Result<(), Fail> {
-    let alloc = rt.alloc();
-    let lineage = recovered(alloc, 3)?;
-    let copies = [
-        Copied {
-            from: 0,
-            contents: Box::into_inner(report(alloc, 0, lineage.clone()?, 2)?.contents),
-        },
-        Copied {
-            from: 2,
-            contents: Box::into_inner(report(alloc, 2, Lineage::birth(alloc)?, 5)?.contents),
-        },
-    ];
-    assert_eq!(rt; senders(&copies).len(), 2);
-    let none = Lineage::empty(alloc);
-    assert_eq!(rt; newest_with(&copies, &none).last_epoch(), 2);
-    assert_eq!(rt; newest_with(&[], &lineage).last_epoch(), 2);
+/// How many members the two copies are of, and how many records they hold together.
+fn held(alloc: Global) -> Result<(u8, usize), Fault> {
+    let copies = copies(alloc, TWO)?;
+    let lineage = recovered(alloc, 2, 3)?;
     let found = with_found(alloc, &lineage, &copies, RecordSet::new(alloc))?;
-    assert_eq!(rt; found.len(), 3);
-    Ok(())
+    Ok((senders(&copies).len(), found.len()))
 }
 
-/// Of three copies, two of which know the same last volume epoch, the first of the two has the newest lineage.
 #[test]
-fn newest_of_three(rt: HostRuntime) -> Result<(), Fail> {
-    let alloc = rt.alloc();
-    let copies = [
-        Copied {
-            from: 4,
-            contents: Box::into_inner(report(alloc, 4, Lineage::birth(alloc)?, 1)?.contents),
-        },
-        Copied {
-            from: 5,
-            contents: Box::into_inner(report(alloc, 5, recovered(alloc, 3)?, 1)?.contents),
-        },
-        Copied {
-            from: 1,
-            contents: Box::into_inner(report(alloc, 1, recovered(alloc, 5)?, 1)?.contents),
-        },
-    ];
-    let none = Lineage::empty(alloc);
-    assert_eq!(rt; newest_with(&copies, &none).last_cut(), 3);
-    let kept = recovered(alloc, 7)?;
-    assert_eq!(rt; newest_with(&copies, &kept).last_cut(), 3);
-    Ok(())
+fn what_copies_hold(rt: HostRuntime) {
+    assert_eq!(rt; held(rt.alloc()), Ok((2, 3)));
 }

@@ -8,16 +8,18 @@ mod blocks;
 #[cfg(test)]
 mod clients;
 #[cfg(test)]
-mod growing;
-#[cfg(test)]
 mod hydrations;
 #[cfg(test)]
 mod lineages;
+#[cfg(test)]
+mod packets;
 mod picked;
 #[cfg(test)]
 mod records;
 #[cfg(test)]
 mod recoveries;
+#[cfg(test)]
+mod said;
 #[cfg(test)]
 mod segments;
 #[cfg(test)]

@@ -1,94 +1,116 @@
+//! Lineages of several recoveries, and which records are live in them.
+
+use super::packets::{FIRST, Line, packet, recovered};
 use lineage::Lineage;
-use redo_record::{Packet, Payload, Record, RecordSet};
+use redo_record::RecordSet;
 use std::alloc::Global;
-use std::test::Fail;
+use std::test::*;
 use volume_model::Fault;
 
-/// The lineage of a volume's first recovery, of this epoch and cut, over a plan with an allowance of 10.
-fn recovered(alloc: Global, volume_epoch: u32, cut: u64) -> Result<Lineage, Fault> {
-    let birth = Lineage::birth(alloc)?;
-    if volume_epoch <= birth.last_epoch() {
-        return Err(Fault::NoActor);
+/// A recovery: its volume epoch, its cut, and the allowance of its plan.
+type Step = (u32, u64, u64);
+
+/// The last volume epoch and the last start after these recoveries of a new volume; `NotAddressed` for one of an earlier volume epoch.
+fn last(alloc: Global, steps: &[Step]) -> Result<(u32, u64), Fault> {
+    let mut lineage = Lineage::birth(alloc)?;
+    for (volume_epoch, cut, allowance) in steps {
+        if *volume_epoch <= lineage.last_epoch() || *allowance == 0 {
+            return Err(Fault::NotAddressed);
+        }
+        lineage = lineage.extend(*volume_epoch, *cut, *allowance)?;
     }
-    birth.extend(volume_epoch, cut, 10)
+    Ok((lineage.last_epoch(), lineage.last_start()))
 }
 
-#[test]
-fn starts(rt: HostRuntime) -> Result<(), Fail> {
-    let birth = Lineage::birth(rt.alloc())?;
-    assert_eq!(rt; birth.last_epoch(), 1);
-    let long = birth.extend(2, 1000, 10_000_000)?;
-    assert_eq!(rt; long.last_start(), 10_001_000);
-    assert_eq!(rt; birth.last_start(), 0);
-    assert_eq!(rt; birth.extend(2, 1 << 62, 1).err(), Some(Fault::LsnSpent));
-    assert_eq!(rt; birth.extend(2, u64::MAX, 10).err(), Some(Fault::LsnSpent));
-    Ok(())
-}
+/// The recoveries of a volume, and its last volume epoch and start then, or why the last recovery has none.
+const STARTS: &[(&[Step], Result<(u32, u64), Fault>)] = &[
+    (&[], Ok((1, 0))),
+    (&[(2, 1000, 10_000_000)], Ok((2, 10_001_000))),
+    (&[(2, 1 << 62, 1)], Err(Fault::LsnSpent)),
+    (&[(2, u64::MAX, 10)], Err(Fault::LsnSpent)),
+    (&[(2, 5, 10)], Ok((2, 15))),
+    (&[(2, 5, 10), (4, 5, 10)], Ok((4, 25))),
+    (&[(3, 3, 10)], Ok((3, 13))),
+    (&[(3, 3, 10), (4, 3, 10)], Ok((4, 23))),
+];
 
 #[test]
-fn two_recoveries(rt: HostRuntime) -> Result<(), Fail> {
-    let alloc = rt.alloc();
-    let second = recovered(alloc, 2, 5)?;
-    assert_eq!(rt; second.last_epoch(), 2);
-    assert_eq!(rt; second.last_start(), 15);
-    assert_eq!(rt; second.extend(4, 5, 10)?.last_start(), 25);
-    let third = recovered(alloc, 3, 3)?;
-    assert_eq!(rt; third.last_epoch(), 3);
-    assert_eq!(rt; third.last_start(), 13);
-    assert_eq!(rt; third.extend(4, 3, 10)?.last_start(), 23);
-    assert_eq!(rt; third.is_live(1, 3), true);
-    assert_eq!(rt; third.is_live(1, 4), false);
-    assert_eq!(rt; third.is_live(2, 16), false);
-    assert_eq!(rt; third.is_live(3, 13), false);
-    assert_eq!(rt; third.is_live(3, 14), true);
-    Ok(())
+fn starts(rt: HostRuntime) {
+    for (steps, expected) in STARTS {
+        assert_eq!(rt; last(rt.alloc(), steps), *expected, "of {steps:?}");
+    }
+}
+
+/// Whether a record of a volume epoch and number is live after the recovery of volume epoch 3 that cut at 3.
+fn is_live(alloc: Global, volume_epoch: u32, lsn: u64) -> Result<bool, Fault> {
+    Ok(recovered(alloc, 3, 3)?.is_live(volume_epoch, lsn))
+}
+
+/// A volume epoch, a number, and whether the record is live.
+const LIVES: &[(u32, u64, bool)] = &[
+    (1, 3, true),
+    (1, 4, false),
+    (2, 16, false),
+    (3, 13, false),
+    (3, 14, true),
+];
+
+#[test]
+fn lives(rt: HostRuntime) {
+    for (volume_epoch, lsn, expected) in LIVES {
+        assert_eq!(rt;
+            is_live(rt.alloc(), *volume_epoch, *lsn),
+            Ok(*expected),
+            "{lsn} of {volume_epoch}"
+        );
+    }
+}
+
+/// The cut of the newer of two lineages, each of one recovery, of a volume epoch and cut, or of the birth.
+fn newer_cut(alloc: Global, one: (u32, u64), other: (u32, u64)) -> Result<u64, Fault> {
+    let one = recovered(alloc, one.0, one.1)?;
+    let other = recovered(alloc, other.0, other.1)?;
+    Ok(one.newer(&other).last_cut())
 }
 
 /// The lineage of the greater last epoch is the newer, and of two with the same the first.
 #[test]
-fn newer_of_two(rt: HostRuntime) -> Result<(), Fail> {
-    let alloc = rt.alloc();
-    let birth = Lineage::birth(alloc)?;
-    let third = recovered(alloc, 3, 3)?;
-    let other = recovered(alloc, 3, 5)?;
-    assert_eq!(rt; birth.newer(&third).last_cut(), 3);
-    assert_eq!(rt; third.newer(&birth).last_cut(), 3);
-    assert_eq!(rt; third.newer(&other).last_cut(), 3);
-    Ok(())
+fn newer_of_two(rt: HostRuntime) {
+    assert_eq!(rt; newer_cut(rt.alloc(), (1, 0), (3, 3)), Ok(3));
+    assert_eq!(rt; newer_cut(rt.alloc(), (3, 3), (1, 0)), Ok(3));
+    assert_eq!(rt; newer_cut(rt.alloc(), (3, 3), (3, 5)), Ok(3));
 }
 
-/// The set of records with these volume epochs and numbers.
-fn set(alloc: Global, records: &[(u32, u64)]) -> Result<RecordSet, Fail> {
+/// The set of records with these volume epochs and numbers, each of them the first of its chain.
+fn set(alloc: Global, records: &[(u32, u64)]) -> Result<RecordSet, Fault> {
     let mut set = RecordSet::new(alloc);
-    for (epoch, number) in records {
-        let record = Record {
-            lsn: (*number).clamp(1, 100),
-            volume_epoch: (*epoch).max(1),
-            prev_volume: 0,
-            prev_group: 0,
-            prev_block: 0,
-            group: 0,
-            block: 0,
-            offset: 0,
-            bytes: Payload::new(b"a").ok_or("one byte is a payload")?,
-            point: true,
+    for (volume_epoch, lsn) in records {
+        let line = Line {
+            lsn: *lsn,
+            volume_epoch: *volume_epoch,
+            ..FIRST
         };
-        set.insert(Packet::pack(alloc, record)?)?;
+        set.insert(packet(alloc, line)?)?;
     }
     Ok(set)
 }
 
-#[test]
-fn live_records(rt: HostRuntime) -> Result<(), Fail> {
-    let alloc = rt.alloc();
+/// Whether these are the records that are live after a recovery of volume epoch 3 that cut at 3: of those that were reported, with those
+/// that were kept.
+fn are_live(alloc: Global, numbers: &[(u32, u64)]) -> Result<bool, Fault> {
     let lineage = recovered(alloc, 3, 3)?;
     let reported = set(alloc, &[(1, 3), (1, 4), (2, 14), (3, 13), (3, 14)])?;
     let kept = set(alloc, &[(1, 2), (1, 3)])?;
     let live = lineage.with_live(alloc, &reported, &kept)?;
-    let numbers = [(1, 2), (1, 3), (3, 14)];
-    assert_eq!(rt; live.len(), numbers.len());
-    for (packet, number) in live.as_slice().iter().zip(numbers) {
-        assert_eq!(rt; (packet.volume_epoch(), packet.lsn()), number);
+    for (packet, (volume_epoch, lsn)) in live.as_slice().iter().zip(numbers) {
+        if packet.volume_epoch() != *volume_epoch || packet.lsn() != *lsn {
+            return Ok(false);
+        }
     }
-    Ok(())
+    Ok(live.len() == numbers.len())
+}
+
+#[test]
+fn live_records(rt: HostRuntime) {
+    assert_eq!(rt; are_live(rt.alloc(), &[(1, 2), (1, 3), (3, 14)]), Ok(true));
 }

@@ -1,3 +1,6 @@
+//! Records as bytes, and sets of them.
+
+use super::packets::{FIRST, Line, packet};
 use redo_record::{Packet, RecordSet, decode, encode};
 use std::alloc::Global;
 use std::test::*;
@@ -9,73 +12,83 @@ const BYTES: [u8; 46] = [
     0, 0, 0, 0, 0, 0, 0, 0, 0, 0, 0, 1, 1, 0x61,
 ];
 
-fn fault_of(bytes: &[u8]) -> Option<Fault> {
-    decode(bytes).err()
+/// The number and the volume epoch of a record, and whether it is a consistency point.
+fn read(bytes: &[u8]) -> Result<(u64, u32, bool), Fault> {
+    let record = decode(bytes)?;
+    Ok((record.lsn, record.volume_epoch, record.point))
+}
+
+/// Whether the record writes `a`, its packets are the same, and it is spelled as it was read.
+fn written(alloc: Global) -> Result<[bool; 3], Fault> {
+    let record = decode(&BYTES)?;
+    let packet = Packet::pack(alloc, record)?;
+    let again = Packet::pack(alloc, *packet.record())?;
+    let bytes = encode(alloc, packet.record())?;
+    Ok([
+        record.bytes.as_slice() == b"a".as_slice(),
+        packet.is_same(&again),
+        bytes.as_slice() == BYTES.as_slice(),
+    ])
 }
 
 #[test]
-fn one_record(rt: HostRuntime) -> Result<(), Fail> {
-    let record = decode(&BYTES)?;
-    assert_eq!(rt; record.lsn, 1);
-    assert_eq!(rt; record.volume_epoch, 1);
-    assert!(rt; record.point);
-    assert_eq!(rt; record.bytes.as_slice(), b"a".as_slice());
-    let packet = Packet::pack(rt.alloc(), record)?;
-    assert!(rt; packet.is_same(&Packet::pack(rt.alloc(), *packet.record())?));
-    assert_eq!(rt;
-        encode(rt.alloc(), packet.record())?.as_slice(),
-        BYTES.as_slice()
-    );
-    Ok(())
+fn one_record(rt: HostRuntime) {
+    assert_eq!(rt; read(&BYTES), Ok((1, 1, true)));
+    assert_eq!(rt; written(rt.alloc()), Ok([true, true, true]));
 }
 
 #[test]
 fn faults(rt: HostRuntime) {
     for length in 0..46 {
-        assert_eq!(rt; fault_of(&BYTES[..length]), Some(Fault::Short));
+        assert_eq!(rt; read(&BYTES[..length]), Err(Fault::Short));
     }
     let mut longer = [0; 47];
     longer[..46].copy_from_slice(&BYTES);
-    assert_eq!(rt; fault_of(&longer), Some(Fault::Trailing));
+    assert_eq!(rt; read(&longer), Err(Fault::Trailing));
     let mut flagged = BYTES;
     flagged[43] = 2;
-    assert_eq!(rt; fault_of(&flagged), Some(Fault::BadField));
+    assert_eq!(rt; read(&flagged), Err(Fault::BadField));
 }
 
-/// The packet of a record with this number that writes one byte.
-fn packet(alloc: Global, lsn: u64, byte: u8) -> Result<Packet, Fail> {
-    let mut bytes = BYTES;
-    bytes[7] = lsn.min(9) as u8;
-    bytes[45] = byte;
-    Ok(Packet::pack(alloc, decode(&bytes)?)?)
+/// The packet of the record of this number that writes one byte.
+fn writing(alloc: Global, lsn: u64, byte: u8) -> Result<Packet, Fault> {
+    packet(alloc, Line { lsn, byte, ..FIRST })
+}
+
+/// The set of the records with these numbers that write these bytes, each of which enters twice.
+fn set(alloc: Global, records: &[(u64, u8)]) -> Result<RecordSet, Fault> {
+    let mut set = RecordSet::new(alloc);
+    for (lsn, byte) in records {
+        let packet = writing(alloc, *lsn, *byte)?;
+        set.insert(packet.clone()?)?;
+        set.insert(packet)?;
+    }
+    Ok(set)
+}
+
+/// Whether the set has these records, in order.
+fn has(set: &RecordSet, records: &[(u64, u8)]) -> bool {
+    for (packet, (lsn, byte)) in set.as_slice().iter().zip(records) {
+        if packet.lsn() != *lsn || packet.record().bytes.as_slice() != [*byte].as_slice() {
+            return false;
+        }
+    }
+    set.len() == records.len()
+}
+
+/// Whether a new set is empty, how many records the first of two sets has, whether the second has a record of the first, and whether both
+/// together have all.
+fn sets_of_two(alloc: Global) -> Result<(bool, usize, bool, bool), Fault> {
+    let empty = RecordSet::new(alloc).is_empty();
+    let left = set(alloc, &[(3, 1), (1, 2), (2, 1), (1, 1)])?;
+    let right = set(alloc, &[(1, 2), (9, 1)])?;
+    let contained = right.contains(&writing(alloc, 3, 1)?);
+    let both = left.union(alloc, &right)?;
+    let all = has(&both, &[(1, 1), (1, 2), (2, 1), (3, 1), (9, 1)]);
+    Ok((empty, left.len(), contained, all))
 }
 
 #[test]
-fn sets(rt: HostRuntime) -> Result<(), Fail> {
-    let alloc = rt.alloc();
-    let packets = [
-        packet(alloc, 3, 1)?,
-        packet(alloc, 1, 2)?,
-        packet(alloc, 2, 1)?,
-        packet(alloc, 1, 1)?,
-    ];
-    let mut left = RecordSet::new(alloc);
-    assert!(rt; left.is_empty());
-    for packet in &packets {
-        left.insert(packet.clone()?)?;
-        left.insert(packet.clone()?)?;
-    }
-    assert_eq!(rt; left.len(), 4);
-    let mut right = RecordSet::new(alloc);
-    right.insert(packets[1].clone()?)?;
-    right.insert(packet(alloc, 9, 1)?)?;
-    assert!(rt; !right.contains(&packets[0]));
-    let both = left.union(alloc, &right)?;
-    assert_eq!(rt; both.len(), 5);
-    let expected = [(1, 1), (1, 2), (2, 1), (3, 1), (9, 1)];
-    for (packet, (lsn, byte)) in both.as_slice().iter().zip(expected) {
-        assert_eq!(rt; packet.lsn(), lsn);
-        assert_eq!(rt; packet.record().bytes.as_slice(), [byte].as_slice());
-    }
-    Ok(())
+fn sets(rt: HostRuntime) {
+    assert_eq!(rt; sets_of_two(rt.alloc()), Ok((true, 4, false, true)));
 }

@@ -1,202 +1,16 @@
+//! What a recovery reads, cuts, installs and becomes.
+
+use super::packets::{Line, chained, contents, packet};
+use super::said::Said::{self, Count, Found, Record, Yes};
 use super::texts::{SIX, checked};
+use super::writers;
 use lineage::Lineage;
 use recovery::{Recovery, cut_of, is_growing};
-use redo_record::{Packet, Payload, Record, RecordSet};
+use redo_record::RecordSet;
 use std::alloc::Global;
 use std::test::*;
-use volume_model::Fault;
-use wire::{Ack, Contents, Label, Message, Place, Report, View};
-use writer_core::Change;
-
-/// The record of an LSN of volume epoch 1, whose links go to the LSN before it.
-fn record(lsn: u64, point: bool) -> Result<Record, Fail> {
-    let lsn = lsn.clamp(1, 2000);
-    Ok(Record {
-        lsn,
-        volume_epoch: 1,
-        prev_volume: lsn - 1,
-        prev_group: lsn - 1,
-        prev_block: lsn - 1,
-        group: 0,
-        block: 0,
-        offset: 0,
-        bytes: Payload::new(b"a").ok_or("one byte is a payload")?,
-        point,
-    })
-}
-
-/// The packet of that record.
-fn packet(alloc: Global, lsn: u64, point: bool) -> Result<Packet, Fail> {
-    Ok(Packet::pack(alloc, record(lsn, point)?)?)
-}
-
-/// The records 1 to 1007, of which 900 and 1000 alone are consistency points.
-fn long_log(alloc: Global) -> Result<Vec<Packet>, Fail> {
-    let mut log: Vec<Packet> = Vec::new(alloc);
-    for back in 0..1007 {
-        log.push(packet(alloc, back + 1, back == 899 || back == 999)?)?;
-    }
-    Ok(log)
-}
-
-#[test]
-fn cut_of_a_long_log(rt: HostRuntime) -> Result<(), Fail> {
-    let alloc = rt.alloc();
-    let log = long_log(alloc)?;
-    let records = log.as_slice();
-    if !is_growing(records) {
-        return Err("the records stand in growing LSN".into());
-    }
-    assert_eq!(rt; cut_of(alloc, records)?, 1000);
-    Ok(())
-}
-
-/// A View of volume epoch 2 that has the group at its root.
-fn view(alloc: Global) -> Result<View, Fail> {
-    let root = Place {
-        configuration: 0,
-        epoch: 1,
-    };
-    Ok(View {
-        volume: 2,
-        places: vec![in alloc; root]?,
-    })
-}
-
-/// A recovery of volume epoch 2, and how many messages its birth made.
-fn born(alloc: Global) -> Result<(Recovery, usize), Fail> {
-    let first = Message::View(view(alloc)?);
-    let (recovery, fences) = Recovery::new(alloc, checked(alloc, SIX)?, &first)?;
-    Ok((recovery, fences.len()))
-}
-
-/// The label under which volume epoch 2 speaks.
-const LABEL: Label = Label {
-    volume: 2,
-    member: 1,
-};
-
-/// A member says that it holds the records 1 up to a number, of which 3 and 5 are consistency points.
-fn report(alloc: Global, from: u8, last: u64) -> Result<Report, Fail> {
-    let mut records = RecordSet::new(alloc);
-    for back in 0..last.min(10) {
-        records.insert(packet(alloc, back + 1, back == 2 || back == 4)?)?;
-    }
-    let contents = Contents {
-        lineage: Lineage::birth(alloc)?,
-        records,
-    };
-    Ok(Report {
-        group: 0,
-        label: LABEL,
-        from,
-        contents: Box::new(alloc, contents)?,
-    })
-}
-
-/// A recovery that has cut, from reports of members 0, 1 and 2 that hold the records 1 up to a number.
-fn recovered(alloc: Global, last: u64) -> Result<Recovery, Fail> {
-    let (mut recovery, _) = born(alloc)?;
-    for from in 0..3 {
-        recovery.take_report(&report(alloc, from, last)?)?;
-    }
-    recovery.cut(alloc)?;
-    Ok(recovery)
-}
-
-/// Where a recovery has cut, its start, and how many records it has found.
-fn found(recovery: &Recovery) -> Option<(u64, u64, usize)> {
-    let found = recovery.found()?;
-    Some((found.cut, found.lineage.last_start(), found.log.len()))
-}
-
-#[test]
-fn two_cuts(rt: HostRuntime) -> Result<(), Fail> {
-    let alloc = rt.alloc();
-    assert_eq!(rt; found(&recovered(alloc, 4)?), Some((3, 13, 3)));
-    assert_eq!(rt; found(&recovered(alloc, 5)?), Some((5, 15, 5)));
-    Ok(())
-}
-
-#[test]
-fn reading(rt: HostRuntime) -> Result<(), Fail> {
-    let alloc = rt.alloc();
-    let (mut recovery, fences) = born(alloc)?;
-    assert_eq!(rt; fences, 1);
-    assert_eq!(rt; recovery.view(alloc, &view(alloc)?)?.len(), 0);
-    assert!(rt; recovery.found().is_none());
-    recovery.take_report(&report(alloc, 0, 4)?)?;
-    assert_eq!(rt; recovery.admits_cut(alloc), Err(Fault::NotReady));
-    assert_eq!(rt; recovery.cut(alloc).err(), Some(Fault::NotReady));
-    Ok(())
-}
-
-#[test]
-fn judges(rt: HostRuntime) -> Result<(), Fail> {
-    let alloc = rt.alloc();
-    let (recovery, _) = born(alloc)?;
-    let mut other = report(alloc, 0, 4)?;
-    assert_eq!(rt; recovery.admits_report(&other), Ok(()));
-    other.group = 1;
-    assert_eq!(rt; recovery.admits_report(&other), Err(Fault::NotAddressed));
-    assert_eq!(rt; recovery.admits_view(&view(alloc)?), Ok(()));
-    assert_eq!(rt; recovery.admits_ack(&ack(0)), Ok(()));
-    assert_eq!(rt; recovery.admits_ack(&ack(64)), Err(Fault::NotAddressed));
-    assert_eq!(rt; recovery.admits_open(), Err(Fault::NotReady));
-    let checked = checked(alloc, SIX)?;
-    let first = Message::View(view(alloc)?);
-    assert_eq!(rt; Recovery::admits_birth(&checked, &first), Ok(()));
-    let told = Message::Ack(ack(0));
-    assert_eq!(rt;
-        Recovery::admits_birth(&checked, &told),
-        Err(Fault::NotAddressed)
-    );
-    Ok(())
-}
-
-/// A member says that it holds the records up to 3.
-fn ack(from: u8) -> Ack {
-    Ack {
-        group: 0,
-        label: LABEL,
-        from,
-        scl: 3,
-    }
-}
-
-#[test]
-fn opening(rt: HostRuntime) -> Result<(), Fail> {
-    let alloc = rt.alloc();
-    let recovery = recovered(alloc, 4)?;
-    let mut recovery = match recovery.open() {
-        Ok(_) => return Err("nobody has installed".into()),
-        Err((fault, recovery)) => {
-            assert_eq!(rt; fault, Fault::NotReady);
-            recovery
-        }
-    };
-    assert_eq!(rt; recovery.cut(alloc).err(), Some(Fault::AlreadyDone));
-    for from in 0..4 {
-        recovery.take_ack(&ack(from))?;
-    }
-    let mut writer = recovery.open().ok().ok_or("four have installed")?;
-    let change = Change {
-        group: 0,
-        block: 0,
-        offset: 0,
-        bytes: vec![in alloc; 97]?,
-    };
-    assert_eq!(rt; writer.issue(alloc, &[change])?.len(), 1);
-    let log = writer.log();
-    assert_eq!(rt; log.len(), 4);
-    assert_eq!(rt;
-        (log.packet(3).lsn(), log.packet(3).record().prev_volume),
-        (14, 3)
-    );
-    assert!(rt; writer.resend(14).is_ok());
-    assert_eq!(rt; writer.resend(4).err(), Some(Fault::NoLogRecord));
-    Ok(())
-}
+use volume_model::Fault::{self, AlreadyDone, NoLogRecord, NotAddressed, NotReady};
+use wire::{Ack, Label, Message, Place, Report, View};
 
 /// Three groups of member 0 alone. In the second, member 1 joins with the child of the root.
 const THREE: &[u8] = br#"{"format":1,"lal":10,"groups":[
@@ -220,99 +34,359 @@ const CHILD: Place = Place {
     epoch: 2,
 };
 
-/// A View of volume epoch 2 that has the second group there, and the others at their roots.
-fn view_of_three(alloc: Global, second: Place) -> Result<View, Fail> {
+/// The label under which volume epoch 2 speaks.
+const LABEL: Label = Label {
+    volume: 2,
+    member: 1,
+};
+
+/// A log of volume epoch 1, whose records are chained one to another.
+#[derive(Clone, Copy)]
+enum Log {
+    /// Of one group. 3 and 5 are consistency points.
+    Short,
+    /// Of one group. 900 and 1000 are consistency points.
+    Long,
+    /// The records up to 257 are the first group's, those from then on the second's. 857 is a consistency point.
+    OfTwo,
+}
+
+/// The record of an LSN.
+fn line(log: Log, lsn: u64) -> Line {
+    let line = chained(lsn);
+    match log {
+        Log::Short => Line {
+            point: lsn == 3 || lsn == 5,
+            ..line
+        },
+        Log::Long => Line {
+            point: lsn == 900 || lsn == 1000,
+            ..line
+        },
+        Log::OfTwo => {
+            let before = if lsn == 258 { 0 } else { line.prev_group };
+            Line {
+                group: u8::from(lsn > 257),
+                prev_group: before,
+                prev_block: before,
+                point: lsn == 857,
+                ..line
+            }
+        }
+    }
+}
+
+/// The records of a log from a number up to another.
+fn records(alloc: Global, log: Log, first: u64, last: u64) -> Result<RecordSet, Fault> {
+    let mut records = RecordSet::new(alloc);
+    for lsn in first..=last {
+        records.insert(packet(alloc, line(log, lsn))?)?;
+    }
+    Ok(records)
+}
+
+/// The cut of a log, `None` where its records don't stand in growing LSN.
+fn cut(alloc: Global, log: Log, last: u64) -> Result<Option<u64>, Fault> {
+    let records = records(alloc, log, 1, last)?;
+    if !is_growing(records.as_slice()) {
+        return Ok(None);
+    }
+    Ok(Some(cut_of(alloc, records.as_slice())?))
+}
+
+#[test]
+fn cut_of_a_long_log(rt: HostRuntime) {
+    assert_eq!(rt; cut(rt.alloc(), Log::Long, 1007), Ok(Some(1000)));
+}
+
+/// What happens to a recovery, and what it is asked whether it would take or may do.
+#[derive(Clone, Copy)]
+enum Told {
+    /// A member of a group says that it holds the records of a log from a number up to another.
+    Report(u8, u8, Log, u64, u64),
+    /// The report of member 0 of a group.
+    MayReport(u8),
+    /// It is told once more where the groups stand.
+    View(&'static [Place]),
+    MayView(&'static [Place]),
+    /// A member says that it holds the records up to 3.
+    Ack(u8),
+    MayAck(u8),
+    /// It cuts the log.
+    Cut,
+    MayCut,
+    /// Whether it can become a writer.
+    MayOpen,
+    /// What it has found.
+    Find,
+}
+
+/// What happens to a recovery, and what it answers or why it refuses.
+type Row = (Told, Result<Said, Fault>);
+
+/// A View of volume epoch 2.
+fn view(alloc: Global, places: &[Place]) -> Result<View, Fault> {
+    let mut copies = Vec::new(alloc);
+    copies.extend_from_slice(places)?;
     Ok(View {
         volume: 2,
-        places: vec![in alloc; ROOT, second, ROOT]?,
+        places: copies,
     })
 }
 
-/// The record of an LSN: up to 257 the first group's, up to 857, the only consistency point, the second's.
-fn of_three(alloc: Global, lsn: u64) -> Result<Packet, Fail> {
-    let lsn = lsn.clamp(1, 857);
-    let before = if lsn == 258 { 0 } else { lsn - 1 };
-    let record = Record {
-        lsn,
-        volume_epoch: 1,
-        prev_volume: lsn - 1,
-        prev_group: before,
-        prev_block: before,
-        group: u8::from(lsn > 257),
-        block: 0,
-        offset: 0,
-        bytes: Payload::new(b"a").ok_or("one byte is a payload")?,
-        point: lsn == 857,
-    };
-    Ok(Packet::pack(alloc, record)?)
-}
-
-/// Member 0 of a group says that it holds the records above a number up to another.
-fn report_of_three(alloc: Global, group: u8, before: u64, last: u64) -> Result<Report, Fail> {
-    let mut records = RecordSet::new(alloc);
-    for back in before..last.min(857) {
-        records.insert(of_three(alloc, back + 1)?)?;
-    }
-    let contents = Contents {
-        lineage: Lineage::birth(alloc)?,
-        records,
-    };
+/// A member says what it holds.
+fn report(alloc: Global, group: u8, from: u8, records: RecordSet) -> Result<Report, Fault> {
     Ok(Report {
         group,
         label: LABEL,
-        from: 0,
-        contents: Box::new(alloc, contents)?,
+        from,
+        contents: contents(alloc, Lineage::birth(alloc)?, records)?,
     })
 }
 
-/// A recovery that has read the three groups, of which the last has no record.
-fn read_three(alloc: Global) -> Result<Recovery, Fail> {
-    let first = Message::View(view_of_three(alloc, ROOT)?);
-    let (mut recovery, _) = Recovery::new(alloc, checked(alloc, THREE)?, &first)?;
-    for (group, before, last) in [(0, 0, 257), (1, 257, 857), (2, 0, 0)] {
-        recovery.take_report(&report_of_three(alloc, group, before, last)?)?;
+/// A member says that it holds the records up to 3.
+fn ack(from: u8) -> Ack {
+    Ack {
+        group: 0,
+        label: LABEL,
+        from,
+        scl: 3,
     }
-    Ok(recovery)
+}
+
+/// What the recovery has found.
+fn found(recovery: &Recovery) -> Said {
+    match recovery.found() {
+        Some(found) => Found(found.cut, found.lineage.last_start(), found.log.len()),
+        None => Said::No,
+    }
+}
+
+/// Whether the recovery would take what it may be told.
+fn judged(alloc: Global, recovery: &Recovery, told: Told) -> Result<Said, Fault> {
+    match told {
+        Told::MayReport(group) => {
+            let records = records(alloc, Log::Short, 1, 4)?;
+            recovery.admits_report(&report(alloc, group, 0, records)?)?
+        }
+        Told::MayView(places) => recovery.admits_view(&view(alloc, places)?)?,
+        Told::MayAck(from) => recovery.admits_ack(&ack(from))?,
+        Told::MayCut => recovery.admits_cut(alloc)?,
+        Told::MayOpen => recovery.admits_open()?,
+        _ => return Ok(found(recovery)),
+    }
+    Ok(Yes)
+}
+
+/// What the recovery answers.
+fn answer(alloc: Global, recovery: &mut Recovery, told: Told) -> Result<Said, Fault> {
+    match told {
+        Told::Report(group, from, log, first, last) => {
+            let records = records(alloc, log, first, last)?;
+            recovery.take_report(&report(alloc, group, from, records)?)?;
+            Ok(Yes)
+        }
+        Told::View(places) => Ok(Count(recovery.view(alloc, &view(alloc, places)?)?.len())),
+        Told::Ack(from) => {
+            recovery.take_ack(&ack(from))?;
+            Ok(Yes)
+        }
+        Told::Cut => Ok(Count(recovery.cut(alloc)?.len())),
+        _ => judged(alloc, recovery, told),
+    }
+}
+
+/// The place of the first row that the recovery doesn't keep to, `None` where it keeps to all.
+fn broken_by(alloc: Global, recovery: &mut Recovery, rows: &[Row]) -> Option<usize> {
+    for (place, (told, expected)) in rows.iter().enumerate() {
+        if answer(alloc, recovery, *told) != *expected {
+            return Some(place);
+        }
+    }
+    None
+}
+
+/// A recovery of volume epoch 2, and how many messages its birth made.
+fn born(alloc: Global, text: &[u8], places: &[Place]) -> Result<(Recovery, usize), Fault> {
+    let first = Message::View(view(alloc, places)?);
+    let (recovery, fences) = Recovery::new(alloc, checked(alloc, text)?, &first)?;
+    Ok((recovery, fences.len()))
+}
+
+/// How many messages the birth of a recovery of the plan of six makes, and the place of the first row that it doesn't keep to.
+fn broken(alloc: Global, rows: &[Row]) -> Result<(usize, Option<usize>), Fault> {
+    let (mut recovery, fences) = born(alloc, SIX, &[ROOT])?;
+    Ok((fences, broken_by(alloc, &mut recovery, rows)))
+}
+
+/// Three members hold the records up to 4.
+const A_CUT_AT_3: &[Row] = &[
+    (Told::Report(0, 0, Log::Short, 1, 4), Ok(Yes)),
+    (Told::Report(0, 1, Log::Short, 1, 4), Ok(Yes)),
+    (Told::Report(0, 2, Log::Short, 1, 4), Ok(Yes)),
+    (Told::Cut, Ok(Count(1))),
+    (Told::Find, Ok(Found(3, 13, 3))),
+];
+
+/// Three members hold the records up to 5.
+const A_CUT_AT_5: &[Row] = &[
+    (Told::Report(0, 0, Log::Short, 1, 5), Ok(Yes)),
+    (Told::Report(0, 1, Log::Short, 1, 5), Ok(Yes)),
+    (Told::Report(0, 2, Log::Short, 1, 5), Ok(Yes)),
+    (Told::Cut, Ok(Count(1))),
+    (Told::Find, Ok(Found(5, 15, 5))),
+];
+
+/// One report is too few.
+const READING: &[Row] = &[
+    (Told::View(&[ROOT]), Ok(Count(0))),
+    (Told::Find, Ok(Said::No)),
+    (Told::Report(0, 0, Log::Short, 1, 4), Ok(Yes)),
+    (Told::MayCut, Err(NotReady)),
+    (Told::Cut, Err(NotReady)),
+];
+
+/// What the recovery says before it does it.
+const JUDGES: &[Row] = &[
+    (Told::MayReport(0), Ok(Yes)),
+    (Told::MayReport(1), Err(NotAddressed)),
+    (Told::MayView(&[ROOT]), Ok(Yes)),
+    (Told::MayAck(0), Ok(Yes)),
+    (Told::MayAck(64), Err(NotAddressed)),
+    (Told::MayOpen, Err(NotReady)),
+];
+
+const TABLES: &[(&str, &[Row])] = &[
+    ("a cut at 3", A_CUT_AT_3),
+    ("a cut at 5", A_CUT_AT_5),
+    ("reading", READING),
+    ("judges", JUDGES),
+];
+
+/// The birth of a recovery makes a fence for the only group.
+#[test]
+fn recoveries(rt: HostRuntime) {
+    for (what, rows) in TABLES {
+        assert_eq!(rt; broken(rt.alloc(), rows), Ok((1, None)), "{what}");
+    }
+}
+
+/// Whether a recovery would be born by its first View, and by an acknowledgement.
+fn births(alloc: Global) -> Result<[Result<(), Fault>; 2], Fault> {
+    let plan = checked(alloc, SIX)?;
+    let first = Message::View(view(alloc, &[ROOT])?);
+    Ok([
+        Recovery::admits_birth(&plan, &first),
+        Recovery::admits_birth(&plan, &Message::Ack(ack(0))),
+    ])
+}
+
+#[test]
+fn births_by_a_view_alone(rt: HostRuntime) {
+    assert_eq!(rt; births(rt.alloc()), Ok([Ok(()), Err(NotAddressed)]));
+}
+
+/// Four members say that they have installed what was found, which isn't looked for again.
+const INSTALLED: &[Row] = &[
+    (Told::Cut, Err(AlreadyDone)),
+    (Told::Ack(0), Ok(Yes)),
+    (Told::Ack(1), Ok(Yes)),
+    (Told::Ack(2), Ok(Yes)),
+    (Told::Ack(3), Ok(Yes)),
+];
+
+/// The first record of the writer begins behind the allowance, and follows the last one that was found.
+const OPENED: &[writers::Row] = &[
+    (writers::Told::Issue(&[0]), Ok(Count(1))),
+    (writers::Told::Log, Ok(Count(4))),
+    (writers::Told::LogRecord(3), Ok(Record(14, 3))),
+    (writers::Told::Resend(14), Ok(Record(14, 3))),
+    (writers::Told::Resend(4), Err(NoLogRecord)),
+];
+
+/// Where rows aren't kept to by a recovery that has cut at 3, by the same once it was refused to open, and by the writer that it becomes;
+/// and why it was refused.
+type Broken = ([Option<usize>; 3], Fault);
+
+/// A recovery opens too early, and again once four have installed.
+fn opening(alloc: Global) -> Result<Broken, Fault> {
+    let (mut recovery, _) = born(alloc, SIX, &[ROOT])?;
+    let cut = broken_by(alloc, &mut recovery, A_CUT_AT_3);
+    let (refusal, mut recovery) = match recovery.open() {
+        Ok(_) => return Err(Fault::NotOpen),
+        Err(refused) => refused,
+    };
+    let installed = broken_by(alloc, &mut recovery, INSTALLED);
+    let Ok(mut writer) = recovery.open() else {
+        return Err(Fault::NotOpen);
+    };
+    let opened = writers::broken_by(alloc, &mut writer, OPENED);
+    Ok(([cut, installed, opened], refusal))
+}
+
+#[test]
+fn opens_once_installed(rt: HostRuntime) {
+    assert_eq!(rt; opening(rt.alloc()), Ok(([None, None, None], NotReady)));
 }
 
 /// Of an Install its group, the membership epoch of its label, its number, of how many it is, and how many records it has.
-type Told = (u8, u32, u16, u16, usize);
+type Installed = (u8, u32, u16, u16, usize);
 
-/// Whether these are the Installs, in order.
-fn are_installs(messages: &[Message], expected: &[Told]) -> bool {
+/// Whether the message is such an Install.
+fn is_install(message: &Message, expected: Installed) -> bool {
+    let Message::Install(install) = message else {
+        return false;
+    };
+    let label = install.label.member;
+    let records = install.contents.records.len();
+    (install.group, label, install.piece, install.of, records) == expected
+}
+
+/// Whether the messages are these Installs, in order.
+fn are_installs(messages: &[Message], expected: &[Installed]) -> bool {
+    for (message, install) in messages.iter().zip(expected) {
+        if !is_install(message, *install) {
+            return false;
+        }
+    }
     messages.len() == expected.len()
-        && messages.iter().zip(expected).all(|(message, told)| {
-            let Message::Install(install) = message else {
-                return false;
-            };
-            let records = install.contents.records.len();
-            (
-                install.group,
-                install.label.member,
-                install.piece,
-                install.of,
-                records,
-            ) == *told
-        })
+}
+
+/// The three groups of the plan say what they hold, of which the last has no record.
+const OF_THREE_GROUPS: &[Row] = &[
+    (Told::Report(0, 0, Log::OfTwo, 1, 257), Ok(Yes)),
+    (Told::Report(1, 0, Log::OfTwo, 258, 857), Ok(Yes)),
+    (Told::Report(2, 0, Log::OfTwo, 858, 857), Ok(Yes)),
+];
+
+/// What is installed in the groups at their roots.
+const AT_THE_ROOTS: &[Installed] = &[
+    (0, 1, 0, 2, 256),
+    (0, 1, 1, 2, 1),
+    (1, 1, 0, 3, 256),
+    (1, 1, 1, 3, 256),
+    (1, 1, 2, 3, 88),
+    (2, 1, 0, 1, 0),
+];
+
+/// What is installed once more in the second group, which has moved.
+const AT_THE_CHILD: &[Installed] = &[(1, 2, 0, 3, 256), (1, 2, 1, 3, 256), (1, 2, 2, 3, 88)];
+
+/// Where the reports aren't taken, and whether what was found is installed in the groups and then once more in the second.
+fn in_pieces(alloc: Global) -> Result<(Option<usize>, bool, bool), Fault> {
+    let (mut recovery, _) = born(alloc, THREE, &[ROOT, ROOT, ROOT])?;
+    let read = broken_by(alloc, &mut recovery, OF_THREE_GROUPS);
+    let installs = recovery.cut(alloc)?;
+    let again = recovery.view(alloc, &view(alloc, &[ROOT, CHILD, ROOT])?)?;
+    Ok((
+        read,
+        are_installs(&installs, AT_THE_ROOTS),
+        are_installs(&again, AT_THE_CHILD),
+    ))
 }
 
 /// What was found is installed in order of group, then piece; of a group that has moved once more.
 #[test]
-fn installs_in_pieces(rt: HostRuntime) -> Result<(), Fail> {
-    let alloc = rt.alloc();
-    let mut recovery = read_three(alloc)?;
-    let installs = recovery.cut(alloc)?;
-    let expected = [
-        (0, 1, 0, 2, 256),
-        (0, 1, 1, 2, 1),
-        (1, 1, 0, 3, 256),
-        (1, 1, 1, 3, 256),
-        (1, 1, 2, 3, 88),
-        (2, 1, 0, 1, 0),
-    ];
-    assert!(rt; are_installs(&installs, expected.as_slice()));
-    let again = recovery.view(alloc, &view_of_three(alloc, CHILD)?)?;
-    let expected = [(1, 2, 0, 3, 256), (1, 2, 1, 3, 256), (1, 2, 2, 3, 88)];
-    assert!(rt; are_installs(&again, expected.as_slice()));
-    Ok(())
+fn installs_in_pieces(rt: HostRuntime) {
+    assert_eq!(rt; in_pieces(rt.alloc()), Ok((None, true, true)));
 }

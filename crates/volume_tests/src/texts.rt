@@ -3,7 +3,7 @@
 use plan::{CheckedPlan, check_plan, read_plan};
 use std::alloc::Global;
 use std::sync::Arc;
-use std::test::Fail;
+use volume_model::Fault;
 
 /// One group of six members, of which three read and four write.
 pub const SIX: &[u8] =
@@ -13,9 +13,18 @@ pub const SIX: &[u8] =
 {\"rule\":\"clash\",\"left\":0,\"right\":0},{\"rule\":\"clash\",\"left\":0,\"right\":0},{\"rule\":\"clash\",\"left\":0,\"right\":0},\
 {\"rule\":\"clash\",\"left\":0,\"right\":0},{\"rule\":\"clash\",\"left\":0,\"right\":0},{\"rule\":\"clash\",\"left\":0,\"right\":0}]},\"step\":null}]}]}";
 
-/// The plan that a text spells, which has no fault.
-pub fn checked(alloc: Global, text: &[u8]) -> Result<Arc<CheckedPlan>, Fail> {
-    let plan = read_plan(alloc, text).ok().ok_or("the text is a plan")?;
-    let checked = check_plan(alloc, plan).ok().ok_or("the plan is certified")?;
+/// Two groups of one member each, which reads and writes alone. The first is there at birth.
+pub const GROWING: &[u8] = b"{\"format\":3,\"lal\":10,\"born\":1,\"groups\":[\
+{\"configurations\":[{\"parent\":null,\"members\":[0],\"full\":[0],\"read\":0,\"write\":0,\"meets\":{\"rule\":\"clash\",\"left\":0,\"right\":0},\"step\":null}]},\
+{\"configurations\":[{\"parent\":null,\"members\":[0],\"full\":[0],\"read\":0,\"write\":0,\"meets\":{\"rule\":\"clash\",\"left\":0,\"right\":0},\"step\":null}]}]}";
+
+/// The plan that a text spells: `Malformed` where it is no plan, `Certificate` where the plan isn't certified.
+pub fn checked(alloc: Global, text: &[u8]) -> Result<Arc<CheckedPlan>, Fault> {
+    let Ok(plan) = read_plan(alloc, text) else {
+        return Err(Fault::Malformed);
+    };
+    let Ok(checked) = check_plan(alloc, plan) else {
+        return Err(Fault::Certificate);
+    };
     Ok(Arc::new(alloc, checked)?)
 }

@@ -1,8 +1,14 @@
-use super::texts::{SIX, checked};
+//! What a writer does and tells.
+
+use super::said::Said::{self, Count, Install, Point, Record, Yes};
+use super::said::said_by;
+use super::texts::{GROWING, SIX, checked};
 use std::alloc::Global;
 use std::test::*;
-use volume_model::Fault;
-use wire::{Ack, Label, Message, Place, View};
+use volume_model::Fault::{
+    self, BadTransaction, LimitReached, NoGroup, NoLogRecord, NotAddressed, NotInPlan, NotJoined,
+};
+use wire::{Ack, Label, Place, View};
 use writer_core::{Change, Writer};
 
 /// One group of seven members: three of either six read, and four of each of both sixes write.
@@ -65,42 +71,83 @@ const TWO_GROUPS: &[u8] = b"{\"format\":1,\"lal\":10,\"groups\":[\
 {\"configurations\":[{\"parent\":null,\"members\":[0],\"full\":[0],\"read\":{\"k\":1,\"of\":\"all\"},\"write\":{\"k\":1,\"of\":\"all\"},\
 \"meets\":{\"rule\":\"match\",\"left\":0,\"right\":0,\"pairs\":[[0,0]],\"then\":[{\"rule\":\"clash\",\"left\":0,\"right\":0}]},\"step\":null}]}]}";
 
-/// The writer of a new volume over the plan that a text spells.
-fn writer(alloc: Global, text: &[u8]) -> Result<Writer, Fail> {
-    Ok(Writer::first(alloc, checked(alloc, text)?)?)
+/// The plan of a table.
+#[derive(Clone, Copy)]
+enum Plan {
+    Six,
+    BothSixes,
+    Steps,
+    TwoGroups,
+    Growing,
 }
 
-/// A member's acknowledgement under membership epoch 1.
-fn ack(from: u8, scl: u64) -> Ack {
-    ack_at(1, from, scl)
-}
-
-/// A member's acknowledgement under a membership epoch.
-fn ack_at(member: u32, from: u8, scl: u64) -> Ack {
-    Ack {
-        group: 0,
-        label: Label { volume: 1, member },
-        from,
-        scl,
+/// Its text.
+fn text(plan: Plan) -> &'static [u8] {
+    match plan {
+        Plan::Six => SIX,
+        Plan::BothSixes => BOTH_SIXES,
+        Plan::Steps => STEPS,
+        Plan::TwoGroups => TWO_GROUPS,
+        Plan::Growing => GROWING,
     }
 }
 
-/// So many changes of block 0 of group 0.
-fn changes(alloc: Global, count: usize) -> Result<Vec<Change>, Fail> {
-    let mut changes = Vec::new(alloc);
-    for _ in 0..count {
-        changes.push(Change {
-            group: 0,
-            block: 0,
-            offset: 0,
-            bytes: vec![in alloc; 97]?,
-        })?;
-    }
-    Ok(changes)
+/// What happens to a writer, and what it is asked.
+#[derive(Clone, Copy)]
+pub enum Told {
+    /// At a membership epoch, a member of group 0 says up to which number it holds all records.
+    Ack(u32, u8, u64),
+    /// The same of a group's only member.
+    AckOf(u8, u64),
+    /// Whether it would take this member's acknowledgement of number 1.
+    MayAck(u8),
+    /// It is told where the groups stand, in a View of a volume epoch.
+    View(u32, &'static [Place]),
+    /// Whether it would take such a View.
+    MayView(u32, &'static [Place]),
+    /// It issues a transaction of a change of block 0 of each of these groups.
+    Issue(&'static [u8]),
+    /// Whether it may issue it.
+    MayIssue(&'static [u8]),
+    /// It sends the record of a number once more.
+    Resend(u64),
+    /// It asks for block 0 of a group.
+    Read(u8),
+    /// The point of a group.
+    GroupPoint(u8),
+    /// The complete point.
+    Complete,
+    /// The durable point.
+    Durable,
+    /// Whether the number is acknowledged.
+    Acknowledged(u64),
+    /// How many records its log has.
+    Log,
+    /// The record at this place of its log.
+    LogRecord(usize),
+    /// Its volume epoch.
+    Volume,
+    /// The number after which its own records begin.
+    Start,
 }
+
+/// What happens to a writer, and what it answers or why it refuses.
+pub type Row = (Told, Result<Said, Fault>);
+
+/// A group at its root.
+const ROOT: Place = Place {
+    configuration: 0,
+    epoch: 1,
+};
+
+/// A group at the child of its root.
+const CHILD: Place = Place {
+    configuration: 1,
+    epoch: 2,
+};
 
 /// A change of block 0 of each of these groups.
-fn changes_of(alloc: Global, groups: &[u8]) -> Result<Vec<Change>, Fail> {
+pub fn changes(alloc: Global, groups: &[u8]) -> Result<Vec<Change>, Fault> {
     let mut changes = Vec::new(alloc);
     for group in groups {
         changes.push(Change {
@@ -113,165 +160,326 @@ fn changes_of(alloc: Global, groups: &[u8]) -> Result<Vec<Change>, Fail> {
     Ok(changes)
 }
 
-/// The acknowledgement of a group's only member.
-fn ack_of(group: u8, scl: u64) -> Ack {
+/// A member's acknowledgement to the writer of volume epoch 1.
+fn ack(group: u8, member: u32, from: u8, scl: u64) -> Ack {
     Ack {
         group,
-        label: Label {
-            volume: 1,
-            member: 1,
-        },
-        from: 0,
+        label: Label { volume: 1, member },
+        from,
         scl,
     }
 }
 
-/// The point at which a writer asks for a page of a group.
-fn read_point(writer: &Writer, group: u8) -> Result<u64, Fail> {
-    let asked = writer.read(group, 0)?;
-    let point = match &asked {
-        Message::PageAsk(ask) => Some(ask.point),
-        _ => None,
-    };
-    Ok(point.ok_or("a page is asked for")?)
-}
-
-/// A View of volume epoch 1 that has the group at its child, where the membership epoch is 2.
-fn child(alloc: Global) -> Result<View, Fail> {
-    let place = Place {
-        configuration: 1,
-        epoch: 2,
-    };
+/// A View of a volume epoch, from 1 on.
+fn view(alloc: Global, volume: u32, places: &[Place]) -> Result<View, Fault> {
+    let mut copies = Vec::new(alloc);
+    copies.extend_from_slice(places)?;
     Ok(View {
-        volume: 1,
-        places: vec![in alloc; place]?,
+        volume: volume.max(1),
+        places: copies,
     })
 }
 
-#[test]
-fn group_points(rt: HostRuntime) -> Result<(), Fail> {
-    let alloc = rt.alloc();
-    let reached = [(0, 5), (1, 3), (2, 4), (3, 1), (4, 0), (5, 2)];
+/// What the writer answers to what it is told of the groups: how many messages, or of one what it is.
+fn viewed(alloc: Global, writer: &mut Writer, view: &View) -> Result<Said, Fault> {
+    let made = writer.view(alloc, view)?;
+    Ok(match made.as_slice() {
+        [install] => said_by(install),
+        _ => Count(made.len()),
+    })
+}
 
-    let mut six = writer(alloc, SIX)?;
-    for (from, scl) in reached {
-        assert_eq!(rt; six.take_ack(&ack(from, scl)), Ok(()));
+/// What the writer answers to a question about its log.
+fn logged(writer: &Writer, told: Told) -> Result<Said, Fault> {
+    let log = writer.log();
+    Ok(match told {
+        Told::Log => Count(log.len()),
+        Told::LogRecord(place) if place < log.len() => {
+            let record = log.packet(place).record();
+            Record(record.lsn, record.prev_volume)
+        }
+        Told::Resend(lsn) => said_by(&writer.resend(lsn)?.write()?),
+        _ => Said::No,
+    })
+}
+
+/// What the writer answers to a question.
+fn shown(writer: &Writer, told: Told) -> Result<Said, Fault> {
+    Ok(match told {
+        Told::Read(group) => said_by(&writer.read(group, 0)?),
+        Told::GroupPoint(group) => Point(writer.group_point(group)?),
+        Told::Complete => Point(writer.complete_point()),
+        Told::Durable => Point(writer.durable_point()),
+        Told::Start => Point(writer.start()),
+        Told::Volume => Point(u64::from(writer.volume())),
+        Told::Acknowledged(lsn) if writer.acknowledged(lsn) => Yes,
+        _ => return logged(writer, told),
+    })
+}
+
+/// What the writer answers to what happens to it.
+fn answer(alloc: Global, writer: &mut Writer, told: Told) -> Result<Said, Fault> {
+    match told {
+        Told::Ack(member, from, scl) => writer.take_ack(&ack(0, member, from, scl))?,
+        Told::AckOf(group, scl) => writer.take_ack(&ack(group, 1, 0, scl))?,
+        Told::MayAck(from) => writer.admits_ack(&ack(0, 1, from, 1))?,
+        Told::View(volume, places) => return viewed(alloc, writer, &view(alloc, volume, places)?),
+        Told::MayView(volume, places) => writer.admits_view(&view(alloc, volume, places)?)?,
+        Told::Issue(groups) => {
+            let made = writer.issue(alloc, &changes(alloc, groups)?)?;
+            return Ok(Count(made.len()));
+        }
+        Told::MayIssue(groups) => writer.admits(&changes(alloc, groups)?.clone()?)?,
+        _ => return shown(writer, told),
     }
-    assert_eq!(rt; six.group_point(0), Ok(2));
-    assert_eq!(rt; six.group_point(1), Err(Fault::NoGroup));
-
-    let mut both = writer(alloc, BOTH_SIXES)?;
-    for (from, scl) in reached {
-        assert_eq!(rt; both.take_ack(&ack(from, scl)), Ok(()));
-    }
-    assert_eq!(rt; both.take_ack(&ack(6, 4)), Ok(()));
-    assert_eq!(rt; both.group_point(0), Ok(2));
-    assert_eq!(rt; both.take_ack(&ack(5, 3)), Ok(()));
-    assert_eq!(rt; both.group_point(0), Ok(3));
-    Ok(())
+    Ok(Yes)
 }
+
+/// The place of the first row that the writer doesn't keep to, `None` where it keeps to all.
+pub fn broken_by(alloc: Global, writer: &mut Writer, rows: &[Row]) -> Option<usize> {
+    for (place, (told, expected)) in rows.iter().enumerate() {
+        if answer(alloc, writer, *told) != *expected {
+            return Some(place);
+        }
+    }
+    None
+}
+
+/// The same of the writer of a new volume over a plan.
+fn broken(alloc: Global, plan: Plan, rows: &[Row]) -> Result<Option<usize>, Fault> {
+    let mut writer = Writer::first(alloc, checked(alloc, text(plan))?)?;
+    Ok(broken_by(alloc, &mut writer, rows))
+}
+
+/// The group's point is the greatest number that a write set holds.
+const THE_POINT_OF_SIX: &[Row] = &[
+    (Told::Ack(1, 0, 5), Ok(Yes)),
+    (Told::Ack(1, 1, 3), Ok(Yes)),
+    (Told::Ack(1, 2, 4), Ok(Yes)),
+    (Told::Ack(1, 3, 1), Ok(Yes)),
+    (Told::Ack(1, 4, 0), Ok(Yes)),
+    (Told::Ack(1, 5, 2), Ok(Yes)),
+    (Told::GroupPoint(0), Ok(Point(2))),
+    (Told::GroupPoint(1), Err(NoGroup)),
+];
+
+/// Here it is one that write sets of both sixes hold.
+const THE_POINT_OF_BOTH_SIXES: &[Row] = &[
+    (Told::Ack(1, 0, 5), Ok(Yes)),
+    (Told::Ack(1, 1, 3), Ok(Yes)),
+    (Told::Ack(1, 2, 4), Ok(Yes)),
+    (Told::Ack(1, 3, 1), Ok(Yes)),
+    (Told::Ack(1, 4, 0), Ok(Yes)),
+    (Told::Ack(1, 5, 2), Ok(Yes)),
+    (Told::Ack(1, 6, 4), Ok(Yes)),
+    (Told::GroupPoint(0), Ok(Point(2))),
+    (Told::Ack(1, 5, 3), Ok(Yes)),
+    (Told::GroupPoint(0), Ok(Point(3))),
+];
+
+/// Transactions of too many changes, of as many as the allowance has, and of one more; and what the writer knows before the records are
+/// acknowledged and after.
+const TRANSACTIONS: &[Row] = &[
+    (Told::Issue(&[0; 33]), Err(BadTransaction)),
+    (Told::Issue(&[0; 10]), Ok(Count(10))),
+    (Told::Issue(&[0]), Err(LimitReached)),
+    (Told::Volume, Ok(Point(1))),
+    (Told::Start, Ok(Point(0))),
+    (Told::Log, Ok(Count(10))),
+    (Told::Acknowledged(10), Ok(Said::No)),
+    (Told::Ack(1, 0, 10), Ok(Yes)),
+    (Told::Ack(1, 1, 10), Ok(Yes)),
+    (Told::Ack(1, 2, 10), Ok(Yes)),
+    (Told::Ack(1, 3, 10), Ok(Yes)),
+    (Told::Complete, Ok(Point(10))),
+    (Told::Durable, Ok(Point(10))),
+    (Told::Acknowledged(10), Ok(Yes)),
+    (Told::Resend(10), Ok(Record(10, 9))),
+    (Told::Resend(11), Err(NoLogRecord)),
+    (Told::Read(0), Ok(Point(10))),
+    (Told::Read(1), Err(NoGroup)),
+];
+
+/// A write set of the child acknowledges after its View.
+const A_WRITE_SET_OF_THE_CHILD: &[Row] = &[
+    (Told::Issue(&[0]), Ok(Count(1))),
+    (Told::View(1, &[CHILD]), Ok(Count(0))),
+    (Told::Ack(1, 0, 1), Ok(Yes)),
+    (Told::Ack(1, 1, 1), Ok(Yes)),
+    (Told::Ack(1, 2, 1), Ok(Yes)),
+    (Told::Ack(1, 3, 1), Ok(Yes)),
+    (Told::Durable, Ok(Point(1))),
+];
+
+/// A write set of the root alone acknowledges after the child's View, which is too late.
+const A_WRITE_SET_OF_THE_ROOT_LATE: &[Row] = &[
+    (Told::Issue(&[0]), Ok(Count(1))),
+    (Told::View(1, &[CHILD]), Ok(Count(0))),
+    (Told::Ack(1, 0, 1), Ok(Yes)),
+    (Told::Ack(1, 1, 1), Ok(Yes)),
+    (Told::Ack(1, 2, 1), Ok(Yes)),
+    (Told::Ack(1, 5, 1), Ok(Yes)),
+    (Told::Durable, Ok(Point(0))),
+];
+
+/// The same before it.
+const A_WRITE_SET_OF_THE_ROOT_EARLY: &[Row] = &[
+    (Told::Issue(&[0]), Ok(Count(1))),
+    (Told::Ack(1, 0, 1), Ok(Yes)),
+    (Told::Ack(1, 1, 1), Ok(Yes)),
+    (Told::Ack(1, 2, 1), Ok(Yes)),
+    (Told::Ack(1, 5, 1), Ok(Yes)),
+    (Told::View(1, &[CHILD]), Ok(Count(0))),
+    (Told::Durable, Ok(Point(1))),
+];
+
+/// What is said at a membership epoch that the writer doesn't know yet doesn't count.
+const A_LATER_EPOCH: &[Row] = &[
+    (Told::Issue(&[0]), Ok(Count(1))),
+    (Told::Ack(2, 0, 1), Ok(Yes)),
+    (Told::Ack(2, 1, 1), Ok(Yes)),
+    (Told::Ack(2, 2, 1), Ok(Yes)),
+    (Told::Ack(2, 3, 1), Ok(Yes)),
+    (Told::View(1, &[CHILD]), Ok(Count(0))),
+    (Told::Durable, Ok(Point(0))),
+];
+
+/// Views of a place that the plan doesn't have, and of another volume epoch.
+const VIEWS_OF_OTHERS: &[Row] = &[
+    (Told::View(1, &[CHILD]), Err(NotInPlan)),
+    (Told::View(2, &[CHILD]), Err(NotAddressed)),
+];
+
+/// What the writer says before it does it.
+const JUDGES: &[Row] = &[
+    (Told::MayIssue(&[0; 33]), Err(BadTransaction)),
+    (Told::MayIssue(&[0]), Ok(Yes)),
+    (Told::MayAck(5), Ok(Yes)),
+    (Told::MayAck(64), Err(NotAddressed)),
+    (Told::MayView(1, &[CHILD]), Err(NotInPlan)),
+];
+
+/// The second group's only member holds nothing.
+const NOTHING_OF_THE_SECOND: &[Row] = &[
+    (Told::Issue(&[0, 1, 1]), Ok(Count(3))),
+    (Told::Issue(&[0, 0, 1]), Ok(Count(3))),
+    (Told::AckOf(0, 5), Ok(Yes)),
+    (Told::AckOf(1, 0), Ok(Yes)),
+    (Told::Read(0), Ok(Point(0))),
+    (Told::Read(1), Ok(Point(0))),
+];
+
+/// It holds a record less than it should for the first transaction.
+const TOO_LITTLE_OF_THE_SECOND: &[Row] = &[
+    (Told::Issue(&[0, 1, 1]), Ok(Count(3))),
+    (Told::Issue(&[0, 0, 1]), Ok(Count(3))),
+    (Told::AckOf(0, 5), Ok(Yes)),
+    (Told::AckOf(1, 2), Ok(Yes)),
+    (Told::Read(0), Ok(Point(0))),
+    (Told::Read(1), Ok(Point(0))),
+];
+
+/// Both hold the first transaction.
+const THE_FIRST_TRANSACTION: &[Row] = &[
+    (Told::Issue(&[0, 1, 1]), Ok(Count(3))),
+    (Told::Issue(&[0, 0, 1]), Ok(Count(3))),
+    (Told::AckOf(0, 5), Ok(Yes)),
+    (Told::AckOf(1, 3), Ok(Yes)),
+    (Told::Read(0), Ok(Point(1))),
+    (Told::Read(1), Ok(Point(3))),
+];
+
+/// The second holds all, the first only what the first transaction has.
+const TOO_LITTLE_OF_THE_FIRST: &[Row] = &[
+    (Told::Issue(&[0, 1, 1]), Ok(Count(3))),
+    (Told::Issue(&[0, 0, 1]), Ok(Count(3))),
+    (Told::AckOf(0, 1), Ok(Yes)),
+    (Told::AckOf(1, 6), Ok(Yes)),
+    (Told::Read(0), Ok(Point(1))),
+    (Told::Read(1), Ok(Point(3))),
+];
+
+/// Both hold all.
+const BOTH_TRANSACTIONS: &[Row] = &[
+    (Told::Issue(&[0, 1, 1]), Ok(Count(3))),
+    (Told::Issue(&[0, 0, 1]), Ok(Count(3))),
+    (Told::AckOf(0, 5), Ok(Yes)),
+    (Told::AckOf(1, 6), Ok(Yes)),
+    (Told::Read(0), Ok(Point(5))),
+    (Told::Read(1), Ok(Point(6))),
+];
+
+/// A group is installed before the writer writes to it.
+const A_GROUP_JOINS: &[Row] = &[
+    (Told::MayIssue(&[1]), Err(BadTransaction)),
+    (Told::Read(1), Err(NoGroup)),
+    (Told::View(1, &[ROOT, ROOT]), Ok(Install(1))),
+    (Told::MayIssue(&[1]), Err(NotJoined)),
+    (Told::MayIssue(&[0]), Ok(Yes)),
+    (Told::View(1, &[ROOT]), Ok(Count(0))),
+    (Told::AckOf(1, 0), Ok(Yes)),
+    (Told::MayIssue(&[1]), Ok(Yes)),
+    (Told::View(1, &[ROOT, ROOT]), Ok(Count(0))),
+    (Told::Issue(&[1]), Ok(Count(1))),
+    (Told::Durable, Ok(Point(0))),
+    (Told::AckOf(1, 1), Ok(Yes)),
+    (Told::Durable, Ok(Point(1))),
+];
+
+/// What each table is of, its plan, and its rows.
+const TABLES: &[(&str, Plan, &[Row])] = &[
+    ("the point of six", Plan::Six, THE_POINT_OF_SIX),
+    (
+        "the point of both sixes",
+        Plan::BothSixes,
+        THE_POINT_OF_BOTH_SIXES,
+    ),
+    ("transactions", Plan::Six, TRANSACTIONS),
+    (
+        "a write set of the child",
+        Plan::Steps,
+        A_WRITE_SET_OF_THE_CHILD,
+    ),
+    (
+        "one of the root, late",
+        Plan::Steps,
+        A_WRITE_SET_OF_THE_ROOT_LATE,
+    ),
+    (
+        "one of the root, early",
+        Plan::Steps,
+        A_WRITE_SET_OF_THE_ROOT_EARLY,
+    ),
+    ("a later epoch", Plan::Steps, A_LATER_EPOCH),
+    ("views of others", Plan::Six, VIEWS_OF_OTHERS),
+    ("judges", Plan::Six, JUDGES),
+    (
+        "nothing of the second",
+        Plan::TwoGroups,
+        NOTHING_OF_THE_SECOND,
+    ),
+    (
+        "too little of the second",
+        Plan::TwoGroups,
+        TOO_LITTLE_OF_THE_SECOND,
+    ),
+    (
+        "the first transaction",
+        Plan::TwoGroups,
+        THE_FIRST_TRANSACTION,
+    ),
+    (
+        "too little of the first",
+        Plan::TwoGroups,
+        TOO_LITTLE_OF_THE_FIRST,
+    ),
+    ("both transactions", Plan::TwoGroups, BOTH_TRANSACTIONS),
+    ("a group joins", Plan::Growing, A_GROUP_JOINS),
+];
 
 #[test]
-fn transactions(rt: HostRuntime) -> Result<(), Fail> {
-    let alloc = rt.alloc();
-    let mut six = writer(alloc, SIX)?;
-    let many = changes(alloc, 33)?;
-    assert_eq!(rt;
-        six.issue(alloc, many.as_slice()).err(),
-        Some(Fault::BadTransaction)
-    );
-    let ten = changes(alloc, 10)?;
-    assert_eq!(rt; six.issue(alloc, ten.as_slice())?.len(), 10);
-    let one = changes(alloc, 1)?;
-    assert_eq!(rt;
-        six.issue(alloc, one.as_slice()).err(),
-        Some(Fault::LimitReached)
-    );
-    assert_eq!(rt; (six.volume(), six.start(), six.log().len()), (1, 0, 10));
-    assert_eq!(rt; six.acknowledged(10), false);
-    for from in 0..4 {
-        six.take_ack(&ack(from, 10))?;
+fn writers(rt: HostRuntime) {
+    for (what, plan, rows) in TABLES {
+        assert_eq!(rt; broken(rt.alloc(), *plan, rows), Ok(None), "{what}");
     }
-    assert_eq!(rt; (six.complete_point(), six.durable_point()), (10, 10));
-    assert_eq!(rt; six.acknowledged(10), true);
-    assert!(rt; matches!(&six.resend(10)?.write()?, Message::Write(_)));
-    assert_eq!(rt; six.resend(11).err(), Some(Fault::NoLogRecord));
-    assert!(rt; matches!(&six.read(0, 0)?, Message::PageAsk(ask) if ask.point == 10));
-    assert_eq!(rt; six.read(1, 0).err(), Some(Fault::NoGroup));
-    Ok(())
-}
-
-/// The durable point of a writer of one record whose members say that they hold it, before the View of the child or after it.
-fn durable(alloc: Global, before: &[u8], after: &[u8], epoch: u32) -> Result<u64, Fail> {
-    let mut writer = writer(alloc, STEPS)?;
-    let one = changes(alloc, 1)?;
-    writer.issue(alloc, one.as_slice())?;
-    for from in before {
-        writer.take_ack(&ack_at(epoch, *from, 1))?;
-    }
-    writer.view(alloc, &child(alloc)?)?;
-    for from in after {
-        writer.take_ack(&ack(*from, 1))?;
-    }
-    Ok(writer.durable_point())
-}
-
-#[test]
-fn acknowledgements_of_an_earlier_epoch(rt: HostRuntime) -> Result<(), Fail> {
-    let alloc = rt.alloc();
-    assert_eq!(rt; durable(alloc, &[], &[0, 1, 2, 3], 1)?, 1);
-    assert_eq!(rt; durable(alloc, &[], &[0, 1, 2, 5], 1)?, 0);
-    assert_eq!(rt; durable(alloc, &[0, 1, 2, 5], &[], 1)?, 1);
-    assert_eq!(rt; durable(alloc, &[0, 1, 2, 3], &[], 2)?, 0);
-    Ok(())
-}
-
-#[test]
-fn views_of_others(rt: HostRuntime) -> Result<(), Fail> {
-    let alloc = rt.alloc();
-    let mut six = writer(alloc, SIX)?;
-    assert_eq!(rt;
-        six.view(alloc, &child(alloc)?).err(),
-        Some(Fault::NotInPlan)
-    );
-    let mut other = child(alloc)?;
-    other.volume = 2;
-    assert_eq!(rt; six.view(alloc, &other).err(), Some(Fault::NotAddressed));
-    Ok(())
-}
-
-#[test]
-fn judges(rt: HostRuntime) -> Result<(), Fail> {
-    let alloc = rt.alloc();
-    let six = writer(alloc, SIX)?;
-    let many = changes(alloc, 33)?;
-    assert_eq!(rt; six.admits(many.as_slice()), Err(Fault::BadTransaction));
-    let one = changes(alloc, 1)?.clone()?;
-    assert_eq!(rt; six.admits(one.as_slice()), Ok(()));
-    assert_eq!(rt; six.admits_ack(&ack(5, 1)), Ok(()));
-    assert_eq!(rt; six.admits_ack(&ack(64, 1)), Err(Fault::NotAddressed));
-    assert_eq!(rt; six.admits_view(&child(alloc)?), Err(Fault::NotInPlan));
-    Ok(())
-}
-
-/// The points at which pages of both groups are asked for, after the members of both groups have said what they hold.
-fn read_points(alloc: Global, first: u64, second: u64) -> Result<(u64, u64), Fail> {
-    let mut two = writer(alloc, TWO_GROUPS)?;
-    for groups in [[0, 1, 1], [0, 0, 1]] {
-        two.issue(alloc, changes_of(alloc, groups.as_slice())?.as_slice())?;
-    }
-    two.take_ack(&ack_of(0, first))?;
-    two.take_ack(&ack_of(1, second))?;
-    Ok((read_point(&two, 0)?, read_point(&two, 1)?))
-}
-
-#[test]
-fn reads_of_two_groups(rt: HostRuntime) -> Result<(), Fail> {
-    let alloc = rt.alloc();
-    assert_eq!(rt; read_points(alloc, 5, 0)?, (0, 0));
-    assert_eq!(rt; read_points(alloc, 5, 2)?, (0, 0));
-    assert_eq!(rt; read_points(alloc, 5, 3)?, (1, 3));
-    assert_eq!(rt; read_points(alloc, 1, 6)?, (1, 3));
-    assert_eq!(rt; read_points(alloc, 5, 6)?, (5, 6));
-    Ok(())
 }

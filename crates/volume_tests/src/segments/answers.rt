@@ -1,77 +1,100 @@
-use super::messages::*;
-use super::nodes::{At, node};
+//! What a node answers to each message.
+
+use super::messages::message;
+use super::nodes::At::{self, Copied, Fresh, Holding, Hydrated, Promised, Tail, Whole};
+use super::nodes::node;
+use super::rows::{Row, Table, are_kept};
+use super::steps::Said::{self, Acks, Asks, Byte, Copies, Nothing, Offers, Reports};
+use super::steps::said_by;
+use super::told::Held::First;
+use super::told::Sent::Ours;
+use super::told::Told::{
+    self, CopyAsk, CopyOf, Fence, Gossip, Hydrate, Install, Offer, PageAsk, Step, Write,
+};
+use segment_core::{NodeAct, Segment};
 use std::alloc::Global;
 use std::test::*;
-use wire::Message;
+use volume_model::Fault::{self, StaleMember, StaleVolume};
 
-/// The kind of an answer, and its number that matters: a complete point, how many records, a membership epoch, a page's first byte.
-fn told(answers: &[Message]) -> (&'static str, u64) {
-    match answers {
-        [] => ("nothing", 0),
-        [Message::Ack(ack)] => ("acknowledgement", ack.scl),
-        [Message::Report(report)] => ("report", report.contents.records.len() as u64),
-        [Message::CopyReport(copy)] => ("copy", copy.contents.records.len() as u64),
-        [Message::CopyAsk(ask)] => ("question", u64::from(ask.epoch)),
-        [Message::Page(page)] => ("page", u64::from(page.bytes[0])),
-        _ => ("another", 0),
-    }
+const FENCE: &[Row] = &[(Fence(0, 2, 1), Ok(Reports(1)), 1)];
+
+const INSTALL: &[Row] = &[
+    (Write(0, 1, 1, Ours(1)), Err(StaleVolume), 0),
+    (Install(0, 2, 1, First(0)), Ok(Acks(1)), 1),
+];
+
+const WRITE: &[Row] = &[(Write(0, 1, 1, Ours(2)), Ok(Acks(2)), 2)];
+
+const GOSSIP: &[Row] = &[
+    (Write(0, 1, 1, Ours(1)), Ok(Acks(1)), 1),
+    (Gossip(0, 1, 1, Ours(2)), Ok(Acks(2)), 2),
+];
+
+const STEP: &[Row] = &[(Step(0, 1, 2), Ok(Nothing), 1)];
+
+const COPY_ASK: &[Row] = &[(CopyAsk(0, 1), Ok(Copies(1)), 1)];
+
+const COPY: &[Row] = &[
+    (Write(0, 1, 1, Ours(1)), Err(StaleMember), 0),
+    (CopyOf(0, 2, 1, First(0)), Ok(Nothing), 0),
+];
+
+const PAGE_ASK: &[Row] = &[(PageAsk(0, 1, 1, 1), Ok(Byte(0x61)), 1)];
+
+const TABLES: &[Table] = &[
+    ("a fence", Holding(1), FENCE),
+    ("an install", Promised, INSTALL),
+    ("a write", Holding(1), WRITE),
+    ("gossip", Tail, GOSSIP),
+    ("a step", Holding(1), STEP),
+    ("a question for copies", Holding(1), COPY_ASK),
+    ("a copy", Fresh, COPY),
+    ("a question for a page", Holding(1), PAGE_ASK),
+];
+
+#[test]
+fn answers(rt: HostRuntime) {
+    are_kept(&rt, rt.alloc(), TABLES);
 }
 
-/// What a node answers to a message, after the record of number 1 if it is whole.
-fn answer(alloc: Global, at: At, message: &Message) -> Result<(&'static str, u64), Fail> {
+/// A step in two parts: what was made ready shows, the complete point then, what is answered once it is applied, and the complete point
+/// at last.
+type Parts = (Said, u64, Said, u64);
+
+/// A node's step in two parts.
+fn in_two_parts(alloc: Global, at: At, told: Told) -> Result<Parts, Fault> {
     let mut node = node(alloc, at)?;
-    let _first = node.deliver(alloc, &write(0, LABEL, packet(alloc, 1, 0)?));
-    let answers = node.deliver(alloc, message)?;
-    Ok(told(answers.as_slice()))
+    let prepared = match told {
+        Hydrate => node.prepare_act(alloc, NodeAct::Hydrate)?,
+        Offer(lsn) => node.prepare_act(alloc, NodeAct::Offer { lsn })?,
+        _ => node.prepare(alloc, &message(alloc, told)?)?,
+    };
+    let (shown, before) = (said_by(prepared.answers()), node.scl());
+    let answers = node.apply(prepared);
+    Ok((shown, before, said_by(&answers), node.scl()))
 }
 
-/// The answer to each message.
+/// What is made ready, of which node, and how the step goes.
+const STEPS_IN_TWO_PARTS: &[(&str, At, Told, Parts)] = &[
+    (
+        "a record",
+        Whole,
+        Write(0, 1, 1, Ours(1)),
+        (Acks(1), 0, Acks(1), 1),
+    ),
+    ("becoming whole", Copied, Hydrate, (Nothing, 0, Nothing, 1)),
+    (
+        "an offer",
+        Hydrated,
+        Offer(1),
+        (Offers(1, 2, 1), 1, Offers(1, 2, 1), 1),
+    ),
+];
+
+/// What was made ready shows its answers, and nothing has changed before it is applied.
 #[test]
-fn answers(rt: HostRuntime) -> Result<(), Fail> {
-    let alloc = rt.alloc();
-    for (at, message, expected) in [
-        (At::Whole, fence(0, label(2, 1)), ("report", 1)),
-        (
-            At::Promised,
-            install(0, label(2, 1), contents(alloc, 0)?),
-            ("acknowledgement", 1),
-        ),
-        (
-            At::Whole,
-            write(0, LABEL, packet(alloc, 2, 0)?),
-            ("acknowledgement", 2),
-        ),
-        (
-            At::Tail,
-            gossip(0, LABEL, packet(alloc, 2, 0)?),
-            ("acknowledgement", 2),
-        ),
-        (At::Whole, step(0, 1, 2), ("nothing", 0)),
-        (At::Whole, copy_ask(0, 1), ("copy", 1)),
-        (
-            At::Fresh,
-            copy_report(0, 2, 1, contents(alloc, 0)?),
-            ("nothing", 0),
-        ),
-        (At::Whole, page_ask(0, LABEL, 1), ("page", 0x61)),
-    ] {
-        assert_eq!(rt; answer(alloc, at, &message)?, expected);
+fn steps_in_two_parts(rt: HostRuntime) {
+    for (what, at, told, parts) in STEPS_IN_TWO_PARTS {
+        assert_eq!(rt; in_two_parts(rt.alloc(), *at, *told), Ok(*parts), "{what}");
     }
-    Ok(())
-}
-
-/// A step in two parts: what was prepared shows its answers, and nothing has changed before it is applied.
-#[test]
-fn prepared(rt: HostRuntime) -> Result<(), Fail> {
-    let alloc = rt.alloc();
-    let mut node = node(alloc, At::Whole)?;
-    let prepared = node.prepare(alloc, &write(0, LABEL, packet(alloc, 1, 0)?))?;
-    assert_eq!(rt; told(prepared.answers()), ("acknowledgement", 1));
-    assert_eq!(rt; node.scl(), 0);
-    assert_eq!(rt;
-        told(node.apply(prepared).as_slice()),
-        ("acknowledgement", 1)
-    );
-    assert_eq!(rt; node.scl(), 1);
-    Ok(())
 }

@@ -1,177 +1,158 @@
-//! Records that come in other orders than that of their chains.
+//! Records that come in other orders than that of their chains, and the pages that they make.
 
-use super::messages::{LABEL, fence, label, write};
-use super::nodes::{At, node};
-use redo_record::{Packet, Payload, Record};
+use super::nodes::At::{Tail, Whole};
+use super::nodes::node;
+use super::rows::{Row, Table, are_kept, broken_by};
+use super::steps::Said::{self, Acks, Byte, Nothing, Offers, Reports};
+use super::steps::answer;
+use super::told::Sent::{self, After, Ours};
+use super::told::Told::{ByteOf, Fence, Offer, Restart, Write};
 use segment_core::Segment;
 use std::alloc::Global;
 use std::test::*;
-use wire::Message;
+use volume_model::Fault::{self, PointAhead, TailSegment};
+
+/// Number 2 before number 1, and again.
+const OUT_OF_ORDER: &[Row] = &[
+    (Write(0, 1, 1, Ours(2)), Ok(Acks(0)), 0),
+    (Write(0, 1, 1, Ours(1)), Ok(Acks(2)), 2),
+    (Write(0, 1, 1, Ours(2)), Ok(Acks(2)), 2),
+    (Restart, Ok(Nothing), 2),
+];
+
+/// Two chains beside one another, of the odd numbers and of the even ones. Here the odd one is there first.
+const THE_FIRST_ARM_FIRST: &[Row] = &[
+    (Write(0, 1, 1, After(5, 3)), Ok(Acks(0)), 0),
+    (Write(0, 1, 1, After(6, 4)), Ok(Acks(0)), 0),
+    (Write(0, 1, 1, After(3, 1)), Ok(Acks(0)), 0),
+    (Write(0, 1, 1, After(4, 2)), Ok(Acks(0)), 0),
+    (Write(0, 1, 1, After(1, 0)), Ok(Acks(5)), 5),
+    (Write(0, 1, 1, After(2, 0)), Ok(Acks(6)), 6),
+];
+
+/// Here the even one is.
+const THE_SECOND_ARM_FIRST: &[Row] = &[
+    (Write(0, 1, 1, After(5, 3)), Ok(Acks(0)), 0),
+    (Write(0, 1, 1, After(6, 4)), Ok(Acks(0)), 0),
+    (Write(0, 1, 1, After(3, 1)), Ok(Acks(0)), 0),
+    (Write(0, 1, 1, After(4, 2)), Ok(Acks(0)), 0),
+    (Write(0, 1, 1, After(2, 0)), Ok(Acks(6)), 6),
+    (Write(0, 1, 1, After(1, 0)), Ok(Acks(6)), 6),
+];
+
+/// Of two records with the number 2 one has its chain.
+const TWO_WITH_ONE_NUMBER: &[Row] = &[
+    (Write(0, 1, 1, After(3, 2)), Ok(Acks(0)), 0),
+    (Write(0, 1, 1, After(1, 0)), Ok(Acks(1)), 1),
+    (Write(0, 1, 1, After(2, 0)), Ok(Acks(3)), 3),
+    (Write(0, 1, 1, After(2, 1)), Ok(Acks(3)), 3),
+];
+
+/// Records of two blocks, and the pages at the last of them and at an earlier one.
+const A_BLOCK_OUT_OF_ORDER: &[Row] = &[
+    (Write(0, 1, 1, Sent::Byte(3, 0, 0, b'c')), Ok(Acks(0)), 0),
+    (Write(0, 1, 1, Sent::Byte(4, 0, 1, b'd')), Ok(Acks(0)), 0),
+    (Write(0, 1, 1, Sent::Byte(1, 0, 0, b'a')), Ok(Acks(1)), 1),
+    (Write(0, 1, 1, Sent::Byte(2, 1, 0, b'b')), Ok(Acks(4)), 4),
+    (ByteOf(0, 4, 0), Ok(Byte(b'c')), 4),
+    (ByteOf(0, 4, 1), Ok(Byte(b'd')), 4),
+    (ByteOf(0, 4, 2), Ok(Byte(0)), 4),
+    (ByteOf(0, 2, 0), Ok(Byte(b'a')), 4),
+    (ByteOf(0, 2, 1), Ok(Byte(0)), 4),
+    (ByteOf(1, 4, 0), Ok(Byte(b'b')), 4),
+    (ByteOf(1, 4, 1), Ok(Byte(0)), 4),
+];
+
+/// A page shows what was written up to a point, which isn't above the complete point.
+const A_PAGE: &[Row] = &[
+    (Write(0, 1, 1, Ours(1)), Ok(Acks(1)), 1),
+    (ByteOf(0, 1, 0), Ok(Byte(b'a')), 1),
+    (ByteOf(0, 1, 1), Ok(Byte(0)), 1),
+    (ByteOf(0, 1, 511), Ok(Byte(0)), 1),
+    (ByteOf(0, 2, 0), Err(PointAhead), 1),
+];
+
+/// A member that keeps no whole pages shows none.
+const NO_PAGE: &[Row] = &[(ByteOf(0, 0, 0), Err(TailSegment), 0)];
+
+const TABLES: &[Table] = &[
+    ("out of order", Whole, OUT_OF_ORDER),
+    ("the first arm first", Whole, THE_FIRST_ARM_FIRST),
+    ("the second arm first", Whole, THE_SECOND_ARM_FIRST),
+    ("two with one number", Whole, TWO_WITH_ONE_NUMBER),
+    ("a block out of order", Whole, A_BLOCK_OUT_OF_ORDER),
+    ("a page", Whole, A_PAGE),
+    ("no page", Tail, NO_PAGE),
+];
+
+#[test]
+fn arrivals(rt: HostRuntime) {
+    are_kept(&rt, rt.alloc(), TABLES);
+}
+
+/// What is answered to the record of number 1, the last of 2,000 that come in reverse; before that, the first other answer than that
+/// nothing is complete.
+fn in_reverse(alloc: Global) -> Result<Said, Fault> {
+    let mut node = node(alloc, Whole)?;
+    for before in (1..2000).rev() {
+        let said = answer(alloc, &mut node, Write(0, 1, 1, After(before + 1, before)))?;
+        if said != Acks(0) || node.scl() != 0 {
+            return Ok(said);
+        }
+    }
+    answer(alloc, &mut node, Write(0, 1, 1, After(1, 0)))
+}
+
+#[test]
+fn a_chain_in_reverse(rt: HostRuntime) {
+    assert_eq!(rt; in_reverse(rt.alloc()), Ok(Acks(2000)));
+}
 
 /// How many records make more than one run.
 const MANY: u64 = 5000;
 
-/// A record: its number, the one before it in its group, and the byte that it writes, and where.
-#[derive(Clone, Copy)]
-struct Link {
-    lsn: u64,
-    before: u64,
-    block: u32,
-    offset: u16,
-    byte: u8,
-}
-
-/// A record of block 0 that writes one byte.
-fn chained(lsn: u64, before: u64) -> Link {
-    Link {
-        lsn,
-        before,
-        block: 0,
-        offset: 0,
-        byte: b'a',
-    }
-}
-
-/// The packet of a record.
-fn packet(alloc: Global, link: Link) -> Result<Packet, Fail> {
-    if link.lsn > MANY || link.before >= link.lsn || link.offset > 511 {
-        return Err(Fail::from("a small number after an earlier one"));
-    }
-    let record = Record {
-        lsn: link.lsn,
-        volume_epoch: 1,
-        prev_volume: link.before,
-        prev_group: link.before,
-        prev_block: 0,
-        group: 0,
-        block: link.block,
-        offset: link.offset,
-        bytes: Payload::new(&[link.byte]).ok_or("one byte is a payload")?,
-        point: true,
-    };
-    Ok(Packet::pack(alloc, record)?)
-}
-
-/// The complete point of the segment once it has taken the record.
-fn take(alloc: Global, segment: &mut Segment, link: Link) -> Result<u64, Fail> {
-    segment.deliver(alloc, &write(0, LABEL, packet(alloc, link)?))?;
-    Ok(segment.scl())
-}
-
-#[test]
-fn a_chain_in_reverse(rt: HostRuntime) -> Result<(), Fail> {
-    let alloc = rt.alloc();
-    let mut segment = node(alloc, At::Whole)?;
-    for before in (1..2000).rev() {
-        let scl = take(alloc, &mut segment, chained(before + 1, before))?;
-        assert_eq!(rt; scl, 0);
-    }
-    assert_eq!(rt; take(alloc, &mut segment, chained(1, 0))?, 2000);
-    Ok(())
-}
-
-#[test]
-fn two_arms_end_in_either_order(rt: HostRuntime) -> Result<(), Fail> {
-    let alloc = rt.alloc();
-    for (first, reached) in [(1, 5), (2, 6)] {
-        let mut segment = node(alloc, At::Whole)?;
-        for late in [5, 6, 3, 4] {
-            assert_eq!(rt; take(alloc, &mut segment, chained(late, late - 2))?, 0);
-        }
-        assert_eq!(rt; take(alloc, &mut segment, chained(first, 0))?, reached);
-        assert_eq!(rt; take(alloc, &mut segment, chained(3 - first, 0))?, 6);
-    }
-    Ok(())
-}
-
-/// Of two records with the number 2 one has its chain.
-#[test]
-fn two_records_with_one_number(rt: HostRuntime) -> Result<(), Fail> {
-    let alloc = rt.alloc();
-    let mut segment = node(alloc, At::Whole)?;
-    for (lsn, before, scl) in [(3, 2, 0), (1, 0, 1), (2, 0, 3)] {
-        assert_eq!(rt; take(alloc, &mut segment, chained(lsn, before))?, scl);
-    }
-    assert_eq!(rt; take(alloc, &mut segment, chained(2, 1))?, 3);
-    Ok(())
-}
-
-#[test]
-fn a_block_out_of_order(rt: HostRuntime) -> Result<(), Fail> {
-    let alloc = rt.alloc();
-    let mut segment = node(alloc, At::Whole)?;
-    for (lsn, block, offset, byte) in [
-        (3, 0, 0, b'c'),
-        (4, 0, 1, b'd'),
-        (1, 0, 0, b'a'),
-        (2, 1, 0, b'b'),
-    ] {
-        let link = Link {
-            lsn,
-            before: lsn - 1,
-            block,
-            offset,
-            byte,
-        };
-        take(alloc, &mut segment, link)?;
-    }
-    assert_eq!(rt; segment.scl(), 4);
-    let (last, early, other) = (
-        segment.page_at(0, 4)?,
-        segment.page_at(0, 2)?,
-        segment.page_at(1, 4)?,
-    );
-    assert_eq!(rt; (last[0], last[1], last[2]), (b'c', b'd', 0));
-    assert_eq!(rt; (early[0], early[1]), (b'a', 0));
-    assert_eq!(rt; (other[0], other[1]), (b'b', 0));
-    Ok(())
-}
+/// The records 1 to 5,000 write the bytes of block 0 nearly ten times over, the first 512 `a`, the next ones `b`, and so on.
+const ONCE_MANY_CAME: &[Row] = &[
+    (ByteOf(0, MANY, 0), Ok(Byte(b'j')), MANY),
+    (ByteOf(0, MANY, 391), Ok(Byte(b'j')), MANY),
+    (ByteOf(0, MANY, 392), Ok(Byte(b'i')), MANY),
+    (ByteOf(0, 513, 0), Ok(Byte(b'b')), MANY),
+    (ByteOf(0, 513, 1), Ok(Byte(b'a')), MANY),
+    (Offer(1), Ok(Offers(1, 1, 1)), MANY),
+    (Offer(2048), Ok(Offers(1, 1, 2048)), MANY),
+    (Offer(2049), Ok(Offers(1, 1, 2049)), MANY),
+    (Offer(4096), Ok(Offers(1, 1, 4096)), MANY),
+    (Offer(4097), Ok(Offers(1, 1, 4097)), MANY),
+    (Offer(MANY), Ok(Offers(1, 1, MANY)), MANY),
+    (Fence(0, 2, 1), Ok(Reports(MANY)), MANY),
+];
 
 /// A segment that has taken the records 1 to 5,000 of block 0 in steps of so many.
-fn filled(alloc: Global, step: u64) -> Result<Segment, Fail> {
-    let mut segment = node(alloc, At::Whole)?;
+fn filled(alloc: Global, step: u64) -> Result<Segment, Fault> {
+    let mut node = node(alloc, Whole)?;
     for k in 0..MANY {
         let before = k.wrapping_mul(step) % MANY;
-        let link = Link {
-            lsn: before + 1,
-            before,
-            block: 0,
-            offset: (before % 512) as u16,
-            byte: b'a' + (before / 512).min(9) as u8,
-        };
-        take(alloc, &mut segment, link)?;
+        let byte = b'a' + (before / 512).min(9) as u8;
+        let sent = Sent::Byte(before + 1, 0, (before % 512) as u16, byte);
+        answer(alloc, &mut node, Write(0, 1, 1, sent))?;
     }
-    Ok(segment)
+    Ok(node)
 }
 
-/// Whether the segment tells the records 1 to 5,000 in order.
-fn tells_all(alloc: Global, segment: &mut Segment) -> Result<bool, Fail> {
-    let answers = segment.deliver(alloc, &fence(0, label(2, 1)))?;
-    let [Message::Report(report)] = answers.as_slice() else {
-        return Ok(false);
-    };
-    let records = report.contents.records.as_slice();
-    Ok(records.iter().map(|packet| packet.lsn()).eq(1..=MANY))
+/// The place of the first row that isn't kept to by a segment that was filled in steps of so many.
+fn in_steps_of(alloc: Global, step: u64) -> Result<Option<usize>, Fault> {
+    let mut node = filled(alloc, step)?;
+    Ok(broken_by(alloc, &mut node, ONCE_MANY_CAME))
 }
 
 /// In order, in reverse and mixed, all in one block.
 #[test]
-fn more_than_one_run(rt: HostRuntime) -> Result<(), Fail> {
-    let alloc = rt.alloc();
+fn more_than_one_run(rt: HostRuntime) {
     for step in [1, MANY - 1, 1237] {
-        let mut segment = filled(alloc, step)?;
-        assert_eq!(rt; segment.scl(), MANY, "in steps of {step}");
-        let (last, early) = (segment.page_at(0, MANY)?, segment.page_at(0, 513)?);
         assert_eq!(rt;
-            (last[0], last[391], last[392]),
-            (b'j', b'j', b'i'),
+            in_steps_of(rt.alloc(), step),
+            Ok(None),
             "in steps of {step}"
         );
-        assert_eq!(rt; (early[0], early[1]), (b'b', b'a'), "in steps of {step}");
-        for lsn in [1, 2048, 2049, 4096, 4097, MANY] {
-            assert_eq!(rt; segment.offer(lsn)?.packet.lsn(), lsn, "in steps of {step}");
-        }
-        assert!(rt; tells_all(alloc, &mut segment)?, "in steps of {step}");
     }
-    Ok(())
 }

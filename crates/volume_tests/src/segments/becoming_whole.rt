@@ -1,115 +1,62 @@
-use super::messages::*;
-use super::nodes::segment;
-use super::plans::REPLACED;
-use segment_core::{NodeAct, Segment};
-use std::alloc::Global;
+//! A member that joins and is made whole by copies of a read set.
+
+use super::nodes::At::{Hydrated, Joined, Joining};
+use super::rows::{Row, Table, are_kept};
+use super::steps::Said::{Asks, Byte, Nothing, Offers, Reports};
+use super::told::Held::First;
+use super::told::Told::{ByteOf, CopyOf, Fence, Hydrate, Offer, Restart, Step};
 use std::test::*;
-use volume_model::Fault;
-use wire::Message;
-
-/// Member 6 after its step to the configuration that it joins.
-fn joined(alloc: Global) -> Result<Segment, Fail> {
-    let mut node = segment(alloc, REPLACED, 6)?;
-    node.deliver(alloc, &step(0, 1, 2))?;
-    Ok(node)
-}
-
-/// Hands the node copies of these members, of the record of number 1.
-fn copy(alloc: Global, node: &mut Segment, members: &[u8]) -> Result<(), Fail> {
-    for member in members {
-        let report = copy_report(0, 2, *member, contents(alloc, 0)?);
-        node.deliver(alloc, &report)?;
-    }
-    Ok(())
-}
-
-/// Member 6, made whole from copies of 0, 1 and 2.
-fn hydrated(alloc: Global) -> Result<Segment, Fail> {
-    let mut node = joined(alloc)?;
-    copy(alloc, &mut node, &[0, 1, 2])?;
-    node.hydrate(alloc)?;
-    Ok(node)
-}
+use volume_model::Fault::{AlreadyWhole, NoRecord, NotEnough, NotInstalled, NotWhole};
 
 /// Before it is whole, a node answers nothing but its step.
-#[test]
-fn before_it_is_whole(rt: HostRuntime) -> Result<(), Fail> {
-    let alloc = rt.alloc();
-    let mut node = segment(alloc, REPLACED, 6)?;
-    assert_eq!(rt; node.hydrate(alloc), Err(Fault::NotEnough));
-    assert_eq!(rt;
-        node.deliver(alloc, &fence(0, label(2, 0))).err(),
-        Some(Fault::NotWhole)
-    );
-    assert_eq!(rt; node.page_at(0, 0).err(), Some(Fault::NotWhole));
-    assert_eq!(rt; node.offer(1).err(), Some(Fault::NotWhole));
-    let answers = node.deliver(alloc, &step(0, 1, 2))?;
-    let [Message::CopyAsk(ask)] = answers.as_slice() else {
-        return Err(Fail::from("a question for copies"));
-    };
-    assert_eq!(rt; ask.epoch, 2);
-    Ok(())
-}
+const BEFORE_IT_IS_WHOLE: &[Row] = &[
+    (Hydrate, Err(NotEnough), 0),
+    (Fence(0, 2, 0), Err(NotWhole), 0),
+    (ByteOf(0, 0, 0), Err(NotWhole), 0),
+    (Offer(1), Err(NotWhole), 0),
+    (Step(0, 1, 2), Ok(Asks(2)), 0),
+];
 
 /// Two copies are too few, and a restart loses them.
-#[test]
-fn copies_of_a_read_set(rt: HostRuntime) -> Result<(), Fail> {
-    let alloc = rt.alloc();
-    let mut node = joined(alloc)?;
-    copy(alloc, &mut node, &[0, 1, 1])?;
-    assert_eq!(rt; node.hydrate(alloc), Err(Fault::NotEnough));
-    node.restart();
-    copy(alloc, &mut node, &[2])?;
-    assert_eq!(rt; node.hydrate(alloc), Err(Fault::NotEnough));
-    copy(alloc, &mut node, &[0, 1])?;
-    assert_eq!(rt; node.hydrate(alloc), Ok(()));
-    assert_eq!(rt; node.scl(), 1);
-    assert_eq!(rt; node.hydrate(alloc), Err(Fault::AlreadyWhole));
-    Ok(())
-}
-
-/// What was made ready to become whole is no more than that until it is applied.
-#[test]
-fn hydration_in_two_parts(rt: HostRuntime) -> Result<(), Fail> {
-    let alloc = rt.alloc();
-    let mut node = joined(alloc)?;
-    copy(alloc, &mut node, &[0, 1, 2])?;
-    let prepared = node.prepare_act(alloc, NodeAct::Hydrate)?;
-    assert_eq!(rt; prepared.answers().len(), 0);
-    assert_eq!(rt; node.scl(), 0);
-    assert_eq!(rt; node.apply(prepared).len(), 0);
-    assert_eq!(rt; node.scl(), 1);
-    let prepared = node.prepare_act(alloc, NodeAct::Offer { lsn: 1 })?;
-    assert_eq!(rt; prepared.answers().len(), 1);
-    assert_eq!(rt; node.apply(prepared).len(), 1);
-    Ok(())
-}
+const COPIES_OF_A_READ_SET: &[Row] = &[
+    (CopyOf(0, 2, 0, First(0)), Ok(Nothing), 0),
+    (CopyOf(0, 2, 1, First(0)), Ok(Nothing), 0),
+    (CopyOf(0, 2, 1, First(0)), Ok(Nothing), 0),
+    (Hydrate, Err(NotEnough), 0),
+    (Restart, Ok(Nothing), 0),
+    (CopyOf(0, 2, 2, First(0)), Ok(Nothing), 0),
+    (Hydrate, Err(NotEnough), 0),
+    (CopyOf(0, 2, 0, First(0)), Ok(Nothing), 0),
+    (CopyOf(0, 2, 1, First(0)), Ok(Nothing), 0),
+    (Hydrate, Ok(Nothing), 1),
+    (Hydrate, Err(AlreadyWhole), 1),
+];
 
 /// A node that was told no configuration whose member it is stays as it is.
-#[test]
-fn copies_for_no_member(rt: HostRuntime) -> Result<(), Fail> {
-    let alloc = rt.alloc();
-    let mut node = segment(alloc, REPLACED, 6)?;
-    for member in [0, 1, 2] {
-        node.deliver(alloc, &copy_report(0, 0, member, contents(alloc, 0)?))?;
-    }
-    assert_eq!(rt; node.hydrate(alloc), Err(Fault::NotEnough));
-    Ok(())
-}
+const COPIES_FOR_NO_MEMBER: &[Row] = &[
+    (CopyOf(0, 0, 0, First(0)), Ok(Nothing), 0),
+    (CopyOf(0, 0, 1, First(0)), Ok(Nothing), 0),
+    (CopyOf(0, 0, 2, First(0)), Ok(Nothing), 0),
+    (Hydrate, Err(NotEnough), 0),
+];
 
 /// What it holds now it offers and shows, until a recovery fences it.
+const AFTER_IT_IS_WHOLE: &[Row] = &[
+    (Offer(1), Ok(Offers(1, 2, 1)), 1),
+    (Offer(2), Err(NoRecord), 1),
+    (ByteOf(0, 1, 0), Ok(Byte(b'a')), 1),
+    (Fence(0, 2, 2), Ok(Reports(1)), 1),
+    (Offer(1), Err(NotInstalled), 1),
+];
+
+const TABLES: &[Table] = &[
+    ("before it is whole", Joining, BEFORE_IT_IS_WHOLE),
+    ("copies of a read set", Joined, COPIES_OF_A_READ_SET),
+    ("copies for no member", Joining, COPIES_FOR_NO_MEMBER),
+    ("after it is whole", Hydrated, AFTER_IT_IS_WHOLE),
+];
+
 #[test]
-fn after_it_is_whole(rt: HostRuntime) -> Result<(), Fail> {
-    let alloc = rt.alloc();
-    let mut node = hydrated(alloc)?;
-    let Message::Gossip(gossip) = node.offer(1)?.gossip()? else {
-        return Err(Fail::from("gossip"));
-    };
-    assert_eq!(rt; gossip.label, label(1, 2));
-    assert_eq!(rt; gossip.packet.lsn(), 1);
-    assert_eq!(rt; node.offer(2).err(), Some(Fault::NoRecord));
-    assert_eq!(rt; node.page_at(0, 1)?[0], b'a');
-    node.deliver(alloc, &fence(0, label(2, 2)))?;
-    assert_eq!(rt; node.offer(1).err(), Some(Fault::NotInstalled));
-    Ok(())
+fn becomes_whole(rt: HostRuntime) {
+    are_kept(&rt, rt.alloc(), TABLES);
 }

@@ -1,42 +1,63 @@
-use super::messages::{label, write};
-use super::nodes::{At, node};
-use super::pieces::{MOST, Part, copied, installed, numbered, of_records};
-use std::test::*;
-use volume_model::Fault;
+//! As many records as a segment may hold.
 
-/// A piece of as many records as a segment may hold, which are as many pieces as there may be.
-fn of_most(piece: u16) -> Part {
-    let before = u64::from(piece) * 256;
-    of_records(piece, 4096, before + 1, before + 256)
+use super::nodes::At::{self, Fresh, Whole};
+use super::nodes::node;
+use super::rows::{Row, broken_by};
+use super::steps::Said::{Acks, Nothing};
+use super::steps::answer;
+use super::told::Part::Of;
+use super::told::Sent::Ours;
+use super::told::Told::{CopyPiece, Hydrate, InstallPiece, Write};
+use std::alloc::Global;
+use std::test::*;
+use volume_model::Fault::{self, Full};
+
+/// How many records a segment holds at most.
+const MOST: u64 = 1_048_576;
+
+/// No record more is taken, and each that is held is acknowledged again.
+const ONCE_INSTALLED: &[Row] = &[
+    (Write(0, 2, 1, Ours(MOST + 1)), Err(Full), MOST),
+    (Write(0, 2, 1, Ours(MOST)), Ok(Acks(MOST)), MOST),
+];
+
+/// One record more is copied of another member.
+const ONCE_COPIED: &[Row] = &[
+    (
+        CopyPiece(2, 1, 1, Of(0, 1, MOST + 1, MOST + 1)),
+        Ok(Nothing),
+        0,
+    ),
+    (Hydrate, Err(Full), 0),
+];
+
+/// The number of the first piece that isn't answered as it should be, or the place of the first row that isn't kept to then, where as
+/// many records as a segment may hold, which are as many pieces as there may be, are installed in a whole node or copied to another.
+fn filled(alloc: Global, at: At, rows: &[Row]) -> Result<(Option<u16>, Option<usize>), Fault> {
+    let mut node = node(alloc, at)?;
+    for piece in 0..4096 {
+        let before = u64::from(piece) * 256;
+        let part = Of(piece, 4096, before + 1, before + 256);
+        let (told, last) = match at {
+            Whole => (InstallPiece(2, 1, part), Acks(MOST)),
+            _ => (CopyPiece(2, 0, 1, part), Nothing),
+        };
+        let expected = if piece == 4095 { last } else { Nothing };
+        if answer(alloc, &mut node, told)? != expected {
+            return Ok((Some(piece), None));
+        }
+    }
+    Ok((None, broken_by(alloc, &mut node, rows)))
 }
 
 /// As many records as a segment may hold are installed, and no record more is taken.
 #[test]
-fn installed_to_the_full(rt: HostRuntime) -> Result<(), Fail> {
-    let alloc = rt.alloc();
-    let mut node = node(alloc, At::Whole)?;
-    for piece in 0..4096 {
-        let answers = node.deliver(alloc, &installed(alloc, label(2, 1), of_most(piece))?)?;
-        assert_eq!(rt; answers.len(), usize::from(piece == 4095), "{piece}");
-    }
-    assert_eq!(rt; node.scl(), MOST);
-    let refused = node.deliver(alloc, &write(0, label(2, 1), numbered(alloc, MOST + 1)?));
-    assert_eq!(rt; refused.err(), Some(Fault::Full));
-    let again = node.deliver(alloc, &write(0, label(2, 1), numbered(alloc, MOST)?))?;
-    assert_eq!(rt; again.len(), 1);
-    Ok(())
+fn installed_to_the_full(rt: HostRuntime) {
+    assert_eq!(rt; filled(rt.alloc(), Whole, ONCE_INSTALLED), Ok((None, None)));
 }
 
 /// Copies that hold one record more than a segment may make no member whole.
 #[test]
-fn copied_beyond_the_full(rt: HostRuntime) -> Result<(), Fail> {
-    let alloc = rt.alloc();
-    let mut node = node(alloc, At::Fresh)?;
-    for piece in 0..4096 {
-        node.deliver(alloc, &copied(alloc, 2, 0, 1, of_most(piece))?)?;
-    }
-    let more = of_records(0, 1, MOST + 1, MOST + 1);
-    node.deliver(alloc, &copied(alloc, 2, 1, 1, more)?)?;
-    assert_eq!(rt; node.hydrate(alloc), Err(Fault::Full));
-    Ok(())
+fn copied_beyond_the_full(rt: HostRuntime) {
+    assert_eq!(rt; filled(rt.alloc(), Fresh, ONCE_COPIED), Ok((None, None)));
 }

@@ -1,125 +1,201 @@
+//! The messages that nodes are told.
+
+use super::told::{Held, Part, Sent, Told};
+use crate::packets::{Line, chain, chained, contents, packet, recovered};
 use lineage::Lineage;
-use redo_record::{Packet, Payload, Record, RecordSet};
+use redo_record::{Packet, RecordSet};
 use std::alloc::Global;
-use std::test::Fail;
+use volume_model::Fault;
 use wire::{
-    Contents, CopyAsk, CopyReport, Fence, Gossip, Install, Label, Message, PageAsk, Place, StepTo,
-    Write,
+    Ack, Contents, CopyAsk, CopyReport, Fence, Gossip, Install, Label, Message, Page, PageAsk,
+    Place, Report, StepTo, View, Write,
 };
 
-/// Volume epoch 1 at membership epoch 1.
-pub const LABEL: Label = Label {
+/// The label of volume epoch 1 at membership epoch 1.
+const LABEL: Label = Label {
     volume: 1,
     member: 1,
 };
 
-/// The label of a volume epoch and a membership epoch.
-pub fn label(volume: u32, member: u32) -> Label {
-    Label { volume, member }
-}
-
-/// The record of number 1 or 2, of the group.
-pub fn packet(alloc: Global, number: u64, group: u8) -> Result<Packet, Fail> {
-    let back = number.saturating_sub(1).min(1);
-    let record = Record {
-        lsn: back + 1,
-        volume_epoch: 1,
-        prev_volume: back,
-        prev_group: back,
-        prev_block: back,
-        group: group.min(15),
-        block: 0,
-        offset: 0,
-        bytes: Payload::new(b"a").ok_or("one byte is a payload")?,
-        point: true,
-    };
-    Ok(Packet::pack(alloc, record)?)
-}
-
-/// The record of number 1 alone, of the group.
-pub fn contents(alloc: Global, group: u8) -> Result<Box<Contents>, Fail> {
-    let mut records = RecordSet::new(alloc);
-    records.insert(packet(alloc, 1, group)?)?;
-    let lineage = Lineage::birth(alloc)?;
-    Ok(Box::new(alloc, Contents { lineage, records })?)
-}
-
-/// No record, and no lineage.
-pub fn nothing(alloc: Global) -> Result<Box<Contents>, Fail> {
-    let lineage = Lineage::empty(alloc);
-    let records = RecordSet::new(alloc);
-    Ok(Box::new(alloc, Contents { lineage, records })?)
-}
-
-/// A fence of a group.
-pub fn fence(group: u8, label: Label) -> Message {
-    Message::Fence(Fence { group, label })
-}
-
-/// A writer's record of a group.
-pub fn write(group: u8, label: Label, packet: Packet) -> Message {
-    Message::Write(Write {
-        group,
-        label,
-        packet,
-    })
-}
-
-/// A peer's record of a group.
-pub fn gossip(group: u8, label: Label, packet: Packet) -> Message {
-    Message::Gossip(Gossip {
-        group,
-        label,
-        packet,
-    })
-}
-
-/// What a recovery installs in a group, in one piece.
-pub fn install(group: u8, label: Label, contents: Box<Contents>) -> Message {
-    Message::Install(Install {
-        group,
-        label,
-        piece: 0,
-        of: 1,
-        contents,
-    })
-}
-
-/// A step of a group to a configuration, at a membership epoch.
-pub fn step(group: u8, configuration: u8, epoch: u32) -> Message {
-    Message::StepTo(StepTo {
-        group,
-        place: Place {
-            configuration,
-            epoch,
+/// The record that is sent.
+fn line(sent: Sent) -> Line {
+    match sent {
+        Sent::Ours(lsn) => chained(lsn),
+        Sent::Others(lsn) => Line {
+            group: 1,
+            ..chained(lsn)
         },
-    })
+        Sent::After(lsn, before) => Line {
+            prev_volume: before,
+            prev_group: before,
+            prev_block: 0,
+            ..chained(lsn)
+        },
+        Sent::Byte(lsn, block, offset, byte) => Line {
+            prev_block: 0,
+            block,
+            offset,
+            byte,
+            ..chained(lsn)
+        },
+    }
 }
 
-/// A question of a fresh member for copies, at a membership epoch.
-pub fn copy_ask(group: u8, epoch: u32) -> Message {
-    Message::CopyAsk(CopyAsk { group, epoch })
+/// The packet of the record that is sent.
+fn sent(alloc: Global, sent: Sent) -> Result<Packet, Fault> {
+    packet(alloc, line(sent))
 }
 
-/// A member's first copy, at a membership epoch, in one piece.
-pub fn copy_report(group: u8, epoch: u32, from: u8, contents: Box<Contents>) -> Message {
-    Message::CopyReport(CopyReport {
-        group,
+/// What is installed or copied in one piece.
+fn held(alloc: Global, held: Held) -> Result<Box<Contents>, Fault> {
+    let mut records = RecordSet::new(alloc);
+    let Held::First(group) = held else {
+        return contents(alloc, Lineage::empty(alloc), records);
+    };
+    records.insert(packet(
+        alloc,
+        Line {
+            group,
+            ..chained(1)
+        },
+    )?)?;
+    contents(alloc, Lineage::birth(alloc)?, records)
+}
+
+/// A piece's number, of how many it is, and what it has under the lineage of the recovery of a volume epoch that cut at 600.
+fn part(alloc: Global, volume: u32, part: Part) -> Result<(u16, u16, Box<Contents>), Fault> {
+    let (piece, of, first, last) = match part {
+        Part::Of(piece, of, first, last) => (piece, of, first, last),
+        Part::One(piece, of) => (piece, of, u64::from(piece) + 1, u64::from(piece) + 1),
+    };
+    let records = chain(alloc, first, last)?;
+    let contents = contents(alloc, recovered(alloc, volume, 600)?, records)?;
+    Ok((piece, of, contents))
+}
+
+/// The message of an install's piece.
+fn install_piece(alloc: Global, label: Label, told: Part) -> Result<Message, Fault> {
+    let (piece, of, contents) = part(alloc, label.volume, told)?;
+    Ok(Message::Install(Install {
+        group: 0,
+        label,
+        piece,
+        of,
+        contents,
+    }))
+}
+
+/// The message of a copy's piece.
+fn copy_piece(
+    alloc: Global,
+    epoch: u32,
+    from: u8,
+    series: u64,
+    told: Part,
+) -> Result<Message, Fault> {
+    let (piece, of, contents) = part(alloc, 1, told)?;
+    Ok(Message::CopyReport(CopyReport {
+        group: 0,
         epoch,
         from,
-        series: 1,
-        piece: 0,
-        of: 1,
+        series,
+        piece,
+        of,
         contents,
+    }))
+}
+
+/// The messages for clients.
+fn for_clients(alloc: Global, told: Told) -> Result<Message, Fault> {
+    Ok(match told {
+        Told::View => Message::View(View {
+            volume: 1,
+            places: Vec::new(alloc),
+        }),
+        Told::Report => Message::Report(Report {
+            group: 0,
+            label: LABEL,
+            from: 1,
+            contents: held(alloc, Held::First(0))?,
+        }),
+        Told::Ack => Message::Ack(Ack {
+            group: 0,
+            label: LABEL,
+            from: 1,
+            scl: 1,
+        }),
+        Told::Page => Message::Page(Page {
+            group: 0,
+            label: LABEL,
+            from: 1,
+            block: 0,
+            point: 0,
+            bytes: Box::new(alloc, [0; 512])?,
+        }),
+        _ => return Err(Fault::NoMessage),
     })
 }
 
-/// A question for block 0 at a point.
-pub fn page_ask(group: u8, label: Label, point: u64) -> Message {
-    Message::PageAsk(PageAsk {
-        group,
-        label,
-        block: 0,
-        point,
+/// The messages that hold nothing but numbers, and those for clients.
+fn plain(alloc: Global, told: Told) -> Result<Message, Fault> {
+    Ok(match told {
+        Told::Fence(group, volume, member) => Message::Fence(Fence {
+            group,
+            label: Label { volume, member },
+        }),
+        Told::Step(group, configuration, epoch) => Message::StepTo(StepTo {
+            group,
+            place: Place {
+                configuration,
+                epoch,
+            },
+        }),
+        Told::CopyAsk(group, epoch) => Message::CopyAsk(CopyAsk { group, epoch }),
+        Told::PageAsk(group, volume, member, point) => Message::PageAsk(PageAsk {
+            group,
+            label: Label { volume, member },
+            block: 0,
+            point,
+        }),
+        _ => return for_clients(alloc, told),
+    })
+}
+
+/// The message that a node is told, `NoMessage` where it is told none.
+pub fn message(alloc: Global, told: Told) -> Result<Message, Fault> {
+    Ok(match told {
+        Told::Install(group, volume, member, whole) => Message::Install(Install {
+            group,
+            label: Label { volume, member },
+            piece: 0,
+            of: 1,
+            contents: held(alloc, whole)?,
+        }),
+        Told::InstallPiece(volume, member, part) => {
+            return install_piece(alloc, Label { volume, member }, part);
+        }
+        Told::Write(group, volume, member, record) => Message::Write(Write {
+            group,
+            label: Label { volume, member },
+            packet: sent(alloc, record)?,
+        }),
+        Told::Gossip(group, volume, member, record) => Message::Gossip(Gossip {
+            group,
+            label: Label { volume, member },
+            packet: sent(alloc, record)?,
+        }),
+        Told::CopyOf(group, epoch, from, whole) => Message::CopyReport(CopyReport {
+            group,
+            epoch,
+            from,
+            series: 1,
+            piece: 0,
+            of: 1,
+            contents: held(alloc, whole)?,
+        }),
+        Told::CopyPiece(epoch, from, series, part) => {
+            return copy_piece(alloc, epoch, from, series, part);
+        }
+        _ => return plain(alloc, told),
     })
 }

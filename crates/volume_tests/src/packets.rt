@@ -1,0 +1,106 @@
+//! Records that tests speak of, their packets, and what is held of them.
+
+use lineage::Lineage;
+use redo_record::{Packet, Payload, Record, RecordSet};
+use std::alloc::Global;
+use volume_model::Fault;
+use wire::Contents;
+
+/// A record that writes one byte. The fields are those of a record.
+#[derive(Clone, Copy)]
+pub struct Line {
+    pub lsn: u64,
+    pub volume_epoch: u32,
+    pub prev_volume: u64,
+    pub prev_group: u64,
+    pub prev_block: u64,
+    pub group: u8,
+    pub block: u32,
+    pub offset: u16,
+    pub byte: u8,
+    pub point: bool,
+}
+
+/// The record of number 1, a consistency point of volume epoch 1, which writes `a` at the beginning of block 0 of group 0.
+pub const FIRST: Line = Line {
+    lsn: 1,
+    volume_epoch: 1,
+    prev_volume: 0,
+    prev_group: 0,
+    prev_block: 0,
+    group: 0,
+    block: 0,
+    offset: 0,
+    byte: b'a',
+    point: true,
+};
+
+/// The same of another number, chained to the number before it.
+pub fn chained(lsn: u64) -> Line {
+    let before = lsn.saturating_sub(1);
+    Line {
+        lsn,
+        prev_volume: before,
+        prev_group: before,
+        prev_block: before,
+        ..FIRST
+    }
+}
+
+/// The packet of a record, `BadField` where there is no such record.
+pub fn packet(alloc: Global, line: Line) -> Result<Packet, Fault> {
+    let Some(bytes) = Payload::new(&[line.byte]) else {
+        return Err(Fault::BadField);
+    };
+    if line.lsn > 1 << 62
+        || line.volume_epoch == 0
+        || line.prev_volume >= line.lsn
+        || line.prev_group > line.prev_volume
+        || line.prev_block > line.prev_group
+        || line.group > 15
+        || line.offset > 511
+    {
+        return Err(Fault::BadField);
+    }
+    let record = Record {
+        lsn: line.lsn,
+        volume_epoch: line.volume_epoch,
+        prev_volume: line.prev_volume,
+        prev_group: line.prev_group,
+        prev_block: line.prev_block,
+        group: line.group,
+        block: line.block,
+        offset: line.offset,
+        bytes,
+        point: line.point,
+    };
+    Ok(Packet::pack(alloc, record)?)
+}
+
+/// The chained records from a number up to another.
+pub fn chain(alloc: Global, first: u64, last: u64) -> Result<RecordSet, Fault> {
+    let mut records = RecordSet::new(alloc);
+    for lsn in first..=last {
+        records.insert(packet(alloc, chained(lsn))?)?;
+    }
+    Ok(records)
+}
+
+/// The lineage of a volume's first recovery, of this volume epoch and cut, over a plan with an allowance of 10. The volume is born with
+/// volume epoch 1.
+pub fn recovered(alloc: Global, volume_epoch: u32, cut: u64) -> Result<Lineage, Fault> {
+    let birth = Lineage::birth(alloc)?;
+    if volume_epoch <= birth.last_epoch() {
+        return Ok(birth);
+    }
+    birth.extend(volume_epoch, cut, 10)
+}
+
+/// What a segment holds, in a box.
+pub fn contents(
+    alloc: Global,
+    lineage: Lineage,
+    records: RecordSet,
+) -> Result<Box<Contents>, Fault> {
+    Ok(Box::new(alloc, Contents { lineage, records })?)
+}

@@ -1,0 +1,86 @@
+//! What a node answers to what happens to it.
+
+use super::messages::message;
+use super::told::Told;
+use redo_record::Packet;
+use segment_core::Segment;
+use std::alloc::Global;
+use volume_model::Fault;
+use wire::Message;
+
+/// What a node answers, by what of it matters.
+#[derive(Clone, Copy, Debug, PartialEq, Eq)]
+pub enum Said {
+    /// Nothing.
+    Nothing,
+    /// An acknowledgement of a complete point.
+    Acks(u64),
+    /// To a recovery, that it holds the records from 1 up to a number and no others.
+    Reports(u64),
+    /// To a fresh member, the same.
+    Copies(u64),
+    /// A question for copies, at a membership epoch.
+    Asks(u32),
+    /// A page that begins by this byte, or a byte of a page.
+    Byte(u8),
+    /// To its peers a record, under a volume epoch and a membership epoch, with a number.
+    Offers(u32, u32, u64),
+    /// Anything else.
+    Another,
+}
+
+/// The number up to which these are the records from 1 on, in order, and no others; the greatest number where they are others.
+fn last_of(packets: &[Packet]) -> u64 {
+    let mut last: u64 = 0;
+    for packet in packets {
+        if last.checked_add(1) != Some(packet.lsn()) {
+            return u64::MAX;
+        }
+        last = packet.lsn();
+    }
+    last
+}
+
+/// What the messages say.
+pub fn said_by(messages: &[Message]) -> Said {
+    match messages {
+        [] => Said::Nothing,
+        [Message::Ack(ack)] => Said::Acks(ack.scl),
+        [Message::Report(report)] => Said::Reports(last_of(report.contents.records.as_slice())),
+        [Message::CopyReport(copy)] => Said::Copies(last_of(copy.contents.records.as_slice())),
+        [Message::CopyAsk(ask)] => Said::Asks(ask.epoch),
+        [Message::Page(page)] => Said::Byte(page.bytes[0]),
+        [Message::Gossip(gossip)] => {
+            let label = gossip.label;
+            Said::Offers(label.volume, label.member, gossip.packet.lsn())
+        }
+        _ => Said::Another,
+    }
+}
+
+/// What the node answers to a message.
+fn delivered(alloc: Global, node: &mut Segment, told: Told) -> Result<Said, Fault> {
+    let message = message(alloc, told)?;
+    let answers = node.deliver(alloc, &message)?;
+    Ok(said_by(&answers))
+}
+
+/// What the node answers.
+pub fn answer(alloc: Global, node: &mut Segment, told: Told) -> Result<Said, Fault> {
+    match told {
+        Told::Restart => {
+            node.restart();
+            Ok(Said::Nothing)
+        }
+        Told::Hydrate => {
+            node.hydrate(alloc)?;
+            Ok(Said::Nothing)
+        }
+        Told::Offer(lsn) => Ok(said_by(&[node.offer(lsn)?.gossip()?])),
+        Told::ByteOf(block, point, place) => match node.page_at(block, point)?.get(place) {
+            Some(byte) => Ok(Said::Byte(*byte)),
+            None => Ok(Said::Another),
+        },
+        _ => delivered(alloc, node, told),
+    }
+}
