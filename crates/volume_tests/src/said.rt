@@ -3,7 +3,7 @@
 use wire::Message;
 
 /// What the authority or a client answers, by what of it matters.
-#[derive(Clone, Copy, Debug, PartialEq, Eq)]
+#[derive(Clone, Copy, PartialEq, Eq)]
 pub enum Said {
     /// That it is so, or may be or was done.
     Yes,

@@ -1,5 +1,7 @@
 //! What a node answers to each message.
 
+ghost use Rattle.segment_core.specs.Segment.{IsReady};
+
 use super::messages::message;
 use super::nodes::At::{self, Copied, Fresh, Holding, Hydrated, Promised, Tail, Whole};
 use super::nodes::node;
@@ -8,10 +10,8 @@ use super::steps::Said::{self, Acks, Asks, Byte, Copies, Nothing, Offers, Report
 use super::steps::said_by;
 use super::told::Held::First;
 use super::told::Sent::Ours;
-use super::told::Told::{
-    self, CopyAsk, CopyOf, Fence, Gossip, Hydrate, Install, Offer, PageAsk, Step, Write,
-};
-use segment_core::{NodeAct, Segment};
+use super::told::Told::{self, CopyAsk, CopyOf, Fence, Gossip, Install, PageAsk, Step, Write};
+use segment_core::{NodeAct, Prepared, Segment};
 use std::alloc::Global;
 use std::test::*;
 use volume_model::Fault::{self, StaleMember, StaleVolume};
@@ -61,40 +61,49 @@ fn answers(rt: HostRuntime) {
 /// at last.
 type Parts = (Said, u64, Said, u64);
 
-/// A node's step in two parts.
-fn in_two_parts(alloc: Global, at: At, told: Told) -> Result<Parts, Fault> {
-    let mut node = node(alloc, at)?;
-    let prepared = match told {
-        Hydrate => node.prepare_act(alloc, NodeAct::Hydrate)?,
-        Offer(lsn) => node.prepare_act(alloc, NodeAct::Offer { lsn })?,
-        _ => node.prepare(alloc, &message(alloc, told)?)?,
-    };
+/// The second part of a step, and what was seen before it.
+fn applied(node: &mut Segment, prepared: Prepared) -> Parts
+    requires { IsReady node.old prepared }
+{
     let (shown, before) = (said_by(prepared.answers()), node.scl());
     let answers = node.apply(prepared);
-    Ok((shown, before, said_by(&answers), node.scl()))
+    (shown, before, said_by(&answers), node.scl())
 }
 
-/// What is made ready, of which node, and how the step goes.
-const STEPS_IN_TWO_PARTS: &[(&str, At, Told, Parts)] = &[
-    (
-        "a record",
-        Whole,
-        Write(0, 1, 1, Ours(1)),
-        (Acks(1), 0, Acks(1), 1),
-    ),
-    ("becoming whole", Copied, Hydrate, (Nothing, 0, Nothing, 1)),
-    (
-        "an offer",
-        Hydrated,
-        Offer(1),
-        (Offers(1, 2, 1), 1, Offers(1, 2, 1), 1),
-    ),
-];
+/// Whether a record is taken so in two parts.
+fn takes(alloc: Global, at: At, told: Told, parts: Parts) -> Result<bool, Fault> {
+    let mut node = node(alloc, at)?;
+    let prepared = node.prepare(alloc, &message(alloc, told)?)?;
+    Ok(applied(&mut node, prepared) == parts)
+}
+
+/// Whether an act is done so in two parts.
+fn acts(alloc: Global, at: At, act: NodeAct<'_>, parts: Parts) -> Result<bool, Fault> {
+    let mut node = node(alloc, at)?;
+    let prepared = node.prepare_act(alloc, act)?;
+    Ok(applied(&mut node, prepared) == parts)
+}
+
+/// How a record of number 1 is taken.
+const TAKING: Parts = (Acks(1), 0, Acks(1), 1);
+
+/// How a member becomes whole.
+const BECOMING_WHOLE: Parts = (Nothing, 0, Nothing, 1);
+
+/// How it offers the record of number 1.
+const OFFERING: Parts = (Offers(1, 2, 1), 1, Offers(1, 2, 1), 1);
 
 /// What was made ready shows its answers, and nothing has changed before it is applied.
 #[test]
 fn steps_in_two_parts(rt: HostRuntime) {
-    for (what, at, told, parts) in STEPS_IN_TWO_PARTS {
-        assert_eq!(rt; in_two_parts(rt.alloc(), *at, *told), Ok(*parts), "{what}");
-    }
+    let (alloc, offer) = (rt.alloc(), NodeAct::Offer { lsn: 1 });
+    assert_eq!(rt;
+        takes(alloc, Whole, Write(0, 1, 1, Ours(1)), TAKING),
+        Ok(true)
+    );
+    assert_eq!(rt;
+        acts(alloc, Copied, NodeAct::Hydrate, BECOMING_WHOLE),
+        Ok(true)
+    );
+    assert_eq!(rt; acts(alloc, Hydrated, offer, OFFERING), Ok(true));
 }

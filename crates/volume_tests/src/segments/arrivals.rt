@@ -3,7 +3,7 @@
 use super::nodes::At::{Tail, Whole};
 use super::nodes::node;
 use super::rows::{Row, Table, are_kept, broken_by};
-use super::steps::Said::{self, Acks, Byte, Nothing, Offers, Reports};
+use super::steps::Said::{Acks, Byte, Nothing, Offers, Reports};
 use super::steps::answer;
 use super::told::Sent::{self, After, Ours};
 use super::told::Told::{ByteOf, Fence, Offer, Restart, Write};
@@ -90,22 +90,25 @@ fn arrivals(rt: HostRuntime) {
     are_kept(&rt, rt.alloc(), TABLES);
 }
 
-/// What is answered to the record of number 1, the last of 2,000 that come in reverse; before that, the first other answer than that
-/// nothing is complete.
-fn in_reverse(alloc: Global) -> Result<Said, Fault> {
+/// The first record, at last.
+const THE_LAST_OF_2000: &[Row] = &[(Write(0, 1, 1, After(1, 0)), Ok(Acks(2000)), 2000)];
+
+/// The number of the first record that is acknowledged otherwise than with nothing complete, of 2,000 that come in reverse; and whether
+/// the last of them isn't.
+fn in_reverse(alloc: Global) -> Result<(Option<u64>, Option<usize>), Fault> {
     let mut node = node(alloc, Whole)?;
     for before in (1..2000).rev() {
         let said = answer(alloc, &mut node, Write(0, 1, 1, After(before + 1, before)))?;
         if said != Acks(0) || node.scl() != 0 {
-            return Ok(said);
+            return Ok((Some(before + 1), None));
         }
     }
-    answer(alloc, &mut node, Write(0, 1, 1, After(1, 0)))
+    Ok((None, broken_by(alloc, &mut node, THE_LAST_OF_2000)))
 }
 
 #[test]
 fn a_chain_in_reverse(rt: HostRuntime) {
-    assert_eq!(rt; in_reverse(rt.alloc()), Ok(Acks(2000)));
+    assert_eq!(rt; in_reverse(rt.alloc()), Ok((None, None)));
 }
 
 /// How many records make more than one run.

@@ -38,8 +38,19 @@ pub enum At {
 /// A fence of volume epoch 2.
 const PROMISE: &[Told] = &[Told::Fence(0, 2, 1)];
 
-/// A step to membership epoch 2, copies of a read set, and how they make a member whole.
+/// A step to membership epoch 2.
+const STEP: &[Told] = &[Told::Step(0, 1, 2)];
+
+/// The step, and copies of a read set.
 const COPIES: &[Told] = &[
+    Told::Step(0, 1, 2),
+    Told::CopyOf(0, 2, 0, Held::First(0)),
+    Told::CopyOf(0, 2, 1, Held::First(0)),
+    Told::CopyOf(0, 2, 2, Held::First(0)),
+];
+
+/// The same, and how they make a member whole.
+const HYDRATION: &[Told] = &[
     Told::Step(0, 1, 2),
     Told::CopyOf(0, 2, 0, Held::First(0)),
     Told::CopyOf(0, 2, 1, Held::First(0)),
@@ -47,22 +58,33 @@ const COPIES: &[Told] = &[
     Told::Hydrate,
 ];
 
+/// What happens to a member of a group until it is that node.
+fn story(at: At) -> &'static [Told] {
+    match at {
+        At::Promised => PROMISE,
+        At::Fresh | At::Joined => STEP,
+        At::Copied => COPIES,
+        At::Hydrated => HYDRATION,
+        _ => &[],
+    }
+}
+
+/// That member as it is born.
+fn born(alloc: Global, at: At) -> Result<Segment, Fault> {
+    let (text, member) = match at {
+        At::Whole | At::Holding(_) | At::Promised => (SMALL, 0),
+        At::Tail => (SMALL, 1),
+        At::Early | At::Fresh => (SMALL, 3),
+        At::Nobody => (SMALL, 4),
+        At::Joining | At::Joined | At::Copied | At::Hydrated => (REPLACED, 6),
+    };
+    Segment::new(alloc, checked(alloc, text)?, 0, member)
+}
+
 /// That node.
 pub fn node(alloc: Global, at: At) -> Result<Segment, Fault> {
-    let (text, member, story) = match at {
-        At::Whole | At::Holding(_) => (SMALL, 0, &PROMISE[..0]),
-        At::Promised => (SMALL, 0, PROMISE),
-        At::Tail => (SMALL, 1, &COPIES[..0]),
-        At::Early => (SMALL, 3, &COPIES[..0]),
-        At::Fresh => (SMALL, 3, &COPIES[..1]),
-        At::Nobody => (SMALL, 4, &COPIES[..0]),
-        At::Joining => (REPLACED, 6, &COPIES[..0]),
-        At::Joined => (REPLACED, 6, &COPIES[..1]),
-        At::Copied => (REPLACED, 6, &COPIES[..4]),
-        At::Hydrated => (REPLACED, 6, COPIES),
-    };
-    let mut node = Segment::new(alloc, checked(alloc, text)?, 0, member)?;
-    for told in story {
+    let mut node = born(alloc, at)?;
+    for told in story(at) {
         answer(alloc, &mut node, *told)?;
     }
     if let At::Holding(last) = at {

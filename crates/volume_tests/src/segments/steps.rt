@@ -9,7 +9,7 @@ use volume_model::Fault;
 use wire::Message;
 
 /// What a node answers, by what of it matters.
-#[derive(Clone, Copy, Debug, PartialEq, Eq)]
+#[derive(Clone, Copy, PartialEq, Eq)]
 pub enum Said {
     /// Nothing.
     Nothing,
