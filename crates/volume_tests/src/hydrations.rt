@@ -156,8 +156,11 @@ fn copies_in_two_steps(rt: HostRuntime) {
     assert_eq!(rt; in_two_steps(rt.alloc()), Ok([false, true, false, false]));
 }
 
-/// The copy of a member, under a lineage and with the records from 1 up to a number.
+/// The copy of a member, under a lineage and with the records from 1 up to a number; `NotAddressed` where there is no such member.
 fn copied(alloc: Global, from: u8, past: Past, last: u64) -> Result<Copied, Fault> {
+    if from > 63 {
+        return Err(Fault::NotAddressed);
+    }
     let report = report(alloc, Sent::Copy(from, past, last))?;
     Ok(Copied {
         from,
