@@ -11,7 +11,7 @@ use Rattle.refutation.specs.Rule.{Rule}
 use Rattle.plan.specs.declared.lent.LentClaim.{LentClaim}
 use Rattle.plan.specs.LentClaims.{all_lent, lent_placed}
 use Rattle.plan.specs.PlanClaims.{PlacedClaim}
-use Rattle.plan_tokens.specs.Rewritten.{HasClaims}
+use Rattle.plan_tokens.specs.WrittenPlans.{HasClaims}
 use Rattle.cert_search.specs.Answers.{rule_in}
 use Rattle.cert_search.specs.Smaller.{AreNoLarger}
 use Rattle.jobs.specs.Searched.{TellsSearch}
