@@ -24,9 +24,8 @@ def below(crates, stands_on):
     return wanted
 
 
-def built(folder, name, program, crates, words, proofs=None, modules=None):
-    """The program of this name, with these texts in its proofs/ and these modules, built and run once with these words. It takes some minutes where the
-    crates weren't proved before."""
+def laid_out(folder, name, program, crates, proofs=None, modules=None):
+    """The folder of a crate of this name, with these texts in its proofs/ and these modules, beside copies of the crates below it."""
     stands_on = lines()
     wanted = below(crates, stands_on)
     shutil.copy(TOP / "HANDLES", folder)
@@ -42,5 +41,12 @@ def built(folder, name, program, crates, words, proofs=None, modules=None):
         (work / "proofs" / file).write_text(text)
     listed = [f"{crate}: {' '.join(stands_on[crate])}\n" for crate in stands_on if crate in wanted]
     (folder / "crates.txt").write_text("".join(listed) + f"{name}: {' '.join(crates)}\n")
+    return work
+
+
+def built(folder, name, program, crates, words, proofs=None, modules=None):
+    """The program of this name, with these texts in its proofs/ and these modules, built and run once with these words. It takes some minutes where the
+    crates weren't proved before."""
+    work = laid_out(folder, name, program, crates, proofs, modules)
     subprocess.run(["rt", "run", "--", *words], cwd=work, check=True, stdout=subprocess.DEVNULL)
     return work / "out" / name

@@ -28,16 +28,16 @@ FUNCTION = re.compile(r"(?:pub(?:\([^)]*\))? )?(?:const )?(?:unsafe )?fn (\w+)")
 UNUSED = [' sanitize_address "frame-pointer"="all"', ' "probe-stack"="inline-asm" "stack-probe-size"="3072"']
 
 
-def sources():
-    """The folder of sources of each crate, of the repository's and of the kit's."""
-    for folder in [*(TOP / "crates").glob("*/src"), *(KIT / "rattle").glob("*/src"), *(KIT / "rattle").glob("*/*/src")]:
+def sources(crates):
+    """The folder of sources of each crate, of those that lie in a folder and of the kit's."""
+    for folder in [*crates.glob("*/src"), *(KIT / "rattle").glob("*/src"), *(KIT / "rattle").glob("*/*/src")]:
         yield folder.parent.name, folder
 
 
-def marks():
+def marks(crates):
     """Which functions the sources mark, by crate, module and name."""
     found = {}
-    for crate, folder in sources():
+    for crate, folder in sources(crates):
         for file in folder.rglob("*.rt"):
             module = "::".join(file.relative_to(folder).with_suffix("").parts).removesuffix("::mod")
             mark = None
@@ -74,11 +74,11 @@ def made_in(room):
     return next((pathlib.Path(folder, "module.bc") for folder, _, files in os.walk(room) if "module.bc" in files), None)
 
 
-def translated(module):
-    """Has `rt try` translate the program, and takes the module while the program runs."""
+def translated(work, words, module):
+    """Has `rt try` translate the program of a crate, and takes the module while the program runs with these words."""
     with tempfile.TemporaryDirectory() as room:
-        words = ["rt", "try", "--seconds", "900", "--", "check", str(TOP / "examples" / "six_copies.json")]
-        ran = subprocess.Popen(words, cwd=TOP / "crates" / "plan_tool", env={**os.environ, "TMPDIR": room}, stdout=subprocess.DEVNULL)
+        tried = ["rt", "try", "--seconds", "900", "--", *words]
+        ran = subprocess.Popen(tried, cwd=work, env={**os.environ, "TMPDIR": room}, stdout=subprocess.DEVNULL)
         taken = None
         while ran.poll() is None:
             made = made_in(room)
@@ -88,30 +88,35 @@ def translated(module):
                     shutil.copyfile(made, f"{module}.new")
             time.sleep(0.1)
     if ran.returncode or taken is None:
-        sys.exit("rt try made no program: run it in crates/plan_tool to see why")
+        sys.exit(f"rt try made no program: run it in {work} to see why")
     pathlib.Path(f"{module}.new").rename(module)
 
 
-def main(out, *words):
-    inline = set(words[words.index("--inline") + 1 :]) if "--inline" in words else set()
+def drafted(out, work, words, inline=()):
+    """Builds OUT of a crate in a folder of crates, without its proof. While it is translated it is run with these words."""
     module = pathlib.Path(f"{out}.module")
-    newest = max(file.stat().st_mtime for _, folder in sources() for file in folder.rglob("*.rt"))
+    newest = max(file.stat().st_mtime for _, folder in sources(work.parent) for file in folder.rglob("*.rt"))
     if not module.exists() or module.stat().st_mtime < newest:
-        translated(module)
+        translated(work, words, module)
     how = ["-x", "ir", str(module), "-w", "-S", "-emit-llvm", "-o", "-"]
     text = subprocess.run([CLANG, *how], check=True, stdout=subprocess.PIPE, text=True).stdout
     text = text.replace("call void @llvm.trap()\n", "\n").replace('"target-cpu"="x86-64"', '"target-cpu"="x86-64-v2"')
     for it in UNUSED:
         text = text.replace(it, "")
     text = text.replace("= { }", "= { nounwind }")
-    found = marks()
+    found = marks(work.parent)
     lines = [marked(line, found, inline) if line.startswith("define") else line for line in text.split("\n")]
     with tempfile.TemporaryDirectory() as room:
         source, made = pathlib.Path(room, "it.ll"), pathlib.Path(room, "it.o")
         source.write_text("\n".join(lines))
         subprocess.run([CLANG, "-O3", "-c", "-x", "ir", str(source), "-o", str(made), "-w"], check=True)
         libraries = [KIT / "c" / "libos_c.a", KIT / "c" / "liblibc_c.a"]
-        subprocess.run(["gcc", "-o", out, str(made), *map(str, libraries), "-lpthread", "-lm"], check=True)
+        subprocess.run(["gcc", "-o", str(out), str(made), *map(str, libraries), "-lpthread", "-lm"], check=True)
+
+
+def main(out, *words):
+    inline = set(words[words.index("--inline") + 1 :]) if "--inline" in words else set()
+    drafted(out, TOP / "crates" / "plan_tool", ["check", str(TOP / "examples" / "six_copies.json")], inline)
 
 
 if __name__ == "__main__":

@@ -1,19 +1,26 @@
 #!/usr/bin/env python3
 """Measures what one uncontended step of a fleet costs: the calls alone, in one process, on one thread.
 
-    python3 bench/steps.py [OTHER]
+    python3 bench/steps.py [--draft OUT] [OTHER]
 
 It builds a small program over the crate `node_fleet` in a folder of its own, which takes some minutes, and then times it, with one pass and with four that
 step in turn. A round issues sixteen transactions of one change of 8 bytes, or of eight, delivers each record to four of six nodes, takes each
 acknowledgement, and restarts a node 64 times; each of the four is a window. Where OTHER is named, a program that takes the same words and prints the
 same lines, both run in turn. Told are, in nanoseconds a call, the least of the runs' lower quarters, and the least window.
+
+With `--draft` the program is built without its proof, as `bench/draft.py` builds plan_tool, and is left as OUT. Where other work is on the machine its
+instructions say more than its times: each kind of step is a call of its own in it (`issue`, `deliver`, `take`, `restart`), so that
+`valgrind --tool=callgrind` tells what each takes in all, and the difference of two runs that make more and fewer rounds is what the steps between them took.
+
+    valgrind --tool=callgrind --toggle-collect='step_work::take::*' OUT CHANGES PASSES ROUNDS
 """
 import pathlib
 import subprocess
 import sys
 import tempfile
 
-from building import built
+from building import built, laid_out
+from draft import drafted
 
 PROGRAM = r"""//! Times the steps of a fleet, each kind by itself.
 #![tactic(auto)]
@@ -150,6 +157,7 @@ fn transactions(alloc: Global, changes: u32) -> Result<Vec<ClientDeed>, AllocErr
 }
 
 /// Issues the transactions of a round.
+#[inline(never)]
 fn issue<'a, L: Site, R: Wait + Clock>(
     rt: &R,
     fleet: &Fleet<'a, L>,
@@ -169,6 +177,7 @@ fn issue<'a, L: Site, R: Wait + Clock>(
 }
 
 /// Delivers the records of a round to the nodes.
+#[inline(never)]
 fn deliver<'a, L: Site, R: Wait + Clock>(
     rt: &R,
     fleet: &Fleet<'a, L>,
@@ -188,6 +197,7 @@ fn deliver<'a, L: Site, R: Wait + Clock>(
 }
 
 /// Takes the acknowledgements of a round.
+#[inline(never)]
 fn take<'a, L: Site, R: Wait + Clock>(
     rt: &R,
     fleet: &Fleet<'a, L>,
@@ -204,6 +214,7 @@ fn take<'a, L: Site, R: Wait + Clock>(
 }
 
 /// Restarts the nodes, so many times in all.
+#[inline(never)]
 fn restart<'a, L: Site, R: Wait + Clock>(
     rt: &R,
     fleet: &Fleet<'a, L>,
@@ -386,13 +397,22 @@ def measured(programs, job):
     return [least(runs[program]) for program in programs]
 
 
-def main():
+def programs(folder, words):
+    """The programs that are measured: the one built here, and those that are named."""
+    if words and words[0] == "--draft":
+        out = pathlib.Path(words[1]).resolve()
+        drafted(out, laid_out(folder, "step_work", PROGRAM, CRATES), ["1", "1", "200"])
+        return [out, *words[2:]]
+    return [built(folder, "step_work", PROGRAM, CRATES, ["1", "1", "2"], {"timed/Invariants.antt": SITE}), *words]
+
+
+def main(*words):
     with tempfile.TemporaryDirectory() as folder:
-        program = built(pathlib.Path(folder), "step_work", PROGRAM, CRATES, ["1", "1", "2"], {"timed/Invariants.antt": SITE})
+        all_programs = programs(pathlib.Path(folder), words)
         for job in JOBS:
             changes, passes, _ = job
             print(f"{changes} changes a transaction, {passes} passes")
-            ours, *others = measured([program, *sys.argv[1:]], job)
+            ours, *others = measured(all_programs, job)
             for kind, (low, quarter) in ours.items():
                 text = f"  {kind}: {quarter:.1f} ns, at least {low:.1f}"
                 for other in others:
@@ -401,4 +421,4 @@ def main():
 
 
 if __name__ == "__main__":
-    main()
+    main(*sys.argv[1:])
