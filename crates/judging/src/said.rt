@@ -5,6 +5,7 @@ ghost use Rattle.std.specs.Prelude.{◌≡◌, ◌↔◌, IsTrue, string_bytes};
 /// The exit status of a job, and both of its outputs.
 #[derive(Drop)]
 pub struct Said {
+    /// How it ended: 0 to 2, as a job says.
     pub status: u8,
     /// What it wrote to standard output.
     pub printed: String,
