@@ -1,16 +1,17 @@
 //! Files that are read whole.
 
-ghost use Rattle.std.specs.Prelude.{◌≡◌, ◌≢◌, ◌⊎◌, ◌<◌, ◌≤◌, ◌++◌, Err, IfErr, IfOk, IfSome, IsErr, IsTrue, OnErr, OnOk, Ok, false, length, take, true, vec_len};
+ghost use Rattle.std.specs.Prelude.{◌≡◌, ◌≢◌, ◌⊎◌, ◌<◌, ◌≤◌, ◌++◌, Err, IfErr, IfOk, IfSome, IsErr, IsTrue, None, OnErr, OnOk, Ok, false, length, take, true, vec_len};
 ghost use Rattle.std.specs.Io.{ReadsAtMost};
 ghost use Rattle.std.specs.Io.KnownBytes.{IsAtEnd, ReadConsumes};
 ghost use Rattle.jobs.specs.Failures.{GrowsBy, ReadFails};
-ghost use Rattle.jobs.specs.Streams.{left_in};
+ghost use Rattle.jobs.specs.Streams.{is_unread, left_in, left_of};
 ghost use Rattle.jobs.specs.declared.files.ReadFault.TheVariants.{Unreadable};
 
 use crate::fallible::{FallibleRead, is_interrupted};
 use std::alloc::{AllocError, Global};
-use std::io;
 use std::io::{ErrorKind, Read};
+use std::rt::Files;
+use std::{fs, io};
 
 /// How many bytes are asked of a reader at a time.
 const CHUNK: usize = 16_384;
@@ -50,8 +51,6 @@ fn fault_of(error: &io::Error) -> ReadFault {
 }
 
 impl<R: Read> Source<R> {
-    ghost use Rattle.jobs.specs.Streams.{is_unread, left_of};
-
     /// A file as it was opened, of which nothing was read.
     pub fn new(file: io::Result<R>) -> Source<R>
         ensures left { left_of R.remaining result ≡ left_in R.remaining file }
@@ -64,8 +63,19 @@ impl<R: Read> Source<R> {
     }
 }
 
+/// The file with a name, of which nothing was read; where the job has no such file, it is one that can't be opened.
+pub fn source<R: Files>(rt: &R, name: Option<&str>) -> Source<R::File>
+    ensures whole { is_unread result ≡ false }
+    ensures absent { name.entry ≡ None → left_of R.File.remaining result ≡ None }
+{
+    Source::new(match name {
+        Some(name) => fs::open(rt, name),
+        None => Err(io::Error::from(ErrorKind::NotFound)),
+    })
+}
+
 impl<R: FallibleRead> Source<R> {
-    ghost use Rattle.jobs.specs.Streams.{is_unread, left_of, FailsByRead};
+    ghost use Rattle.jobs.specs.Streams.{FailsByRead};
 
     /// The bytes that the file has left, but no more than `most` of them.
     ///

@@ -1,21 +1,19 @@
 //! Checks plans of a quorum log volume, certifies them, and runs scripts over them.
 #![tactic(auto)]
 
-ghost use Rattle.std.specs.Prelude.{◌≡◌, ◌≤◌, None, false};
-ghost use Rattle.jobs.specs.Streams.{is_unread, left_of};
+ghost use Rattle.std.specs.Prelude.{◌≤◌};
 
 #[cfg(test)]
 mod tests;
 
 use command_line::job;
-use jobs::{NO_MEMORY, Output, Source, deliver, explain, perform};
+use jobs::{NO_MEMORY, Output, deliver, explain, perform, source};
 use std::alloc::{AllocError, Global};
 use std::io::ErrorKind;
 use std::process::ExitCode;
-use std::rt::Files;
 use std::sync::Wait;
 use std::thread::Threads;
-use std::{env, fs, io};
+use std::{env, io};
 
 /// The words of the command line, or the line of why there are none.
 fn words(rt: &HostRuntime, alloc: Global) -> Result<Vec<String>, &'static str> {
@@ -32,17 +30,6 @@ fn words(rt: &HostRuntime, alloc: Global) -> Result<Vec<String>, &'static str> {
 /// The texts of words.
 fn texts<'a>(alloc: Global, words: &'a [String]) -> Result<Vec<&'a str>, AllocError> {
     words.iter().map(|word| word.as_str()).collect(alloc)
-}
-
-/// The file with a name, of which nothing was read; where the job has no such file, it is one that can't be opened.
-fn source<R: Files>(rt: &R, name: Option<&str>) -> Source<R::File>
-    ensures whole { is_unread result ≡ false }
-    ensures absent { name.entry ≡ None → left_of R.File.remaining result ≡ None }
-{
-    Source::new(match name {
-        Some(name) => fs::open(rt, name),
-        None => Err(io::Error::from(ErrorKind::NotFound)),
-    })
 }
 
 /// Reads the words of the command line, and does what they ask for; a search and a fleet start their threads by

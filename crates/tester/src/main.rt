@@ -2,7 +2,6 @@
 #![tactic(auto)]
 
 mod broken;
-mod dice;
 mod fleets;
 mod groups;
 mod judge;

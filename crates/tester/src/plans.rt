@@ -1,7 +1,7 @@
 //! Certified plans, and which sets of members read and write in them.
 
-use crate::dice::Dice;
 use crate::groups::{FULL_AND_TAIL, LARGE_AND_SMALL, MEMBER_REPLACED, SIX_COPIES, TWO_REPLACED};
+use dice::Dice;
 use std::alloc::{AllocError, Global};
 
 /// The groups of a plan by what they are about.

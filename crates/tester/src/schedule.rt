@@ -1,9 +1,9 @@
 //! A random script: tasks that go on by turns, and lines that belong to none.
 
-use crate::dice::Dice;
 use crate::plans::{Plan, Side};
 use crate::tasks::{Answered, Stage, Task};
 use crate::written::{Delivery, Message, Receiver, Written};
+use dice::Dice;
 use std::alloc::{AllocError, Global};
 
 /// The most clients of a script.

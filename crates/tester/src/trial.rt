@@ -1,7 +1,6 @@
 //! One run of a seed: a plan, a script, and what is said of them.
 
 use crate::broken::Broken;
-use crate::dice::Dice;
 use crate::fleets::{check_alike, check_fleet};
 use crate::judge::{Shown, check_run};
 use crate::outcome::Outcome;
@@ -9,6 +8,7 @@ use crate::plans::Plan;
 use crate::said::{fleet, run, say};
 use crate::schedule::Schedule;
 use crate::written::Written;
+use dice::Dice;
 use std::alloc::{AllocError, Global};
 use std::sync::Wait;
 use std::thread::Threads;

@@ -1,4 +1,5 @@
-//! Random numbers.
+//! Random numbers that a seed determines.
+#![tactic(auto)]
 
 ghost use Rattle.std.specs.Prelude.{◌<◌, length};
 
