@@ -123,6 +123,3 @@ impl Board {
         self.table.shared.load::<Look>(&mut seat.seat, 0)
     }
 }
-
-#[cfg(test)]
-mod tests;

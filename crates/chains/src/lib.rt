@@ -6,6 +6,3 @@ mod numbers;
 mod waits;
 
 pub use chains::Chains;
-
-#[cfg(test)]
-mod tests;

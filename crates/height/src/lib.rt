@@ -151,23 +151,3 @@ impl Height {
         self.compare(top, old);
     }
 }
-
-#[cfg(test)]
-mod tests {
-    use super::*;
-    use std::test::*;
-
-    #[test]
-    fn rises_past_its_floors(rt: HostRuntime) -> Result<(), Fail> {
-        let (height, mut top) = Height::new(rt.alloc())?;
-        let low = height.floor(&mut top);
-        height.rise(&mut top);
-        let mut floor = height.floor(&mut top);
-        height.rise(&mut top);
-        height.compare(&mut top, low);
-        height.meet(&mut top, &mut floor);
-        height.compare(&mut top, floor);
-        assert_eq!(rt; top.height, 2);
-        Ok(())
-    }
-}

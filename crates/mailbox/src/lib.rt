@@ -198,6 +198,3 @@ impl Mailbox {
         self.to.learn_as::<History>(&mut seat.pass);
     }
 }
-
-#[cfg(test)]
-mod tests;

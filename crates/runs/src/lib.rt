@@ -9,6 +9,3 @@ mod search;
 pub use place::Place;
 pub use run::{MOST, Run};
 pub use runs::Runs;
-
-#[cfg(test)]
-mod tests;

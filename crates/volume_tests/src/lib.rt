@@ -1,4 +1,4 @@
-//! Tests of records, segments, the authority, writers, recoveries and clients, which would be proved once more with tests of their own.
+//! Tests of the crates below the program, which would be proved once more with tests of their own.
 #![tactic(auto)]
 
 #[cfg(test)]
@@ -6,11 +6,19 @@ mod authorities;
 #[cfg(test)]
 mod blocks;
 #[cfg(test)]
+mod boards;
+#[cfg(test)]
 mod clients;
+#[cfg(test)]
+mod heights;
 #[cfg(test)]
 mod hydrations;
 #[cfg(test)]
+mod letters;
+#[cfg(test)]
 mod lineages;
+#[cfg(test)]
+mod links;
 #[cfg(test)]
 mod packets;
 mod picked;
@@ -22,6 +30,8 @@ mod recoveries;
 mod said;
 #[cfg(test)]
 mod segments;
+#[cfg(test)]
+mod sorted;
 #[cfg(test)]
 mod texts;
 #[cfg(test)]

@@ -1,6 +1,8 @@
+//! A number that is raised and read, by one thread and by two.
+
 ghost use Rattle.board.specs.Seats.{IsSeatOf};
 
-use crate::{Board, BoardSeat};
+use board::{Board, BoardSeat};
 use std::test::*;
 use std::thread;
 

@@ -1,7 +1,7 @@
 use Rattle.std.proofs.Common.{◌-◌, length}
 use Rattle.runs.specs.Places.{index_of, IsPlaceIn}
 use Rattle.runs.specs.Runs.{runs_of, records_of}
-use Rattle.runs.proofs.tests.count_of.Given as goal
+use Rattle.volume_tests.proofs.sorted.count_of.Given as goal
 
 abbrev pub invariant-loop-packet : goal.invariant-loop-packet
 invariant-loop-packet l = IsPlaceIn (runs_of l.runs) l.place

@@ -1,6 +1,8 @@
+//! Letters that are posted and collected, by one thread and by two.
+
 ghost use Rattle.mailbox.specs.Seats.{IsSeatOf};
 
-use crate::{MailSeat, Mailbox};
+use mailbox::{MailSeat, Mailbox};
 use std::sync::Wait;
 use std::test::*;
 use std::thread;

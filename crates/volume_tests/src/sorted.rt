@@ -1,5 +1,7 @@
-use crate::Runs;
+//! Sets of records in sorted runs, whose records come in several orders.
+
 use redo_record::{Packet, Payload, Record, RecordSet};
+use runs::Runs;
 use std::alloc::{AllocError, Global};
 use std::test::*;
 

@@ -1,6 +1,8 @@
+//! How far records hang together that come in several orders.
+
 ghost use Rattle.std.specs.Prelude.{◌<◌};
 
-use crate::Chains;
+use chains::Chains;
 use std::alloc::{AllocError, Global};
 use std::test::*;
 
