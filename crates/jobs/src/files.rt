@@ -64,7 +64,7 @@ impl<R: Read> Source<R> {
 }
 
 /// The file with a name, of which nothing was read; where the job has no such file, it is one that can't be opened.
-pub fn source<R: Files>(rt: &R, name: Option<&str>) -> Source<R::File>
+pub fn opened<R: Files>(rt: &R, name: Option<&str>) -> Source<R::File>
     ensures whole { is_unread result ≡ false }
     ensures absent { name.entry ≡ None → left_of R.File.remaining result ≡ None }
 {

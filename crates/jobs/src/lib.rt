@@ -15,6 +15,6 @@ mod told;
 
 pub use explaining::{NO_MEMORY, explain};
 pub use fallible::{FallibleRead, FallibleWrite};
-pub use files::{ReadFault, Source, source};
+pub use files::{ReadFault, Source, opened};
 pub use outputs::{Output, WriteFailed, deliver};
 pub use performing::perform;

@@ -7,7 +7,7 @@ ghost use Rattle.std.specs.Prelude.{◌≤◌};
 mod tests;
 
 use command_line::job;
-use jobs::{NO_MEMORY, Output, deliver, explain, perform, source};
+use jobs::{NO_MEMORY, Output, deliver, explain, opened, perform};
 use std::alloc::{AllocError, Global};
 use std::io::ErrorKind;
 use std::process::ExitCode;
@@ -49,8 +49,8 @@ fn run<H: Threads + Wait + Sync>(rt: &HostRuntime, threads: &H) -> u8
     };
     match job(alloc, words.as_slice()) {
         Ok(job) => {
-            let mut plan = source(rt, Some(job.plan));
-            let mut script = source(rt, job.script);
+            let mut plan = opened(rt, Some(job.plan));
+            let mut script = opened(rt, job.script);
             perform(
                 threads,
                 alloc,
