@@ -19,6 +19,17 @@ fn copy_list<T: Copy, B: Allocator + Clone>(numbers: &[T], alloc: &B) -> Result<
     Ok(copy)
 }
 
+/// A refutation in a box of its own.
+#[inline]
+fn boxed<B: Allocator + Clone>(
+    rule: Refutation<B>,
+    alloc: &B,
+) -> Result<Box<Refutation<B>, B>, Fault>
+    ensures { Gives (λ b. b.value) result (Ok rule) }
+{
+    Ok(Box::new(alloc.clone()?, rule)?)
+}
+
 fn copy_open<B: Allocator + Clone>(
     side: Side,
     item: u16,
@@ -27,7 +38,7 @@ fn copy_open<B: Allocator + Clone>(
 ) -> Result<Refutation<B>, Fault>
     ensures { Gives rule_of result (Ok (open_all side item (rule_of then))) }
 {
-    let then = Box::new(alloc.clone()?, then)?;
+    let then = boxed(then, alloc)?;
     Ok(Refutation::Open { side, item, then })
 }
 
@@ -39,8 +50,8 @@ fn copy_split<B: Allocator + Clone>(
 ) -> Result<Refutation<B>, Fault>
     ensures { Gives rule_of result (Ok (split member (rule_of left) (rule_of right))) }
 {
-    let left = Box::new(alloc.clone()?, left)?;
-    let right = Box::new(alloc.clone()?, right)?;
+    let left = boxed(left, alloc)?;
+    let right = boxed(right, alloc)?;
     Ok(Refutation::Split {
         member,
         left,

@@ -1,19 +1,19 @@
 //! From certificates to JSON.
 
-ghost use Rattle.std.specs.Prelude.{◌≡◌, ◌≤◌, All, IfOk, OnOk, Ok, map};
+ghost use Rattle.std.specs.Prelude.{◌≡◌, ◌≤◌, All, IfOk, OnOk, Ok, codes, map};
 ghost use Rattle.volume_model.specs.Answer.{Gives};
-ghost use Rattle.serde_json.specs.Data.{depth};
-ghost use Rattle.serde_json.specs.View.{view, items_view};
+ghost use Rattle.serde_json.specs.Data.{depth, string, no_members, put as with_member};
+ghost use Rattle.serde_json.specs.View.{view, items_view, members_view};
 ghost use Rattle.refutation.specs.Rule.{branches_of};
 ghost use Rattle.refutation.specs.Refutation.{rule_of};
 ghost use Rattle.refutation.specs.Certificate.{certificate_rule};
 ghost use Rattle.refutation.specs.Ranges.{IsPairInRange, HasRanges, EachHasRanges};
 ghost use Rattle.refutation.specs.Reading.{certificate_in};
-ghost use Rattle.refutation.specs.Writing.{side_text, numbers_data, pair_data, pairs_data, dead_data, clash_data, open_data, pick_data, match_data, split_data, certificate_data, branches_data};
+ghost use Rattle.refutation.specs.Writing.{side_text, number_data, numbers_data, pair_data, pairs_data, dead_data, clash_data, open_data, pick_data, match_data, split_data, certificate_data, branches_data};
 
 use crate::certificate::Certificate;
 use crate::{Refutation, Side};
-use serde_json::{Value, json};
+use serde_json::{Map, Value, put};
 use std::alloc::{AllocError, Allocator, Global};
 use volume_model::Fault;
 
@@ -26,12 +26,65 @@ fn side_name(side: Side) -> &'static str
     }
 }
 
+/// The members of an object, with one more.
+fn with(
+    alloc: Global,
+    map: Map<String, Value>,
+    key: &str,
+    value: Value,
+) -> Result<Map<String, Value>, AllocError>
+    ensures { IfOk result (λ m. members_view m.entries ≡ with_member key.now (view value) (members_view map.entries)) }
+{
+    let mut map = map;
+    put(&mut map, alloc, key, value)?;
+    Ok(map)
+}
+
+/// The member that names a rule.
+fn named(alloc: Global, name: &str) -> Result<Map<String, Value>, AllocError>
+    ensures { IfOk result (λ m. members_view m.entries ≡ with_member (codes "rule") (string name.now) no_members) }
+{
+    let name = Value::try_from_str(alloc, name)?;
+    with(alloc, Map::new(alloc), "rule", name)
+}
+
+/// The members that rules about an item of one side have in common.
+fn at_side(
+    alloc: Global,
+    name: &str,
+    side: Side,
+    item: u16,
+) -> Result<Map<String, Value>, AllocError>
+    ensures written { IfOk result (λ m. members_view m.entries ≡ with_member (codes "item") (number_data item) (with_member (codes "side") (string (side_text side)) (with_member (codes "rule") (string name.now) no_members))) }
+    ensures range { item ≤ 65535 }
+{
+    let map = named(alloc, name)?;
+    let side = Value::try_from_str(alloc, side_name(side))?;
+    let map = with(alloc, map, "side", side)?;
+    with(alloc, map, "item", Value::from(u64::from(item)))
+}
+
+/// The members that rules about an item of each side have in common.
+fn at_both(
+    alloc: Global,
+    name: &str,
+    left: u16,
+    right: u16,
+) -> Result<Map<String, Value>, AllocError>
+    ensures written { IfOk result (λ m. members_view m.entries ≡ with_member (codes "right") (number_data right) (with_member (codes "left") (number_data left) (with_member (codes "rule") (string name.now) no_members))) }
+    ensures left_range { left ≤ 65535 }
+    ensures right_range { right ≤ 65535 }
+{
+    let map = named(alloc, name)?;
+    let map = with(alloc, map, "left", Value::from(u64::from(left)))?;
+    with(alloc, map, "right", Value::from(u64::from(right)))
+}
+
 fn dead_json(alloc: Global, side: Side, item: u16) -> Result<Value, AllocError>
     ensures written { IfOk result (λ v. view v ≡ dead_data side item) }
     ensures range { item ≤ 65535 }
 {
-    let side = side_name(side);
-    json!(in alloc; {"rule": "dead", "side": side, "item": item})
+    Ok(Value::Object(at_side(alloc, "dead", side, item)?))
 }
 
 fn clash_json(alloc: Global, left: u16, right: u16) -> Result<Value, AllocError>
@@ -39,15 +92,15 @@ fn clash_json(alloc: Global, left: u16, right: u16) -> Result<Value, AllocError>
     ensures left_range { left ≤ 65535 }
     ensures right_range { right ≤ 65535 }
 {
-    json!(in alloc; {"rule": "clash", "left": left, "right": right})
+    Ok(Value::Object(at_both(alloc, "clash", left, right)?))
 }
 
 fn open_json(alloc: Global, side: Side, item: u16, then: Value) -> Result<Value, AllocError>
     ensures written { IfOk result (λ v. view v ≡ open_data side item (view then)) }
     ensures range { item ≤ 65535 }
 {
-    let side = side_name(side);
-    json!(in alloc; {"rule": "open", "side": side, "item": item, "then": then})
+    let map = at_side(alloc, "open", side, item)?;
+    Ok(Value::Object(with(alloc, map, "then", then)?))
 }
 
 fn pick_json(
@@ -60,10 +113,9 @@ fn pick_json(
     ensures written { IfOk result (λ v. view v ≡ pick_data side item (items_view children.items) (items_view then.items)) }
     ensures range { item ≤ 65535 }
 {
-    let side = side_name(side);
-    let children = Value::Array(children);
-    let then = Value::Array(then);
-    json!(in alloc; {"rule": "pick", "side": side, "item": item, "children": children, "then": then})
+    let map = at_side(alloc, "pick", side, item)?;
+    let map = with(alloc, map, "children", Value::Array(children))?;
+    Ok(Value::Object(with(alloc, map, "then", Value::Array(then))?))
 }
 
 fn match_json(
@@ -77,15 +129,18 @@ fn match_json(
     ensures left_range { left ≤ 65535 }
     ensures right_range { right ≤ 65535 }
 {
-    let pairs = Value::Array(pairs);
-    let then = Value::Array(then);
-    json!(in alloc; {"rule": "match", "left": left, "right": right, "pairs": pairs, "then": then})
+    let map = at_both(alloc, "match", left, right)?;
+    let map = with(alloc, map, "pairs", Value::Array(pairs))?;
+    Ok(Value::Object(with(alloc, map, "then", Value::Array(then))?))
 }
 
 fn split_json(alloc: Global, member: u8, left: Value, right: Value) -> Result<Value, AllocError>
     ensures { IfOk result (λ v. view v ≡ split_data member (view left) (view right)) }
 {
-    json!(in alloc; {"rule": "split", "member": member, "left": left, "right": right})
+    let map = named(alloc, "split")?;
+    let map = with(alloc, map, "member", Value::from(u64::from(member)))?;
+    let map = with(alloc, map, "left", left)?;
+    Ok(Value::Object(with(alloc, map, "right", right)?))
 }
 
 fn pair_json(alloc: Global, pair: (u8, u8)) -> Result<Value, AllocError>
