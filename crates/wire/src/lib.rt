@@ -6,6 +6,7 @@ mod contents;
 mod label;
 mod list;
 mod message;
+mod messages;
 mod view;
 
 pub use carried::Carried;
@@ -15,4 +16,5 @@ pub use list::only;
 pub use message::{
     Ack, CopyAsk, CopyReport, Fence, Gossip, Install, Message, Page, PageAsk, Report, StepTo, Write,
 };
+pub use messages::Messages;
 pub use view::View;
