@@ -1,8 +1,8 @@
 //! From plans to JSON, with other certificates.
 
-ghost use Rattle.std.specs.Prelude.{◌≡◌, ◌-◌, ◌*◌, ◌<◌, ◌≤◌, All, IfOk, Ok, drop, length, map, option_map};
-ghost use Rattle.serde_json.specs.Data.{depth};
-ghost use Rattle.serde_json.specs.View.{view, items_view};
+ghost use Rattle.std.specs.Prelude.{◌≡◌, ◌-◌, ◌*◌, ◌<◌, ◌≤◌, All, IfOk, Ok, codes, drop, length, map, option_map};
+ghost use Rattle.serde_json.specs.Data.{depth, member, no_members, put as with_member};
+ghost use Rattle.serde_json.specs.View.{view, items_view, members_view};
 ghost use Rattle.volume_model.specs.Answer.{Gives};
 ghost use Rattle.refutation.specs.Certificate.{certificate_rule};
 ghost use Rattle.plan.specs.PlanText.{certificate_or_null};
@@ -16,7 +16,7 @@ use crate::formats::Format;
 use crate::listing::claims;
 use crate::reading::{fields, group_values, header, plan, value};
 use refutation::{Certificate, write_certificate};
-use serde_json::{Value, json};
+use serde_json::{Map, Value, json, put};
 use std::alloc::{AllocError, Global};
 use volume_model::Fault;
 
@@ -81,6 +81,45 @@ fn step_value(number: usize, certificates: &[Value]) -> Result<Value, AllocError
     value_or_null(certificates, 2 * number)
 }
 
+/// The members of an object, with one more.
+fn with(
+    alloc: Global,
+    map: Map<String, Value>,
+    key: &str,
+    value: Value,
+) -> Result<Map<String, Value>, AllocError>
+    ensures { IfOk result (λ m. members_view m.entries ≡ with_member key.now (view value) (members_view map.entries)) }
+{
+    let mut map = map;
+    put(&mut map, alloc, key, value)?;
+    Ok(map)
+}
+
+/// The members of an object, with a copy of one more.
+fn with_copy(
+    alloc: Global,
+    map: Map<String, Value>,
+    key: &str,
+    value: &Value,
+) -> Result<Map<String, Value>, AllocError>
+    ensures { IfOk result (λ m. members_view m.entries ≡ with_member key.now (view value.now) (members_view map.entries)) }
+{
+    let copy = value.clone()?;
+    with(alloc, map, key, copy)
+}
+
+/// What a configuration has beside its certificates.
+fn own_fields(alloc: Global, fields: &Fields<'_>) -> Result<Map<String, Value>, AllocError>
+    ensures { IfOk result (λ m. members_view m.entries ≡ member (codes "full") (view fields.now.full.now) (member (codes "members") (view fields.now.members.now) (member (codes "parent") (view fields.now.parent.now) (member (codes "read") (view fields.now.read.now) (member (codes "write") (view fields.now.write.now) no_members))))) }
+{
+    let map = with_copy(alloc, Map::new(alloc), "full", fields.full)?;
+    let map = with_copy(alloc, map, "members", fields.members)?;
+    let map = with_copy(alloc, map, "parent", fields.parent)?;
+    let read = fields.read;
+    let map = with_copy(alloc, map, "read", read)?;
+    with_copy(alloc, map, "write", fields.write)
+}
+
 /// A configuration's values with other certificates.
 fn fields_json(
     alloc: Global,
@@ -90,20 +129,9 @@ fn fields_json(
 ) -> Result<Value, AllocError>
     ensures { IfOk result (λ v. view v ≡ fields_object (fields_data fields.now) (view meets) (view step)) }
 {
-    let full = fields.full;
-    let members = fields.members;
-    let parent = fields.parent;
-    let read = fields.read;
-    let write = fields.write;
-    json!(in alloc; {
-        "full": full,
-        "meets": meets,
-        "members": members,
-        "parent": parent,
-        "read": read,
-        "step": step,
-        "write": write
-    })
+    let map = own_fields(alloc, fields)?;
+    let map = with(alloc, map, "meets", meets)?;
+    Ok(Value::Object(with(alloc, map, "step", step)?))
 }
 
 /// The configuration of a value, with its certificates of a group's.
