@@ -15,8 +15,8 @@ use crate::fields::Fields;
 use crate::formats::Format;
 use crate::listing::claims;
 use crate::reading::{fields, group_values, header, plan, value};
-use refutation::{Certificate, write_certificate};
-use serde_json::{Map, Value, json, put};
+use refutation::{Certificate, with, write_certificate};
+use serde_json::{Map, Value, json};
 use std::alloc::{AllocError, Global};
 use volume_model::Fault;
 
@@ -79,20 +79,6 @@ fn step_value(number: usize, certificates: &[Value]) -> Result<Value, AllocError
         return Ok(Value::Null);
     }
     value_or_null(certificates, 2 * number)
-}
-
-/// The members of an object, with one more.
-fn with(
-    alloc: Global,
-    map: Map<String, Value>,
-    key: &str,
-    value: Value,
-) -> Result<Map<String, Value>, AllocError>
-    ensures { IfOk result (λ m. members_view m.entries ≡ with_member key.now (view value) (members_view map.entries)) }
-{
-    let mut map = map;
-    put(&mut map, alloc, key, value)?;
-    Ok(map)
 }
 
 /// The members of an object, with a copy of one more.

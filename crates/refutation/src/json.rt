@@ -1,13 +1,15 @@
 //! JSON values, one level at a time.
 
 ghost use Rattle.std.specs.Prelude.{◌≡◌, ◌≢◌, ◌≤◌, IfOk, IfErr};
-ghost use Rattle.serde_json.specs.View.{view, items_view};
+ghost use Rattle.serde_json.specs.Data.{put as with_member};
+ghost use Rattle.serde_json.specs.View.{view, items_view, members_view};
 ghost use Rattle.serde_json.specs.Events.{items_len};
 ghost use Rattle.volume_model.specs.Answer.{Gives};
 ghost use Rattle.refutation.specs.Reading.{has_keys, array_of, entry_at, number_to, number_at};
 
 use quorum_expr::{value_at, whole};
-use serde_json::Value;
+use serde_json::{Map, Value, put};
+use std::alloc::{AllocError, Global};
 use volume_model::Fault;
 
 /// The entry at a place of a list. `Malformed` where there is none.
@@ -72,4 +74,18 @@ pub fn number_at(value: &Value, key: &str, most: u64) -> Result<u64, Fault>
     ensures within { IfOk result (λ n. n ≤ most) }
 {
     number_to(value_at(value, key)?, most)
+}
+
+/// The members of an object, with one more, which takes the place of an earlier one with its key. Fails for want of memory alone.
+pub fn with(
+    alloc: Global,
+    map: Map<String, Value>,
+    key: &str,
+    value: Value,
+) -> Result<Map<String, Value>, AllocError>
+    ensures { IfOk result (λ m. members_view m.entries ≡ with_member key.now (view value) (members_view map.entries)) }
+{
+    let mut map = map;
+    put(&mut map, alloc, key, value)?;
+    Ok(map)
 }

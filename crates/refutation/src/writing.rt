@@ -12,8 +12,9 @@ ghost use Rattle.refutation.specs.Reading.{certificate_in};
 ghost use Rattle.refutation.specs.Writing.{side_text, number_data, numbers_data, pair_data, pairs_data, dead_data, clash_data, open_data, pick_data, match_data, split_data, certificate_data, branches_data};
 
 use crate::certificate::Certificate;
+use crate::json::with;
 use crate::{Refutation, Side};
-use serde_json::{Map, Value, put};
+use serde_json::{Map, Value};
 use std::alloc::{AllocError, Allocator, Global};
 use volume_model::Fault;
 
@@ -24,20 +25,6 @@ fn side_name(side: Side) -> &'static str
         Side::Left => "left",
         Side::Right => "right",
     }
-}
-
-/// The members of an object, with one more.
-fn with(
-    alloc: Global,
-    map: Map<String, Value>,
-    key: &str,
-    value: Value,
-) -> Result<Map<String, Value>, AllocError>
-    ensures { IfOk result (λ m. members_view m.entries ≡ with_member key.now (view value) (members_view map.entries)) }
-{
-    let mut map = map;
-    put(&mut map, alloc, key, value)?;
-    Ok(map)
 }
 
 /// The member that names a rule.
