@@ -72,7 +72,5 @@ if-ok P Q (Ok x) f h = f x h
 if-ok P Q (Err e) f h = tt
 
 -- the step that makes these messages, and has this effect
-pub made-so : {E : Type 0} (r : Result Prepared E) (node : Node) (made : List Message) (effect : Effect) → IfOk r (λ prepared. messages_of (answers_of prepared) ≡ made) → IfOk r (λ prepared. prepared.effect ≡ effect)
-    → IfOk r (λ prepared. step_of prepared node ≡ record { made = made; node = effected effect node })
-made-so (Ok prepared) node made effect m e = ap₂ (λ (ms : List Message) (n : Node). record { made = ms; node = n }) m (ap (λ x. effected x node) e)
-made-so (Err e) node made effect m f = tt
+pub made-so : (prepared : Prepared) (node : Node) (made : List Message) (effect : Effect) → messages_of (answers_of prepared) ≡ made → prepared.effect ≡ effect → step_of prepared node ≡ record { made = made; node = effected effect node }
+made-so prepared node made effect m e = ap₂ (λ (ms : List Message) (n : Node). record { made = ms; node = n }) m (ap (λ x. effected x node) e)

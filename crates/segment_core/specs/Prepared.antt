@@ -4,6 +4,7 @@ use Rattle.volume_model.specs.Node.{Node, NodeStep, restarted}
 use Rattle.redo_record.specs.Packet.{packet_redo}
 use Rattle.lineage.specs.Lineage.{lineage_of}
 use Rattle.wire.specs.declared.message.Message.{Message}
+use Rattle.wire.specs.Listed.{listed}
 use Rattle.wire.specs.Message.{messages_of, place_of}
 use Rattle.hydration.specs.Hydration.{kept_by}
 use Rattle.segment_core.specs.declared.prepared.Effect.{Effect}
@@ -14,7 +15,7 @@ use Rattle.segment_core.specs.Records.{records_of}
 
 -- the messages that the step makes
 abbrev pub answers_of : Prepared → List Message
-answers_of prepared = prepared.answers.items
+answers_of prepared = listed prepared.answers
 
 -- what the effect makes of a node
 abbrev pub effected : Effect → Node → Node

@@ -1,4 +1,4 @@
-use Rattle.std.specs.Prelude.{◌≡◌, ◌<◌, ℕ, suc, true, false, not, List, [], ◌∷◌, Option, Some, None, Result, Ok, Vec}
+use Rattle.std.specs.Prelude.{◌≡◌, ◌<◌, ℕ, suc, true, false, not, List, [], ◌∷◌, Option, Some, None, Result, Ok}
 use Rattle.std.specs.Arc.{arc_value}
 use Rattle.std.specs.Borrow.{Bor}
 use Rattle.std.specs.Global.{Global}
@@ -17,7 +17,8 @@ use Rattle.plan.specs.CheckedModel.{checked_model}
 use Rattle.redo_record.specs.Packet.{packet_redo}
 use Rattle.lineage.specs.Lineage.{lineage_of}
 use Rattle.wire.specs.declared.carried.Carried.{Carried}
-use Rattle.wire.specs.declared.message.Message.{Message}
+use Rattle.wire.specs.declared.messages.Messages.{Messages}
+use Rattle.wire.specs.Listed.{listed}
 use Rattle.wire.specs.Message.{label_of, messages_of}
 use Rattle.hydration.specs.Hydration.{copies_of, CanKeep}
 use Rattle.segment_core.specs.declared.act.NodeAct.{NodeAct}
@@ -129,8 +130,8 @@ copied group member node = record {
 }
 
 -- the step of a node that makes these messages and becomes this
-abbrev pub answered : Vec Message Global → Node → NodeStep
-answered messages node = record { made = messages_of messages.items; node = node }
+abbrev pub answered : Messages → Node → NodeStep
+answered messages node = record { made = messages_of (listed messages); node = node }
 
 -- the step of a node that makes no message and becomes this
 abbrev pub became : Unit {0} → Node → NodeStep

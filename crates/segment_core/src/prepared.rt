@@ -4,7 +4,7 @@ use crate::entrant::Entrant;
 use crate::records::Records;
 use hydration::{Change, Keeping};
 use lineage::Lineage;
-use wire::{Message, Place};
+use wire::{Messages, Place};
 
 /// What a step changes of a segment.
 #[derive(Drop)]
@@ -45,18 +45,19 @@ pub enum Effect {
 /// A step that a segment is ready to take.
 #[derive(Drop)]
 pub struct Prepared {
-    pub(crate) answers: Vec<Message>,
+    pub(crate) answers: Messages,
     pub(crate) effect: Effect,
 }
 
 impl Prepared {
     ghost use Rattle.std.specs.Prelude.{◌≡◌};
+    ghost use Rattle.wire.specs.Listed.{listed};
     ghost use Rattle.segment_core.specs.Prepared.{answers_of};
 
     /// The messages that the step makes.
-    pub fn answers(&self) -> &[Message]
-        ensures { result.now ≡ answers_of self.now }
+    pub fn answers(&self) -> &Messages
+        ensures { listed result.now ≡ answers_of self.now }
     {
-        self.answers.as_slice()
+        &self.answers
     }
 }

@@ -18,8 +18,8 @@ use std::alloc::{AllocError, Global};
 use std::sync::Arc;
 use volume_model::Fault;
 use wire::{
-    Ack, Carried, Contents, CopyAsk, CopyReport, Fence, Install, Label, MOST_PIECES, Message, Page,
-    PageAsk, Report, StepTo, only,
+    Ack, Carried, Contents, CopyAsk, CopyReport, Fence, Install, Label, MOST_PIECES, Message,
+    Messages, Page, PageAsk, Report, StepTo,
 };
 
 /// How many records a segment holds at most.
@@ -76,6 +76,7 @@ impl Segment {
     ghost use Rattle.redo_record.specs.RecordSet.{records_of as set_records};
     ghost use Rattle.volume_model.specs.Message as model;
     ghost use Rattle.wire.specs.Contents.{piece_in};
+    ghost use Rattle.wire.specs.Listed.{listed};
     ghost use Rattle.wire.specs.Message.{label_of, message_of, messages_of};
     ghost use Rattle.hydration.specs.Hydration.{state_of};
     ghost use Rattle.segment_core.specs.Acts.{act_late, is_full};
@@ -179,15 +180,9 @@ impl Segment {
 
     /// The step that acknowledges what is held after it.
     #[inline(always)]
-    fn acknowledged(
-        &self,
-        alloc: Global,
-        label: Label,
-        scl: u64,
-        effect: Effect,
-    ) -> Result<Prepared, AllocError>
-        ensures made { IfOk result (λ prepared. messages_of (answers_of prepared) ≡ model.Message.Ack (segment_group self.now) (label_of label) (segment_member self.now) scl ∷ []) }
-        ensures effect { IfOk result (λ prepared. prepared.effect ≡ effect) }
+    fn acknowledged(&self, label: Label, scl: u64, effect: Effect) -> Prepared
+        ensures made { messages_of (answers_of result) ≡ model.Message.Ack (segment_group self.now) (label_of label) (segment_member self.now) scl ∷ [] }
+        ensures effect { result.effect ≡ effect }
     {
         let from = self.member;
         let ack = Ack {
@@ -196,10 +191,10 @@ impl Segment {
             from,
             scl,
         };
-        Ok(Prepared {
-            answers: only(alloc, Message::Ack(ack))?,
+        Prepared {
+            answers: Messages::One(Message::Ack(ack)),
             effect,
-        })
+        }
     }
 
     /// Makes ready to promise a recovery its volume epoch.
@@ -220,7 +215,7 @@ impl Segment {
             contents: Box::new(alloc, self.contents(alloc)?)?,
         };
         Ok(Prepared {
-            answers: only(alloc, Message::Report(report))?,
+            answers: Messages::One(Message::Report(report)),
             effect: Effect::Promise(fence.label.volume),
         })
     }
@@ -243,7 +238,7 @@ impl Segment {
             lineage,
             records,
         };
-        self.acknowledged(alloc, install.label, scl, effect)
+        Ok(self.acknowledged(install.label, scl, effect))
     }
 
     /// Makes ready for a piece of an install that isn't refused: keeps it, or holds what was found where it was the last that was missing.
@@ -257,13 +252,13 @@ impl Segment {
         let volume = install.label.volume;
         if self.lineage.last_epoch() == volume {
             let scl = self.records.complete_point();
-            return self.acknowledged(alloc, install.label, scl, Effect::Promise(volume));
+            return Ok(self.acknowledged(install.label, scl, Effect::Promise(volume)));
         }
         let change = self.assembly.prepare(alloc, install)?;
         match self.assembly.whole_with(alloc, &change)? {
             Some(found) => self.replaced(alloc, install, &found),
             None => Ok(Prepared {
-                answers: Vec::new(alloc),
+                answers: Messages::Empty,
                 effect: Effect::Gather { volume, change },
             }),
         }
@@ -308,18 +303,18 @@ impl Segment {
         }
         let Some(place) = self.records.place_for(packet) else {
             let scl = self.records.complete_point();
-            return Ok(self.acknowledged(alloc, label, scl, Effect::Nothing)?);
+            return Ok(self.acknowledged(label, scl, Effect::Nothing));
         };
         if self.records.len() >= MOST_RECORDS {
             return Err(Fault::Full);
         }
         let entrant = self.records.prepare(alloc, place, packet)?;
         let scl = self.records.point_with(&entrant);
-        Ok(self.acknowledged(alloc, label, scl, Effect::Enter(entrant))?)
+        Ok(self.acknowledged(label, scl, Effect::Enter(entrant)))
     }
 
     /// Makes ready to stand elsewhere.
-    fn prepare_step(&self, alloc: Global, step: &StepTo) -> Result<Prepared, Fault>
+    fn prepare_step(&self, step: &StepTo) -> Result<Prepared, Fault>
         ensures step { Answers step_of (reaction_of self.now (message_of (Message.StepTo step.now))) (node_of self.now) result (node_of self.now) }
         ensures ready { IfOk result (λ prepared. CanTake self.now prepared.effect) }
     {
@@ -342,9 +337,9 @@ impl Segment {
         };
         Ok(Prepared {
             answers: if self.whole {
-                Vec::new(alloc)
+                Messages::Empty
             } else {
-                only(alloc, Message::CopyAsk(ask))?
+                Messages::One(Message::CopyAsk(ask))
             },
             effect: Effect::Move(place),
         })
@@ -384,9 +379,9 @@ impl Segment {
         ensures actor { IsSameActor self.old self.new }
     {
         let contents = self.contents(alloc)?;
-        let answers = self.copy_reports(alloc, self.copied + 1, &contents)?;
+        let reports = self.copy_reports(alloc, self.copied + 1, &contents)?;
         Ok(Prepared {
-            answers,
+            answers: Messages::of(reports),
             effect: Effect::Count,
         })
     }
@@ -437,7 +432,7 @@ impl Segment {
         }
         let keeping = self.copies.prepare(report)?;
         Ok(Prepared {
-            answers: Vec::new(alloc),
+            answers: Messages::Empty,
             effect: Effect::Keep(keeping),
         })
     }
@@ -503,7 +498,7 @@ impl Segment {
             bytes: Box::new(alloc, self.records.page(ask.block, ask.point))?,
         };
         Ok(Prepared {
-            answers: only(alloc, Message::Page(page))?,
+            answers: Messages::One(Message::Page(page)),
             effect: Effect::Nothing,
         })
     }
@@ -573,7 +568,7 @@ impl Segment {
             Message::Gossip(gossip) if gossip.is_for(self.group) => {
                 self.prepare_record(alloc, gossip.label, &gossip.packet)
             }
-            Message::StepTo(step) => self.prepare_step(alloc, step),
+            Message::StepTo(step) => self.prepare_step(step),
             Message::CopyAsk(ask) => self.prepare_copy(alloc, ask),
             Message::CopyReport(report) => self.prepare_copied(alloc, report),
             Message::PageAsk(ask) => self.prepare_page(alloc, ask),
@@ -639,7 +634,7 @@ impl Segment {
         }
         let records = Records::boxed(alloc, &contents.records)?;
         Ok(Prepared {
-            answers: Vec::new(alloc),
+            answers: Messages::Empty,
             effect: Effect::Hydrate {
                 volume: self.volume.max(volume),
                 lineage: contents.lineage,
@@ -655,7 +650,7 @@ impl Segment {
     {
         let carried = self.offer(lsn)?;
         Ok(Prepared {
-            answers: only(alloc, carried.gossip()?)?,
+            answers: Messages::One(carried.gossip()?),
             effect: Effect::Nothing,
         })
     }
@@ -677,7 +672,7 @@ impl Segment {
             NodeAct::Deliver(message) => self.prepare(alloc, message),
             NodeAct::Hydrate => self.prepare_hydration(alloc),
             NodeAct::Restart => Ok(Prepared {
-                answers: Vec::new(alloc),
+                answers: Messages::Empty,
                 effect: Effect::Restart,
             }),
             NodeAct::Offer { lsn } => self.prepare_offer(alloc, lsn),
@@ -733,9 +728,9 @@ impl Segment {
 
     /// Takes a step that it was made ready for, and answers the messages that the step makes. Takes no memory.
     #[inline(always)]
-    pub fn apply(&mut self, prepared: Prepared) -> Vec<Message>
+    pub fn apply(&mut self, prepared: Prepared) -> Messages
         requires { IsReady self.old prepared }
-        ensures answers { result.items ≡ answers_of prepared }
+        ensures answers { listed result ≡ answers_of prepared }
         ensures node { node_of self.new ≡ (step_of prepared (node_of self.old)).node }
         ensures actor { IsSameActor self.old self.new }
     {
@@ -748,7 +743,7 @@ impl Segment {
     ///
     /// # Errors
     /// As [`Segment::prepare`]; then the segment is what it was.
-    pub fn deliver(&mut self, alloc: Global, message: &Message) -> Result<Vec<Message>, Fault>
+    pub fn deliver(&mut self, alloc: Global, message: &Message) -> Result<Messages, Fault>
         ensures answers { Answers answered (reaction_of self.old (message_of message.now)) (node_of self.old) result (node_of self.new) }
         ensures actor { IsSameActor self.old self.new }
     {

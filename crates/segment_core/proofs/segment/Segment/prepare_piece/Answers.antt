@@ -1,13 +1,12 @@
-use Rattle.std.proofs.Common.{◌≡◌, ◌≢◌, [], ◌∷◌, Option, Some, None, List, sym, ap, subst, ◌∙◌}
+use Rattle.std.proofs.Common.{◌≡◌, ◌≢◌, [], ◌∷◌, Option, Some, None, sym, ap, subst, ◌∙◌}
 use Rattle.std.specs.Prelude.{option_map}
 use Rattle.volume_model.specs.Lineage.{Contents}
 use Rattle.volume_model.specs.Message as model
 use Rattle.volume_model.specs.Node.{Node, NodeStep, installed, lineage_epoch}
 use Rattle.volume_model.specs.Pieces.{Piece, Pieces}
 use Rattle.redo_record.specs.RecordSet.{records_of as set_records}
-use Rattle.wire.specs.declared.message.Message.{Message}
 use Rattle.wire.specs.Contents.{contents_of, piece_in}
-use Rattle.wire.specs.Message.{label_of, messages_of}
+use Rattle.wire.specs.Message.{label_of}
 use Rattle.segment_core.specs.declared.prepared.Effect.TheVariants as Effect
 use Rattle.segment_core.specs.declared.prepared.Prepared.{Prepared}
 use Rattle.segment_core.specs.Assembly.{changed_by, kept_in, whole_in}
@@ -27,8 +26,7 @@ returns-then-last_epoch-volume-clause-step c =
     let same : told ≡ installed s.group s.member node label piece (contents_of install.contents.value) =
     ap (λ n. record { made = model.Message.Ack s.group label s.member n ∷ []; node = record node { volume = label.volume } }) c.complete_point-scl.ensures
     ∙ acknowledges s.group s.member node label piece (contents_of install.contents.value) (sym c.last_epoch.ensures ∙ c.if-last_epoch-volume.true) in
-    if-ok (λ prepared. step_of prepared node ≡ told) (λ prepared. step_of prepared node ≡ installed s.group s.member node label piece (contents_of install.contents.value)) c.acknowledged.result (λ prepared h. h ∙ same)
-    (made-so c.acknowledged.result node told.made (Effect.Promise install.label.volume) c.acknowledged.ensures.made c.acknowledged.ensures.effect)
+    made-so c.acknowledged.result node told.made (Effect.Promise install.label.volume) c.acknowledged.ensures.made c.acknowledged.ensures.effect ∙ same
 
 pub returns-in-Some-clause-step : goal.returns-in-Some-clause-step
 returns-in-Some-clause-step c =
@@ -57,5 +55,4 @@ returns-in-None-clause-step c =
     let after : Option Pieces = changed_by c.in_ok-change.change (kept_in s.assembly) in
     let apart : lineage_epoch node ≢ label.volume = λ e. c.if-last_epoch-volume.false (c.last_epoch.ensures ∙ e) in
     let missing : None ≡ whole_in after = ap (option_map set_records) (sym c.in-None.is) ∙ c.in_ok-found.ensures ∙ ap (λ i. whole_in (changed_by c.in_ok-change.change i)) c.in_ok-change.ensures.same in
-    ap (λ (ms : List Message). record { made = messages_of ms; node = record node { volume = label.volume; install = after } }) c.new.ensures.items
-    ∙ gathers s.group s.member node label piece contents after apart c.in_ok-change.ensures.change missing
+    gathers s.group s.member node label piece contents after apart c.in_ok-change.ensures.change missing
