@@ -108,11 +108,8 @@ impl Actors {
         ensures good { AreActors self.new }
         ensures plan { plan_of self.new ≡ plan_of self.old }
     {
-        if !self.clients.contains_key(&volume) {
-            return self.absent_step(alloc, volume, order);
-        }
         match self.clients.get_mut(&volume) {
-            None => Err(Fault::NoActor),
+            None => self.absent_step(alloc, volume, order),
             Some(client) => client_step::act(alloc, client, &mut self.messages, order),
         }
     }

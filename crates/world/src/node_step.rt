@@ -9,7 +9,7 @@ ghost use Rattle.world.specs.Acts.{node_late, node_ordered, IsNodeOrderOf, IsRef
 ghost use Rattle.world.specs.Moves.{NodeMoves};
 
 use crate::acts::NodeOrder;
-use crate::numbering::{enter, named};
+use crate::numbering::{enter_answers, named};
 use segment_core::{NodeAct, Segment};
 use std::alloc::Global;
 use volume_model::Fault;
@@ -40,5 +40,5 @@ pub fn act(
     let prepared = segment.prepare_act(alloc, act)?;
     messages.reserve(prepared.answers().len())?;
     let made = segment.apply(prepared);
-    Ok(enter(messages, made))
+    Ok(enter_answers(messages, made))
 }

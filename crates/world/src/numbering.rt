@@ -3,10 +3,11 @@
 ghost use Rattle.std.specs.Prelude.{◌≡◌, ◌+◌, ◌≤◌, ◌++◌, [], None, Some, length, option_map, vec_capacity, vec_len, MatchResult};
 ghost use Rattle.volume_model.specs.declared.fault.Fault.TheVariants.{NoMessage};
 ghost use Rattle.volume_model.specs.Lists.{added, numbered};
+ghost use Rattle.wire.specs.Listed.{listed};
 ghost use Rattle.wire.specs.Message.{message_of, messages_of};
 
 use volume_model::Fault;
-use wire::Message;
+use wire::{Message, Messages};
 
 /// The message with a number, counted from 1 in the order of making.
 fn message_at(messages: &[Message], number: u64) -> Option<&Message>
@@ -40,5 +41,16 @@ pub fn enter(messages: &mut Vec<Message>, made: Vec<Message>) -> u64
     let mut made = made;
     let count = made.len() as u64;
     messages.append(&mut made).unwrap();
+    count
+}
+
+/// Adds what a node answers to the other messages, as [`enter`] does.
+pub fn enter_answers(messages: &mut Vec<Message>, answers: Messages) -> u64
+    requires { vec_len messages.old + length (listed answers) ≤ vec_capacity messages.old }
+    ensures added { messages.new.items ≡ messages.old.items ++ listed answers }
+    ensures count { result ≡ length (listed answers) }
+{
+    let count = answers.len() as u64;
+    answers.append_to(messages);
     count
 }

@@ -168,13 +168,16 @@ fn are_thirds(messages: &[Message], series: u64) -> bool {
 
 /// What a member tells that is asked for a copy at membership epoch 2.
 fn copy_of(alloc: Global, holder: &mut Segment) -> Result<Vec<Message>, Fault> {
-    holder.deliver(alloc, &message(alloc, CopyAsk(0, 2))?)
+    let answers = holder.deliver(alloc, &message(alloc, CopyAsk(0, 2))?)?;
+    let mut copy = Vec::with_capacity(alloc, answers.len())?;
+    answers.append_to(&mut copy);
+    Ok(copy)
 }
 
 /// Whether a fresh member takes the piece without an answer, and isn't whole then.
 fn is_kept(alloc: Global, node: &mut Segment, piece: &Message) -> Result<bool, Fault> {
     let answers = node.deliver(alloc, piece)?;
-    Ok(answers.is_empty() && node.scl() == 0)
+    Ok(answers.len() == 0 && node.scl() == 0)
 }
 
 /// Whether a fresh member that gets pieces of both copies is made whole once the second is there in full, and not before.

@@ -6,7 +6,7 @@ use redo_record::Packet;
 use segment_core::Segment;
 use std::alloc::Global;
 use volume_model::Fault;
-use wire::Message;
+use wire::{Message, Messages};
 
 /// What a node answers, by what of it matters.
 #[derive(Clone, Copy, PartialEq, Eq)]
@@ -41,20 +41,28 @@ fn last_of(packets: &[Packet]) -> u64 {
     last
 }
 
-/// What the messages say.
-pub fn said_by(messages: &[Message]) -> Said {
-    match messages {
-        [] => Said::Nothing,
-        [Message::Ack(ack)] => Said::Acks(ack.scl),
-        [Message::Report(report)] => Said::Reports(last_of(report.contents.records.as_slice())),
-        [Message::CopyReport(copy)] => Said::Copies(last_of(copy.contents.records.as_slice())),
-        [Message::CopyAsk(ask)] => Said::Asks(ask.epoch),
-        [Message::Page(page)] => Said::Byte(page.bytes[0]),
-        [Message::Gossip(gossip)] => {
+/// What a message says.
+fn said_in(message: &Message) -> Said {
+    match message {
+        Message::Ack(ack) => Said::Acks(ack.scl),
+        Message::Report(report) => Said::Reports(last_of(report.contents.records.as_slice())),
+        Message::CopyReport(copy) => Said::Copies(last_of(copy.contents.records.as_slice())),
+        Message::CopyAsk(ask) => Said::Asks(ask.epoch),
+        Message::Page(page) => Said::Byte(page.bytes[0]),
+        Message::Gossip(gossip) => {
             let label = gossip.label;
             Said::Offers(label.volume, label.member, gossip.packet.lsn())
         }
         _ => Said::Another,
+    }
+}
+
+/// What the messages say.
+pub fn said_by(messages: &Messages) -> Said {
+    match messages {
+        Messages::Empty => Said::Nothing,
+        Messages::One(message) => said_in(message),
+        Messages::Many(_) => Said::Another,
     }
 }
 
@@ -76,7 +84,7 @@ pub fn answer(alloc: Global, node: &mut Segment, told: Told) -> Result<Said, Fau
             node.hydrate(alloc)?;
             Ok(Said::Nothing)
         }
-        Told::Offer(lsn) => Ok(said_by(&[node.offer(lsn)?.gossip()?])),
+        Told::Offer(lsn) => Ok(said_in(&node.offer(lsn)?.gossip()?)),
         Told::ByteOf(block, point, place) => match node.page_at(block, point)?.get(place) {
             Some(byte) => Ok(Said::Byte(*byte)),
             None => Ok(Said::Another),
