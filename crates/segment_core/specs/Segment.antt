@@ -98,8 +98,8 @@ hydration_of s = hydrated (segment_plan s) (segment_group s) (segment_member s) 
 abbrev pub CanTake : Segment → Effect → Type 0
 CanTake s (Enter entrant) = CanEnter s.records entrant
 CanTake s Count = s.copied < most_copies
-CanTake s (Gather volume change) = CanGather s.assembly change
-CanTake s (Keep keeping) = CanKeep s.copies keeping
+CanTake s (Gather volume change) = CanGather s.assembly change.value
+CanTake s (Keep keeping) = CanKeep s.copies keeping.value
 CanTake s effect = Unit {0}
 
 -- what a segment does when it is asked to, as the node that it is

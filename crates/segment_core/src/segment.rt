@@ -257,10 +257,13 @@ impl Segment {
         let change = self.assembly.prepare(alloc, install)?;
         match self.assembly.whole_with(alloc, &change)? {
             Some(found) => self.replaced(alloc, install, &found),
-            None => Ok(Prepared {
-                answers: Messages::Empty,
-                effect: Effect::Gather { volume, change },
-            }),
+            None => {
+                let change = Box::new(alloc, change)?;
+                Ok(Prepared {
+                    answers: Messages::Empty,
+                    effect: Effect::Gather { volume, change },
+                })
+            }
         }
     }
 
@@ -431,9 +434,10 @@ impl Segment {
             return Err(Fault::AheadMember);
         }
         let keeping = self.copies.prepare(report)?;
+        let kept = Box::new(alloc, keeping)?;
         Ok(Prepared {
             answers: Messages::Empty,
-            effect: Effect::Keep(keeping),
+            effect: Effect::Keep(kept),
         })
     }
 
@@ -699,7 +703,7 @@ impl Segment {
             Effect::Count => self.copied += 1,
             Effect::Gather { volume, change } => {
                 self.volume = volume;
-                self.assembly.apply(change);
+                self.assembly.apply(Box::into_inner(change));
             }
             Effect::Replace {
                 volume,
@@ -711,7 +715,7 @@ impl Segment {
                 self.records = Box::into_inner(records);
                 self.assembly.clear();
             }
-            Effect::Keep(keeping) => self.copies.keep(keeping),
+            Effect::Keep(keeping) => self.copies.keep(Box::into_inner(keeping)),
             Effect::Restart => self.restart(),
             Effect::Hydrate {
                 volume,

@@ -4,6 +4,7 @@ use Rattle.volume_model.specs.Lineage.{Contents}
 use Rattle.volume_model.specs.Message as model
 use Rattle.volume_model.specs.Node.{Node, NodeStep, installed, lineage_epoch}
 use Rattle.volume_model.specs.Pieces.{Piece, Pieces}
+use Rattle.hydration.specs.declared.change.Change.{Change}
 use Rattle.redo_record.specs.RecordSet.{records_of as set_records}
 use Rattle.wire.specs.Contents.{contents_of, piece_in}
 use Rattle.wire.specs.Message.{label_of}
@@ -44,8 +45,8 @@ returns-in-Some-clause-step c =
     if-ok (P (kept_in c.prepare.new.self)) (λ prepared. step_of prepared node ≡ installed s.group s.member node label piece contents) c.replaced.result
     (λ prepared h. subst (λ i. P i prepared) c.in_ok-change.ensures.same h ∙ replaces s.group s.member node label piece contents records after apart c.in_ok-change.ensures.change whole) c.replaced.ensures.step
 
-pub returns-in-None-clause-step : goal.returns-in-None-clause-step
-returns-in-None-clause-step c =
+pub returns-in_ok-change-in-None-clause-step : goal.returns-in_ok-change-in-None-clause-step
+returns-in_ok-change-in-None-clause-step c =
     let s = c.args.self.now in
     let install = c.args.install.now in
     let node : Node = node_of s in
@@ -55,4 +56,5 @@ returns-in-None-clause-step c =
     let after : Option Pieces = changed_by c.in_ok-change.change (kept_in s.assembly) in
     let apart : lineage_epoch node ≢ label.volume = λ e. c.if-last_epoch-volume.false (c.last_epoch.ensures ∙ e) in
     let missing : None ≡ whole_in after = ap (option_map set_records) (sym c.in-None.is) ∙ c.in_ok-found.ensures ∙ ap (λ i. whole_in (changed_by c.in_ok-change.change i)) c.in_ok-change.ensures.same in
-    gathers s.group s.member node label piece contents after apart c.in_ok-change.ensures.change missing
+    ap (λ (change : Change). record { made = []; node = record node { volume = label.volume; install = changed_by change node.install } }) c.in_ok-change-in-None.ensures.ok
+    ∙ gathers s.group s.member node label piece contents after apart c.in_ok-change.ensures.change missing
