@@ -13,7 +13,7 @@ use Rattle.volume_model.proofs.Worlds.{before_more, runs_push, world_at-push, me
 use Rattle.wire.specs.Message.{message_of}
 use Rattle.journal.specs.declared.entry.Entry.{Entry}
 use Rattle.journal.specs.Entries.{entry_of, entries_of}
-use Rattle.journal.specs.Listed.{listed}
+use Rattle.wire.specs.Listed.{listed}
 use Rattle.journal.proofs.Maps.{map-append, map-prefix, map-there, map-length}
 
 -- how many there are

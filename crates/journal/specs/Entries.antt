@@ -6,7 +6,7 @@ use Rattle.wire.specs.Message.{messages_of}
 use Rattle.world.specs.Events.{event_of}
 use Rattle.journal.specs.declared.entry.Entry.{Entry}
 use Rattle.journal.specs.declared.entry.Note.{Note}
-use Rattle.journal.specs.Listed.{listed}
+use Rattle.wire.specs.Listed.{listed}
 
 -- the entry that a program's entry is
 abbrev pub entry_of : Entry → model.Entry

@@ -1,5 +1,4 @@
 pub mod Actors
-pub mod Listed
 pub mod Entries
 pub mod Standing
 pub mod History

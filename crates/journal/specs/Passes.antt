@@ -22,7 +22,7 @@ use Rattle.journal.specs.declared.log.Log.{Log}
 use Rattle.journal.specs.Actors.{seen_who}
 use Rattle.journal.specs.Entries.{entry_of, entries_of, note_of}
 use Rattle.journal.specs.Lasts.{last_in}
-use Rattle.journal.specs.Listed.{listed}
+use Rattle.wire.specs.Listed.{listed}
 use Rattle.journal.specs.Standing.{Made, made}
 use Rattle.journal.specs.Tokens.{shown}
 

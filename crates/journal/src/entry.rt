@@ -1,7 +1,7 @@
 //! What is entered of a step, and what its caller is told.
 
-use crate::messages::Messages;
 use volume_model::Fault;
+use wire::Messages;
 use world::Event;
 
 /// One step: what happened, the messages that it made, what was made before, and the durable point that it shows.

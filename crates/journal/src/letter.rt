@@ -4,7 +4,7 @@ ghost use Rattle.std.specs.Prelude.{◌≡◌, ◌+◌, ◌<◌, length, slice_g
 ghost use Rattle.std.proofs.Props.{props};
 ghost use Rattle.std.specs.Coded.{Coded-set};
 ghost use Rattle.logbook.specs.Pages.{book_coded};
-ghost use Rattle.journal.specs.Listed.{listed};
+ghost use Rattle.wire.specs.Listed.{listed};
 
 use crate::entry::Entry;
 use crate::history::Front;

@@ -19,7 +19,6 @@ use crate::history::{Front, History};
 use crate::lasts::Lasts;
 use crate::letter::Letter;
 use crate::mark::Mark;
-use crate::messages::Messages;
 use crate::pass::{Held, Pass};
 use crate::row::{Row, Site};
 use crate::who::Who;
@@ -29,7 +28,7 @@ use std::marker::PhantomData;
 use std::sync::Wait;
 use std::sync::ledger::Book;
 use volume_model::Fault;
-use wire::Message;
+use wire::Messages;
 use world::Event;
 
 /// The cells that aren't written, the entries so far, how many messages were made before each, the last entry of each actor, and how many
@@ -120,7 +119,7 @@ impl<'a, L: Site> Log<'a, L> {
     ghost use Rattle.world.specs.Slots.{members};
     ghost use Rattle.journal.specs.Actors.{seen_who};
     ghost use Rattle.journal.specs.Entries.{entry_of};
-    ghost use Rattle.journal.specs.Listed.{listed};
+    ghost use Rattle.wire.specs.Listed.{listed};
     ghost use Rattle.journal.specs.Standing.{durable_in, made, IsElse, NamesEarlier, Stands};
     ghost use Rattle.journal.specs.Passes.{journal_of, kept_in, letter_message, letter_number, letter_step, mark_number, marked, notes_of, seat_of, seen_at, steps_of, world_of, AddsRefusal, AddsStep, HasNoteRoom, HasPlace, HasRoom, HasStepRoom, SeesAll};
 
@@ -309,21 +308,21 @@ impl<'a, L: Site> Log<'a, L> {
         mark: &mut Mark<L>,
         pass: &mut Pass<'a, L>,
         event: Event,
-        made: Vec<Message>,
+        made: Messages,
         durable: u64,
     ) -> Receipt
         requires height { table_of height.now ≡ L.table }
         requires settled { SeesAll pass.old self.old }
         requires who { actor_of (event_of event) ≡ marked mark.old }
         requires there { HasPlace self.old (marked mark.old) }
-        requires goes { makes (step L.plan (world_of self.old) (event_of event)) ≡ Some (messages_of made.items) }
+        requires goes { makes (step L.plan (world_of self.old) (event_of event)) ≡ Some (messages_of (listed made)) }
         requires durable { durable ≡ durable_in (after L.plan (world_of self.old) (event_of event)) (event_of event) }
         requires cell { length (journal_of self.old) < length L.cells }
         requires room { HasRoom self.old × HasStepRoom pass.old }
         ensures step { AddsStep (event_of event) result (steps_of pass.old) (steps_of pass.new) }
         ensures notes { (notes_of pass.new ≡ notes_of pass.old) × (seat_of pass.new ≡ seat_of pass.old) }
         ensures receipt { (result.number ≡ length (journal_of self.new)) × (result.durable ≡ durable) }
-        ensures entry { journal_of self.new ≡ journal_of self.old ++ record { event = event_of event; made = messages_of made.items; first = length (world_of self.old).messages } ∷ [] }
+        ensures entry { journal_of self.new ≡ journal_of self.old ++ record { event = event_of event; made = messages_of (listed made); first = length (world_of self.old).messages } ∷ [] }
         ensures world { world_of self.new ≡ after L.plan (world_of self.old) (event_of event) }
         ensures mark { (marked mark.new ≡ marked mark.old) × (seen_at mark.new ≡ journal_of self.new) }
         ensures seen { SeesAll pass.new self.new }
@@ -331,7 +330,6 @@ impl<'a, L: Site> Log<'a, L> {
         let cell = self.entries.len();
         let first = self.messages;
         let count = made.len();
-        let made = Messages::of(made);
         let entry = Entry {
             event,
             made,

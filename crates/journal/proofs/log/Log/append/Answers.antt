@@ -10,7 +10,7 @@ use Rattle.journal.specs.declared.pass.Held.{Held}
 use Rattle.journal.specs.Actors.{seen_who}
 use Rattle.journal.specs.Entries.{entry_of, entries_of, note_of}
 use Rattle.journal.specs.Lasts.{last_known, or_zero}
-use Rattle.journal.specs.Listed.{listed}
+use Rattle.wire.specs.Listed.{listed}
 use Rattle.journal.specs.Standing.{made, Stands}
 use Rattle.journal.specs.Tokens.{shown}
 use Rattle.world.specs.Events.{event_of}

@@ -1,4 +1,4 @@
-use Rattle.std.proofs.Common.{◌≡◌, ◌+◌, ◌<◌, [], ◌∷◌, ◌++◌, length, vec_len, All, get_or, refl, sym, ap, ◌∙◌, arith, rules}
+use Rattle.std.proofs.Common.{◌≡◌, ◌+◌, ◌<◌, [], ◌∷◌, ◌++◌, length, All, get_or, refl, sym, ap, ◌∙◌, arith, rules}
 use Rattle.volume_model.specs.World.{after}
 use Rattle.volume_model.specs.Journal.{world_at}
 use Rattle.volume_model.proofs.ListFacts.{get_within}
@@ -7,7 +7,7 @@ use Rattle.world.specs.Events.{event_of}
 use Rattle.journal.specs.declared.entry.Entry.{Entry}
 use Rattle.journal.specs.declared.pass.Held.{Held}
 use Rattle.journal.specs.Entries.{entry_of, entries_of}
-use Rattle.journal.specs.Listed.{listed}
+use Rattle.wire.specs.Listed.{listed}
 use Rattle.journal.specs.Passes.{steps_of, made_of}
 use Rattle.journal.specs.Standing.{Made, made}
 use Rattle.journal.specs.Tokens.{shown}
@@ -23,9 +23,9 @@ returns-clause-step g c =
     let pass = c.args.pass.now in
     let es = shown log.entries.items in
     let long : length es ≡ c.len-cell.result = length-shown log.entries.items ∙ search rules in
-    let entry : Entry = record { event = c.args.event; made = c.of-made.result; first = log.messages; cell = c.len-cell.result; durable = c.args.durable } in
+    let entry : Entry = record { event = c.args.event; made = c.args.made; first = log.messages; cell = c.len-cell.result; durable = c.args.durable } in
     let count : length (entry_of entry).made ≡ c.len-count.result =
-    map-length message_of (listed entry.made) ∙ ap length c.of-made.ensures ∙ (let n : length c.args.made.items ≡ vec_len c.args.made = search rules in n) ∙ sym c.len-count.ensures in
+    map-length message_of (listed entry.made) ∙ sym c.len-count.ensures in
     let below : All (λ (s : Made). s.at + 1 < c.len-cell.result + 1) (steps_of pass) = all_map (λ (h : Held g.row.L.Denot). made_of h) (λ (s : Made). s.at + 1 < c.len-cell.result + 1) pass.steps.items
     (λ k d lt. let h = get_or pass.steps.items k d in let s = pass.stand k d lt in let w = get_within (entries_of pass.seen.log) (entry_of h.entry.now) h.entry.now.cell s.stands in let same = ap length c.requires.settled in omega (arith, w, same, length-entries pass.seen.log, long)) in
     (made (length es) (entry_of entry) c.args.durable, c.append.ensures.steps, omega (arith, long), refl, count, sym c.total.ensures, refl, below)
@@ -34,14 +34,13 @@ pub returns-clause-entry : goal.returns-clause-entry
 returns-clause-entry g c =
     let log = c.args.self.now in
     let es = shown log.entries.items in
-    let entry : Entry = record { event = c.args.event; made = c.of-made.result; first = log.messages; cell = c.len-cell.result; durable = c.args.durable } in
+    let entry : Entry = record { event = c.args.event; made = c.args.made; first = log.messages; cell = c.len-cell.result; durable = c.args.durable } in
     entries_push es (shown c.append.new.self.entries.items) entry c.append.ensures.entries
-    ∙ ap (λ ms. entries_of es ++ record { event = event_of c.args.event; made = messages_of ms; first = log.messages } ∷ []) c.of-made.ensures
-    ∙ ap (λ n. entries_of es ++ record { event = event_of c.args.event; made = messages_of c.args.made.items; first = n } ∷ []) log.messages_are
+    ∙ ap (λ n. entries_of es ++ record { event = event_of c.args.event; made = messages_of (listed c.args.made); first = n } ∷ []) log.messages_are
 
 pub returns-clause-world : goal.returns-clause-world
 returns-clause-world g c =
     let log = c.args.self.now in
     let es = shown log.entries.items in
-    let entry : Entry = record { event = c.args.event; made = c.of-made.result; first = log.messages; cell = c.len-cell.result; durable = c.args.durable } in
+    let entry : Entry = record { event = c.args.event; made = c.args.made; first = log.messages; cell = c.len-cell.result; durable = c.args.durable } in
     entries_world g.L.Site.plan es (shown c.append.new.self.entries.items) entry c.append.ensures.entries
