@@ -163,6 +163,7 @@ impl<'a, L: Site> Log<'a, L> {
 
     /// Whether the actor stands here as it stands under its own lock, as it always does where the journal keeps its last
     /// number. Then it is in the state that the journal says.
+    #[inline(always)]
     pub fn compare(&self, mark: &Mark<L>) -> bool
         ensures agree { MatchBool result (Agree (marked mark.now) (world_at L.plan (seen_at mark.now)) (world_of self.now)) (Unit {0}) }
         ensures last { MatchBool result ((mark_number mark.now ≡ last_of (marked mark.now) (journal_of self.now)) × HasPlace self.now (marked mark.now)) (HasPlace self.now (marked mark.now) → mark_number mark.now ≡ last_of (marked mark.now) (journal_of self.now) → ⊥) }
@@ -184,6 +185,7 @@ impl<'a, L: Site> Log<'a, L> {
     }
 
     /// Shows that the journal has come past all that the pass has seen. From then on the pass has seen the whole of it.
+    #[inline(always)]
     pub fn settle(&mut self, height: &Height, pass: &mut Pass<'a, L>)
         requires { table_of height.now ≡ L.table }
         ensures log { (self.new.entries ≡ self.old.entries) × (self.new.firsts ≡ self.old.firsts) × (self.new.lasts ≡ self.old.lasts) }
@@ -200,6 +202,7 @@ impl<'a, L: Site> Log<'a, L> {
     ///
     /// # Errors
     /// Where a growth was refused; the journal is what it was.
+    #[inline(always)]
     pub fn reserve(&mut self) -> Result<(), AllocError>
         ensures same { (kept_in self.new ≡ kept_in self.old) × (self.new.lasts ≡ self.old.lasts) }
         ensures room { IfOk result (λ _. HasRoom self.new) }
@@ -240,6 +243,7 @@ impl<'a, L: Site> Log<'a, L> {
     }
 
     // Enters an entry.
+    #[inline(always)]
     fn append<R: Wait>(&mut self, rt: &R, height: &Height, entry: Entry, pass: &mut Pass<'a, L>)
         requires height { table_of height.now ≡ L.table }
         requires cell { 0 < length self.old.rest.now }
@@ -301,6 +305,7 @@ impl<'a, L: Site> Log<'a, L> {
     }
 
     /// Enters a step of an actor, whose lock the caller holds, and answers what is told of it.
+    #[inline(always)]
     pub fn enter<R: Wait>(
         &mut self,
         rt: &R,

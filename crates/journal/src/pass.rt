@@ -90,6 +90,7 @@ impl<'a, L: Site> Pass<'a, L> {
     ///
     /// # Errors
     /// Where a growth was refused; what the pass did and was refused is what it was.
+    #[inline(always)]
     pub fn reserve(&mut self) -> Result<(), AllocError>
         ensures same { (steps_of self.new ≡ steps_of self.old) × (notes_of self.new ≡ notes_of self.old) × (seat_of self.new ≡ seat_of self.old) × (self.new.seen.log ≡ self.old.seen.log) }
         ensures room { IfOk result (λ _. HasStepRoom self.new × HasNoteRoom self.new) }
