@@ -1,4 +1,3 @@
-mod deals;
 mod expressions;
 mod files;
 mod fleet_lines;

@@ -1,26 +1,80 @@
 //! Claims that are dealt to hands.
 
-use cert_search::{Hand, deal};
-use std::alloc::{AllocError, Global};
-use std::sync::Wait;
-use std::test::Fail;
-use std::thread;
+ghost use Rattle.std.specs.Prelude.{◌<◌, ◌≤◌};
 
-/// What the hand takes until it finds nothing, at most `most` claims.
-fn all_of<R: Wait>(
+use cert_search::{Hand, deal};
+use std::alloc::Global;
+use std::sync::Wait;
+use std::test::*;
+use std::thread;
+use std::thread::Threads;
+use volume_model::Fault;
+
+/// A hand by its place, and what it takes.
+type Turn = (usize, Option<usize>);
+
+/// The place of the first turn in which a hand takes something else, where so many claims are dealt to so many workers; behind all turns
+/// where there are more or fewer hands than workers.
+fn broken<R: Wait>(
     rt: &R,
     alloc: Global,
-    hand: &mut Hand,
-    most: usize,
-) -> Result<Vec<usize>, AllocError> {
-    let mut claims = Vec::new(alloc);
-    for _ in 0..most {
-        let Some(claim) = hand.take(rt) else {
-            break;
-        };
-        claims.push(claim)?;
+    claims: usize,
+    workers: usize,
+    turns: &[Turn],
+) -> Result<Option<usize>, Fault>
+    requires some { 0 < workers }
+    requires few { workers ≤ 16 }
+{
+    let mut hands = deal(alloc, claims, workers)?;
+    if hands.len() != workers {
+        return Ok(Some(turns.len()));
     }
-    Ok(claims)
+    for (place, (hand, expected)) in turns.iter().enumerate() {
+        let Some(hand) = hands.get_mut(*hand) else {
+            return Ok(Some(place));
+        };
+        if hand.take(rt) != *expected {
+            return Ok(Some(place));
+        }
+    }
+    Ok(None)
+}
+
+/// Two workers have five claims between them, each once, and then none.
+const EACH_ONCE: &[Turn] = &[
+    (1, Some(1)),
+    (0, Some(0)),
+    (1, Some(3)),
+    (1, Some(2)),
+    (0, Some(4)),
+    (0, None),
+    (1, None),
+    (1, None),
+];
+
+/// One of three takes all seven.
+const ONE_TAKES_ALL: &[Turn] = &[
+    (1, Some(1)),
+    (1, Some(4)),
+    (1, Some(2)),
+    (1, Some(5)),
+    (1, Some(0)),
+    (1, Some(3)),
+    (1, Some(6)),
+    (1, None),
+    (0, None),
+];
+
+/// A single worker has three.
+const ALONE: &[Turn] = &[(0, Some(0)), (0, Some(1)), (0, Some(2)), (0, None)];
+
+#[test]
+fn claims_are_dealt(rt: HostRuntime) {
+    let alloc = rt.alloc();
+    assert_eq!(rt; broken(&rt, alloc, 5, 2, EACH_ONCE), Ok(None));
+    assert_eq!(rt; broken(&rt, alloc, 7, 3, ONE_TAKES_ALL), Ok(None));
+    assert_eq!(rt; broken(&rt, alloc, 0, 2, &[(1, None)]), Ok(None));
+    assert_eq!(rt; broken(&rt, alloc, 3, 1, ALONE), Ok(None));
 }
 
 /// How many claims the hand takes until it finds nothing.
@@ -33,43 +87,18 @@ fn count<R: Wait>(rt: &R, mut hand: Hand) -> usize {
     100
 }
 
-#[test]
-fn one_hand_takes_all(rt: HostRuntime) -> Result<(), Fail> {
-    let mut hands = deal(rt.alloc(), 7, 3)?;
-    assert_eq!(rt; hands.len(), 3);
-    let mut second = hands.remove(1);
-    let claims = all_of(&rt, rt.alloc(), &mut second, 9)?;
-    assert_eq!(rt; claims.as_slice(), [1, 4, 2, 5, 0, 3, 6].as_slice());
-    assert_eq!(rt; hands.len(), 2);
-    assert_eq!(rt; hands[0].take(&rt), None);
-    Ok(())
-}
-
-#[test]
-fn no_claims(rt: HostRuntime) -> Result<(), Fail> {
-    let mut hands = deal(rt.alloc(), 0, 2)?;
-    assert_eq!(rt; hands.len(), 2);
-    assert_eq!(rt; hands[1].take(&rt), None);
-    Ok(())
-}
-
-#[test]
-fn one_worker(rt: HostRuntime) -> Result<(), Fail> {
-    let mut hands = deal(rt.alloc(), 3, 1)?;
-    assert_eq!(rt; hands.len(), 1);
-    let claims = all_of(&rt, rt.alloc(), &mut hands[0], 9)?;
-    assert_eq!(rt; claims.as_slice(), [0, 1, 2].as_slice());
-    Ok(())
-}
-
-#[test]
-fn hands_cross_threads(rt: HostRuntime) -> Result<(), Fail> {
-    let hands = deal(rt.alloc(), 50, 4)?;
-    let counts = thread::map_vec(&rt, hands, &|hand| count(&rt, hand))?;
+/// How many claims the hands of 50 take on four threads.
+fn taken<R: Threads + Wait + Sync>(rt: &R, alloc: Global) -> Result<usize, Fault> {
+    let hands = deal(alloc, 50, 4)?;
+    let counts = thread::map_vec(rt, hands, &|hand| count(rt, hand))?;
     let mut total = 0usize;
-    for taken in counts {
-        total = total.saturating_add(taken);
+    for taken in &counts {
+        total = total.saturating_add(*taken);
     }
-    assert_eq!(rt; total, 50);
-    Ok(())
+    Ok(total)
+}
+
+#[test]
+fn hands_cross_threads(rt: HostRuntime) {
+    assert_eq!(rt; taken(&rt, rt.alloc()), Ok(50));
 }

@@ -1,6 +1,7 @@
 //! Which texts are read off their tokens.
 
 use plan_tokens::read_in_order;
+use std::alloc::Global;
 use std::test::*;
 
 /// A plan of format 1 with each rule, its keys in the order of the format.
@@ -29,20 +30,26 @@ const GROWING_BY_LETTERS: &str =
     r#"{"born":1,"format":3,"groups":[{"configurations":[{"full":[0],"meets":{"left":0,"pairs":[[0,0]],"right":0,"rule":"match","then":[{"left":0,"right":0,"rule":"clash"}]},
  "members":[0,1],"parent":null,"read":0,"step":null,"write":1}]}],"lal":1}"#;
 
+/// A text, and whether it is read off its tokens.
+const ROWS: &[(&str, bool)] = &[
+    (IN_ORDER, true),
+    (BY_LETTERS, true),
+    (GROWING, true),
+    (GROWING_BY_LETTERS, true),
+    // Left to the other way: another order of keys, a number with a sign, and something after the plan.
+    (r#"{"lal":10,"format":1,"groups":[]}"#, false),
+    (r#"{"format":+1,"lal":10,"groups":[]}"#, false),
+    (r#"{"format":1,"lal":10,"groups":[]} 1"#, false),
+];
+
+/// Whether a text is read off its tokens.
+fn is_quick(alloc: Global, text: &str) -> bool {
+    read_in_order(alloc, text.as_bytes()).is_some()
+}
+
 #[test]
 fn texts_are_read_off_their_tokens(rt: HostRuntime) {
-    let rows = [
-        (IN_ORDER, true),
-        (BY_LETTERS, true),
-        (GROWING, true),
-        (GROWING_BY_LETTERS, true),
-        // Left to the other way: another order of keys, a number with a sign, and something after the plan.
-        (r#"{"lal":10,"format":1,"groups":[]}"#, false),
-        (r#"{"format":+1,"lal":10,"groups":[]}"#, false),
-        (r#"{"format":1,"lal":10,"groups":[]} 1"#, false),
-    ];
-    for (text, is_quick) in rows {
-        let plan = read_in_order(rt.alloc(), text.as_bytes());
-        assert_eq!(rt; plan.is_some(), is_quick);
+    for (text, expected) in ROWS {
+        assert_eq!(rt; is_quick(rt.alloc(), text), *expected, "{text}");
     }
 }

@@ -1,123 +1,146 @@
+//! Words of the command line.
+
 use command_line::{Action, job};
-use std::alloc::Global;
+use std::alloc::{AllocError, Global};
 use std::test::*;
 
-#[test]
-fn words(rt: HostRuntime) {
-    let alloc = rt.alloc();
-    for (words, action, script, workers) in [
-        (
-            ["plan_tool", "check", "p"].as_slice(),
-            Action::Check,
-            None,
-            4,
-        ),
-        (
-            ["plan_tool", "run", "p", "s"].as_slice(),
-            Action::Run,
-            Some("s"),
-            4,
-        ),
-        (
-            ["plan_tool", "fleet", "p", "s"].as_slice(),
-            Action::Fleet,
-            Some("s"),
-            4,
-        ),
-        (
-            ["plan_tool", "fleet", "p", "-w", "16", "s"].as_slice(),
-            Action::Fleet,
-            Some("s"),
-            16,
-        ),
-        (
-            ["plan_tool", "search", "p"].as_slice(),
-            Action::Search,
-            None,
-            4,
-        ),
-        (
-            ["plan_tool", "search", "p", "-w", "16"].as_slice(),
-            Action::Search,
-            None,
-            16,
-        ),
-        (
-            ["plan_tool", "search", "-w1", "p"].as_slice(),
-            Action::Search,
-            None,
-            1,
-        ),
-        (
-            ["plan_tool", "search", "--workers", "3", "p"].as_slice(),
-            Action::Search,
-            None,
-            3,
-        ),
-        (
-            ["plan_tool", "search", "p", "--workers=5"].as_slice(),
-            Action::Search,
-            None,
-            5,
-        ),
-    ] {
-        let read = job(alloc, words).is_ok_and(|job| {
+/// Words that are taken, and the action, the script and the number of workers that they ask for. Each names the plan `p`.
+const TAKEN: &[(&[&str], Action, Option<&str>, u8)] = &[
+    (&["plan_tool", "check", "p"], Action::Check, None, 4),
+    (&["plan_tool", "run", "p", "s"], Action::Run, Some("s"), 4),
+    (
+        &["plan_tool", "fleet", "p", "s"],
+        Action::Fleet,
+        Some("s"),
+        4,
+    ),
+    (
+        &["plan_tool", "fleet", "p", "-w", "16", "s"],
+        Action::Fleet,
+        Some("s"),
+        16,
+    ),
+    (&["plan_tool", "search", "p"], Action::Search, None, 4),
+    (
+        &["plan_tool", "search", "p", "-w", "16"],
+        Action::Search,
+        None,
+        16,
+    ),
+    (
+        &["plan_tool", "search", "-w1", "p"],
+        Action::Search,
+        None,
+        1,
+    ),
+    (
+        &["plan_tool", "search", "--workers", "3", "p"],
+        Action::Search,
+        None,
+        3,
+    ),
+    (
+        &["plan_tool", "search", "p", "--workers=5"],
+        Action::Search,
+        None,
+        5,
+    ),
+];
+
+/// Words that aren't taken, and whether they ask for a text.
+const UNTAKEN: &[(&[&str], bool)] = &[
+    (&["plan_tool"], false),
+    (&["plan_tool", "run", "p"], false),
+    (&["plan_tool", "check", "p", "s"], false),
+    (&["plan_tool", "check", "p", "-w", "4"], false),
+    (&["plan_tool", "search"], false),
+    (&["plan_tool", "search", "p", "-w"], false),
+    (&["plan_tool", "search", "p", "-w", "1", "-w", "1"], false),
+    (&["plan_tool", "run", "p", "s", "-w", "4"], false),
+    (&["plan_tool", "fleet", "p"], false),
+    (&["plan_tool", "fleet", "p", "s", "-w"], false),
+    (&["plan_tool", "fleets", "p", "s"], false),
+    (&["plan_tool", "--help"], true),
+    (&["plan_tool", "fleet", "--help"], true),
+    (&["plan_tool", "search", "--help"], true),
+    (&["plan_tool", "--version"], true),
+];
+
+/// Whether words ask for this action on the plan `p`.
+fn ask_for(
+    alloc: Global,
+    words: &[&str],
+    action: Action,
+    script: Option<&str>,
+    workers: u8,
+) -> bool {
+    match job(alloc, words) {
+        Ok(job) => {
             job.action == action
                 && job.plan == "p"
                 && job.script == script
                 && job.workers == workers
-        });
-        assert!(rt; read, "{words:?}");
-    }
-    for (words, asked) in [
-        (["plan_tool"].as_slice(), false),
-        (["plan_tool", "run", "p"].as_slice(), false),
-        (["plan_tool", "check", "p", "s"].as_slice(), false),
-        (["plan_tool", "check", "p", "-w", "4"].as_slice(), false),
-        (["plan_tool", "search"].as_slice(), false),
-        (["plan_tool", "search", "p", "-w"].as_slice(), false),
-        (
-            ["plan_tool", "search", "p", "-w", "1", "-w", "1"].as_slice(),
-            false,
-        ),
-        (["plan_tool", "run", "p", "s", "-w", "4"].as_slice(), false),
-        (["plan_tool", "fleet", "p"].as_slice(), false),
-        (["plan_tool", "fleet", "p", "s", "-w"].as_slice(), false),
-        (["plan_tool", "fleets", "p", "s"].as_slice(), false),
-        (["plan_tool", "--help"].as_slice(), true),
-        (["plan_tool", "fleet", "--help"].as_slice(), true),
-        (["plan_tool", "search", "--help"].as_slice(), true),
-        (["plan_tool", "--version"].as_slice(), true),
-    ] {
-        assert!(rt; job(alloc, words).is_err_and(|usage| usage.is_asked_for() == asked));
+        }
+        Err(_) => false,
     }
 }
 
-/// What is printed of these words, where they are refused.
-fn refused(alloc: Global, words: &[&str]) -> Result<String, Fail> {
+/// Whether words aren't taken: whether they ask for a text then, None where they are.
+fn untaken(alloc: Global, words: &[&str]) -> Option<bool> {
     match job(alloc, words) {
-        Ok(_) => Err(Fail::from("the words were taken")),
-        Err(usage) => Ok(format!(in alloc; "{usage}")?),
+        Ok(_) => None,
+        Err(usage) => Some(usage.is_asked_for()),
+    }
+}
+
+/// Whether words aren't taken, and this is what is printed of them.
+fn are_refused(alloc: Global, words: &[&str], text: &str) -> Result<bool, AllocError> {
+    match job(alloc, words) {
+        Ok(_) => Ok(false),
+        Err(usage) => Ok(format!(in alloc; "{usage}")?.as_str() == text),
+    }
+}
+
+/// Whether this is said of a number of workers, of a search and of a fleet.
+fn is_no_number(alloc: Global, workers: &str, why: &str) -> Result<bool, AllocError> {
+    let text = format!(in alloc;
+        "error: invalid value '{workers}' for '--workers <N>': {why}\n\nFor more information, try '--help'.\n"
+    )?;
+    let search = ["plan_tool", "search", "p", "-w", workers];
+    let fleet = ["plan_tool", "fleet", "p", "s", "-w", workers];
+    Ok(are_refused(alloc, &search, &text)? && are_refused(alloc, &fleet, &text)?)
+}
+
+/// What is no number of workers, and why.
+const NO_NUMBERS: &[(&str, &str)] = &[
+    ("0", "0 is not in 1..=16"),
+    ("17", "17 is not in 1..=16"),
+    ("x", "invalid digit found in string"),
+    ("", "cannot parse integer from empty string"),
+    ("2.0", "invalid digit found in string"),
+];
+
+#[test]
+fn words(rt: HostRuntime) {
+    let alloc = rt.alloc();
+    for (words, action, script, workers) in TAKEN {
+        assert!(rt;
+            ask_for(alloc, words, *action, *script, *workers),
+            "{words:?}"
+        );
+    }
+    for (words, asked) in UNTAKEN {
+        assert_eq!(rt; untaken(alloc, words), Some(*asked), "{words:?}");
     }
 }
 
 #[test]
-fn numbers_of_workers(rt: HostRuntime) -> Result<(), Fail> {
-    let alloc = rt.alloc();
-    for (workers, why) in [
-        ("0", "0 is not in 1..=16"),
-        ("17", "17 is not in 1..=16"),
-        ("x", "invalid digit found in string"),
-        ("", "cannot parse integer from empty string"),
-        ("2.0", "invalid digit found in string"),
-    ] {
-        let text = format!(in alloc;
-            "error: invalid value '{workers}' for '--workers <N>': {why}\n\nFor more information, try '--help'.\n"
-        )?;
-        let search = ["plan_tool", "search", "p", "-w", workers];
-        assert_eq!(rt; refused(alloc, &search)?, text);
-        let fleet = ["plan_tool", "fleet", "p", "s", "-w", workers];
-        assert_eq!(rt; refused(alloc, &fleet)?, text);
+fn numbers_of_workers(rt: HostRuntime) {
+    for (workers, why) in NO_NUMBERS {
+        assert_eq!(rt;
+            is_no_number(rt.alloc(), workers, why).ok(),
+            Some(true),
+            "{workers}"
+        );
     }
-    Ok(())
 }
