@@ -1,8 +1,14 @@
-use quorum_expr::{Lists, MemberSet, copy_in, dual_in, holds, read_expr, valid};
-use serde_json::{Value, json};
+//! Expressions that are read, copied and turned into their duals.
+
+ghost use Rattle.std.specs.Prelude.{◌≡◌, None, IfOk};
+ghost use Rattle.quorum_expr.specs.Expr.{formula_of};
+ghost use Rattle.quorum_expr.specs.Valid.{expression_fault};
+
+use quorum_expr::{Expr, Lists, MemberSet, copy_in, dual_in, holds, read_expr, valid};
+use serde_json::Value;
 use std::alloc::Global;
 use std::test::*;
-use volume_model::Fault;
+use volume_model::Fault::{self, BadCount, Malformed, NotAMember, OverLimit, TooDeep};
 
 /// Members 0 to 5, of which 0, 2 and 4 are full.
 fn six() -> Lists {
@@ -14,81 +20,94 @@ fn six() -> Lists {
     }
 }
 
-#[test]
-fn reads_or_says_the_first_fault(rt: HostRuntime) -> Result<(), Fail> {
-    let rows = [
-        ("2", None),
-        ("6", Some(Fault::NotAMember)),
-        ("-1", Some(Fault::Malformed)),
-        ("\"all\"", Some(Fault::Malformed)),
-        ("{\"k\":3,\"of\":\"all\"}", None),
-        ("{\"k\":0,\"of\":\"all\"}", Some(Fault::BadCount)),
-        ("{\"k\":7,\"of\":\"all\"}", Some(Fault::BadCount)),
-        ("{\"k\":1,\"of\":[]}", Some(Fault::BadCount)),
-        ("{\"k\":3,\"of\":\"full\"}", None),
-        ("{\"k\":4,\"of\":\"tail\"}", Some(Fault::BadCount)),
-        ("{\"k\":1,\"of\":\"half\"}", Some(Fault::Malformed)),
-        ("{\"k\":3,\"of\":[0,9]}", Some(Fault::BadCount)),
-        ("{\"k\":1,\"of\":[9,\"\"]}", Some(Fault::NotAMember)),
-        ("{\"k\":1,\"of\":[0,\"\"]}", Some(Fault::Malformed)),
-        ("{\"k\":1,\"of\":[0],\"x\":1}", Some(Fault::Malformed)),
-        (
-            "{\"k\":1,\"of\":[{\"k\":1,\"of\":[{\"k\":1,\"of\":[{\"k\":1,\"of\":[{\"k\":1,\"of\":\"all\"}]}]}]}]}",
-            None,
-        ),
-        (
-            "{\"k\":1,\"of\":[{\"k\":1,\"of\":[{\"k\":1,\"of\":[{\"k\":1,\"of\":[{\"k\":1,\"of\":[{\"k\":1,\"of\":\"all\"}]}]}]}]}]}",
-            Some(Fault::TooDeep),
-        ),
-        (
-            "{\"k\":1,\"of\":[{\"k\":1,\"of\":[{\"k\":1,\"of\":[{\"k\":1,\"of\":[{\"k\":1,\"of\":[{\"k\":7,\"of\":\"all\"}]}]}]}]}]}",
-            Some(Fault::BadCount),
-        ),
-    ];
-    for (text, want) in rows {
-        let value = Value::from_str(rt.alloc(), text)?;
-        assert_eq!(rt; read_expr(rt.alloc(), &value, &six()).err(), want, "{text}");
+/// The expression that a text spells over these lists. `NoMemory` where the text isn't JSON.
+pub fn expr(alloc: Global, text: &str, lists: &Lists) -> Result<Expr<Global>, Fault>
+    ensures { IfOk result (λ e. expression_fault (formula_of e) ≡ None) }
+{
+    match Value::from_str(alloc, text) {
+        Ok(value) => read_expr(alloc, &value, lists),
+        Err(_) => Err(Fault::NoMemory),
     }
-    Ok(())
 }
 
-/// Any of `choices` expressions, each of which is any of 64 members.
-fn any_of_any(alloc: Global, choices: u8) -> Result<Value, Fail> {
-    let mut of = Vec::new(alloc);
-    for _ in 0..choices {
-        of.push(json!(in alloc; {"k": 1, "of": "all"})?)?;
+/// A text, and the first fault of the expression that it spells.
+pub type Row = (&'static str, Option<Fault>);
+
+/// The first of these texts that is read otherwise than it says.
+pub fn misread(alloc: Global, lists: &Lists, rows: &[Row]) -> Option<&'static str> {
+    for (text, fault) in rows {
+        if expr(alloc, text, lists).err() != *fault {
+            return Some(text);
+        }
     }
-    let of = Value::Array(of);
-    Ok(json!(in alloc; {"k": 1, "of": of})?)
+    None
 }
 
-#[test]
-fn counts_the_nodes_at_the_end(rt: HostRuntime) -> Result<(), Fail> {
+const ROWS: &[Row] = &[
+    ("2", None),
+    ("6", Some(NotAMember)),
+    ("-1", Some(Malformed)),
+    ("\"all\"", Some(Malformed)),
+    ("{\"k\":3,\"of\":\"all\"}", None),
+    ("{\"k\":0,\"of\":\"all\"}", Some(BadCount)),
+    ("{\"k\":7,\"of\":\"all\"}", Some(BadCount)),
+    ("{\"k\":1,\"of\":[]}", Some(BadCount)),
+    ("{\"k\":3,\"of\":\"full\"}", None),
+    ("{\"k\":4,\"of\":\"tail\"}", Some(BadCount)),
+    ("{\"k\":1,\"of\":\"half\"}", Some(Malformed)),
+    ("{\"k\":3,\"of\":[0,9]}", Some(BadCount)),
+    ("{\"k\":1,\"of\":[9,\"\"]}", Some(NotAMember)),
+    ("{\"k\":1,\"of\":[0,\"\"]}", Some(Malformed)),
+    ("{\"k\":1,\"of\":[0],\"x\":1}", Some(Malformed)),
+    (
+        "{\"k\":1,\"of\":[{\"k\":1,\"of\":[{\"k\":1,\"of\":[{\"k\":1,\"of\":[{\"k\":1,\"of\":\"all\"}]}]}]}]}",
+        None,
+    ),
+    (
+        "{\"k\":1,\"of\":[{\"k\":1,\"of\":[{\"k\":1,\"of\":[{\"k\":1,\"of\":[{\"k\":1,\"of\":[{\"k\":1,\"of\":\"all\"}]}]}]}]}]}",
+        Some(TooDeep),
+    ),
+    (
+        "{\"k\":1,\"of\":[{\"k\":1,\"of\":[{\"k\":1,\"of\":[{\"k\":1,\"of\":[{\"k\":1,\"of\":[{\"k\":7,\"of\":\"all\"}]}]}]}]}]}",
+        Some(BadCount),
+    ),
+];
+
+/// The fault of any of `others` expressions and one more, each of which is any of 64 members.
+fn fault_of_any(alloc: Global, others: usize) -> Result<Option<Fault>, Fault> {
     let all = Lists {
         members: MemberSet::empty().complement(),
         full: MemberSet::empty(),
         is_weighted: false,
     };
-    // 1 + 63 * 65 nodes are 4,096, and 64 choices have 65 more.
-    for (choices, want) in [(63, None), (64, Some(Fault::OverLimit))] {
-        let value = any_of_any(rt.alloc(), choices)?;
-        assert_eq!(rt; read_expr(rt.alloc(), &value, &all).err(), want);
-    }
-    Ok(())
+    let many = "{\"k\":1,\"of\":\"all\"},".repeat(alloc, others)?;
+    let text = format!(in alloc; "{{\"k\":1,\"of\":[{many}{{\"k\":1,\"of\":\"all\"}}]}}")?;
+    Ok(expr(alloc, text.as_str(), &all).err())
+}
+
+/// Whether these members satisfy a copy of any three of the six, or its dual.
+fn is_held(alloc: Global, dual: bool, members: MemberSet) -> Result<bool, Fault> {
+    let three = expr(alloc, "{\"k\":3,\"of\":\"all\"}", &six())?;
+    valid(&three)?;
+    let other = if dual {
+        dual_in(&three, alloc)?
+    } else {
+        copy_in(&three, alloc)?
+    };
+    Ok(holds(&other, members))
 }
 
 #[test]
-fn copies_and_duals(rt: HostRuntime) -> Result<(), Fail> {
-    let value = Value::from_str(rt.alloc(), "{\"k\":3,\"of\":\"all\"}")?;
-    let read = read_expr(rt.alloc(), &value, &six())?;
-    assert_eq!(rt; valid(&read), Ok(()));
-    let copy = copy_in(&read, rt.alloc())?;
-    let dual = dual_in(&read, rt.alloc())?;
+fn expressions(rt: HostRuntime) {
+    let alloc = rt.alloc();
+    assert_eq!(rt; misread(alloc, &six(), ROWS), None);
+    // 1 + 63 * 65 nodes are 4,096, and 64 choices have 65 more.
+    assert_eq!(rt; fault_of_any(alloc, 62), Ok(None));
+    assert_eq!(rt; fault_of_any(alloc, 63), Ok(Some(OverLimit)));
     // Three of six meet each four of six.
     let full = six().full;
-    assert!(rt; holds(&copy, full));
-    assert!(rt; !holds(&dual, full));
-    assert!(rt; holds(&dual, full.with(5)));
+    assert_eq!(rt; is_held(alloc, false, full), Ok(true));
+    assert_eq!(rt; is_held(alloc, true, full), Ok(false));
+    assert_eq!(rt; is_held(alloc, true, full.with(5)), Ok(true));
     assert_eq!(rt; full.first(), Some(0));
-    Ok(())
 }

@@ -1,138 +1,152 @@
+//! What a check says of certificates.
+
+use super::expressions::expr;
 use quorum_checker::{Claim, check};
-use quorum_expr::{Expr, MemberSet, valid};
-use refutation::{Certificate, Refutation, Side};
+use quorum_expr::{Lists, MemberSet};
+use refutation::read_certificate;
+use serde_json::Value;
 use std::alloc::Global;
 use std::test::*;
 use volume_model::Fault;
 
-/// At least `k` of the members 0 to 5.
-fn of_six(alloc: Global, k: u16) -> Result<Expr<Global>, Fault> {
-    let mut of = Vec::new(alloc);
-    for member in 0..6 {
-        of.push((1, Expr::Member(member)))?;
-    }
-    Ok(Expr::KOf { k, of })
-}
-
-/// That each three of the members 0 to 5 meet each `write` of them.
-fn three_meet(alloc: Global, write: u16) -> Result<Claim<Global>, Fault> {
-    let left = of_six(alloc, 3)?;
-    let right = of_six(alloc, write)?;
-    valid(&left)?;
-    valid(&right)?;
-    Ok(Claim {
-        left,
-        right,
-        clear: MemberSet::empty(),
-    })
-}
-
-/// A branch for each of these, each a clash of the first items.
-fn clashes(alloc: Global, branches: u8) -> Result<Vec<Refutation<Global>>, Fault> {
-    let mut then = Vec::new(alloc);
-    for _ in 0..branches {
-        then.push(Refutation::Clash { left: 0, right: 0 })?;
-    }
-    Ok(then)
-}
-
-/// Each member of the left with the one at its place in `partners`, and so many clashes.
-fn pairs_of(alloc: Global, partners: [u8; 6], branches: u8) -> Result<Refutation<Global>, Fault> {
-    let mut pairs = Vec::new(alloc);
-    for (n, partner) in (0..6).zip(partners) {
-        pairs.push((n, partner))?;
-    }
-    Ok(Refutation::Match {
-        left: 0,
-        right: 0,
-        pairs,
-        then: clashes(alloc, branches)?,
-    })
-}
-
-/// The first children of the left, and a clash in the place of each.
-fn picks(alloc: Global, children: u8) -> Result<Refutation<Global>, Fault> {
-    let mut picked = Vec::new(alloc);
-    for child in 0..children {
-        picked.push(child)?;
-    }
-    Ok(Refutation::Pick {
-        side: Side::Left,
-        item: 0,
-        children: picked,
-        then: clashes(alloc, children)?,
-    })
-}
-
-/// A refutation of the table below.
+/// A claim of the table below.
 #[derive(Clone, Copy)]
-enum Sample {
-    Dead,
-    /// A clash with this item of the left.
-    Clash(u16),
-    Open,
-    Pick(u8),
-    Pairs([u8; 6], u8),
-    /// Member 6 is on one side alone, and the pairs of the second branch are these.
-    Split([u8; 6]),
+enum Meeting {
+    /// Each three of six members meet each four.
+    Four,
+    /// Each three of six members meet each three.
+    Three,
+    /// What weighs 3 of members 0, 1 and 2, of which 0 weighs 2, meets what weighs 2; the first set has none of them.
+    Weighed,
 }
 
-const EQUAL: [u8; 6] = [0, 1, 2, 3, 4, 5];
+const THREE_OF_SIX: &str = "{\"k\":3,\"of\":[0,1,2,3,4,5]}";
 
-fn tree(alloc: Global, sample: Sample) -> Result<Refutation<Global>, Fault> {
-    match sample {
-        Sample::Dead => Ok(Refutation::Dead {
-            side: Side::Left,
-            item: 0,
-        }),
-        Sample::Clash(left) => Ok(Refutation::Clash { left, right: 0 }),
-        Sample::Open => Ok(Refutation::Open {
-            side: Side::Left,
-            item: 0,
-            then: Box::new(alloc, Refutation::Clash { left: 0, right: 0 })?,
-        }),
-        Sample::Pick(children) => picks(alloc, children),
-        Sample::Pairs(partners, branches) => pairs_of(alloc, partners, branches),
-        Sample::Split(partners) => Ok(Refutation::Split {
-            member: 6,
-            left: Box::new(alloc, pairs_of(alloc, EQUAL, 6)?)?,
-            right: Box::new(alloc, pairs_of(alloc, partners, 6)?)?,
-        }),
-    }
+const FOUR_OF_SIX: &str = "{\"k\":4,\"of\":[0,1,2,3,4,5]}";
+
+const THREE: &str = "{\"k\":3,\"of\":[0,1,2],\"weights\":[2,1,1]}";
+
+const TWO: &str = "{\"k\":2,\"of\":[0,1,2],\"weights\":[2,1,1]}";
+
+/// The claim.
+fn claim(alloc: Global, meeting: Meeting) -> Result<Claim<Global>, Fault> {
+    let first = MemberSet::empty().with(0).with(1).with(2);
+    let six = first.with(3).with(4).with(5);
+    let lists = Lists {
+        members: six,
+        full: six,
+        is_weighted: true,
+    };
+    let (left, right, clear) = match meeting {
+        Meeting::Four => (THREE_OF_SIX, FOUR_OF_SIX, MemberSet::empty()),
+        Meeting::Three => (THREE_OF_SIX, THREE_OF_SIX, MemberSet::empty()),
+        Meeting::Weighed => (THREE, TWO, first),
+    };
+    Ok(Claim {
+        left: expr(alloc, left, &lists)?,
+        right: expr(alloc, right, &lists)?,
+        clear,
+    })
 }
 
-/// What the check says of a refutation.
-fn verdict(alloc: Global, write: u16, tree: Refutation<Global>) -> Result<String, Fail> {
-    let claim = three_meet(alloc, write)?;
-    let certificate = Certificate::new(tree).map_err(|e| e.0)?;
+/// What the check says of a tree, in whose text `C` is a clash of the first items, and `D` that the first of the left is dead: nothing
+/// where it refutes the claim.
+fn verdict(alloc: Global, meeting: Meeting, tree: &str) -> Result<String, Fault> {
+    let claim = claim(alloc, meeting)?;
+    let tree = tree.replace(alloc, "C", "{\"rule\":\"clash\",\"left\":0,\"right\":0}")?;
+    let tree = tree.replace(
+        alloc,
+        "D",
+        "{\"rule\":\"dead\",\"side\":\"left\",\"item\":0}",
+    )?;
+    let Ok(value) = Value::from_str(alloc, &tree) else {
+        return Err(Fault::Malformed);
+    };
+    let certificate = read_certificate(alloc, &value)?;
     match check(alloc, &claim, &certificate) {
-        Ok(()) => Ok(String::from_str(alloc, "yes")?),
-        Err(e) => Ok(e.to_string(alloc)?),
+        Ok(()) => Ok(String::new(alloc)),
+        Err(fault) => Ok(fault.to_string(alloc)?),
     }
 }
+
+/// Whether the check says this of a tree.
+fn says(alloc: Global, meeting: Meeting, tree: &str, said: &str) -> Result<bool, Fault> {
+    Ok(verdict(alloc, meeting, tree)?.as_str() == said)
+}
+
+/// A claim, a tree, and what is said of it.
+const ROWS: &[(Meeting, &str, &str)] = &[
+    (
+        Meeting::Four,
+        "{\"rule\":\"match\",\"left\":0,\"right\":0,\"pairs\":[[0,0],[1,1],[2,2],[3,3],[4,4],[5,5]],\"then\":[C,C,C,C,C,C]}",
+        "",
+    ),
+    (
+        Meeting::Three,
+        "{\"rule\":\"match\",\"left\":0,\"right\":0,\"pairs\":[[0,0],[1,1],[2,2],[3,3],[4,4],[5,5]],\"then\":[C,C,C,C,C,C]}",
+        "26 CountTooSmall at root",
+    ),
+    (
+        Meeting::Four,
+        "{\"rule\":\"clash\",\"left\":1,\"right\":0}",
+        "20 NoSuchItem at root",
+    ),
+    (Meeting::Four, "D", "21 NotDead at root"),
+    (Meeting::Four, "C", "22 NoClash at root"),
+    (
+        Meeting::Four,
+        "{\"rule\":\"open\",\"side\":\"left\",\"item\":0,\"then\":C}",
+        "23 NotAll at root",
+    ),
+    (
+        Meeting::Four,
+        "{\"rule\":\"pick\",\"side\":\"left\",\"item\":0,\"children\":[0,1,2],\"then\":[C,C,C]}",
+        "24 TooFewPicked at root",
+    ),
+    (
+        Meeting::Four,
+        "{\"rule\":\"match\",\"left\":0,\"right\":0,\"pairs\":[[0,0],[1,1],[2,2],[3,3],[4,4],[5,4]],\"then\":[C,C,C,C,C,C]}",
+        "25 BadPair at root",
+    ),
+    (
+        Meeting::Four,
+        "{\"rule\":\"match\",\"left\":0,\"right\":0,\"pairs\":[[0,0],[1,1],[2,2],[3,3],[4,4],[5,5]],\"then\":[C,C,C,C,C]}",
+        "27 BranchCount at root",
+    ),
+    (
+        Meeting::Four,
+        "{\"rule\":\"pick\",\"side\":\"left\",\"item\":0,\"children\":[0,1,2,3],\"then\":[C,C,C,C]}",
+        "22 NoClash at 0",
+    ),
+    // Member 6 is on one side alone, and two of the second branch's pairs are of different members.
+    (
+        Meeting::Four,
+        "{\"rule\":\"split\",\"member\":6,\
+\"left\":{\"rule\":\"match\",\"left\":0,\"right\":0,\"pairs\":[[0,0],[1,1],[2,2],[3,3],[4,4],[5,5]],\"then\":[C,C,C,C,C,C]},\
+\"right\":{\"rule\":\"match\",\"left\":0,\"right\":0,\"pairs\":[[0,0],[1,1],[2,2],[3,3],[4,5],[5,4]],\"then\":[C,C,C,C,C,C]}}",
+        "22 NoClash at 1.4",
+    ),
+    // Picks add weights.
+    (
+        Meeting::Weighed,
+        "{\"rule\":\"pick\",\"side\":\"left\",\"item\":0,\"children\":[0],\"then\":[D]}",
+        "",
+    ),
+    (
+        Meeting::Weighed,
+        "{\"rule\":\"pick\",\"side\":\"left\",\"item\":0,\"children\":[1,2],\"then\":[D,D]}",
+        "",
+    ),
+    (
+        Meeting::Weighed,
+        "{\"rule\":\"pick\",\"side\":\"left\",\"item\":0,\"children\":[1],\"then\":[D]}",
+        "24 TooFewPicked at root",
+    ),
+];
 
 #[test]
-fn says_yes_or_the_first_fault(rt: HostRuntime) -> Result<(), Fail> {
-    let rows = [
-        (4, Sample::Pairs(EQUAL, 6), "yes"),
-        (3, Sample::Pairs(EQUAL, 6), "26 CountTooSmall at root"),
-        (4, Sample::Clash(1), "20 NoSuchItem at root"),
-        (4, Sample::Dead, "21 NotDead at root"),
-        (4, Sample::Clash(0), "22 NoClash at root"),
-        (4, Sample::Open, "23 NotAll at root"),
-        (4, Sample::Pick(3), "24 TooFewPicked at root"),
-        (
-            4,
-            Sample::Pairs([0, 1, 2, 3, 4, 4], 6),
-            "25 BadPair at root",
-        ),
-        (4, Sample::Pairs(EQUAL, 5), "27 BranchCount at root"),
-        (4, Sample::Pick(4), "22 NoClash at 0"),
-        (4, Sample::Split([0, 1, 2, 3, 5, 4]), "22 NoClash at 1.4"),
-    ];
-    for (write, sample, want) in rows {
-        let said = verdict(rt.alloc(), write, tree(rt.alloc(), sample)?)?;
-        assert_eq!(rt; said.as_str(), want);
+fn says_yes_or_the_first_fault(rt: HostRuntime) {
+    for (meeting, tree, said) in ROWS {
+        assert_eq!(rt; says(rt.alloc(), *meeting, tree, said), Ok(true), "{tree}");
     }
-    Ok(())
 }
