@@ -1,13 +1,16 @@
 //! Searches whose workers wait for one another.
 
-use super::texts::WIDE;
+use super::smaller::claims_of;
+use super::texts::{WIDE, plan_of};
 use cert_search::{Gate, search_all, search_one};
-use plan::{Plan, claims, read_plan};
 use quorum_checker::check;
 use std::alloc::Global;
+use std::sync::Wait;
 use std::sync::atomic::{AtomicBool, Ordering};
-use std::test::Fail;
+use std::test::*;
 use std::thread;
+use std::thread::Threads;
+use volume_model::Fault;
 
 /// How often a worker looks whether it may go on.
 const TURNS: u32 = 1_000_000;
@@ -91,47 +94,57 @@ impl Gate for Later {
     }
 }
 
-/// A plan of five claims.
-fn steps(alloc: Global) -> Result<Plan, Fail> {
-    Ok(read_plan(alloc, WIDE.as_bytes())?)
+/// Of how many of five claims two workers find the certificate.
+fn found<R: Threads + Wait + Sync, G: Gate + Sync>(
+    rt: &R,
+    alloc: Global,
+    gate: &G,
+) -> Result<usize, Fault> {
+    let plan = plan_of(alloc, WIDE)?;
+    let answers = search_all(rt, alloc, &plan, 2, 100_000, gate)?;
+    let mut found = 0usize;
+    for answer in &answers {
+        if answer.is_some() {
+            found = found.saturating_add(1);
+        }
+    }
+    Ok(found)
 }
 
 #[test]
-fn two_claims_at_a_time(rt: HostRuntime) -> Result<(), Fail> {
-    let plan = steps(rt.alloc())?;
+fn two_claims_at_a_time(rt: HostRuntime) {
     let gate = Meeting {
         first: Flag::new(),
         second: Flag::new(),
     };
-    let answers = search_all(&rt, rt.alloc(), &plan, 2, 100_000, &gate)?;
-    assert_eq!(rt; answers.iter().filter(|answer| answer.is_some()).count(), 5);
+    assert_eq!(rt; found(&rt, rt.alloc(), &gate), Ok(5));
     assert!(rt; gate.first.was_seen() && gate.second.was_seen());
-    Ok(())
 }
 
 #[test]
-fn a_held_claim_keeps_no_other(rt: HostRuntime) -> Result<(), Fail> {
-    let plan = steps(rt.alloc())?;
+fn a_held_claim_keeps_no_other(rt: HostRuntime) {
     let gate = Later {
         finished: Flag::new(),
     };
-    let answers = search_all(&rt, rt.alloc(), &plan, 2, 100_000, &gate)?;
-    assert_eq!(rt; answers.iter().filter(|answer| answer.is_some()).count(), 5);
+    assert_eq!(rt; found(&rt, rt.alloc(), &gate), Ok(5));
     assert!(rt; gate.finished.was_seen());
-    Ok(())
 }
 
-/// Whether the certificate that is found for the first claim refutes it.
-fn alone(alloc: Global) -> Option<bool> {
-    let plan = read_plan(alloc, WIDE.as_bytes()).ok()?;
-    let list = claims(alloc, &plan).ok()?;
-    let first = list.first()?;
-    let certificate = search_one(alloc, &first.claim, 100).ok()??;
-    Some(check(alloc, &first.claim, &certificate).is_ok())
+/// Whether the certificate that is found for the first claim refutes it, None where there is none.
+fn alone(alloc: Global) -> Result<Option<bool>, Fault> {
+    let plan = plan_of(alloc, WIDE)?;
+    let claims = claims_of(alloc, &plan)?;
+    let Some(first) = claims.first() else {
+        return Ok(None);
+    };
+    let claim = first.claim_in(alloc)?;
+    match search_one(alloc, &claim, 100)? {
+        Some(certificate) => Ok(Some(check(alloc, &claim, &certificate).is_ok())),
+        None => Ok(None),
+    }
 }
 
 #[test]
-fn a_plain_claim_alone(rt: HostRuntime) -> Result<(), Fail> {
-    assert_eq!(rt; alone(rt.alloc()), Some(true));
-    Ok(())
+fn a_plain_claim_alone(rt: HostRuntime) {
+    assert_eq!(rt; alone(rt.alloc()), Ok(Some(true)));
 }

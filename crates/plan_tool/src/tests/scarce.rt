@@ -1,9 +1,10 @@
 //! Copies in memory that runs short behind any number of bytes.
 
-use super::texts::WIDE;
+use super::smaller::claims_of;
+use super::texts::{WIDE, plan_of};
 use bumpalo::Bump;
 use cert_search::search_in;
-use plan::{LentClaim, lent_claims, read_plan};
+use plan::LentClaim;
 use quorum_checker::check;
 use std::alloc::{AllocError, Global};
 use std::mem;
@@ -47,108 +48,94 @@ fn copied(alloc: Global, arena: &Bump, lent: &LentClaim<'_>) -> Result<bool, Fau
     Ok(check(alloc, &claim, &certificate).is_ok())
 }
 
-/// Copies a claim by so many words, and then in as much memory as is wanted. None where memory runs out at first, else whether the
-/// answer is right.
-fn tried(alloc: Global, words: usize, lent: &LentClaim<'_>) -> Result<Option<bool>, Fault> {
-    let arena = arena_of(alloc, words)?;
-    match copied(alloc, &arena, lent) {
-        Err(Fault::NoMemory) => {}
-        answer => return answer.map(Some),
-    }
-    arena.set_allocation_limit(None);
-    let is_right = copied(alloc, &arena, lent)?;
-    Ok((!is_right).then_some(false))
-}
-
-/// How many words are too few for the copies of a claim, each number of which was tried. None where an answer is wrong.
-fn too_few(alloc: Global, lent: &LentClaim<'_>) -> Result<Option<usize>, Fault> {
-    for words in 0..WORDS {
-        if let Some(is_right) = tried(alloc, words, lent)? {
-            return Ok(is_right.then_some(words));
-        }
-    }
-    Ok(None)
-}
-
-/// Each growth is the first that is refused for some number of words: all copies are in memory of one arena, which takes nothing back.
-#[test]
-fn copies_in_scarce_memory(rt: HostRuntime) -> Result<(), Fail> {
-    let alloc = rt.alloc();
-    let plan = read_plan(alloc, WIDE.as_bytes())
-        .ok()
-        .ok_or("the text is a plan")?;
-    let list = lent_claims(alloc, &plan).ok().ok_or("memory is ample")?;
-    assert_eq!(rt; list.len(), 5);
-    for lent in &list {
-        let words = too_few(alloc, lent)?;
-        assert!(rt; words > Some(0));
-    }
-    Ok(())
-}
-
 /// Searches a claim with tables in an arena. Whether its certificate is found.
 fn searched(alloc: Global, arena: &Bump, lent: &LentClaim<'_>) -> Result<bool, Fault> {
     let claim = lent.claim_in(alloc)?;
-    let found = search_in(alloc, &arena, &claim, BUDGET)?;
-    Ok(match found {
-        Some(certificate) => check(alloc, &claim, &certificate).is_ok(),
-        None => false,
-    })
+    match search_in(alloc, &arena, &claim, BUDGET)? {
+        Some(certificate) => Ok(check(alloc, &claim, &certificate).is_ok()),
+        None => Ok(false),
+    }
 }
 
-/// Searches a claim by so many words, and then in as much memory as is wanted. None where memory runs out at first, else whether the
-/// claim's certificate is found.
-fn searched_in(alloc: Global, words: usize, lent: &LentClaim<'_>) -> Result<Option<bool>, Fault> {
+/// What is done with a claim in an arena.
+#[derive(Clone, Copy)]
+enum Done {
+    Copied,
+    Searched,
+}
+
+/// Does it. Whether the answer is right.
+fn answered(alloc: Global, arena: &Bump, done: Done, lent: &LentClaim<'_>) -> Result<bool, Fault> {
+    match done {
+        Done::Copied => copied(alloc, arena, lent),
+        Done::Searched => searched(alloc, arena, lent),
+    }
+}
+
+/// Does it by so many words, and then in as much memory as is wanted. None where memory runs out at first, else whether the answer is
+/// right.
+fn tried(
+    alloc: Global,
+    words: usize,
+    done: Done,
+    lent: &LentClaim<'_>,
+) -> Result<Option<bool>, Fault> {
     let arena = arena_of(alloc, words)?;
-    match searched(alloc, &arena, lent) {
+    match answered(alloc, &arena, done, lent) {
         Err(Fault::NoMemory) => {}
-        answer => return answer.map(Some),
+        answer => return Ok(Some(answer?)),
     }
     arena.set_allocation_limit(None);
-    let is_found = searched(alloc, &arena, lent)?;
-    Ok((!is_found).then_some(false))
+    let is_right = answered(alloc, &arena, done, lent)?;
+    Ok((!is_right).then_some(false))
 }
 
-/// How many words are too few for the search of a claim, each number of which was tried. None where an answer is wrong.
-fn too_few_for(alloc: Global, lent: &LentClaim<'_>) -> Result<Option<usize>, Fault> {
+/// How many words are too few for it, each number of which was tried. 0 where an answer is wrong.
+fn too_few(alloc: Global, done: Done, lent: &LentClaim<'_>) -> Result<usize, Fault> {
     for words in 0..WORDS {
-        if let Some(is_found) = searched_in(alloc, words, lent)? {
-            return Ok(is_found.then_some(words));
+        if let Some(is_right) = tried(alloc, words, done, lent)? {
+            return Ok(if is_right { words } else { 0 });
         }
     }
-    Ok(None)
+    Ok(0)
 }
 
-/// Each growth of a search's tables is the first that is refused for some number of words.
-#[test]
-fn searches_in_scarce_memory(rt: HostRuntime) -> Result<(), Fail> {
-    let alloc = rt.alloc();
-    let plan = read_plan(alloc, FEW.as_bytes())
-        .ok()
-        .ok_or("the text is a plan")?;
-    let list = lent_claims(alloc, &plan).ok().ok_or("memory is ample")?;
-    assert_eq!(rt; list.len(), 2);
-    for lent in &list {
-        let words = too_few_for(alloc, lent)?;
-        assert!(rt; words > Some(0));
+/// For how many claims of a plan words can be too few for it.
+fn swept(alloc: Global, done: Done, text: &str) -> Result<usize, Fault> {
+    let plan = plan_of(alloc, text)?;
+    let mut swept = 0usize;
+    for lent in &claims_of(alloc, &plan)? {
+        if too_few(alloc, done, lent)? == 0 {
+            return Err(Fault::Malformed);
+        }
+        swept = swept.saturating_add(1);
     }
-    Ok(())
+    Ok(swept)
+}
+
+/// Each growth is the first that is refused for some number of words: all copies, and the tables of a search, are in memory of one arena,
+/// which takes nothing back.
+#[test]
+fn scarce_memory(rt: HostRuntime) {
+    assert_eq!(rt; swept(rt.alloc(), Done::Copied, WIDE), Ok(5));
+    assert_eq!(rt; swept(rt.alloc(), Done::Searched, FEW), Ok(2));
+}
+
+/// Whether an arena in which something is held is emptied, and whether a claim is found in it and in another.
+fn found_beside(alloc: Global, lent: &LentClaim<'_>) -> Result<(bool, bool, bool), Fault> {
+    let mut arena = Bump::new(alloc);
+    mem::forget(vec![in &arena; 1_u8; 100]?);
+    let is_emptied = arena.reset().is_ok();
+    let in_it = searched(alloc, &arena, lent)?;
+    Ok((is_emptied, in_it, searched(alloc, &Bump::new(alloc), lent)?))
 }
 
 /// An arena in which something is still held isn't emptied. A search in it, and one in another arena, find the same.
 #[test]
 fn searches_beside_what_is_held(rt: HostRuntime) -> Result<(), Fail> {
-    let alloc = rt.alloc();
-    let plan = read_plan(alloc, FEW.as_bytes())
-        .ok()
-        .ok_or("the text is a plan")?;
-    for lent in &lent_claims(alloc, &plan).ok().ok_or("memory is ample")? {
-        let mut arena = Bump::new(alloc);
-        let held = vec![in &arena; 1_u8; 100]?;
-        mem::forget(held);
-        assert!(rt; arena.reset().is_err());
-        assert!(rt; searched(alloc, &arena, lent)?);
-        assert!(rt; searched(alloc, &Bump::new(alloc), lent)?);
+    let plan = plan_of(rt.alloc(), FEW)?;
+    for lent in &claims_of(rt.alloc(), &plan)? {
+        assert_eq!(rt; found_beside(rt.alloc(), lent), Ok((false, true, true)));
     }
     Ok(())
 }

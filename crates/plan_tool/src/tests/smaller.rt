@@ -5,8 +5,9 @@ ghost use Rattle.plan.specs.LentClaims.{all_lent};
 ghost use Rattle.plan.specs.Plan.{plan_data};
 ghost use Rattle.plan.specs.PlanClaims.{claims_in};
 
+use super::texts::plan_of;
 use cert_search::{Gate, make_smaller, rules_in, search_all, search_one, search_smaller};
-use plan::{LentClaim, Plan, lent_claims, read_plan};
+use plan::{LentClaim, Plan, lent_claims};
 use refutation::Certificate;
 use std::alloc::Global;
 use std::sync::Wait;
@@ -26,12 +27,12 @@ const SOME_SMALLER: &str = r#"{"format":2,"lal":10,"groups":[
 {"configurations":[{"parent":null,"members":[0,1,2,3,4],"full":[0,1,2,3,4],"read":{"k":8,"of":"all","weights":[3,3,1,1,3]},"write":{"k":6,"of":"all","weights":[2,2,2,3,1]},"meets":null,"step":null}]}
 ]}"#;
 
-/// How many rules the certificate of each claim has that a search finds, and the smaller one. Of the second, the first two pairs that close
-/// are those of the expression and of member 1, and the expression takes five rules: a pick of its two children, and of member 0 in
-/// either. The pairs of members 1 and 2 take one each. Of the third, 0 and 2 go first where most is lost without them: only with three
-/// members lost does a side fall short. But 1 weighs 3 of the 2 that may be missing on the left, and so does 3: where these go first, each
-/// closes a case at once, and 0 and 2 are left with three cases.
-const RULES: [(u32, u32); 4] = [(6, 6), (7, 3), (15, 9), (19, 13)];
+/// How many rules the certificate of each claim has that a search finds, and the smaller one, 0 where there is none. Of the second, the
+/// first two pairs that close are those of the expression and of member 1, and the expression takes five rules: a pick of its two children,
+/// and of member 0 in either. The pairs of members 1 and 2 take one each. Of the third, 0 and 2 go first where most is lost without them:
+/// only with three members lost does a side fall short. But 1 weighs 3 of the 2 that may be missing on the left, and so does 3: where these
+/// go first, each closes a case at once, and 0 and 2 are left with three cases.
+const RULES: &[(u32, u32)] = &[(6, 0), (7, 3), (15, 9), (19, 13)];
 
 /// Tells nobody of a search.
 struct NoGate;
@@ -51,7 +52,7 @@ fn rules_of(certificate: &Option<Certificate<Global>>) -> u32 {
 }
 
 /// The claims of a plan.
-fn claims_of<'p>(alloc: Global, plan: &'p Plan) -> Result<Vec<LentClaim<'p>>, Fault>
+pub fn claims_of<'p>(alloc: Global, plan: &'p Plan) -> Result<Vec<LentClaim<'p>>, Fault>
     ensures claims { IfOk result (λ v. claims_in (plan_data plan.entry.now) ≡ Ok (all_lent v.items)) }
 {
     match lent_claims(alloc, plan) {
@@ -60,67 +61,56 @@ fn claims_of<'p>(alloc: Global, plan: &'p Plan) -> Result<Vec<LentClaim<'p>>, Fa
     }
 }
 
-/// The certificates that are found for a plan, once they were made so much shorter as can be.
+/// How many rules the certificates have that are found for a plan, once they were made so much shorter as can be.
 fn shrunk<R: Threads + Wait + Sync>(
     rt: &R,
     alloc: Global,
-    plan: &Plan,
     excess: usize,
-) -> Result<Vec<Option<Certificate<Global>>>, Fault> {
-    let claims = claims_of(alloc, plan)?;
-    let mut certificates = search_all(rt, alloc, plan, 1, BUDGET, &NoGate)?;
+) -> Result<[u32; 4], Fault> {
+    let plan = plan_of(alloc, SOME_SMALLER)?;
+    let claims = claims_of(alloc, &plan)?;
+    let mut certificates = search_all(rt, alloc, &plan, 1, BUDGET, &NoGate)?;
     make_smaller(alloc, &claims, BUDGET, excess, &mut certificates)?;
-    Ok(certificates)
+    match certificates.as_slice() {
+        [first, second, third, fourth] => Ok([
+            rules_of(first),
+            rules_of(second),
+            rules_of(third),
+            rules_of(fourth),
+        ]),
+        _ => Err(Fault::OverLimit),
+    }
 }
 
-/// What is found of a claim, and what is found that is smaller.
-fn both(
-    alloc: Global,
-    lent: &LentClaim<'_>,
-) -> Result<(Option<Certificate<Global>>, Option<Certificate<Global>>), Fault> {
+/// How many rules what is found of a claim has, and what is found that is smaller.
+fn both(alloc: Global, lent: &LentClaim<'_>) -> Result<(u32, u32), Fault> {
     let claim = lent.claim_in(alloc)?;
     let Some(first) = search_one(alloc, &claim, BUDGET)? else {
-        return Ok((None, None));
+        return Ok((0, 0));
     };
     let second = search_smaller(alloc, &claim, &first, BUDGET)?;
-    Ok((Some(first), second))
+    Ok((rules_in(&first), rules_of(&second)))
 }
 
-/// A claim gets a smaller certificate where one is at hand, and none where none is.
-#[test]
-fn smaller_certificates(rt: HostRuntime) -> Result<(), Fail> {
-    let alloc = rt.alloc();
-    let plan = read_plan(alloc, SOME_SMALLER.as_bytes())
-        .ok()
-        .ok_or("the text is a plan")?;
-    let claims = lent_claims(alloc, &plan).ok().ok_or("memory is ample")?;
-    assert_eq!(rt; claims.len(), RULES.len());
-    for (lent, (many, few)) in claims.iter().zip(&RULES) {
-        let (first, second) = both(alloc, lent)?;
-        assert_eq!(rt; rules_of(&first), *many);
-        let is_smaller = few < many;
-        assert_eq!(rt; rules_of(&second), if is_smaller { *few } else { 0 });
-    }
-    Ok(())
-}
-
-/// The largest certificates of a plan are made smaller first, and no more of them than is asked for.
-#[test]
-fn smaller_certificates_of_a_plan(rt: HostRuntime) -> Result<(), Fail> {
-    let alloc = rt.alloc();
-    let plan = read_plan(alloc, SOME_SMALLER.as_bytes())
-        .ok()
-        .ok_or("the text is a plan")?;
-    for (excess, rules) in [
-        (0, [6, 7, 15, 19]),
-        (1, [6, 7, 15, 13]),
-        (usize::MAX, [6, 3, 9, 13]),
-    ] {
-        let certificates = shrunk(&rt, alloc, &plan, excess)?;
-        assert_eq!(rt; certificates.len(), rules.len());
-        for (certificate, rules) in certificates.iter().zip(&rules) {
-            assert_eq!(rt; rules_of(certificate), *rules);
+/// Whether of each claim is found what its row says.
+fn are_found(alloc: Global, rows: &[(u32, u32)]) -> Result<bool, Fault> {
+    let plan = plan_of(alloc, SOME_SMALLER)?;
+    let claims = claims_of(alloc, &plan)?;
+    for (lent, found) in claims.iter().zip(rows) {
+        if both(alloc, lent)? != *found {
+            return Ok(false);
         }
     }
-    Ok(())
+    Ok(claims.len() == rows.len())
+}
+
+/// A claim gets a smaller certificate where one is at hand, and none where none is. The largest certificates of a plan are made smaller
+/// first, and no more of them than is asked for.
+#[test]
+fn smaller_certificates(rt: HostRuntime) {
+    let alloc = rt.alloc();
+    assert_eq!(rt; are_found(alloc, RULES), Ok(true));
+    assert_eq!(rt; shrunk(&rt, alloc, 0), Ok([6, 7, 15, 19]));
+    assert_eq!(rt; shrunk(&rt, alloc, 1), Ok([6, 7, 15, 13]));
+    assert_eq!(rt; shrunk(&rt, alloc, usize::MAX), Ok([6, 3, 9, 13]));
 }

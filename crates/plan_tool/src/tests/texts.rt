@@ -1,13 +1,13 @@
 //! Plans' texts that several tests read, and the plans that they spell.
 
-use plan::{CheckedPlan, check_plan, read_plan};
+use plan::{CheckedPlan, Plan, check_plan, read_plan};
 use std::alloc::Global;
 use std::sync::Arc;
-use std::test::Fail;
+use volume_model::Fault;
 
 /// One group of six members, of which three read and four write.
-pub const SIX: &[u8] =
-    b"{\"format\":1,\"lal\":10,\"groups\":[{\"configurations\":[{\"parent\":null,\"members\":[0,1,2,3,4,5],\"full\":[0,1,2,3,4,5],\
+pub const SIX: &str =
+    "{\"format\":1,\"lal\":10,\"groups\":[{\"configurations\":[{\"parent\":null,\"members\":[0,1,2,3,4,5],\"full\":[0,1,2,3,4,5],\
 \"read\":{\"k\":3,\"of\":\"all\"},\"write\":{\"k\":4,\"of\":\"all\"},\"meets\":{\"rule\":\"match\",\"left\":0,\"right\":0,\
 \"pairs\":[[0,0],[1,1],[2,2],[3,3],[4,4],[5,5]],\"then\":[\
 {\"rule\":\"clash\",\"left\":0,\"right\":0},{\"rule\":\"clash\",\"left\":0,\"right\":0},{\"rule\":\"clash\",\"left\":0,\"right\":0},\
@@ -46,9 +46,18 @@ pub const WIDE: &str = r#"{"format":1,"lal":10,"groups":[{"configurations":[
 {"parent":1,"members":[0,1,2,3,4,5,6,7],"full":[0,1,2,3,4,5,6,7],"read":{"k":1,"of":[{"k":3,"of":[0,1,2,3,4,5]},{"k":3,"of":[0,1,2,3,4,6]},{"k":3,"of":[0,1,2,3,5,7]},{"k":3,"of":[0,1,2,3,6,7]}]},"write":{"k":4,"of":[{"k":4,"of":[0,1,2,3,4,5]},{"k":4,"of":[0,1,2,3,4,6]},{"k":4,"of":[0,1,2,3,5,7]},{"k":4,"of":[0,1,2,3,6,7]}]},"meets":{"rule":"open","side":"right","item":0,"then":{"rule":"pick","side":"left","item":0,"children":[0,1,2,3],"then":[{"rule":"match","left":0,"right":0,"pairs":[[0,0],[1,1],[2,2],[3,3],[4,4],[5,5]],"then":[{"rule":"clash","left":0,"right":3},{"rule":"clash","left":0,"right":3},{"rule":"clash","left":0,"right":3},{"rule":"clash","left":0,"right":3},{"rule":"clash","left":0,"right":3},{"rule":"clash","left":0,"right":3}]},{"rule":"match","left":0,"right":1,"pairs":[[0,0],[1,1],[2,2],[3,3],[4,4],[5,5]],"then":[{"rule":"clash","left":0,"right":3},{"rule":"clash","left":0,"right":3},{"rule":"clash","left":0,"right":3},{"rule":"clash","left":0,"right":3},{"rule":"clash","left":0,"right":3},{"rule":"clash","left":0,"right":3}]},{"rule":"match","left":0,"right":2,"pairs":[[0,0],[1,1],[2,2],[3,3],[4,4],[5,5]],"then":[{"rule":"clash","left":0,"right":3},{"rule":"clash","left":0,"right":3},{"rule":"clash","left":0,"right":3},{"rule":"clash","left":0,"right":3},{"rule":"clash","left":0,"right":3},{"rule":"clash","left":0,"right":3}]},{"rule":"match","left":0,"right":3,"pairs":[[0,0],[1,1],[2,2],[3,3],[4,4],[5,5]],"then":[{"rule":"clash","left":0,"right":3},{"rule":"clash","left":0,"right":3},{"rule":"clash","left":0,"right":3},{"rule":"clash","left":0,"right":3},{"rule":"clash","left":0,"right":3},{"rule":"clash","left":0,"right":3}]}]}},"step":{"rule":"open","side":"right","item":0,"then":{"rule":"pick","side":"left","item":0,"children":[0,1,2,3],"then":[{"rule":"match","left":0,"right":0,"pairs":[[0,0],[1,1],[2,2],[3,3],[4,4],[5,5]],"then":[{"rule":"clash","left":0,"right":1},{"rule":"clash","left":0,"right":1},{"rule":"clash","left":0,"right":1},{"rule":"clash","left":0,"right":1},{"rule":"clash","left":0,"right":1},{"rule":"clash","left":0,"right":1}]},{"rule":"match","left":0,"right":1,"pairs":[[0,0],[1,1],[2,2],[3,3],[4,4],[5,5]],"then":[{"rule":"clash","left":0,"right":1},{"rule":"clash","left":0,"right":1},{"rule":"clash","left":0,"right":1},{"rule":"clash","left":0,"right":1},{"rule":"clash","left":0,"right":1},{"rule":"clash","left":0,"right":1}]},{"rule":"match","left":0,"right":0,"pairs":[[0,0],[1,1],[2,2],[3,3],[4,5],[5,4]],"then":[{"rule":"clash","left":0,"right":1},{"rule":"clash","left":0,"right":1},{"rule":"clash","left":0,"right":1},{"rule":"clash","left":0,"right":1},{"rule":"clash","left":0,"right":1},{"rule":"dead","side":"left","item":0}]},{"rule":"match","left":0,"right":1,"pairs":[[0,0],[1,1],[2,2],[3,3],[4,5],[5,4]],"then":[{"rule":"clash","left":0,"right":1},{"rule":"clash","left":0,"right":1},{"rule":"clash","left":0,"right":1},{"rule":"clash","left":0,"right":1},{"rule":"clash","left":0,"right":1},{"rule":"dead","side":"left","item":0}]}]}}}
 ]}]}"#;
 
-/// The plan that a text spells, which has no fault.
-pub fn checked(alloc: Global, text: &[u8]) -> Result<Arc<CheckedPlan>, Fail> {
-    let plan = read_plan(alloc, text).ok().ok_or("the text is a plan")?;
-    let checked = check_plan(alloc, plan).ok().ok_or("the plan is certified")?;
-    Ok(Arc::new(alloc, checked)?)
+/// The plan that a text spells: `Malformed` where it spells none.
+pub fn plan_of(alloc: Global, text: &str) -> Result<Plan, Fault> {
+    match read_plan(alloc, text.as_bytes()) {
+        Ok(plan) => Ok(plan),
+        Err(_) => Err(Fault::Malformed),
+    }
+}
+
+/// The same, checked: `Certificate` where it has a fault.
+pub fn checked(alloc: Global, text: &str) -> Result<Arc<CheckedPlan>, Fault> {
+    match check_plan(alloc, plan_of(alloc, text)?) {
+        Ok(checked) => Ok(Arc::new(alloc, checked)?),
+        Err(_) => Err(Fault::Certificate),
+    }
 }

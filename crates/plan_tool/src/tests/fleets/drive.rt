@@ -15,11 +15,11 @@ use plan::CheckedPlan;
 use std::alloc::Global;
 use std::marker::Brand;
 use std::sync::{Arc, Wait};
-use std::test::*;
+use volume_model::Fault;
 use world::{Outcome, run};
 
 /// What a fleet leaves.
-#[derive(Drop)]
+#[derive(Clone, Copy)]
 pub struct Ending {
     /// The place of the first call of the table that was answered otherwise than the table says.
     pub wrong: Option<usize>,
@@ -27,23 +27,32 @@ pub struct Ending {
     pub steps: usize,
     /// How many of its events a run of the world refuses.
     pub refused: usize,
-    /// How that run ends.
-    pub outcome: Outcome,
+    /// How many writers that run leaves.
+    pub writers: usize,
+    /// Of the first writer its volume epoch, its durable point and the LSN of its last record.
+    pub writer: Option<(u32, u64, u64)>,
+    /// Of the first recovery that has cut its volume epoch and its cut.
+    pub find: Option<(u32, u64)>,
 }
 
 impl Ending {
-    /// Of the first writer its volume epoch, its durable point and the LSN of its last record.
-    pub fn writer(&self) -> Option<(u32, u64, u64)> {
-        let writer = self.outcome.writers.first()?;
-        let last = writer.log.record_at(writer.log.last_lsn())?;
-        Some((writer.volume, writer.durable, last.lsn()))
+    /// The first call that was answered otherwise, the steps and the refused.
+    pub fn counts(&self) -> (Option<usize>, usize, usize) {
+        (self.wrong, self.steps, self.refused)
     }
+}
 
-    /// Of the first recovery that has cut its volume epoch and its cut.
-    pub fn find(&self) -> Option<(u32, u64)> {
-        let find = self.outcome.finds.first()?;
-        Some((find.volume, find.found.cut))
-    }
+/// Of the first writer its volume epoch, its durable point and the LSN of its last record.
+fn writer_of(outcome: &Outcome) -> Option<(u32, u64, u64)> {
+    let writer = outcome.writers.first()?;
+    let last = writer.log.record_at(writer.log.last_lsn())?;
+    Some((writer.volume, writer.durable, last.lsn()))
+}
+
+/// Of the first recovery that has cut its volume epoch and its cut.
+fn find_of(outcome: &Outcome) -> Option<(u32, u64)> {
+    let find = outcome.finds.first()?;
+    Some((find.volume, find.found.cut))
 }
 
 /// What a fleet leaves that is closed, where this call of a table was the first to be answered otherwise.
@@ -53,18 +62,23 @@ pub fn ended<'a, L: Site>(
     passes: Vec<Pass<'a, L>>,
     plan: &Arc<CheckedPlan>,
     wrong: Option<usize>,
-) -> Result<Ending, Fail>
+) -> Result<Ending, Fault>
     requires { (vec_len passes ≡ L.parts) × (0 < vec_len passes) }
 {
     let journal = fleet.close(passes);
     let events = journal.events(alloc)?;
     let outcome = run(alloc, plan, events.as_slice())?;
-    let refused = outcome.results.iter().filter(|told| told.is_err()).count();
+    let mut refused = 0usize;
+    for told in &outcome.results {
+        refused = refused.saturating_add(usize::from(told.is_err()));
+    }
     Ok(Ending {
         wrong,
         steps: journal.len(),
         refused,
-        outcome,
+        writers: outcome.writers.len(),
+        writer: writer_of(&outcome),
+        find: find_of(&outcome),
     })
 }
 
@@ -78,7 +92,7 @@ fn drive<L: Site, R: Wait>(
     slots: u32,
     steps: &[Step],
     look: &Look,
-) -> Result<Ending, Fail>
+) -> Result<Ending, Fault>
     requires plan { checked_model (arc_value plan) ≡ L.plan }
     requires cells { ids_of row.old ≡ L.cells }
     requires slots { slots ≡ L.slots }
@@ -95,13 +109,13 @@ fn drive<L: Site, R: Wait>(
 pub fn run_table<R: Wait>(
     rt: &R,
     alloc: Global,
-    text: &[u8],
+    text: &str,
     passes: usize,
     slots: u32,
     cells: usize,
     steps: &[Step],
     look: &Look,
-) -> Result<Ending, Fail>
+) -> Result<Ending, Fault>
     requires { 0 < passes }
 {
     let plan = checked(alloc, text)?;

@@ -8,7 +8,7 @@ ghost use Rattle.node_fleet.proofs.Seats.{seats_prop};
 
 use super::super::texts::{SIX, checked};
 use super::calls::{Call, Step};
-use super::drive::run_table;
+use super::drive::{Ending, run_table};
 use super::looks::Look;
 use super::tables::WRITTEN;
 use node_fleet::{MailSeats, Mailboxes};
@@ -16,6 +16,7 @@ use plan::CheckedPlan;
 use std::alloc::{AllocError, Global};
 use std::sync::Wait;
 use std::test::*;
+use volume_model::Fault;
 
 /// The seats of one caller at the mailboxes of group 0.
 #[derive(Drop)]
@@ -83,27 +84,37 @@ impl Desk<'_> {
     }
 }
 
-/// A fleet whose deliveries come by letters is closed while others lie in its members' mailboxes: its journal is as without them.
-#[test]
-fn letters_that_are_left(rt: HostRuntime) -> Result<(), Fail> {
-    let alloc = rt.alloc();
+/// What a fleet leaves whose deliveries come by letters, and how many of four members find the closing letter and letter 7 behind these.
+fn left<R: Wait>(rt: &R, alloc: Global) -> Result<(Ending, usize), Fault> {
     let plan = checked(alloc, SIX)?;
     let (mail, mut callers) = Mailboxes::new(alloc, &plan, 1)?;
-    let seats = callers.pop().ok_or("no seats")?;
+    let Some(seats) = callers.pop() else {
+        return Err(Fault::NoActor);
+    };
     let mut desk = Desk {
         plan: &plan,
         mail: &mail,
         seats,
     };
-    desk.post_all(&rt, WRITTEN.as_slice());
-    let steps = desk.by_letters(&rt, alloc, WRITTEN.as_slice())?;
-    let ending = run_table(&rt, alloc, SIX, 1, 1, 17, steps.as_slice(), &Look::new())?;
-    assert_eq!(rt; ending.wrong, None);
-    assert_eq!(rt; (ending.steps, ending.refused), (17, 0));
-    assert_eq!(rt; ending.writer(), Some((1, 3, 3)));
+    desk.post_all(rt, WRITTEN);
+    let steps = desk.by_letters(rt, alloc, WRITTEN)?;
+    let ending = run_table(rt, alloc, SIX, 1, 1, 17, &steps, &Look::new())?;
+    let mut found = 0usize;
     for member in 0..4 {
-        assert_eq!(rt; desk.collect(&rt, member), None);
-        assert_eq!(rt; desk.collect(&rt, member), Some(7));
+        let is_closed = desk.collect(rt, member).is_none();
+        if is_closed && desk.collect(rt, member) == Some(7) {
+            found = found.saturating_add(1);
+        }
     }
+    Ok((ending, found))
+}
+
+/// A fleet whose deliveries come by letters is closed while others lie in its members' mailboxes: its journal is as without them.
+#[test]
+fn letters_that_are_left(rt: HostRuntime) -> Result<(), Fault> {
+    let (ending, found) = left(&rt, rt.alloc())?;
+    assert_eq!(rt; ending.counts(), (None, 17, 0));
+    assert_eq!(rt; ending.writer, Some((1, 3, 3)));
+    assert_eq!(rt; found, 4);
     Ok(())
 }

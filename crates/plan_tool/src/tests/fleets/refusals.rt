@@ -10,7 +10,7 @@ use volume_model::Fault;
 use world::AuthorityAct;
 
 /// Two steps fill a journal of two cells, and no actor makes another.
-const FULL: [Step; 6] = [
+const FULL: &[Step] = &[
     (Call::Node(0, NodeDeed::Restart), Ok((0, 0))),
     (Call::Issue(1, "a"), Ok((1, 0))),
     (Call::Node(0, NodeDeed::Restart), Err(Fault::JournalFull)),
@@ -23,7 +23,7 @@ const FULL: [Step; 6] = [
 ];
 
 /// What names no node, no message, no client and no slot.
-const NOBODY: [Step; 17] = [
+const NOBODY: &[Step] = &[
     (Call::Deliver(6, 1), Err(Fault::NoActor)),
     (Call::Node(64, NodeDeed::Restart), Err(Fault::NoActor)),
     (Call::Deliver(0, 1), Err(Fault::NoMessage)),
@@ -44,45 +44,20 @@ const NOBODY: [Step; 17] = [
 ];
 
 /// A number above all members of the first of two groups names no node of the second.
-const BEYOND: [Step; 3] = [
+const BEYOND: &[Step] = &[
     (Call::Node(64, NodeDeed::Restart), Err(Fault::NoActor)),
     (Call::Deliver(64, 1), Err(Fault::NoActor)),
     (Call::Node(0, NodeDeed::Restart), Ok((0, 0))),
 ];
 
 #[test]
-fn nobody_there(rt: HostRuntime) -> Result<(), Fail> {
-    let steps = NOBODY.as_slice();
-    let ending = run_table(&rt, rt.alloc(), SIX, 2, 2, 9, steps, &Look::new())?;
-    assert_eq!(rt; ending.wrong, None);
-    assert_eq!(rt; (ending.steps, ending.refused), (4, 0));
-    Ok(())
-}
-
-#[test]
-fn a_full_journal(rt: HostRuntime) -> Result<(), Fail> {
-    let steps = FULL.as_slice();
-    let ending = run_table(&rt, rt.alloc(), SIX, 2, 2, 2, steps, &Look::new())?;
-    assert_eq!(rt; ending.wrong, None);
-    assert_eq!(rt; (ending.steps, ending.refused), (2, 0));
-    Ok(())
-}
-
-#[test]
-fn beyond_the_members_of_a_group(rt: HostRuntime) -> Result<(), Fail> {
-    let alloc = rt.alloc();
-    let steps = BEYOND.as_slice();
-    let ending = run_table(
-        &rt,
-        alloc,
-        TWO_GROUPS.as_bytes(),
-        1,
-        1,
-        3,
-        steps,
-        &Look::new(),
-    )?;
-    assert_eq!(rt; ending.wrong, None);
-    assert_eq!(rt; (ending.steps, ending.refused), (1, 0));
+fn refusals(rt: HostRuntime) -> Result<(), Fault> {
+    let (alloc, look) = (rt.alloc(), Look::new());
+    let ending = run_table(&rt, alloc, SIX, 2, 2, 9, NOBODY, &look)?;
+    assert_eq!(rt; ending.counts(), (None, 4, 0));
+    let ending = run_table(&rt, alloc, SIX, 2, 2, 2, FULL, &look)?;
+    assert_eq!(rt; ending.counts(), (None, 2, 0));
+    let ending = run_table(&rt, alloc, TWO_GROUPS, 1, 1, 3, BEYOND, &look)?;
+    assert_eq!(rt; ending.counts(), (None, 1, 0));
     Ok(())
 }

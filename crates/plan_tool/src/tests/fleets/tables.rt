@@ -5,13 +5,12 @@ use super::calls::{Call, Step};
 use super::drive::run_table;
 use super::looks::Look;
 use node_fleet::NodeDeed;
-use std::alloc::{AllocError, Global};
 use std::test::*;
 use volume_model::Fault;
 use world::AuthorityAct;
 
 /// Three bytes reach four of six members, and their acknowledgements the writer.
-pub const WRITTEN: [Step; 17] = [
+pub const WRITTEN: &[Step] = &[
     (Call::Issue(1, "abc"), Ok((3, 0))),
     (Call::Deliver(0, 1), Ok((1, 0))),
     (Call::Deliver(1, 1), Ok((1, 0))),
@@ -31,8 +30,25 @@ pub const WRITTEN: [Step; 17] = [
     (Call::Take(1, 15), Ok((0, 3))),
 ];
 
-/// Every pass reads the board. The second of three asks for the page, and the third delivers that.
-const READ: [Step; 7] = [
+/// The same, and then every pass reads the board. The second of three asks for the page, and the third delivers that.
+const WRITTEN_AND_READ: &[Step] = &[
+    (Call::Issue(1, "abc"), Ok((3, 0))),
+    (Call::Deliver(0, 1), Ok((1, 0))),
+    (Call::Deliver(1, 1), Ok((1, 0))),
+    (Call::Deliver(2, 1), Ok((1, 0))),
+    (Call::Deliver(3, 1), Ok((1, 0))),
+    (Call::Deliver(0, 2), Ok((1, 0))),
+    (Call::Deliver(1, 2), Ok((1, 0))),
+    (Call::Deliver(2, 2), Ok((1, 0))),
+    (Call::Deliver(3, 2), Ok((1, 0))),
+    (Call::Deliver(0, 3), Ok((1, 0))),
+    (Call::Deliver(1, 3), Ok((1, 0))),
+    (Call::Deliver(2, 3), Ok((1, 0))),
+    (Call::Deliver(3, 3), Ok((1, 0))),
+    (Call::Take(1, 12), Ok((0, 0))),
+    (Call::Take(1, 13), Ok((0, 0))),
+    (Call::Take(1, 14), Ok((0, 0))),
+    (Call::Take(1, 15), Ok((0, 3))),
     (Call::Board, Ok((0, 3))),
     (Call::Board, Ok((0, 3))),
     (Call::Read(1), Ok((1, 0))),
@@ -43,7 +59,7 @@ const READ: [Step; 7] = [
 ];
 
 /// A member that isn't whole answers no fence, loses its copies at a restart, and becomes whole.
-const MADE_WHOLE: [Step; 20] = [
+const MADE_WHOLE: &[Step] = &[
     (
         Call::Authority(AuthorityAct::Advance {
             group: 0,
@@ -117,70 +133,39 @@ const JOINED: [Step; 32] = [
     (Call::Cut(2), Ok((1, 0))),
 ];
 
-/// What was written, and then the page's reading.
-fn written_and_read(alloc: Global) -> Result<Vec<Step>, AllocError> {
-    let mut steps = Vec::new(alloc);
-    steps.extend_from_slice(WRITTEN.as_slice())?;
-    steps.extend_from_slice(READ.as_slice())?;
-    Ok(steps)
-}
-
 #[test]
-fn three_bytes_by_one_pass(rt: HostRuntime) -> Result<(), Fail> {
-    let steps = WRITTEN.as_slice();
-    let ending = run_table(&rt, rt.alloc(), SIX, 1, 1, 17, steps, &Look::new())?;
-    assert_eq!(rt; ending.wrong, None);
-    assert_eq!(rt; (ending.steps, ending.refused), (17, 0));
-    assert_eq!(rt; ending.writer(), Some((1, 3, 3)));
-    Ok(())
-}
-
-#[test]
-fn three_bytes_by_three_passes(rt: HostRuntime) -> Result<(), Fail> {
+fn three_bytes(rt: HostRuntime) -> Result<(), Fault> {
     let look = Look::new();
-    let steps = written_and_read(rt.alloc())?;
-    let ending = run_table(&rt, rt.alloc(), SIX, 3, 1, 20, steps.as_slice(), &look)?;
-    assert_eq!(rt; ending.wrong, None);
+    let ending = run_table(&rt, rt.alloc(), SIX, 1, 1, 17, WRITTEN, &look)?;
+    assert_eq!(rt; ending.counts(), (None, 17, 0));
+    assert_eq!(rt; ending.writer, Some((1, 3, 3)));
+    assert!(rt; !look.found());
+    let ending = run_table(&rt, rt.alloc(), SIX, 3, 1, 20, WRITTEN_AND_READ, &look)?;
+    assert_eq!(rt; ending.counts(), (None, 19, 0));
+    assert_eq!(rt; ending.writer, Some((1, 3, 3)));
     assert!(rt; look.found());
-    assert_eq!(rt; (ending.steps, ending.refused), (19, 0));
-    assert_eq!(rt; ending.writer(), Some((1, 3, 3)));
     Ok(())
 }
 
 #[test]
-fn a_member_made_whole(rt: HostRuntime) -> Result<(), Fail> {
-    let alloc = rt.alloc();
-    let steps = MADE_WHOLE.as_slice();
-    let ending = run_table(
-        &rt,
-        alloc,
-        REPLACED.as_bytes(),
-        1,
-        2,
-        20,
-        steps,
-        &Look::new(),
-    )?;
-    assert_eq!(rt; ending.wrong, None);
-    assert_eq!(rt; (ending.steps, ending.refused), (17, 0));
-    assert_eq!(rt; ending.outcome.writers.len(), 1);
+fn a_member_made_whole(rt: HostRuntime) -> Result<(), Fault> {
+    let look = Look::new();
+    let ending = run_table(&rt, rt.alloc(), REPLACED, 1, 2, 20, MADE_WHOLE, &look)?;
+    assert_eq!(rt; ending.counts(), (None, 17, 0));
+    assert_eq!(rt; ending.writers, 1);
     Ok(())
 }
 
 #[test]
-fn a_fleet_closed_behind_each_call(rt: HostRuntime) -> Result<(), Fail> {
-    let alloc = rt.alloc();
-    let text = REPLACED.as_bytes();
+fn a_fleet_closed_behind_each_call(rt: HostRuntime) -> Result<(), Fault> {
+    let look = Look::new();
     for passes in [1, 3] {
         for calls in 0..33 {
             let steps = &JOINED[..calls];
-            let ending = run_table(&rt, alloc, text, passes, 2, 32, steps, &Look::new())?;
-            assert_eq!(rt; ending.wrong, None);
-            assert_eq!(rt; (ending.steps, ending.refused), (calls, 0));
-            let last = (calls > 0).then_some((1, 0, 1));
-            assert_eq!(rt; ending.writer(), last);
-            let find = (calls == 32).then_some((2, 0));
-            assert_eq!(rt; ending.find(), find);
+            let ending = run_table(&rt, rt.alloc(), REPLACED, passes, 2, 32, steps, &look)?;
+            assert_eq!(rt; ending.counts(), (None, calls, 0));
+            assert_eq!(rt; ending.writer, (calls > 0).then_some((1, 0, 1)));
+            assert_eq!(rt; ending.find, (calls == 32).then_some((2, 0)));
         }
     }
     Ok(())

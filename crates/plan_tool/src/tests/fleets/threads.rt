@@ -20,10 +20,11 @@ use std::sync::{Arc, Wait};
 use std::test::*;
 use std::thread;
 use std::thread::{JoinHandle, Scope, Threads};
+use volume_model::Fault;
 use wire::Message;
 
 /// One record is issued.
-const ISSUED: [Step; 1] = [(Call::Issue(1, "a"), Ok((1, 0)))];
+const ISSUED: &[Step] = &[(Call::Issue(1, "a"), Ok((1, 0)))];
 
 /// Holds each of members 0 and 1, when it acknowledges the first record, until the other does.
 #[derive(Drop)]
@@ -181,7 +182,7 @@ fn work_over<L: Site + Send + Sync, R: Threads + Wait + Sync>(
     plan: Arc<CheckedPlan>,
     gate: &Meeting,
     rounds: u32,
-) -> Result<Ending, Fail>
+) -> Result<Ending, Fault>
     requires plan { checked_model (arc_value plan) ≡ L.plan }
     requires cells { ids_of row.old ≡ L.cells }
     requires slots { L.slots ≡ 1 }
@@ -190,12 +191,12 @@ fn work_over<L: Site + Send + Sync, R: Threads + Wait + Sync>(
 {
     let copy = plan.clone()?;
     let (fleet, mut passes) = Fleet::<L>::new(alloc, row, base, copy, 1)?;
-    let (steps, look) = (ISSUED.as_slice(), Look::new());
-    let wrong = first_wrong(rt, alloc, &fleet, passes.as_mut_slice(), steps, &look);
+    let look = Look::new();
+    let wrong = first_wrong(rt, alloc, &fleet, passes.as_mut_slice(), ISSUED, &look);
     let count = passes.len();
     let passes = worked(rt, alloc, &fleet, gate, rounds, passes)?;
     if passes.len() != count {
-        return Err(Fail::from("a pass is lost"));
+        return Err(Fault::NoActor);
     }
     ended(alloc, fleet, passes, &plan, wrong)
 }
@@ -208,7 +209,7 @@ fn run_threads<R: Threads + Wait + Sync>(
     cells: usize,
     gate: &Meeting,
     rounds: u32,
-) -> Result<Ending, Fail>
+) -> Result<Ending, Fault>
     requires { 0 < passes }
 {
     let plan = checked(alloc, SIX)?;
@@ -226,20 +227,18 @@ fn nobody_met() -> Meeting {
 }
 
 #[test]
-fn two_nodes_step_at_a_time(rt: HostRuntime) -> Result<(), Fail> {
+fn two_nodes_step_at_a_time(rt: HostRuntime) -> Result<(), Fault> {
     let gate = nobody_met();
     let ending = run_threads(&rt, rt.alloc(), 2, 3, &gate, 0)?;
-    assert_eq!(rt; ending.wrong, None);
     assert!(rt; gate.first.was_seen() && gate.second.was_seen());
-    assert_eq!(rt; (ending.steps, ending.refused), (3, 0));
+    assert_eq!(rt; ending.counts(), (None, 3, 0));
     Ok(())
 }
 
 #[test]
-fn ten_thousand_steps_by_each_of_four(rt: HostRuntime) -> Result<(), Fail> {
+fn ten_thousand_steps_by_each_of_four(rt: HostRuntime) -> Result<(), Fault> {
     let gate = nobody_met();
     let ending = run_threads(&rt, rt.alloc(), 4, 40_001, &gate, 3_333)?;
-    assert_eq!(rt; ending.wrong, None);
-    assert_eq!(rt; (ending.steps, ending.refused), (40_001, 0));
+    assert_eq!(rt; ending.counts(), (None, 40_001, 0));
     Ok(())
 }
