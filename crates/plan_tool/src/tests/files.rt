@@ -1,39 +1,135 @@
+//! Files and outputs that fail.
+
 use super::said::{SIX_COPIES, done, job, missing, said};
 use crate::source;
 use command_line::{Action, Job};
 use jobs::{Output, Source, perform};
-use std::alloc::{AllocError, Global};
+use std::alloc::Global;
 use std::io;
 use std::io::{ErrorKind, Read, Write};
 use std::sync::Wait;
+use std::test::*;
 use std::thread::Threads;
 
-/// A file that was opened.
-fn opened<R: Read>(reader: R) -> Source<R> {
-    Source::new(Ok(reader))
+/// A file of a job.
+#[derive(Clone, Copy)]
+enum File<'a> {
+    /// It has these bytes.
+    Has(&'a [u8]),
+    /// It gives these bytes, and then fails.
+    Breaks(&'a [u8]),
+    /// It gives spaces without an end.
+    Spaces,
+    /// There is none.
+    Missing,
+    /// It isn't opened for want of memory.
+    NoMemory,
 }
 
-/// A file that isn't opened for want of memory.
-fn without_memory() -> Source<&'static [u8]> {
-    Source::new(Err(io::Error::from(ErrorKind::OutOfMemory)))
-}
-
-/// Gives its bytes one at a time, and then fails.
+/// Reads such a file, its bytes one at a time.
 #[derive(Drop)]
-struct Breaks<'a>(&'a [u8]);
+struct Reader<'a>(File<'a>);
 
-impl Read for Breaks<'_> {
+impl Read for Reader<'_> {
     fn read(&mut self, buf: &mut [u8]) -> io::Result<usize> {
-        let Some((first, rest)) = self.0.split_first() else {
-            return Err(io::Error::from(ErrorKind::ConnectionReset));
-        };
         if buf.is_empty() {
             return Ok(0);
         }
-        buf[0] = *first;
-        self.0 = rest;
-        Ok(1)
+        match self.0 {
+            File::Has([first, rest @ ..]) => {
+                buf[0] = *first;
+                self.0 = File::Has(rest);
+                Ok(1)
+            }
+            File::Breaks([first, rest @ ..]) => {
+                buf[0] = *first;
+                self.0 = File::Breaks(rest);
+                Ok(1)
+            }
+            File::Spaces => {
+                buf.fill(b' ');
+                Ok(buf.len())
+            }
+            File::Breaks(_) => Err(io::Error::from(ErrorKind::ConnectionReset)),
+            _ => Ok(0),
+        }
     }
+}
+
+/// The file, as it was opened.
+fn opened(file: File<'_>) -> Source<Reader<'_>> {
+    Source::new(match file {
+        File::Missing => Err(io::Error::from(ErrorKind::NotFound)),
+        File::NoMemory => Err(io::Error::from(ErrorKind::OutOfMemory)),
+        _ => Ok(Reader(file)),
+    })
+}
+
+/// Whether this status and this line alone are said of such files.
+fn says<H: Threads + Wait + Sync>(
+    rt: &H,
+    alloc: Global,
+    action: Action,
+    files: (File<'_>, File<'_>),
+    status: u8,
+    line: &str,
+) -> bool {
+    let (plan, script) = files;
+    done(rt, alloc, &job(action), opened(plan), opened(script)).is(status, line)
+}
+
+/// Every kind of job.
+const ACTIONS: &[Action] = &[Action::Check, Action::Search, Action::Run, Action::Fleet];
+
+/// The jobs that read a script.
+const SCRIPTED: &[Action] = &[Action::Run, Action::Fleet];
+
+const SCRIPT: &str = "issue 1 0:0:0:61\ndeliver 0 0 1.1\n";
+
+const NO_PLAN: &str = "input: cannot read p.json\n";
+
+const NO_SCRIPT: &str = "input: cannot read s.txt\n";
+
+const NO_MEMORY: &str = "input: 9 NoMemory\n";
+
+const MALFORMED: &str = "input: 13 Malformed\n";
+
+#[test]
+fn files_that_fail(rt: HostRuntime) {
+    let alloc = rt.alloc();
+    let plan = SIX_COPIES.as_bytes();
+    let script = File::Has(SCRIPT.as_bytes());
+    for action in ACTIONS {
+        for k in 0..plan.len() {
+            let files = (File::Breaks(&plan[..k]), script);
+            assert!(rt; says(&rt, alloc, *action, files, 2, NO_PLAN), "{k}");
+        }
+        assert!(rt; says(&rt, alloc, *action, (File::Missing, script), 2, NO_PLAN));
+        assert!(rt; says(&rt, alloc, *action, (File::NoMemory, script), 2, NO_MEMORY));
+    }
+    for k in 0..plan.len() {
+        let files = (File::Has(&plan[..k]), script);
+        assert!(rt; says(&rt, alloc, Action::Check, files, 2, MALFORMED), "{k}");
+    }
+    let files = (File::Spaces, script);
+    assert!(rt; says(&rt, alloc, Action::Check, files, 1, "no: 34 OverLimit\n"));
+}
+
+#[test]
+fn scripts_that_fail(rt: HostRuntime) {
+    let alloc = rt.alloc();
+    let plan = File::Has(SIX_COPIES.as_bytes());
+    let script = SCRIPT.as_bytes();
+    for action in SCRIPTED {
+        for k in 0..script.len() {
+            let files = (plan, File::Breaks(&script[..k]));
+            assert!(rt; says(&rt, alloc, *action, files, 2, NO_SCRIPT), "{k}");
+        }
+        assert!(rt; says(&rt, alloc, *action, (plan, File::Missing), 2, NO_SCRIPT));
+        assert!(rt; says(&rt, alloc, *action, (plan, File::NoMemory), 2, NO_MEMORY));
+    }
+    let files = (File::Has(b"{}"), File::Breaks(b""));
+    assert!(rt; says(&rt, alloc, Action::Run, files, 2, MALFORMED));
 }
 
 /// Takes so many bytes, one at a time, and then fails.
@@ -57,111 +153,63 @@ impl Write for Room {
     }
 }
 
-/// Every kind of job.
-const ACTIONS: [Action; 4] = [Action::Check, Action::Search, Action::Run, Action::Fleet];
-
-#[test]
-fn files_that_fail_behind_each_byte(rt: HostRuntime) {
-    let alloc = rt.alloc();
-    let plan = SIX_COPIES.as_bytes();
-    let script = b"issue 1 0:0:0:61\ndeliver 0 0 1.1\n".as_slice();
-    for action in ACTIONS {
-        for k in 0..plan.len() {
-            let end = said(&rt, alloc, action, Breaks(&plan[..k]), script);
-            assert!(rt; end.is(2, "input: cannot read p.json\n"), "{k}");
-        }
-    }
-    for action in [Action::Run, Action::Fleet] {
-        for k in 0..script.len() {
-            let end = said(&rt, alloc, action, plan, Breaks(&script[..k]));
-            assert!(rt; end.is(2, "input: cannot read s.txt\n"), "{k}");
-        }
-    }
-}
-
-#[test]
-fn files_that_fail(rt: HostRuntime) -> Result<(), AllocError> {
-    let alloc = rt.alloc();
-    let plan = SIX_COPIES.as_bytes();
-    let script = b"issue 1 0:0:0:61".as_slice();
-    for k in 0..plan.len() {
-        let end = said(&rt, alloc, Action::Check, &plan[..k], script);
-        assert!(rt; end.is(2, "input: 13 Malformed\n"), "{k}");
-    }
-    for action in ACTIONS {
-        let end = done(&rt, alloc, &job(action), missing(), opened(script));
-        assert!(rt; end.is(2, "input: cannot read p.json\n"));
-        let end = done(&rt, alloc, &job(action), without_memory(), opened(script));
-        assert!(rt; end.is(2, "input: 9 NoMemory\n"));
-    }
-    for action in [Action::Run, Action::Fleet] {
-        let end = done(&rt, alloc, &job(action), opened(plan), missing());
-        assert!(rt; end.is(2, "input: cannot read s.txt\n"));
-        let end = done(&rt, alloc, &job(action), opened(plan), without_memory());
-        assert!(rt; end.is(2, "input: 9 NoMemory\n"));
-    }
-    let end = said(&rt, alloc, Action::Run, b"{}".as_slice(), Breaks(b""));
-    assert!(rt; end.is(2, "input: 13 Malformed\n"));
-    let end = said(&rt, alloc, Action::Check, io::repeat(b' '), script);
-    assert!(rt; end.is(1, "no: 34 OverLimit\n"));
-    Ok(())
-}
-
-/// The status of a job over these files, and what standard error got, where standard output takes so many bytes.
-fn in_room<H: Threads + Wait + Sync>(
+/// Whether a job over six copies and a script ends with this status, and standard error gets this, where standard output takes so many
+/// bytes.
+fn ends_in_room<H: Threads + Wait + Sync>(
     rt: &H,
     alloc: Global,
     action: Action,
-    script: &str,
     room: usize,
-) -> (u8, Vec<u8>) {
+    status: u8,
+    told: &[u8],
+) -> bool {
     let mut err = Output::new(Vec::new(alloc));
-    let status = perform(
+    let end = perform(
         rt,
         alloc,
         &job(action),
-        &mut opened(SIX_COPIES.as_bytes()),
-        &mut opened(script.as_bytes()),
+        &mut opened(File::Has(SIX_COPIES.as_bytes())),
+        &mut opened(File::Has(SCRIPT.as_bytes())),
         &mut Output::new(Room(room)),
         &mut err,
     );
-    (status, err.into_inner())
+    end == status && err.into_inner().as_slice() == told
+}
+
+/// How many bytes the job writes.
+fn length<H: Threads + Wait + Sync>(rt: &H, alloc: Global, action: Action) -> usize {
+    let (plan, script) = (SIX_COPIES.as_bytes(), SCRIPT.as_bytes());
+    said(rt, alloc, &job(action), plan, Some(script)).out.len()
 }
 
 #[test]
 fn outputs_that_fail_behind_each_byte(rt: HostRuntime) {
     let alloc = rt.alloc();
-    let script = "issue 1 0:0:0:61\ndeliver 0 0 1.1\n";
     for action in ACTIONS {
-        let plan = SIX_COPIES.as_bytes();
-        let whole = said(&rt, alloc, action, plan, script.as_bytes()).out;
-        assert!(rt; !whole.is_empty());
-        for room in 0..whole.len() {
-            let (status, told) = in_room(&rt, alloc, action, script, room);
-            assert_eq!(rt; status, 2);
-            assert_eq!(rt; told.as_slice(), b"output: cannot write\n".as_slice());
+        let length = length(&rt, alloc, *action);
+        assert!(rt; length > 0);
+        for room in 0..length {
+            assert!(rt; ends_in_room(&rt, alloc, *action, room, 2, b"output: cannot write\n"));
         }
-        for room in [whole.len(), whole.len().saturating_add(1)] {
-            let (status, told) = in_room(&rt, alloc, action, script, room);
-            assert_eq!(rt; status, 0);
-            assert!(rt; told.is_empty());
+        for room in [length, length.saturating_add(1)] {
+            assert!(rt; ends_in_room(&rt, alloc, *action, room, 0, b""));
         }
     }
 }
 
+const UNNAMED: &str = "input: cannot read \n";
+
 #[test]
 fn empty_names(rt: HostRuntime) {
     let alloc = rt.alloc();
-    let no_file = "input: cannot read \n";
-    for action in [Action::Check, Action::Run, Action::Fleet, Action::Search] {
+    for action in ACTIONS {
         let job = Job {
-            action,
+            action: *action,
             plan: "",
             script: None,
             workers: 4,
         };
-        let end = done(&rt, alloc, &job, source(&rt, Some("")), missing());
-        assert!(rt; end.is(2, no_file));
+        assert!(rt; done(&rt, alloc, &job, source(&rt, Some("")), missing()).is(2, UNNAMED));
     }
     let job = Job {
         action: Action::Run,
@@ -169,7 +217,6 @@ fn empty_names(rt: HostRuntime) {
         script: Some(""),
         workers: 4,
     };
-    let plan = opened(SIX_COPIES.as_bytes());
-    let end = done(&rt, alloc, &job, plan, source(&rt, Some("")));
-    assert!(rt; end.is(2, no_file));
+    let plan = opened(File::Has(SIX_COPIES.as_bytes()));
+    assert!(rt; done(&rt, alloc, &job, plan, source(&rt, Some(""))).is(2, UNNAMED));
 }

@@ -1,6 +1,6 @@
 //! A hundred thousand lines that drivers share.
 
-use super::fleet_runs::{fleet, job};
+use super::fleet_runs::fleets_tell;
 use super::said::SIX_COPIES;
 use std::alloc::{AllocError, Global};
 
@@ -41,9 +41,6 @@ fn a_hundred_thousand_lines(rt: HostRuntime) -> Result<(), AllocError> {
     let plan = far_ahead(alloc)?;
     let script = long(alloc, RECORDS)?;
     let told = "steps 99999\nrefused 0\nwriter 1 durable 11111 next 11112\njournal yes\n";
-    for job in [job(1), job(4)] {
-        let end = fleet(&rt, alloc, &job, plan.as_str(), script.as_str());
-        assert!(rt; end.is(0, told));
-    }
+    assert!(rt; fleets_tell(&rt, alloc, &plan, &script, told));
     Ok(())
 }

@@ -2,12 +2,11 @@
 
 ghost use Rattle.std.specs.Prelude.{◌≤◌};
 
-use super::said::{Outputs, SIX_COPIES, done};
+use super::said::{Outputs, SIX_COPIES, job_of, said};
 use super::texts::REPLACED;
 use super::volumes::{EARLY_ACKNOWLEDGEMENT, MADE_WHOLE, RECOVERED, WRITTEN};
-use command_line::{Action, Job};
-use jobs::Source;
-use std::alloc::{AllocError, Global};
+use command_line::Action;
+use std::alloc::Global;
 use std::sync::Wait;
 use std::thread::Threads;
 
@@ -38,56 +37,65 @@ open 2\n\
 # what the old writer sends now is refused by those who have promised the new volume epoch\n\
 deliver 0 3 14.1\n";
 
-/// A script's run on threads by so many drivers.
-pub fn job(workers: u8) -> Job<'static>
-    requires some { 1 ≤ workers }
-    requires few { workers ≤ 16 }
-{
-    Job {
-        action: Action::Fleet,
-        plan: "p.json",
-        script: Some("s.txt"),
-        workers,
-    }
-}
-
 /// What is said of a script's run on threads over this plan.
 pub fn fleet<H: Threads + Wait + Sync>(
     rt: &H,
     alloc: Global,
-    job: &Job<'_>,
+    workers: u8,
+    plan: &str,
+    script: &[u8],
+) -> Outputs
+    requires some { 1 ≤ workers }
+    requires few { workers ≤ 16 }
+{
+    let job = job_of(Action::Fleet, workers);
+    said(rt, alloc, &job, plan.as_bytes(), Some(script))
+}
+
+/// Whether a script's run on threads by one driver, and by four, tells this and is refused nothing.
+pub fn fleets_tell<H: Threads + Wait + Sync>(
+    rt: &H,
+    alloc: Global,
     plan: &str,
     script: &str,
-) -> Outputs {
-    let plan = Source::new(Ok(plan.as_bytes()));
-    let script = Source::new(Ok(script.as_bytes()));
-    done(rt, alloc, job, plan, script)
+    told: &str,
+) -> bool {
+    let script = script.as_bytes();
+    fleet(rt, alloc, 1, plan, script).is(0, told) && fleet(rt, alloc, 4, plan, script).is(0, told)
 }
 
-/// Whether the journals that one driver, four and sixteen leave of a script agree.
-fn agree<H: Threads + Wait + Sync>(rt: &H, alloc: Global, plan: &str, script: &str) -> bool {
-    for job in [job(1), job(4), job(16)] {
-        let end = fleet(rt, alloc, &job, plan, script);
-        if end.status > 1 || !end.err.is_empty() || !end.out.ends_with(b"journal yes\n") {
-            return false;
-        }
-    }
-    true
+/// Whether the journal of a script's run agrees.
+fn agrees<H: Threads + Wait + Sync>(
+    rt: &H,
+    alloc: Global,
+    workers: u8,
+    plan: &str,
+    script: &str,
+) -> bool
+    requires some { 1 ≤ workers }
+    requires few { workers ≤ 16 }
+{
+    let end = fleet(rt, alloc, workers, plan, script.as_bytes());
+    end.status <= 1 && end.err.is_empty() && end.out.ends_with(b"journal yes\n")
 }
 
+/// The plans and scripts of the examples.
+const EXAMPLES: &[(&str, &str)] = &[
+    (SIX_COPIES, "issue 1 0:0:0:61\ndeliver 0 0 1.1\n"),
+    (SIX_COPIES, WRITTEN),
+    (SIX_COPIES, RECOVERED),
+    (REPLACED, EARLY_ACKNOWLEDGEMENT),
+    (REPLACED, MADE_WHOLE),
+    (FIVE_MEMBERS, FAILED_WRITER),
+];
+
+/// The journals that one driver, four and sixteen leave agree.
 #[test]
-fn journals_of_the_examples(rt: HostRuntime) -> Result<(), AllocError> {
+fn journals_of_the_examples(rt: HostRuntime) {
     let alloc = rt.alloc();
-    let recovery = format!(in alloc; "{WRITTEN}{RECOVERED}")?;
-    for (plan, script) in [
-        (SIX_COPIES, "issue 1 0:0:0:61\ndeliver 0 0 1.1\n"),
-        (SIX_COPIES, WRITTEN),
-        (SIX_COPIES, recovery.as_str()),
-        (REPLACED, EARLY_ACKNOWLEDGEMENT),
-        (REPLACED, MADE_WHOLE),
-        (FIVE_MEMBERS, FAILED_WRITER),
-    ] {
-        assert!(rt; agree(&rt, alloc, plan, script), "{script}");
+    for (plan, script) in EXAMPLES {
+        assert!(rt; agrees(&rt, alloc, 1, plan, script), "{script}");
+        assert!(rt; agrees(&rt, alloc, 4, plan, script), "{script}");
+        assert!(rt; agrees(&rt, alloc, 16, plan, script), "{script}");
     }
-    Ok(())
 }

@@ -1,25 +1,18 @@
 //! A volume of 16 groups, all of which but the first join while it is written to.
 
-use super::fleet_runs::{fleet, job};
+use super::fleet_runs::fleets_tell;
 use super::said::SIX_COPIES;
 use super::volumes::tells;
 use std::alloc::{AllocError, Global};
 
-/// A plan of so many groups of six copies, of which so many are there at birth.
-fn growing(alloc: Global, born: u32, groups: u32) -> Result<String, AllocError> {
-    let group = SIX_COPIES
+/// A plan of 16 groups of six copies, of which one is there at birth.
+fn growing(alloc: Global) -> Result<String, AllocError> {
+    let groups = SIX_COPIES
         .strip_prefix("{\"format\":1,\"lal\":10,\"groups\":[")
-        .and_then(|rest| rest.strip_suffix("]}"))
         .unwrap_or("");
-    let mut plan = format!(in alloc; "{{\"format\":3,\"lal\":10,\"born\":{born},\"groups\":[")?;
-    for number in 0..groups {
-        if number > 0 {
-            plan.push_str(",")?;
-        }
-        plan.push_str(group)?;
-    }
-    plan.push_str("]}")?;
-    Ok(plan)
+    let group = groups.strip_suffix("]}").unwrap_or("");
+    let groups = format!(in alloc; "{group},")?.repeat(alloc, 15)?;
+    format!(in alloc; "{{\"format\":3,\"lal\":10,\"born\":1,\"groups\":[{groups}{group}]}}")
 }
 
 /// Each group but the first joins: it is installed on four nodes, and then written to.
@@ -49,30 +42,19 @@ fn answered(script: &mut String, group: u32, line: u32) -> Result<(), AllocError
     Ok(())
 }
 
+/// What is told of the lines of a group.
+const TOLD: &str = ",0,0,1,1,1,1,1,1,0,0,0,0,0,1,1,1,1,1,0,0,0,0,0";
+
 #[test]
 fn groups_join_one_by_one(rt: HostRuntime) -> Result<(), AllocError> {
     let alloc = rt.alloc();
-    let plan = growing(alloc, 1, 16)?;
+    let plan = growing(alloc)?;
     let script = one_by_one(alloc, 16)?;
-    let mut told = String::new(alloc);
-    for group in 1..16u32 {
-        let comma = if group == 1 { "" } else { "," };
-        write!(told, "{comma}0,0,1,1,1,1,1,1,0,0,0,0,0,1,1,1,1,1,0,0,0,0,0")?;
-    }
+    let told = TOLD.repeat(alloc, 15)?;
+    let told = told.strip_prefix(',').unwrap_or("");
     let end = "writer 1 durable 15 next 16\n";
-    assert!(rt;
-        tells(
-            &rt,
-            alloc,
-            plan.as_str(),
-            script.as_str(),
-            told.as_str(),
-            end
-        )?
-    );
+    assert!(rt; tells(&rt, alloc, &plan, &script, told, end)?);
     let all = "steps 300\nrefused 0\nwriter 1 durable 15 next 16\njournal yes\n";
-    for job in [job(1), job(4)] {
-        assert!(rt; fleet(&rt, alloc, &job, plan.as_str(), script.as_str()).is(0, all));
-    }
+    assert!(rt; fleets_tell(&rt, alloc, &plan, &script, all));
     Ok(())
 }

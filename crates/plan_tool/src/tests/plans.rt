@@ -1,7 +1,11 @@
 //! The largest plan and the largest certificate.
 
-use super::said::checked;
+use super::said::{job, says};
+use command_line::Action;
 use std::alloc::{AllocError, Global};
+use std::sync::Wait;
+use std::test::*;
+use std::thread::Threads;
 
 const CLASH: &str = r#"{"rule":"clash","left":0,"right":0}"#;
 
@@ -11,44 +15,24 @@ const EQUAL: &str =
 {"rule":"clash","left":0,"right":0},{"rule":"clash","left":0,"right":0},{"rule":"clash","left":0,"right":0},
 {"rule":"clash","left":0,"right":0},{"rule":"clash","left":0,"right":0},{"rule":"clash","left":0,"right":0}]}"#;
 
-/// This text so many times, with a comma between each two.
-fn times(alloc: Global, text: &str, count: usize) -> Result<String, AllocError> {
-    let mut all = String::new(alloc);
-    for k in 0..count {
-        if k > 0 {
-            all.push(',')?;
-        }
-        all.push_str(text)?;
-    }
-    Ok(all)
-}
-
-/// A match of no pairs, with these branches.
-fn matched(alloc: Global, then: &str) -> Result<String, AllocError> {
+/// A match of no pairs, with one branch so many times and then another.
+fn matched(alloc: Global, each: &str, count: usize, last: &str) -> Result<String, AllocError> {
+    let many = format!(in alloc; "{each},")?.repeat(alloc, count)?;
     format!(in alloc;
-        "{{\"rule\":\"match\",\"left\":0,\"right\":0,\"pairs\":[],\"then\":[{then}]}}"
+        "{{\"rule\":\"match\",\"left\":0,\"right\":0,\"pairs\":[],\"then\":[{many}{last}]}}"
     )
 }
 
-/// A match of no pairs, with the same branch so many times.
-fn repeated(alloc: Global, each: &str, count: usize) -> Result<String, AllocError> {
-    matched(alloc, &times(alloc, each, count)?)
-}
-
-/// A match of no pairs, with the same branch so many times and then another.
-fn ended(alloc: Global, each: &str, count: usize, last: &str) -> Result<String, AllocError> {
-    let then = times(alloc, each, count)?;
-    matched(alloc, &format!(in alloc; "{then},{last}")?)
-}
-
-/// A certificate of depth 5: a root of 10 branches, each of 9, each of 10 but for its last, each of 110 leaves.
-fn broad(alloc: Global, last: usize) -> Result<String, AllocError> {
-    let fourth = repeated(alloc, CLASH, 110)?;
-    let third = repeated(alloc, &fourth, 10)?;
-    let second = repeated(alloc, &third, 9)?;
-    let end = ended(alloc, &fourth, 9, &repeated(alloc, CLASH, last)?)?;
-    let tenth = ended(alloc, &third, 8, &end)?;
-    ended(alloc, &second, 9, &tenth)
+/// A certificate of depth 5: a root of 10 branches, each of 9, each of 10, each of 110 leaves, but for the very last, which has so many and
+/// one more.
+fn broad(alloc: Global, leaves: usize) -> Result<String, AllocError> {
+    let mut each = matched(alloc, CLASH, 109, CLASH)?;
+    let mut last = matched(alloc, CLASH, leaves, CLASH)?;
+    for count in [9usize, 8, 9] {
+        last = matched(alloc, &each, count, &last)?;
+        each = matched(alloc, &each, count, &each)?;
+    }
+    Ok(last)
 }
 
 /// A configuration of six members with this parent, certificate and step.
@@ -59,40 +43,58 @@ fn six(alloc: Global, parent: &str, meets: &str, step: &str) -> Result<String, A
     )
 }
 
-/// So many groups of these configurations.
-fn plan(alloc: Global, configurations: &str, groups: usize) -> Result<String, AllocError> {
-    let group = format!(in alloc; "{{\"configurations\":[{configurations}]}}")?;
-    let groups = times(alloc, &group, groups)?;
-    format!(in alloc; "{{\"format\":1,\"lal\":10,\"groups\":[{groups}]}}")
+/// A plan of a group of these configurations, so many times and once more.
+fn plan(alloc: Global, configurations: &str, times: usize) -> Result<String, AllocError> {
+    let others = format!(in alloc; "{{\"configurations\":[{configurations}]}},")?;
+    let others = others.repeat(alloc, times)?;
+    format!(in alloc;
+        "{{\"format\":1,\"lal\":10,\"groups\":[{others}{{\"configurations\":[{configurations}]}}]}}"
+    )
+}
+
+/// A plan of one configuration, whose certificate has so many leaves more than it must have.
+fn broad_plan(alloc: Global, leaves: usize) -> Result<String, AllocError> {
+    let root = six(alloc, "null", &broad(alloc, leaves)?, "null")?;
+    plan(alloc, &root, 0)
+}
+
+/// A plan of 16 groups of a root and its 63 equal children.
+fn large_plan(alloc: Global) -> Result<String, AllocError> {
+    let child = six(alloc, "0", EQUAL, EQUAL)?;
+    let children = format!(in alloc; ",{child}")?.repeat(alloc, 63)?;
+    let root = six(alloc, "null", EQUAL, "null")?;
+    plan(alloc, &format!(in alloc; "{root}{children}")?, 15)
+}
+
+/// Whether a check of a plan says this.
+fn is_said<H: Threads + Wait + Sync>(
+    rt: &H,
+    alloc: Global,
+    plan: Result<String, AllocError>,
+    status: u8,
+    line: &str,
+) -> bool {
+    match plan {
+        Ok(plan) => says(
+            rt,
+            alloc,
+            &job(Action::Check),
+            plan.as_bytes(),
+            None,
+            status,
+            line,
+        ),
+        Err(_) => false,
+    }
 }
 
 /// A hundred thousand nodes are read, and refused by their count; one more is over the limit.
 #[test]
-fn the_largest_certificate(rt: HostRuntime) -> Result<(), AllocError> {
+fn the_largest(rt: HostRuntime) {
     let alloc = rt.alloc();
-    for (last, line) in [
-        (
-            109,
-            "no: 33 group 0 configuration 0 meets: 26 CountTooSmall at root\n",
-        ),
-        (110, "no: 34 OverLimit\n"),
-    ] {
-        let root = six(alloc, "null", &broad(alloc, last)?, "null")?;
-        let said = checked(&rt, alloc, &plan(alloc, &root, 1)?);
-        assert!(rt; said.is(1, line), "{line}");
-    }
-    Ok(())
-}
-
-/// 16 groups of a root and its 63 equal children.
-#[test]
-fn the_largest_plan(rt: HostRuntime) -> Result<(), AllocError> {
-    let alloc = rt.alloc();
-    let root = six(alloc, "null", EQUAL, "null")?;
-    let children = times(alloc, &six(alloc, "0", EQUAL, EQUAL)?, 63)?;
-    let text = plan(alloc, &format!(in alloc; "{root},{children}")?, 16)?;
-    let said = checked(&rt, alloc, &text);
-    let line = "yes: 16 groups, 1024 configurations, 2032 certificates\n";
-    assert!(rt; said.is(0, line));
-    Ok(())
+    let few = "no: 33 group 0 configuration 0 meets: 26 CountTooSmall at root\n";
+    assert!(rt; is_said(&rt, alloc, broad_plan(alloc, 108), 1, few));
+    assert!(rt; is_said(&rt, alloc, broad_plan(alloc, 109), 1, "no: 34 OverLimit\n"));
+    let yes = "yes: 16 groups, 1024 configurations, 2032 certificates\n";
+    assert!(rt; is_said(&rt, alloc, large_plan(alloc), 0, yes));
 }

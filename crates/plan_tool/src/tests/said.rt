@@ -1,3 +1,7 @@
+//! What the program says of files.
+
+ghost use Rattle.std.specs.Prelude.{◌≤◌};
+
 use command_line::{Action, Job};
 use jobs::{Output, Source, perform};
 use std::alloc::Global;
@@ -60,31 +64,48 @@ pub fn done<H: Threads + Wait + Sync, P: Read + Drop, S: Read + Drop>(
     }
 }
 
-/// A job of this kind.
-pub fn job(action: Action) -> Job<'static> {
+/// A job by so many workers.
+pub fn job_of(action: Action, workers: u8) -> Job<'static>
+    requires some { 1 ≤ workers }
+    requires few { workers ≤ 16 }
+{
     Job {
         action,
         plan: "p.json",
         script: Some("s.txt"),
-        workers: 4,
+        workers,
     }
 }
 
-/// What is said of these files.
-pub fn said<H: Threads + Wait + Sync, P: Read + Drop, S: Read + Drop>(
-    rt: &H,
-    alloc: Global,
-    action: Action,
-    plan: P,
-    script: S,
-) -> Outputs {
-    let plan = Source::new(Ok(plan));
-    let script = Source::new(Ok(script));
-    done(rt, alloc, &job(action), plan, script)
+/// A job of this kind.
+pub fn job(action: Action) -> Job<'static> {
+    job_of(action, 4)
 }
 
-/// What is said of a check of this plan.
-pub fn checked<H: Threads + Wait + Sync>(rt: &H, alloc: Global, plan: &str) -> Outputs {
-    let plan = Source::new(Ok(plan.as_bytes()));
-    done(rt, alloc, &job(Action::Check), plan, missing())
+/// What is said of a plan and a script, None where there is no such file.
+pub fn said<H: Threads + Wait + Sync>(
+    rt: &H,
+    alloc: Global,
+    job: &Job<'_>,
+    plan: &[u8],
+    script: Option<&[u8]>,
+) -> Outputs {
+    let plan = Source::new(Ok(plan));
+    match script {
+        Some(script) => done(rt, alloc, job, plan, Source::new(Ok(script))),
+        None => done(rt, alloc, job, plan, missing()),
+    }
+}
+
+/// Whether this status and this line alone are said of them.
+pub fn says<H: Threads + Wait + Sync>(
+    rt: &H,
+    alloc: Global,
+    job: &Job<'_>,
+    plan: &[u8],
+    script: Option<&[u8]>,
+    status: u8,
+    line: &str,
+) -> bool {
+    said(rt, alloc, job, plan, script).is(status, line)
 }

@@ -4,7 +4,10 @@ use super::files::Room;
 use super::said::missing;
 use command_line::{Action, Job};
 use jobs::{Output, Source, perform};
+use std::alloc::Global;
+use std::sync::Wait;
 use std::test::*;
+use std::thread::Threads;
 
 /// Three of six members read, and three write.
 const FALSE_CLAIM: &str = r#"{"format":1,"lal":10,"groups":[{"configurations":[
@@ -25,42 +28,27 @@ const SEARCH: Job<'static> = Job {
     workers: 1,
 };
 
-#[test]
-fn outputs_that_fail(rt: HostRuntime) {
-    let alloc = rt.alloc();
-    for (out, err, status) in [
-        (0, 100, 2),
-        (PRINTED - 1, 100, 2),
-        (PRINTED, UNFOUND.len() - 1, 2),
-        (PRINTED, UNFOUND.len(), 1),
-    ] {
-        let end = perform(
-            &rt,
-            alloc,
-            &SEARCH,
-            &mut Source::new(Ok(FALSE_CLAIM.as_bytes())),
-            &mut missing(),
-            &mut Output::new(Room(out)),
-            &mut Output::new(Room(err)),
-        );
-        assert_eq!(rt; end, status, "{out} {err}");
-    }
-}
-
-/// Nothing is printed where the claims without a certificate can't be named.
-#[test]
-fn no_plan_without_its_unfound_claims(rt: HostRuntime) {
-    let alloc = rt.alloc();
-    let mut out = Output::new(Vec::new(alloc));
-    let end = perform(
-        &rt,
+/// The status of the search, and how many bytes standard output can still take, where both outputs take so many.
+fn end<H: Threads + Wait + Sync>(rt: &H, alloc: Global, out: usize, err: usize) -> (u8, usize) {
+    let mut out = Output::new(Room(out));
+    let status = perform(
+        rt,
         alloc,
         &SEARCH,
         &mut Source::new(Ok(FALSE_CLAIM.as_bytes())),
         &mut missing(),
         &mut out,
-        &mut Output::new(Room(UNFOUND.len() - 1)),
+        &mut Output::new(Room(err)),
     );
-    assert_eq!(rt; end, 2);
-    assert!(rt; out.into_inner().is_empty());
+    (status, out.into_inner().0)
+}
+
+/// Nothing is printed where the claims without a certificate can't be named.
+#[test]
+fn outputs_that_fail(rt: HostRuntime) {
+    let alloc = rt.alloc();
+    assert_eq!(rt; end(&rt, alloc, 0, 100), (2, 0));
+    assert_eq!(rt; end(&rt, alloc, PRINTED - 1, 100), (2, 0));
+    assert_eq!(rt; end(&rt, alloc, PRINTED, UNFOUND.len() - 1), (2, PRINTED));
+    assert_eq!(rt; end(&rt, alloc, PRINTED, UNFOUND.len()), (1, 0));
 }

@@ -1,6 +1,6 @@
 //! Scripts that several tests run, and what a run tells of them.
 
-use super::said::said;
+use super::said::{job, says};
 use command_line::Action;
 use std::alloc::{AllocError, Global};
 use std::sync::Wait;
@@ -15,7 +15,11 @@ take 1 14.1\ntake 1 15.1\n";
 
 /// Two bytes more reach one segment, and a recovery reads three others.
 pub const RECOVERED: &str =
-    "issue 1 0:0:3:64 0:0:4:65\ndeliver 0 0 20.1\ndeliver 0 0 20.2\nassign\ntake 2 23.1\n\
+    "issue 1 0:0:0:61 0:0:1:62 0:0:2:63\ndeliver 0 0 1.1\ndeliver 0 1 1.1\ndeliver 0 2 1.1\n\
+deliver 0 3 1.1\nwait\ndeliver 0 0 1.2\ndeliver 0 1 1.2\ndeliver 0 2 1.2\ndeliver 0 3 1.2\nwait\n\
+deliver 0 0 1.3\ndeliver 0 1 1.3\ndeliver 0 2 1.3\ndeliver 0 3 1.3\ntake 1 12.1\ntake 1 13.1\n\
+take 1 14.1\ntake 1 15.1\n\
+issue 1 0:0:3:64 0:0:4:65\ndeliver 0 0 20.1\ndeliver 0 0 20.2\nassign\ntake 2 23.1\n\
 deliver 0 1 24.1\ndeliver 0 2 24.1\ndeliver 0 3 24.1\ntake 2 25.1\ntake 2 26.1\ntake 2 27.1\ncut 2\n";
 
 /// A member joins and is made whole, while an old write still reaches segments of the step before.
@@ -60,7 +64,7 @@ pub fn tells<H: Threads + Wait + Sync>(
     end: &str,
 ) -> Result<bool, AllocError> {
     let status = u8::from(told.contains("refused"));
-    let printed = printed(alloc, told, end)?;
-    let said = said(rt, alloc, Action::Run, plan.as_bytes(), script.as_bytes());
-    Ok(said.is(status, printed.as_str()))
+    let line = printed(alloc, told, end)?;
+    let (plan, script) = (plan.as_bytes(), Some(script.as_bytes()));
+    Ok(says(rt, alloc, &job(Action::Run), plan, script, status, &line))
 }
