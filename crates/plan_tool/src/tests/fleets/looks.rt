@@ -2,7 +2,7 @@
 
 use node_fleet::StepGate;
 use std::sync::atomic::{AtomicBool, Ordering};
-use wire::Message;
+use wire::{Message, Messages};
 
 /// Whether a node was seen to answer a page that begins with these three bytes and has zeros behind them.
 #[derive(Drop)]
@@ -25,8 +25,8 @@ impl Look {
 }
 
 impl StepGate for Look {
-    fn prepared(&self, answers: &[Message]) {
-        let [Message::Page(page)] = answers else {
+    fn prepared(&self, answers: &Messages) {
+        let Messages::One(Message::Page(page)) = answers else {
             return;
         };
         let bytes = page.bytes.as_slice();

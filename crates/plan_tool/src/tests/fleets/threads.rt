@@ -21,7 +21,7 @@ use std::test::*;
 use std::thread;
 use std::thread::{JoinHandle, Scope, Threads};
 use volume_model::Fault;
-use wire::Message;
+use wire::{Message, Messages};
 
 /// One record is issued.
 const ISSUED: &[Step] = &[(Call::Issue(1, "a"), Ok((1, 0)))];
@@ -34,8 +34,8 @@ struct Meeting {
 }
 
 impl StepGate for Meeting {
-    fn prepared(&self, answers: &[Message]) {
-        let [Message::Ack(ack)] = answers else {
+    fn prepared(&self, answers: &Messages) {
+        let Messages::One(Message::Ack(ack)) = answers else {
             return;
         };
         if ack.scl == 1 && ack.from == 0 {
