@@ -1,9 +1,8 @@
 //! Files and outputs that fail.
 
 use super::said::{SIX_COPIES, done, job, missing, said};
-use crate::source;
 use command_line::{Action, Job};
-use jobs::{Output, Source, perform};
+use jobs::{Output, Source, opened, perform};
 use std::alloc::Global;
 use std::io;
 use std::io::{ErrorKind, Read, Write};
@@ -209,7 +208,7 @@ fn empty_names(rt: HostRuntime) {
             script: None,
             workers: 4,
         };
-        assert!(rt; done(&rt, alloc, &job, source(&rt, Some("")), missing()).is(2, UNNAMED));
+        assert!(rt; done(&rt, alloc, &job, opened(&rt, Some("")), missing()).is(2, UNNAMED));
     }
     let job = Job {
         action: Action::Run,
@@ -218,5 +217,5 @@ fn empty_names(rt: HostRuntime) {
         workers: 4,
     };
     let plan = opened(File::Has(SIX_COPIES.as_bytes()));
-    assert!(rt; done(&rt, alloc, &job, plan, source(&rt, Some(""))).is(2, UNNAMED));
+    assert!(rt; done(&rt, alloc, &job, plan, opened(&rt, Some(""))).is(2, UNNAMED));
 }
