@@ -56,7 +56,7 @@ impl Read for Reader<'_> {
 }
 
 /// The file, as it was opened.
-fn opened(file: File<'_>) -> Source<Reader<'_>> {
+fn source_of(file: File<'_>) -> Source<Reader<'_>> {
     Source::new(match file {
         File::Missing => Err(io::Error::from(ErrorKind::NotFound)),
         File::NoMemory => Err(io::Error::from(ErrorKind::OutOfMemory)),
@@ -74,7 +74,7 @@ fn says<H: Threads + Wait + Sync>(
     line: &str,
 ) -> bool {
     let (plan, script) = files;
-    done(rt, alloc, &job(action), opened(plan), opened(script)).is(status, line)
+    done(rt, alloc, &job(action), source_of(plan), source_of(script)).is(status, line)
 }
 
 /// Every kind of job.
@@ -167,8 +167,8 @@ fn ends_in_room<H: Threads + Wait + Sync>(
         rt,
         alloc,
         &job(action),
-        &mut opened(File::Has(SIX_COPIES.as_bytes())),
-        &mut opened(File::Has(SCRIPT.as_bytes())),
+        &mut source_of(File::Has(SIX_COPIES.as_bytes())),
+        &mut source_of(File::Has(SCRIPT.as_bytes())),
         &mut Output::new(Room(room)),
         &mut err,
     );
@@ -216,6 +216,6 @@ fn empty_names(rt: HostRuntime) {
         script: Some(""),
         workers: 4,
     };
-    let plan = opened(File::Has(SIX_COPIES.as_bytes()));
+    let plan = source_of(File::Has(SIX_COPIES.as_bytes()));
     assert!(rt; done(&rt, alloc, &job, plan, opened(&rt, Some(""))).is(2, UNNAMED));
 }
