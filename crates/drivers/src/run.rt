@@ -9,14 +9,14 @@ use crate::word::Told;
 use journal::{Pass, Site};
 use node_fleet::{ClientDeed, Fleet, StepGate};
 use std::sync::Wait;
-use wire::Message;
+use wire::Messages;
 use world::{Event, Order};
 
 /// A gate that lets all pass.
 struct Open;
 
 impl StepGate for Open {
-    fn prepared(&self, _answers: &[Message]) {}
+    fn prepared(&self, _answers: &Messages) {}
 }
 
 /// The number of the message that an event delivers, 0 where it delivers none.

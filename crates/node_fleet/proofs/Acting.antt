@@ -1,8 +1,6 @@
 -- The step of a client, in the world.
 use Rattle.std.proofs.Common.{◌≡◌, ℕ, Bool, eq-eqb, List, Option, Some, Result, Ok, Err, MatchResult, IfOk, OnErr, refl, sym, ap, ◌∙◌, subst}
 use Rattle.std.specs.Prelude.{if◌then◌else◌}
-use Rattle.std.specs.Prelude.{Vec}
-use Rattle.std.specs.Global.{Global}
 use Rattle.volume_model.specs.declared.fault.Fault.{Fault}
 use Rattle.volume_model.specs.Told.{makes, refusal}
 use Rattle.volume_model.specs.Lists.{put}
@@ -12,12 +10,13 @@ use Rattle.volume_model.specs.Client.{Client, ClientAnswer}
 use Rattle.volume_model.specs.World.{World, Event, Step, after, after_step, of_client, step, take}
 use Rattle.volume_model.specs.Actor.{Actor, actor_of, Agree}
 use Rattle.volume_model.specs.Journal.{Entry, world_at}
-use Rattle.wire.specs.declared.message.Message.{Message}
+use Rattle.wire.specs.declared.messages.Messages.{Messages}
+use Rattle.wire.specs.Listed.{listed}
 use Rattle.wire.specs.Message.{messages_of}
-use Rattle.writer_core.specs.Writers.{acted}
 use Rattle.node_fleet.specs.declared.client_deed.ClientDeed.{ClientDeed}
 use Rattle.node_fleet.specs.declared.client_deed.ClientDeed.TheVariants as deed
 use Rattle.node_fleet.specs.Deeds.{deed_acted, event_by, HasFound, IsFound}
+use Rattle.node_fleet.specs.Tried.{made_by}
 
 -- the refusal of a client's step is the client's
 of_client-refusal : (w : World) (volume : ℕ) (answer : ClientAnswer) → refusal (of_client w volume answer) ≡ refusal answer
@@ -70,22 +69,22 @@ module _ (plan own : Plan) (of : own ≡ plan) (w : World) (volume : ℕ) (asked
   pub refuses_alike : refusal (step plan w event) ≡ refusal answer
   refuses_alike = ap refusal whole ∙ of_client-refusal w volume answer
 
-  module _ (made : Vec Message Global) (done : answer ≡ Ok (acted made new)) where
-    stepped : step plan w event ≡ of_client w volume (Ok (acted made new))
+  module _ (made : Messages) (done : answer ≡ Ok (made_by made new)) where
+    stepped : step plan w event ≡ of_client w volume (Ok (made_by made new))
     stepped = whole ∙ ap (of_client w volume) done
 
-    client_makes : makes (step plan w event) ≡ Some (messages_of made.items)
+    client_makes : makes (step plan w event) ≡ Some (messages_of (listed made))
     client_makes = ap makes stepped
 
     client_after : (after plan w event).clients volume ≡ new
     client_after = ap (λ (s : Result Step Fault). (after_step w s).clients volume) stepped ∙ put-here w.clients volume new
 
-  pub tried_makes : (tried : Result (Vec Message Global) Fault) → IfOk tried (λ made. answer ≡ Ok (acted made new)) → IfOk tried (λ made. makes (step plan w event) ≡ Some (messages_of made.items))
+  pub tried_makes : (tried : Result Messages Fault) → IfOk tried (λ made. answer ≡ Ok (made_by made new)) → IfOk tried (λ made. makes (step plan w event) ≡ Some (messages_of (listed made)))
   tried_makes (Ok made) done = client_makes made done
   tried_makes (Err fault) done = tt
 
   -- what the actor's mark has seen then has the client as it is
-  pub tried_state : (tried : Result (Vec Message Global) Fault) → IfOk tried (λ made. answer ≡ Ok (acted made new)) → OnErr tried (new ≡ old) → (seen now : List Entry) → old ≡ (world_at plan seen).clients volume
+  pub tried_state : (tried : Result Messages Fault) → IfOk tried (λ made. answer ≡ Ok (made_by made new)) → OnErr tried (new ≡ old) → (seen now : List Entry) → old ≡ (world_at plan seen).clients volume
       → MatchResult tried (λ made. world_at plan now ≡ after plan w event) (λ fault. now ≡ seen) → new ≡ (world_at plan now).clients volume
   tried_state (Ok made) done still seen now was stands = sym (ap (λ (v : World). v.clients volume) stands ∙ client_after made done)
   tried_state (Err fault) done still seen now was stands = still ∙ was ∙ ap (λ (es : List Entry). (world_at plan es).clients volume) (sym stands)

@@ -1,5 +1,5 @@
 -- What a refusal of a try shows.
-use Rattle.std.proofs.Common.{◌≡◌, ℕ, Bool, Option, Some, None, Result, Ok, Err, IfErr, IfOk, OnErr, ap, subst}
+use Rattle.std.proofs.Common.{◌≡◌, ℕ, Bool, Option, Some, None, Result, Ok, Err, ap, subst}
 use Rattle.volume_model.specs.declared.fault.Fault.{Fault}
 use Rattle.volume_model.specs.declared.fault.Fault.TheVariants.{NoMemory, NoMessage, NoSlot, JournalFull}
 use Rattle.volume_model.specs.Answer.{refusal_of, AnswersLate}
@@ -55,17 +55,3 @@ refused_is (Err other) fault h = let same : other ≡ fault = cc in ap Err same
 pub judged_test : {T : Type 0} (full : Bool) (defined : Result T Fault) → Refuses IsOwnOfClient defined → (late : Fault → Bool) (fault : Fault) → AnswersLate late admitted (refusal_of defined) tt (Err fault) tt → JudgedOf full defined fault
 judged_test full defined own late NoMemory h = tt
 judged_test full defined own late fault h = judged full defined own fault (refused_is defined fault h.0)
-
--- the same of what an act answered
-module _ {R S T : Type 0} (late : Fault → Bool) (step : R → S → T) (defined : Result T Fault) (old new : S) where
-  pub act_judged : (full : Bool) → Refuses IsOwnOfClient defined → (result : Result R Fault) → AnswersLate late step defined old result new → IfErr result (λ fault. JudgedOf full defined fault)
-  act_judged full own (Ok r) h = tt
-  act_judged full own (Err fault) h = judged_act full defined own late step old new fault h
-
-  pub act_still : (result : Result R Fault) → AnswersLate late step defined old result new → OnErr result (new ≡ old)
-  act_still (Ok r) h = tt
-  act_still (Err fault) h = still_act late step defined old new fault h
-
-  pub act_done : (result : Result R Fault) → AnswersLate late step defined old result new → IfOk result (λ r. defined ≡ Ok (step r new))
-  act_done (Ok r) h = h
-  act_done (Err fault) h = tt

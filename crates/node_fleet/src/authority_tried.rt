@@ -2,6 +2,7 @@
 
 ghost use Rattle.std.specs.Prelude.{◌≡◌, false, IfErr, IfOk, MatchBool, OnErr, OnOk};
 ghost use Rattle.volume_model.specs.declared.fault.Fault.TheVariants.{JournalFull};
+ghost use Rattle.wire.specs.Listed.{listed};
 ghost use Rattle.wire.specs.Message.{messages_of};
 ghost use Rattle.epochs.specs.Authority.{authority_of, authority_plan};
 ghost use Rattle.world.specs.Acts.{authority_acted};
@@ -12,7 +13,7 @@ ghost use Rattle.node_fleet.specs.Tried.{IsDone, Judged};
 use epochs::Authority;
 use std::alloc::Global;
 use volume_model::Fault;
-use wire::Message;
+use wire::Messages;
 use world::{AuthorityAct, Event};
 
 /// The event that an act of the authority is.
@@ -56,8 +57,8 @@ pub(crate) fn tried(
     full: bool,
     act: AuthorityAct,
     slots: u32,
-) -> Result<Vec<Message>, Fault>
-    ensures done { IfOk result (λ made. IsDone (authority_acted (authority_plan authority.old) (authority_of authority.old) act) (messages_of made.items) (authority_of authority.new)) }
+) -> Result<Messages, Fault>
+    ensures done { IfOk result (λ made. IsDone (authority_acted (authority_plan authority.old) (authority_of authority.old) act) (messages_of (listed made)) (authority_of authority.new)) }
     ensures room { OnOk result (full ≡ false) }
     ensures left { OnOk result (IsLeft act (authority_of authority.old) slots) }
     ensures refused { IfErr result (λ fault. Judged (IsSpent act (authority_of authority.old) slots) full (authority_acted (authority_plan authority.old) (authority_of authority.old) act) fault) }
@@ -74,12 +75,9 @@ pub(crate) fn tried(
     if full {
         return Err(Fault::JournalFull);
     }
-    let mut made = Vec::with_capacity(alloc, 1)?;
-    let Ok(message) = act.done_by(alloc, authority) else {
-        return Err(Fault::NoMemory);
-    };
-    if let Some(message) = message {
-        made.push_reserved(message);
+    match act.done_by(alloc, authority) {
+        Ok(Some(message)) => Ok(Messages::One(message)),
+        Ok(None) => Ok(Messages::Empty),
+        Err(_) => Err(Fault::NoMemory),
     }
-    Ok(made)
 }

@@ -61,6 +61,7 @@ impl<L: Site> ClientActor<L> {
     }
 
     /// Does what it is asked to with the message that was found, if it is to take one, and enters the step.
+    #[inline(always)]
     fn step<'a, R: Wait>(
         &mut self,
         rt: &R,
@@ -110,6 +111,7 @@ impl<L: Site> ClientActor<L> {
     /// opening, `NotOpen` of what an open writer alone does, `BadTransaction`, `NotJoined`, `LsnSpent` or `LimitReached`
     /// of an issue, `NoLogRecord` of a resend, or `NoGroup` of a read; then `JournalFull` where no cell is left; and
     /// `NoMemory`, which isn't noted. The client is what it was then.
+    #[inline(always)]
     pub fn act<'a, R: Wait>(
         &mut self,
         rt: &R,

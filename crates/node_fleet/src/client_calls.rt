@@ -105,6 +105,7 @@ impl<'a, L: Site> Fleet<'a, L> {
     }
 
     // One try of what a client does. Its durable point is raised on the board, where the deed may move it.
+    #[inline(always)]
     fn try_client<R: Wait>(
         &self,
         rt: &R,

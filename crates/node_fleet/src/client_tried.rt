@@ -9,12 +9,12 @@ ghost use Rattle.recovery.specs.Recoveries.{admitted};
 ghost use Rattle.world.specs.Clients.{client_plan, client_volume, seen_client, IsSameClient};
 ghost use Rattle.journal.specs.Standing.{durable_of};
 ghost use Rattle.node_fleet.specs.Deeds.{deed_acted, deed_durable, deed_late, HasFound};
-ghost use Rattle.node_fleet.specs.Tried.{JudgedOf};
+ghost use Rattle.node_fleet.specs.Tried.{made_by, JudgedOf};
 
 use crate::client_deed::ClientDeed;
 use std::alloc::Global;
 use volume_model::Fault;
-use wire::Message;
+use wire::{Message, Messages};
 use world::{Client, ClientAct, ClientState};
 
 /// Whether a client would do what it is asked to, with the message that was found if it is to take one. A cut takes
@@ -48,6 +48,7 @@ fn admits(
 
 /// A client does what it is asked to, and answers the messages that it makes. Where it refuses, or memory runs out, it
 /// is what it was.
+#[inline(always)]
 fn act(
     alloc: Global,
     client: &mut Client,
@@ -84,27 +85,31 @@ fn act(
 /// # Errors
 /// Its own refusals come first, then `JournalFull`; and `NoMemory` where a growth was refused. The client is what it was
 /// then.
+#[inline(always)]
 pub(crate) fn tried(
     alloc: Global,
     client: &mut Client,
     full: bool,
     deed: &ClientDeed,
     found: Option<&Message>,
-) -> Result<Vec<Message>, Fault>
+) -> Result<Messages, Fault>
     requires found { HasFound deed.now (option_map message_of (option_copied found)) }
-    ensures done { IfOk result (λ made. deed_acted (option_map message_of (option_copied found.entry)) deed.now (client_plan client.old) (client_volume client.old) (seen_client client.old) ≡ Ok (acted made (seen_client client.new))) }
+    ensures done { IfOk result (λ made. deed_acted (option_map message_of (option_copied found.entry)) deed.now (client_plan client.old) (client_volume client.old) (seen_client client.old) ≡ Ok (made_by made (seen_client client.new))) }
     ensures room { OnOk result (full ≡ false) }
     ensures refused { IfErr result (λ fault. JudgedOf full (deed_acted (option_map message_of (option_copied found.entry)) deed.now (client_plan client.old) (client_volume client.old) (seen_client client.old)) fault) }
     ensures still { OnErr result (seen_client client.new ≡ seen_client client.old) }
     ensures same { IsSameClient client.old client.new }
 {
-    if let Err(fault) = admits(alloc, client, deed, found) {
-        return Err(fault);
-    }
     if full {
+        if let Err(fault) = admits(alloc, client, deed, found) {
+            return Err(fault);
+        }
         return Err(Fault::JournalFull);
     }
-    act(alloc, client, deed, found)
+    match act(alloc, client, deed, found) {
+        Ok(made) => Ok(Messages::of(made)),
+        Err(fault) => Err(fault),
+    }
 }
 
 /// The durable point of a client, 0 before its opening.
@@ -119,6 +124,7 @@ fn durable_point(client: &Client) -> u64
 }
 
 /// The durable point that a step shows: the client's where the deed may move it, else 0.
+#[inline(always)]
 pub(crate) fn shown(client: &Client, deed: &ClientDeed) -> u64
     ensures { result ≡ deed_durable deed.now (seen_client client.now) }
 {

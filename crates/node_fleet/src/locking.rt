@@ -10,8 +10,9 @@ const LOOKS: u32 = 20;
 /// How often it lets another thread run before it sleeps.
 const TURNS: u32 = 20;
 
-/// Takes a lock, for which it waits.
-pub(crate) fn taken<'m, T, R: Wait>(rt: &R, lock: &'m Mutex<T>) -> MutexGuard<'m, T> {
+/// Waits for a lock that was found taken, and takes it.
+#[inline(never)]
+fn waited<'m, T, R: Wait>(rt: &R, lock: &'m Mutex<T>) -> MutexGuard<'m, T> {
     for _ in 0..TURNS {
         for _ in 0..LOOKS {
             if let Some(guard) = lock.try_lock() {
@@ -22,4 +23,13 @@ pub(crate) fn taken<'m, T, R: Wait>(rt: &R, lock: &'m Mutex<T>) -> MutexGuard<'m
         yield_now();
     }
     lock.lock(rt)
+}
+
+/// Takes a lock, for which it waits.
+#[inline(always)]
+pub(crate) fn taken<'m, T, R: Wait>(rt: &R, lock: &'m Mutex<T>) -> MutexGuard<'m, T> {
+    match lock.try_lock() {
+        Some(guard) => guard,
+        None => waited(rt, lock),
+    }
 }

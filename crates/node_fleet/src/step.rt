@@ -7,6 +7,7 @@ ghost use Rattle.volume_model.specs.Told.{makes};
 ghost use Rattle.volume_model.specs.Actor.{actor_of};
 ghost use Rattle.volume_model.specs.Journal.{last_of, world_at};
 ghost use Rattle.volume_model.specs.Judging.{Exact};
+ghost use Rattle.wire.specs.Listed.{listed};
 ghost use Rattle.wire.specs.Message.{messages_of};
 ghost use Rattle.world.specs.Events.{event_of};
 ghost use Rattle.journal.specs.Standing.{durable_in};
@@ -20,10 +21,11 @@ use height::Height;
 use journal::{Log, Mark, Pass, Receipt, Site};
 use std::sync::Wait;
 use volume_model::Fault;
-use wire::Message;
+use wire::Messages;
 use world::Event;
 
 /// Compares an actor with the journal, makes room for a step and a note, and settles the pass.
+#[inline(always)]
 pub(crate) fn ready<'a, L: Site>(
     height: &Height,
     log: &mut Log<'a, L>,
@@ -71,6 +73,7 @@ pub(crate) fn refused<'a, L: Site>(
 }
 
 /// Enters the step of an actor that has acted, or notes its refusal.
+#[inline(always)]
 pub(crate) fn conclude<'a, L: Site, R: Wait>(
     rt: &R,
     height: &Height,
@@ -78,13 +81,13 @@ pub(crate) fn conclude<'a, L: Site, R: Wait>(
     mark: &mut Mark<L>,
     pass: &mut Pass<'a, L>,
     event: Event,
-    tried: Result<Vec<Message>, Fault>,
+    tried: Result<Messages, Fault>,
     durable: u64,
 ) -> Result<Receipt, Halt>
     requires height { table_of height.now ≡ L.table }
     requires who { actor_of (event_of event) ≡ marked mark.old }
     requires ready { IsPoised mark.old log.old pass.old }
-    requires goes { IfOk tried (λ made. makes (step L.plan (world_of log.old) (event_of event)) ≡ Some (messages_of made.items)) }
+    requires goes { IfOk tried (λ made. makes (step L.plan (world_of log.old) (event_of event)) ≡ Some (messages_of (listed made))) }
     requires durable { OnOk tried (durable ≡ durable_in (after L.plan (world_of log.old) (event_of event)) (event_of event)) }
     requires cell { OnOk tried (length (journal_of log.old) < length L.cells) }
     requires exact { IfErr tried (λ fault. Exact L.plan L.slots (length L.cells) (journal_of log.old) (event_of event) fault) }

@@ -6,6 +6,7 @@ use Rattle.volume_model.specs.Journal.{Entry, world_at}
 use Rattle.volume_model.specs.Node.{Node, NodeStep}
 use Rattle.volume_model.specs.Told.{makes, refusal}
 use Rattle.volume_model.specs.World.{Event, World, after, step}
+use Rattle.wire.specs.Listed.{listed}
 use Rattle.wire.specs.Message.{messages_of}
 use Rattle.segment_core.specs.Prepared.{step_of}
 use Rattle.segment_core.specs.Segment.{node_of}
@@ -44,7 +45,7 @@ enter-requires-clause-goes g c =
     ap (λ (e : Event). makes (step plan (world_at plan es) e)) c.event-event.ensures
     ∙ tells plan g.L.Site.slots 0 es (world_at plan (seen_at node.mark)) (marked node.mark) node.group node.member (node_of node.segment) node.who node.named node.state c.in_ok-ready.ensures.ready.agree (there_joined (world_at plan es) node.group c.from.result c.joined.result c.joined.ensures c.from.ensures c.if-from-joined.false)
     c.args.deed made (deed_steps plan node.group node.member node.segment node.of c.args.deed c.act.result c.act.ensures made c.in-Ok.ensures.step)
-    (messages_of c.apply-made.result.items) (ap messages_of c.apply-made.ensures.answers)
+    (messages_of (listed c.apply-made.result)) (ap messages_of c.apply-made.ensures.answers)
 
 pub enter-requires-clause-who : goal.enter-requires-clause-who
 enter-requires-clause-who g c =

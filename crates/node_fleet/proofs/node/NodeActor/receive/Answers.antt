@@ -1,6 +1,7 @@
 use Rattle.std.proofs.Common.{List, sym, ap, ◌∙◌}
 use Rattle.volume_model.specs.Journal.{Entry, world_at}
 use Rattle.volume_model.specs.World.{World}
+use Rattle.wire.specs.Listed.{listed}
 use Rattle.wire.specs.Message.{messages_of}
 use Rattle.segment_core.specs.Prepared.{step_of}
 use Rattle.segment_core.specs.Segment.{node_of}
@@ -21,7 +22,7 @@ enter-requires-clause-goes g c =
     let letter = c.args.letter.now in
     answers plan g.L.Site.slots 0 (journal_of c.ready.new.log) (world_at plan (seen_at node.mark)) (marked node.mark) node.group node.member (node_of node.segment) node.who node.named node.state c.in_ok-ready.ensures.ready.agree (there_joined (world_at plan (journal_of c.ready.new.log)) node.group c.from.result c.joined.result c.joined.ensures c.from.ensures c.if-from-joined.false)
     (letter_number letter) c.number.result (letter_message letter) c.number.ensures c.if-not-has.ensures (step_of c.args.prepared (node_of node.segment)) c.requires.step
-    (messages_of c.apply-made.result.items) (ap messages_of c.apply-made.ensures.answers)
+    (messages_of (listed c.apply-made.result)) (ap messages_of c.apply-made.ensures.answers)
 
 pub invariant_of-self-2 : goal.invariant_of-self-2
 invariant_of-self-2 g c =
