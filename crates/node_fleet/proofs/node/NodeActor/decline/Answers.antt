@@ -3,7 +3,7 @@ use Rattle.volume_model.specs.Judging.{Exact}
 use Rattle.volume_model.specs.Journal.{Entry, world_at}
 use Rattle.volume_model.specs.World.Event.{Deliver}
 use Rattle.segment_core.specs.Segment.{node_of}
-use Rattle.journal.specs.Listed.{listed}
+use Rattle.wire.specs.Listed.{listed}
 use Rattle.journal.specs.Passes.{journal_of, letter_message, letter_number, marked, seen_at}
 use Rattle.node_fleet.specs.declared.halt.Halt.{Halt}
 use Rattle.node_fleet.specs.Halts.{IsExact}
