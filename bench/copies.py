@@ -26,7 +26,7 @@ use std::process::ExitCode;
 use std::sync::Arc;
 use std::{env, io};
 use volume_model::Fault;
-use wire::{Contents, CopyAsk, Fence, Install, Label, Message, Place, StepTo, Write};
+use wire::{Contents, CopyAsk, Fence, Install, Label, Message, Messages, Place, StepTo, Write};
 
 /// One group. Member 0 alone reads and writes; member 1 joins with the child of the root.
 const PLAN: &[u8] = b"{\"format\":1,\"lal\":10,\"groups\":[{\"configurations\":[\
@@ -99,8 +99,8 @@ fn copied(alloc: Global, plan: &Arc<CheckedPlan>, holder: &mut Segment) -> Resul
     fresh.deliver(alloc, &STEP)?;
     let ask = Message::CopyAsk(CopyAsk { group: 0, epoch: 2 });
     let pieces = holder.deliver(alloc, &ask)?;
-    for piece in pieces.as_slice() {
-        fresh.deliver(alloc, piece)?;
+    for at in 0..pieces.len() {
+        fresh.deliver(alloc, pieces.at(at))?;
     }
     fresh.hydrate(alloc)?;
     Ok(fresh.scl())
@@ -141,9 +141,8 @@ fn reported(alloc: Global, holder: &mut Segment) -> Result<Contents, Fault> {
             member: 2,
         },
     };
-    let mut answers = holder.deliver(alloc, &Message::Fence(fence))?;
-    match answers.pop() {
-        Some(Message::Report(report)) => Ok(Box::into_inner(report.contents)),
+    match holder.deliver(alloc, &Message::Fence(fence))? {
+        Messages::One(Message::Report(report)) => Ok(Box::into_inner(report.contents)),
         _ => Err(Fault::NoMessage),
     }
 }

@@ -17,7 +17,7 @@ use std::alloc::{AllocError, Global};
 use std::marker::Brand;
 use std::sync::{Arc, Wait};
 use volume_model::Fault;
-use wire::Message;
+use wire::Messages;
 use world::{AuthorityAct, Event, Outcome, run};
 use writer_core::Change;
 
@@ -26,7 +26,7 @@ use writer_core::Change;
 struct Blind;
 
 impl StepGate for Blind {
-    fn prepared(&self, _answers: &[Message]) {}
+    fn prepared(&self, _answers: &Messages) {}
 }
 
 /// A call that concerns group 0.

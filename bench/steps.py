@@ -41,7 +41,7 @@ use std::rt::{Clock, Env};
 use std::sync::{Arc, Wait};
 use std::time::Instant;
 use std::{env, io};
-use wire::Message;
+use wire::Messages;
 use writer_core::Change;
 
 /// Six copies, of which four write and three read.
@@ -65,7 +65,7 @@ const BLOCKS: u32 = 64;
 struct Blind;
 
 impl StepGate for Blind {
-    fn prepared(&self, _answers: &[Message]) {}
+    fn prepared(&self, _answers: &Messages) {}
 }
 
 /// Passes that make steps in turn.

@@ -1,6 +1,6 @@
 use Rattle.std.proofs.Common.{List, Ok, Option, option_map, sym, ap, ◌∙◌}
 use Rattle.std.specs.Option.{option_copied}
-use Rattle.volume_model.specs.Client.{ClientAnswer, ClientStep}
+use Rattle.volume_model.specs.Client.{ClientAnswer}
 use Rattle.volume_model.specs.Message as model
 use Rattle.wire.specs.declared.message.Message.{Message}
 use Rattle.wire.specs.Message.{message_of, messages_of}
