@@ -1,5 +1,6 @@
 //! The search by cases: each member that matters on both sides is absent from the one or from the other.
 
+use crate::branches::in_cases;
 use crate::leaves::dead_on;
 use crate::rules::Search;
 use crate::state::State;
@@ -37,11 +38,5 @@ pub fn split<A: Allocator, B: Allocator + Clone>(
     let Some(right) = split(search, &rights, Side::Right, others, levels - 1)? else {
         return Ok(None);
     };
-    let left = Box::new(search.arena.clone()?, left)?;
-    let right = Box::new(search.arena.clone()?, right)?;
-    Ok(Some(Refutation::Split {
-        member,
-        left,
-        right,
-    }))
+    Ok(Some(in_cases(&search.arena, member, left, right)?))
 }

@@ -1,8 +1,10 @@
 //! The tree of a pair of subexpressions that closes.
 
+use crate::branches::{Paired, Picked};
 use crate::closing::{Closing, Way, equal_members};
 use crate::equals::equal_match;
-use crate::parts::{Form, Part};
+use crate::matching::Mates;
+use crate::parts::{Choice, Form, Part};
 use crate::rules::Search;
 use refutation::{Refutation, Side};
 use std::alloc::{AllocError, Allocator};
@@ -38,14 +40,11 @@ fn picked<B: Allocator + Clone, C: Allocator>(
     other: &Part,
     levels: u8,
 ) -> Result<Option<Refutation<B>>, AllocError> {
-    let (choice, candidates) = match (side, &one.form, &other.form) {
-        (Side::Left, Form::KOf(of), _) => (of, closing.lefts(of)),
-        (Side::Right, _, Form::KOf(others)) => (others, closing.rights(others)),
-        _ => return Ok(None),
+    let Some((choice, candidates)) = closing.candidates(side, one, other) else {
+        return Ok(None);
     };
     let most = choice.len().min(choice.needed());
-    let mut children = Vec::with_capacity(search.arena.clone()?, most)?;
-    let mut then = Vec::with_capacity(search.arena.clone()?, most)?;
+    let mut picked = Picked::new(&search.arena, most)?;
     let mut missing = choice.needed();
     for (number, child) in (0..64u8).zip(candidates) {
         if missing == 0 {
@@ -59,17 +58,11 @@ fn picked<B: Allocator + Clone, C: Allocator>(
             let Some(tree) = closed(search, closing, left, right, levels)? else {
                 return Ok(None);
             };
-            children.push(number)?;
-            then.push(tree)?;
+            picked.add(number, tree)?;
             missing = missing.saturating_sub(usize::from(child.weight));
         }
     }
-    Ok(Some(Refutation::Pick {
-        side,
-        item: 0,
-        children,
-        then,
-    }))
+    Ok(Some(picked.of(side, 0)))
 }
 
 /// The match of children of the only items that close.
@@ -93,13 +86,24 @@ fn matched<B: Allocator + Clone, C: Allocator>(
         let tree = equal_match(&search.arena, lefts, rights, members, count)?;
         return Ok(Some(tree));
     }
-    let Some(mates) = closing.mates(of, others) else {
-        return Ok(None);
-    };
+    match closing.mates(of, others) {
+        Some(mates) => mated(search, closing, of, others, &mates, levels),
+        None => Ok(None),
+    }
+}
+
+/// The match of children of two choices that are mates.
+#[cycle(closed)]
+fn mated<B: Allocator + Clone, C: Allocator>(
+    search: &mut Search<B>,
+    closing: &Closing<C>,
+    of: &Choice,
+    others: &Choice,
+    mates: &Mates,
+    levels: u8,
+) -> Result<Option<Refutation<B>>, AllocError> {
     let lefts = closing.lefts(of);
-    let count = mates.len();
-    let mut pairs = Vec::with_capacity(search.arena.clone()?, count)?;
-    let mut then = Vec::with_capacity(search.arena.clone()?, count)?;
+    let mut paired = Paired::new(&search.arena, mates.len())?;
     for (right, other) in (0..64u8).zip(closing.rights(others)) {
         if let Some(left) = mates.of(right) {
             let Some(one) = lefts.get(usize::from(left)) else {
@@ -108,14 +112,8 @@ fn matched<B: Allocator + Clone, C: Allocator>(
             let Some(tree) = closed(search, closing, one, other, levels)? else {
                 return Ok(None);
             };
-            pairs.push((left, right))?;
-            then.push(tree)?;
+            paired.add(left, right, tree)?;
         }
     }
-    Ok(Some(Refutation::Match {
-        left: 0,
-        right: 0,
-        pairs,
-        then,
-    }))
+    Ok(Some(paired.of(0, 0)))
 }

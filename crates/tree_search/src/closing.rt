@@ -249,6 +249,25 @@ impl<B: Allocator> Closing<B> {
         Mates::heaviest(edges, &weights(lefts), &weights(rights), wanted)
     }
 
+    /// The choice of a side whose children a pick takes, and these children.
+    pub fn candidates<'p>(
+        &'p self,
+        side: Side,
+        one: &'p Part,
+        other: &'p Part,
+    ) -> Option<(&'p Choice, &'p [Part])> {
+        match side {
+            Side::Left => match &one.form {
+                Form::KOf(of) => Some((of, self.lefts(of))),
+                Form::Member(_) => None,
+            },
+            Side::Right => match &other.form {
+                Form::KOf(others) => Some((others, self.rights(others))),
+                Form::Member(_) => None,
+            },
+        }
+    }
+
     /// The children of a left choice.
     pub fn lefts(&self, of: &Choice) -> &[Part] {
         self.lefts.children(of)

@@ -2,6 +2,7 @@
 
 ghost use Rattle.std.specs.Prelude.{◌<◌};
 
+use crate::branches::in_cases;
 use crate::cases::split;
 use crate::few::few_tree;
 use crate::fewest::{Fewest, fewest_of};
@@ -162,11 +163,5 @@ fn in_two<A: Allocator>(
     let Some(right) = cut(cutting, &rights)? else {
         return Ok(None);
     };
-    let left = Box::new(cutting.alloc, left)?;
-    let right = Box::new(cutting.alloc, right)?;
-    Ok(Some(Refutation::Split {
-        member,
-        left,
-        right,
-    }))
+    Ok(Some(in_cases(&cutting.alloc, member, left, right)?))
 }

@@ -1,6 +1,6 @@
 //! Matches of equal members.
 
-use crate::lists::append;
+use crate::branches::Paired;
 use crate::parts::Part;
 use refutation::Refutation;
 use std::alloc::{AllocError, Allocator};
@@ -42,20 +42,14 @@ pub fn equal_match<B: Allocator + Clone>(
     count: usize,
 ) -> Result<Refutation<B>, AllocError> {
     let chosen = first_of(of, members, count);
-    let mut pairs = Vec::with_capacity(arena.clone()?, count)?;
-    let mut then = Vec::with_capacity(arena.clone()?, count)?;
+    let mut paired = Paired::new(arena, count)?;
     for (right, other) in (0..64u8).zip(others) {
         let member = other.members & chosen.members;
         if member != 0 {
             let left = chosen.numbers.get(member.trailing_zeros() as usize);
-            append(&mut pairs, (left.copied().unwrap_or(0), right))?;
-            append(&mut then, Refutation::Clash { left: 0, right: 0 })?;
+            let left = left.copied().unwrap_or(0);
+            paired.add(left, right, Refutation::Clash { left: 0, right: 0 })?;
         }
     }
-    Ok(Refutation::Match {
-        left: 0,
-        right: 0,
-        pairs,
-        then,
-    })
+    Ok(paired.of(0, 0))
 }

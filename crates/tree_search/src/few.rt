@@ -1,5 +1,6 @@
 //! The tree of a pair of subexpressions that few nodes close.
 
+use crate::branches::{Paired, Picked};
 use crate::fewest::{Few, Fewest};
 use crate::matching::Mates;
 use crate::offers::Chosen;
@@ -42,8 +43,7 @@ fn few_picked<B: Allocator + Clone, C: Allocator>(
     levels: u8,
 ) -> Result<Option<Refutation<B>>, AllocError> {
     let (left, right) = at;
-    let mut children = Vec::with_capacity(arena.clone()?, chosen.len())?;
-    let mut then = Vec::with_capacity(arena.clone()?, chosen.len())?;
+    let mut picked = Picked::new(arena, chosen.len())?;
     for number in 0..64u8 {
         if chosen.has(number) {
             let (one, other) = match side {
@@ -53,16 +53,10 @@ fn few_picked<B: Allocator + Clone, C: Allocator>(
             let Some(tree) = few_tree(arena, fewest, one, other, levels)? else {
                 return Ok(None);
             };
-            children.push(number)?;
-            then.push(tree)?;
+            picked.add(number, tree)?;
         }
     }
-    Ok(Some(Refutation::Pick {
-        side,
-        item: 0,
-        children,
-        then,
-    }))
+    Ok(Some(picked.of(side, 0)))
 }
 
 /// The match of these pairs of children of the only items.
@@ -75,8 +69,7 @@ fn few_matched<B: Allocator + Clone, C: Allocator>(
     chosen: &Chosen,
     levels: u8,
 ) -> Result<Option<Refutation<B>>, AllocError> {
-    let mut pairs = Vec::with_capacity(arena.clone()?, chosen.len())?;
-    let mut then = Vec::with_capacity(arena.clone()?, chosen.len())?;
+    let mut paired = Paired::new(arena, chosen.len())?;
     for right in 0..64u8 {
         if let (true, Some(left)) = (chosen.has(right), mates.of(right)) {
             let one = fewest.left_child(at.0, left);
@@ -84,14 +77,8 @@ fn few_matched<B: Allocator + Clone, C: Allocator>(
             let Some(tree) = few_tree(arena, fewest, one, other, levels)? else {
                 return Ok(None);
             };
-            pairs.push((left, right))?;
-            then.push(tree)?;
+            paired.add(left, right, tree)?;
         }
     }
-    Ok(Some(Refutation::Match {
-        left: 0,
-        right: 0,
-        pairs,
-        then,
-    }))
+    Ok(Some(paired.of(0, 0)))
 }

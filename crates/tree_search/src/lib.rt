@@ -3,6 +3,7 @@
 //! has it judged.
 #![tactic(auto)]
 
+mod branches;
 mod cases;
 mod closed;
 mod closing;

@@ -1,6 +1,6 @@
 //! The subexpressions of an expression, by number.
 
-use crate::lists::append;
+use crate::lists::{append, with_room};
 use crate::needs::known_of;
 use quorum_expr::{Expr, MemberSet};
 use std::alloc::{AllocError, Allocator};
@@ -137,6 +137,27 @@ struct Listing<'e, A: Allocator, B: Allocator> {
 }
 
 impl<'e, A: Allocator, B: Allocator> Listing<'e, A, B> {
+    /// Nothing listed yet, where these members are absent.
+    fn new(arena: &B, absent: MemberSet) -> Result<Listing<'e, A, B>, AllocError>
+    where
+        B: Clone,
+    {
+        let all = with_room(arena, ROOM)?;
+        let choices = with_room(arena, CHOICES)?;
+        let children = with_room(arena, CHOICES)?;
+        let parts = Parts { all, choices };
+        Ok(Listing {
+            parts,
+            children,
+            absent,
+        })
+    }
+
+    /// What is listed.
+    fn parts(self) -> Parts<B> {
+        self.parts
+    }
+
     /// One more part.
     fn add(&mut self, weight: u8, expr: &'e Expr<A>) -> Result<(), AllocError> {
         let part = match expr {
@@ -239,14 +260,7 @@ pub fn parts_of<A: Allocator, B: Allocator + Clone>(
     expr: &Expr<A>,
     absent: MemberSet,
 ) -> Result<Option<Parts<B>>, AllocError> {
-    let mut listing = Listing {
-        parts: Parts {
-            all: Vec::with_capacity(arena.clone()?, ROOM)?,
-            choices: Vec::with_capacity(arena.clone()?, CHOICES)?,
-        },
-        children: Vec::with_capacity(arena.clone()?, CHOICES)?,
-        absent,
-    };
+    let mut listing = Listing::new(arena, absent)?;
     listing.add(1, expr)?;
     for number in 0..MOST + 1 {
         if number >= listing.children.len() {
@@ -254,7 +268,7 @@ pub fn parts_of<A: Allocator, B: Allocator + Clone>(
         }
         listing.add_children(number)?;
     }
-    let Listing { mut parts, .. } = listing;
+    let mut parts = listing.parts();
     if parts.len() > MOST {
         return Ok(None);
     }

@@ -1,6 +1,7 @@
 //! The search by the rules that look at items: those that ask for all their children first, then choices of one child,
 //! then matches, then other picks.
 
+use crate::branches::{Paired, Picked, opened};
 use crate::leaves::{has_counterexample, leaf};
 use crate::matching::Mates;
 use crate::parts::total;
@@ -52,6 +53,38 @@ impl<B: Allocator> Search<B> {
     }
 }
 
+impl<B: Allocator> Closing<B> {
+    /// No pairs yet.
+    fn new(arena: &B) -> Result<Closing<B>, AllocError>
+    where
+        B: Clone,
+    {
+        let pairs = Vec::new(arena.clone()?);
+        let edges = Vec::new(arena.clone()?);
+        Ok(Closing { pairs, edges })
+    }
+
+    /// The match of the pairs that are mates.
+    fn matched(
+        self,
+        arena: &B,
+        left: u16,
+        right: u16,
+        mates: &Mates,
+    ) -> Result<Refutation<B>, AllocError>
+    where
+        B: Clone,
+    {
+        let mut paired = Paired::new(arena, 0)?;
+        for pair in self.pairs {
+            if mates.are_mates(pair.left, pair.right) {
+                paired.add(pair.left, pair.right, pair.tree)?;
+            }
+        }
+        Ok(paired.of(left, right))
+    }
+}
+
 /// The first item that asks for all its children.
 fn first_all<A: Allocator>(row: &Row<'_, A>) -> Option<usize> {
     row.items.iter().position(|item| match *item {
@@ -87,6 +120,44 @@ fn may_close<A: Allocator>(state: &State<'_, A>, left: &Expr<A>, right: &Expr<A>
     }
 }
 
+/// The first item that asks for all its children, on the left side first.
+fn all_of<A: Allocator>(state: &State<'_, A>) -> Option<(Side, usize)> {
+    match first_all(&state.left) {
+        Some(at) => Some((Side::Left, at)),
+        None => Some((Side::Right, first_all(&state.right)?)),
+    }
+}
+
+/// The first item that asks for one of its children, on the left side first.
+fn any_of<A: Allocator>(state: &State<'_, A>) -> Option<(Side, usize)> {
+    match first_any(&state.left) {
+        Some(at) => Some((Side::Left, at)),
+        None => Some((Side::Right, first_any(&state.right)?)),
+    }
+}
+
+/// What the pairs of a match of two choices weigh at least, where that isn't more than the children of one of them.
+fn wanted(k: u16, all: usize, l: u16, rest: usize) -> Option<usize> {
+    let spare = usize::from(k).saturating_add(usize::from(l));
+    let wanted = (all.saturating_add(rest).saturating_add(1)).saturating_sub(spare);
+    (wanted <= all.min(rest)).then_some(wanted)
+}
+
+/// Pairs of children that close, of which each left child has a bit for each right one, of as much weight as is wanted.
+fn mates_of<A: Allocator>(
+    edges: &[u64],
+    of: &[(u8, Expr<A>)],
+    others: &[(u8, Expr<A>)],
+    wanted: usize,
+    are_ones: bool,
+) -> Option<Mates> {
+    if are_ones {
+        Mates::find(edges, wanted)
+    } else {
+        Mates::heaviest(edges, &weights(of), &weights(others), wanted)
+    }
+}
+
 /// What refutes a state by its items, where it is found in trees of so many levels.
 #[cycle(rules)]
 pub fn refute<A: Allocator, B: Allocator + Clone>(
@@ -103,15 +174,11 @@ pub fn refute<A: Allocator, B: Allocator + Clone>(
     if has_counterexample(state) {
         return Ok(None);
     }
-    for side in [Side::Left, Side::Right] {
-        if let Some(at) = first_all(&state.row(side)) {
-            return open(search, state, side, at, levels - 1);
-        }
+    if let Some((side, at)) = all_of(state) {
+        return open(search, state, side, at, levels - 1);
     }
-    for side in [Side::Left, Side::Right] {
-        if let Some(at) = first_any(&state.row(side)) {
-            return pick(search, state, side, at, levels - 1);
-        }
+    if let Some((side, at)) = any_of(state) {
+        return pick(search, state, side, at, levels - 1);
     }
     match match_some(search, state, levels - 1)? {
         Some(tree) => Ok(Some(tree)),
@@ -132,15 +199,29 @@ fn open<A: Allocator, B: Allocator + Clone>(
     let Some(Expr::KOf { of, .. }) = row.items.get(at).copied() else {
         return Ok(None);
     };
-    let list = row.replaced(search.arena.clone()?, at, of)?;
+    let list = row.replaced(&search.arena, at, of)?;
     let Some(then) = refute(search, &state.changed(side, &list), levels)? else {
         return Ok(None);
     };
     let Some(item) = row.number(at) else {
         return Ok(None);
     };
-    let then = Box::new(search.arena.clone()?, then)?;
-    Ok(Some(Refutation::Open { side, item, then }))
+    Ok(Some(opened(&search.arena, side, item, then)?))
+}
+
+/// What refutes a state whose item is replaced by one of its children.
+#[cycle(rules)]
+fn pick_one<A: Allocator, B: Allocator + Clone>(
+    search: &mut Search<B>,
+    state: &State<'_, A>,
+    side: Side,
+    at: usize,
+    child: &Expr<A>,
+    levels: u8,
+) -> Result<Option<Refutation<B>>, AllocError> {
+    let row = state.row(side);
+    let list = row.replaced_by_one(&search.arena, at, child)?;
+    refute(search, &state.changed(side, &list), levels)
 }
 
 /// What refutes a state whose item is replaced by one of its children, for so many of them that what is left weighs too little.
@@ -161,21 +242,18 @@ fn pick<A: Allocator, B: Allocator + Clone>(
     };
     let mut spare = usize::from(*k).saturating_sub(1);
     let mut missing = total(of.as_slice()).saturating_sub(spare);
-    let mut children = Vec::new(search.arena.clone()?);
-    let mut then = Vec::new(search.arena.clone()?);
+    let mut picked = Picked::new(&search.arena, 0)?;
     for (number, (weight, child)) in of.iter().enumerate() {
         if missing == 0 {
             break;
         }
         let weight = usize::from(*weight);
-        let list = row.replaced_by_one(search.arena.clone()?, at, child)?;
-        match refute(search, &state.changed(side, &list), levels)? {
+        match pick_one(search, state, side, at, child, levels)? {
             Some(tree) => {
                 let Ok(number) = u8::try_from(number) else {
                     return Ok(None);
                 };
-                children.push(number)?;
-                then.push(tree)?;
+                picked.add(number, tree)?;
                 missing = missing.saturating_sub(weight);
             }
             None => match spare.checked_sub(weight) {
@@ -184,12 +262,7 @@ fn pick<A: Allocator, B: Allocator + Clone>(
             },
         }
     }
-    Ok(Some(Refutation::Pick {
-        side,
-        item,
-        children,
-        then,
-    }))
+    Ok(Some(picked.of(side, item)))
 }
 
 /// What refutes a state by a match of two of its thresholds.
@@ -209,6 +282,22 @@ fn match_some<A: Allocator, B: Allocator + Clone>(
     Ok(None)
 }
 
+/// What refutes a state by picks from one of a side's thresholds.
+#[cycle(rules)]
+fn pick_on<A: Allocator, B: Allocator + Clone>(
+    search: &mut Search<B>,
+    state: &State<'_, A>,
+    side: Side,
+    levels: u8,
+) -> Result<Option<Refutation<B>>, AllocError> {
+    for at in 0..state.row(side).items.len() {
+        if let Some(tree) = pick(search, state, side, at, levels)? {
+            return Ok(Some(tree));
+        }
+    }
+    Ok(None)
+}
+
 /// What refutes a state by picks from one of its thresholds.
 #[cycle(rules)]
 fn pick_some<A: Allocator, B: Allocator + Clone>(
@@ -216,14 +305,48 @@ fn pick_some<A: Allocator, B: Allocator + Clone>(
     state: &State<'_, A>,
     levels: u8,
 ) -> Result<Option<Refutation<B>>, AllocError> {
-    for side in [Side::Left, Side::Right] {
-        for at in 0..state.row(side).items.len() {
-            if let Some(tree) = pick(search, state, side, at, levels)? {
-                return Ok(Some(tree));
-            }
+    match pick_on(search, state, Side::Left, levels)? {
+        Some(tree) => Ok(Some(tree)),
+        None => pick_on(search, state, Side::Right, levels),
+    }
+}
+
+/// What refutes a state where two items are replaced by one child each, and the other items are left alone.
+#[cycle(rules)]
+fn close_two<A: Allocator, B: Allocator + Clone>(
+    search: &mut Search<B>,
+    state: &State<'_, A>,
+    child: &Expr<A>,
+    other: &Expr<A>,
+    levels: u8,
+) -> Result<Option<Refutation<B>>, AllocError> {
+    if !may_close(state, child, other) {
+        return Ok(None);
+    }
+    let lefts = [child];
+    let rights = [other];
+    refute(search, &state.narrowed(&lefts, &rights), levels)
+}
+
+/// Adds the pairs of a left child that close, and gives a bit for each right child with which it does.
+#[cycle(rules)]
+fn close_row<A: Allocator, B: Allocator + Clone>(
+    search: &mut Search<B>,
+    state: &State<'_, A>,
+    left: u8,
+    child: &Expr<A>,
+    others: &[(u8, Expr<A>)],
+    levels: u8,
+    pairs: &mut Vec<Closed<B>, B>,
+) -> Result<u64, AllocError> {
+    let mut edge = 0u64;
+    for (right, (_, other)) in (0..64u8).zip(others) {
+        if let Some(tree) = close_two(search, state, child, other, levels)? {
+            edge |= 1u64.checked_shl(u32::from(right)).unwrap_or(0);
+            pairs.push(Closed { left, right, tree })?;
         }
     }
-    Ok(None)
+    Ok(edge)
 }
 
 /// The pairs of children of two thresholds that close, each by itself, and for each left child a bit for each right child with
@@ -236,28 +359,20 @@ fn close_pairs<A: Allocator, B: Allocator + Clone>(
     others: &[(u8, Expr<A>)],
     levels: u8,
 ) -> Result<Closing<B>, AllocError> {
-    let mut pairs = Vec::new(search.arena.clone()?);
-    let mut edges = Vec::new(search.arena.clone()?);
+    let mut closing = Closing::new(&search.arena)?;
     for (left, (_, child)) in (0..64u8).zip(of) {
-        let mut edge = 0u64;
-        for (right, (_, other)) in (0..64u8).zip(others) {
-            if !may_close(state, child, other) {
-                continue;
-            }
-            let lefts = [child];
-            let rights = [other];
-            let narrow = State {
-                left: state.left.narrowed(&lefts),
-                right: state.right.narrowed(&rights),
-            };
-            if let Some(tree) = refute(search, &narrow, levels)? {
-                edge |= 1u64.checked_shl(u32::from(right)).unwrap_or(0);
-                pairs.push(Closed { left, right, tree })?;
-            }
-        }
-        edges.push(edge)?;
+        let edge = close_row(
+            search,
+            state,
+            left,
+            child,
+            others,
+            levels,
+            &mut closing.pairs,
+        )?;
+        closing.edges.push(edge)?;
     }
-    Ok(Closing { pairs, edges })
+    Ok(closing)
 }
 
 /// What refutes a state by a match of two of its items.
@@ -278,50 +393,14 @@ fn match_two<A: Allocator, B: Allocator + Clone>(
     let (Some(left), Some(right)) = (state.left.number(i), state.right.number(j)) else {
         return Ok(None);
     };
-    let spare = usize::from(*k).saturating_add(usize::from(*l));
     let (all, rest) = (total(of.as_slice()), total(others.as_slice()));
-    let wanted = (all.saturating_add(rest).saturating_add(1)).saturating_sub(spare);
-    if wanted > all.min(rest) {
+    let Some(wanted) = wanted(*k, all, *l, rest) else {
         return Ok(None);
-    }
+    };
+    let are_ones = all == of.len() && rest == others.len();
     let closing = close_pairs(search, state, of, others, levels)?;
-    let edges = closing.edges.as_slice();
-    let mates = if all == of.len() && rest == others.len() {
-        Mates::find(edges, wanted)
-    } else {
-        Mates::heaviest(
-            edges,
-            &weights(of.as_slice()),
-            &weights(others.as_slice()),
-            wanted,
-        )
-    };
-    let Some(mates) = mates else {
-        return Ok(None);
-    };
-    Ok(Some(matched(&search.arena, left, right, &mates, closing.pairs)?))
-}
-
-/// The match of the pairs that are mates.
-fn matched<B: Allocator + Clone>(
-    arena: &B,
-    left: u16,
-    right: u16,
-    mates: &Mates,
-    closed: Vec<Closed<B>, B>,
-) -> Result<Refutation<B>, AllocError> {
-    let mut pairs = Vec::new(arena.clone()?);
-    let mut then = Vec::new(arena.clone()?);
-    for pair in closed {
-        if mates.are_mates(pair.left, pair.right) {
-            pairs.push((pair.left, pair.right))?;
-            then.push(pair.tree)?;
-        }
+    match mates_of(closing.edges.as_slice(), of, others, wanted, are_ones) {
+        Some(mates) => Ok(Some(closing.matched(&search.arena, left, right, &mates)?)),
+        None => Ok(None),
     }
-    Ok(Refutation::Match {
-        left,
-        right,
-        pairs,
-        then,
-    })
 }

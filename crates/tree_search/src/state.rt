@@ -71,8 +71,12 @@ impl<'a, A: Allocator> Row<'a, A> {
     }
 
     /// The items without one of them.
-    fn rest<B: Allocator>(&self, alloc: B, at: usize) -> Result<Vec<&'a Expr<A>, B>, AllocError> {
-        let mut rest = Vec::new(alloc);
+    fn rest<B: Allocator + Clone>(
+        &self,
+        arena: &B,
+        at: usize,
+    ) -> Result<Vec<&'a Expr<A>, B>, AllocError> {
+        let mut rest = Vec::new(arena.clone()?);
         for (i, item) in self.items.iter().enumerate() {
             if i != at {
                 rest.push(*item)?;
@@ -82,13 +86,13 @@ impl<'a, A: Allocator> Row<'a, A> {
     }
 
     /// The items with one replaced by others at the end.
-    pub fn replaced<B: Allocator>(
+    pub fn replaced<B: Allocator + Clone>(
         &self,
-        alloc: B,
+        arena: &B,
         at: usize,
         children: &'a [(u8, Expr<A>)],
     ) -> Result<Vec<&'a Expr<A>, B>, AllocError> {
-        let mut list = self.rest(alloc, at)?;
+        let mut list = self.rest(arena, at)?;
         for (_, child) in children {
             list.push(child)?;
         }
@@ -96,13 +100,13 @@ impl<'a, A: Allocator> Row<'a, A> {
     }
 
     /// The items with one replaced by one of its children at the end.
-    pub fn replaced_by_one<B: Allocator>(
+    pub fn replaced_by_one<B: Allocator + Clone>(
         &self,
-        alloc: B,
+        arena: &B,
         at: usize,
         child: &'a Expr<A>,
     ) -> Result<Vec<&'a Expr<A>, B>, AllocError> {
-        let mut list = self.rest(alloc, at)?;
+        let mut list = self.rest(arena, at)?;
         list.push(child)?;
         Ok(list)
     }
@@ -161,6 +165,17 @@ impl<'a, A: Allocator> State<'a, A> {
         State {
             left: self.right.again(),
             right: self.left.again(),
+        }
+    }
+
+    /// One child in the place of an item on each side, and the other items left alone.
+    pub fn narrowed<'b>(&self, lefts: &'b [&'b Expr<A>], rights: &'b [&'b Expr<A>]) -> State<'b, A>
+    where
+        'a: 'b,
+    {
+        State {
+            left: self.left.narrowed(lefts),
+            right: self.right.narrowed(rights),
         }
     }
 
