@@ -3,9 +3,9 @@
 use super::said::SIX_COPIES;
 use super::smaller::claims_of;
 use super::texts::{REPLACED, plan_of};
-use plan::{Plan, PlanFault, check_plan, claims, read_plan, write_plan};
+use plan::{CheckedPlan, Plan, PlanFault, check_plan, claims, read_plan, write_plan};
 use refutation::{Certificate, read_certificate, write_certificate};
-use std::alloc::Global;
+use std::alloc::{AllocError, Global};
 use std::test::*;
 use volume_model::Fault;
 
@@ -84,14 +84,31 @@ fn becomes_again(alloc: Global, text: &[u8], kept: bool) -> Result<bool, PlanFau
     Ok(becomes(alloc, &whole, kept, &once))
 }
 
-/// Whether a check says this of a text that was written: how many groups it has, and how many configurations the first, or its first fault.
+/// The plan of a text, checked.
+fn checked(alloc: Global, text: &[u8]) -> Result<CheckedPlan, PlanFault> {
+    let plan = read_plan(alloc, text)?;
+    match check_plan(alloc, plan) {
+        Ok(checked) => Ok(checked),
+        Err((fault, _plan)) => Err(fault),
+    }
+}
+
+/// What a check of the bytes says: how many groups they have, and how many configurations the first, or their first fault.
+fn said_of(alloc: Global, text: &[u8]) -> Result<String, AllocError> {
+    match checked(alloc, text) {
+        Ok(plan) => {
+            let groups = plan.groups();
+            let configurations = plan.configurations(0);
+            format!(in alloc; "yes {groups} {configurations}")
+        }
+        Err(fault) => format!(in alloc; "{fault}"),
+    }
+}
+
+/// Whether a check says this of a text that was written.
 fn is_said(alloc: Global, text: &[u8], kept: bool, said: &str) -> Result<bool, PlanFault> {
     let bytes = written(alloc, text, kept)?;
-    let told = match check_plan(alloc, read_plan(alloc, &bytes)?) {
-        Ok(plan) => format!(in alloc; "yes {} {}", plan.groups(), plan.configurations(0))?,
-        Err((fault, _)) => format!(in alloc; "{fault}")?,
-    };
-    Ok(told.as_str() == said)
+    Ok(said_of(alloc, &bytes)?.as_str() == said)
 }
 
 const MATCH_WRITTEN: &str =
