@@ -7,8 +7,8 @@ use Rattle.std.proofs.Crossing.{crosses}
 use Rattle.std.specs.declared.sync.ledger.Ledger as ledger
 use Rattle.journal.specs.declared.row.Site as site
 use Rattle.journal.proofs.pass.Pass.TheSendSync as pass
-use Rattle.node_fleet.proofs.mail.Mailboxes.TheSendSync as mailboxes
-use Rattle.node_fleet.proofs.mail.MailSeats.TheSendSync as seats
+use Rattle.mailboxes.proofs.Mailboxes.TheSendSync as mailboxes
+use Rattle.mailboxes.proofs.MailSeats.TheSendSync as seats
 use Rattle.world.proofs.event.Order.TheSendSync as order
 use Rattle.drivers.specs.contracts.caller.Caller as Caller
 use Rattle.drivers.specs.contracts.hand.Hand as Hand

@@ -3,11 +3,11 @@
 ghost use Rattle.std.specs.Prelude.{◌≡◌, All, IfOk, vec_len};
 ghost use Rattle.std.proofs.Props.{props};
 ghost use Rattle.plan.specs.CheckedModel.{checked_model};
-ghost use Rattle.node_fleet.specs.Mails.{AreSeatsOf, HasNodes};
-ghost use Rattle.node_fleet.proofs.Seats.{seats_prop};
+ghost use Rattle.mailboxes.specs.Mails.{AreSeatsOf, HasNodes};
+ghost use Rattle.mailboxes.proofs.Seats.{seats_prop};
 
 use crate::nodes::Node;
-use node_fleet::{MailSeats, Mailboxes};
+use mailboxes::{MailSeats, Mailboxes};
 use plan::CheckedPlan;
 use std::alloc::{AllocError, Global};
 use std::sync::Wait;

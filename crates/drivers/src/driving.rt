@@ -7,7 +7,7 @@ ghost use Rattle.volume_model.specs.declared.fault.Fault.TheVariants.{NoMemory};
 ghost use Rattle.plan.specs.CheckedModel.{checked_model};
 ghost use Rattle.journal.specs.Tokens.{ids_of};
 ghost use Rattle.node_fleet.specs.Bases.{passes_of, IsBaseOf};
-ghost use Rattle.node_fleet.specs.Mails.{AreSeatsOf, HasNodes};
+ghost use Rattle.mailboxes.specs.Mails.{AreSeatsOf, HasNodes};
 ghost use Rattle.drivers.specs.Driven.{IsDriven};
 
 use crate::caller::{Caller, callers};
@@ -19,7 +19,8 @@ use crate::tally::Tally;
 use crate::threads::{Crew, run_all};
 use crate::turns::{Turn, turns};
 use journal::{Pass, Row, Site};
-use node_fleet::{Base, Fleet, MailSeats, Mailboxes};
+use mailboxes::{MailSeats, Mailboxes};
+use node_fleet::{Base, Fleet};
 use plan::CheckedPlan;
 use script::Script;
 use std::alloc::{AllocError, Global};

@@ -4,7 +4,6 @@ pub mod Calls
 pub mod Deeds
 pub mod Halts
 pub mod Journals
-pub mod Mails
 pub mod Nodes
 pub mod Places
 pub mod Ready

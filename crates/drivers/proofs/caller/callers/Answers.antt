@@ -1,7 +1,7 @@
 use Rattle.std.specs.Prelude.{Some}
 use Rattle.std.proofs.lemmas.List.Elements.{All-pop}
-use Rattle.node_fleet.specs.declared.mail.MailSeats.{MailSeats}
-use Rattle.node_fleet.specs.Mails.{AreSeatsOf}
+use Rattle.mailboxes.specs.declared.MailSeats.{MailSeats}
+use Rattle.mailboxes.specs.Mails.{AreSeatsOf}
 use Rattle.drivers.proofs.caller.callers.Goals as goal
 
 pub invariant_of-push : goal.invariant_of-push

@@ -1,5 +1,5 @@
 use Rattle.std.proofs.Common.{All, vec_len}
-use Rattle.node_fleet.specs.Mails.{AreSeatsOf}
+use Rattle.mailboxes.specs.Mails.{AreSeatsOf}
 use Rattle.drivers.proofs.caller.callers.Given as goal
 
 abbrev pub invariant-loop-seats : goal.invariant-loop-seats

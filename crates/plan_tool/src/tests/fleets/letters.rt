@@ -3,15 +3,15 @@
 ghost use Rattle.std.specs.Prelude.{◌≡◌};
 ghost use Rattle.std.proofs.Props.{props};
 ghost use Rattle.plan.specs.CheckedModel.{checked_model};
-ghost use Rattle.node_fleet.specs.Mails.{AreSeatsOf, HasNodes};
-ghost use Rattle.node_fleet.proofs.Seats.{seats_prop};
+ghost use Rattle.mailboxes.specs.Mails.{AreSeatsOf, HasNodes};
+ghost use Rattle.mailboxes.proofs.Seats.{seats_prop};
 
 use super::super::texts::{SIX, checked};
 use super::calls::{Call, Step};
 use super::drive::{Ending, run_table};
 use super::looks::Look;
 use super::tables::WRITTEN;
-use node_fleet::{MailSeats, Mailboxes};
+use mailboxes::{MailSeats, Mailboxes};
 use plan::CheckedPlan;
 use std::alloc::{AllocError, Global};
 use std::sync::Wait;

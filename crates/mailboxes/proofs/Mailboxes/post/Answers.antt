@@ -3,8 +3,8 @@ use Rattle.std.specs.Prelude.{slice_get}
 use Rattle.mailbox.specs.Mail.{AddsPosted}
 use Rattle.mailbox.specs.declared.MailStep.{MailStep}
 use Rattle.mailbox.specs.declared.MailSeat.{MailSeat}
-use Rattle.node_fleet.proofs.Mails.{mailbox_read, seat_within, seat_fits, seat_read, fit_set, steps_here, steps_else}
-use Rattle.node_fleet.proofs.mail.Mailboxes.close_mailbox.Goals as goal
+use Rattle.mailboxes.proofs.Mails.{mailbox_read, seat_within, seat_fits, seat_read, fit_set, steps_here, steps_else}
+use Rattle.mailboxes.proofs.Mailboxes.post.Goals as goal
 
 pub index_mut-requires : goal.index_mut-requires
 index_mut-requires g c =
@@ -17,15 +17,15 @@ unreachable-requires-in_default-index_mut g c =
     let there = mailbox_read c.args.self.now.boxes.items c.args.group c.args.member c.slot-slot.result c.slot-slot.ensures c.requires.node c.index.result.now c.index.ensures c.in-Some.mailbox c.in-Some.is in
     seat_fits c.args.self.now.boxes.items c.args.seats.now.seats.items c.slot-slot.result c.in-Some.mailbox c.requires.seats there c.index_mut.result.now c.index_mut.ensures.value None c.in_default-index_mut.is
 
-pub close-requires : goal.close-requires
-close-requires g c =
+pub post-requires : goal.post-requires
+post-requires g c =
     let there = mailbox_read c.args.self.now.boxes.items c.args.group c.args.member c.slot-slot.result c.slot-slot.ensures c.requires.node c.index.result.now c.index.ensures c.in-Some.mailbox c.in-Some.is in
     seat_fits c.args.self.now.boxes.items c.args.seats.now.seats.items c.slot-slot.result c.in-Some.mailbox c.requires.seats there c.index_mut.result.now c.index_mut.ensures.value (Some c.in-Some-index_mut.seat) c.in-Some-index_mut.is
 
 pub returns-clause-same : goal.returns-clause-same
 returns-clause-same g c =
     let there = mailbox_read c.args.self.now.boxes.items c.args.group c.args.member c.slot-slot.result c.slot-slot.ensures c.requires.node c.index.result.now c.index.ensures c.in-Some.mailbox c.in-Some.is in
-    fit_set c.args.self.now.boxes.items c.args.seats.now.seats.items c.slot-slot.result (Some c.in-Some.mailbox) (Some c.close.new.seat) c.requires.seats there c.close.ensures.same
+    fit_set c.args.self.now.boxes.items c.args.seats.now.seats.items c.slot-slot.result (Some c.in-Some.mailbox) (Some c.post.new.seat) c.requires.seats there c.post.ensures.same
 
 pub returns-clause-step : goal.returns-clause-step
 returns-clause-step g c =
@@ -35,6 +35,6 @@ returns-clause-step g c =
     let old : slice_get seats slot ≡ Some (Some c.in-Some-index_mut.seat) =
     seat_read c.args.self.now.boxes.items seats slot c.in-Some.mailbox c.requires.seats there c.index_mut.result.now c.index_mut.ensures.value (Some c.in-Some-index_mut.seat) c.in-Some-index_mut.is in
     rw (← c.slot-slot.ensures) (record {
-      here = steps_here seats slot c.in-Some-index_mut.seat c.close.new.seat old (λ (before after : List MailStep). AddsPosted before None after) c.close.ensures.step;
-      others = steps_else seats slot c.in-Some-index_mut.seat c.close.new.seat old;
+      here = steps_here seats slot c.in-Some-index_mut.seat c.post.new.seat old (λ (before after : List MailStep). AddsPosted before (Some c.args.message) after) c.post.ensures.step;
+      others = steps_else seats slot c.in-Some-index_mut.seat c.post.new.seat old;
     })

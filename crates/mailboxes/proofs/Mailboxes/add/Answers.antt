@@ -3,11 +3,11 @@ use Rattle.std.proofs.lemmas.List.Elements.{All-pop, All-push}
 use Rattle.std.proofs.lemmas.Option.{MatchOption-at_none}
 use Rattle.mailbox.specs.declared.Mailbox.{Mailbox}
 use Rattle.mailbox.specs.declared.MailSeat.{MailSeat}
-use Rattle.node_fleet.specs.declared.mail.MailSeats.{MailSeats}
-use Rattle.node_fleet.specs.Mails.{seat_steps, FitEach, HasNoSteps}
+use Rattle.mailboxes.specs.declared.MailSeats.{MailSeats}
+use Rattle.mailboxes.specs.Mails.{seat_steps, FitEach, HasNoSteps}
 use Rattle.std.specs.Prelude.{slice_get}
-use Rattle.node_fleet.proofs.Mails.{fit_push, given_one, none_more}
-use Rattle.node_fleet.proofs.mail.Mailboxes.add.Goals as goal
+use Rattle.mailboxes.proofs.Mails.{fit_push, given_one, none_more}
+use Rattle.mailboxes.proofs.Mailboxes.add.Goals as goal
 
 pub loop-caller-preserved : goal.loop-caller-preserved
 loop-caller-preserved c =

@@ -6,8 +6,8 @@ use Rattle.mailbox.specs.declared.MailSeat.{MailSeat}
 use Rattle.mailbox.specs.declared.MailStep.{MailStep}
 use Rattle.mailbox.specs.Seats.{IsSeatOf, steps_of}
 use Rattle.world.specs.Slots.{members, slot_of, in_slot}
-use Rattle.node_fleet.specs.declared.mail.Mailboxes.{Mailboxes}
-use Rattle.node_fleet.specs.declared.mail.MailSeats.{MailSeats}
+use Rattle.mailboxes.specs.declared.Mailboxes.{Mailboxes}
+use Rattle.mailboxes.specs.declared.MailSeats.{MailSeats}
 
 -- the seat is of the mailbox, where there is one, and else there is none
 abbrev pub Fits : Option Mailbox → Option MailSeat → Type 0

@@ -1,11 +1,12 @@
 //! A mailbox for each node of a volume, and the seats of its callers.
+#![tactic(auto)]
 
 ghost use Rattle.std.specs.Prelude.{◌≡◌, ◌<◌, ◌++◌, [], ◌∷◌, true, All, IfOk, Some, None, is_some, vec_len};
 ghost use Rattle.volume_model.specs.Plan.{is_named};
 ghost use Rattle.plan.specs.CheckedModel.{checked_model};
 ghost use Rattle.mailbox.specs.Mail.{AddsPosted, AddsCollected};
 ghost use Rattle.world.specs.Slots.{slot_of};
-ghost use Rattle.node_fleet.specs.Mails.{has_mailbox, AreNewSeats, AreSeatsOf, ChangesAt, HasNodes, HasNoSteps};
+ghost use Rattle.mailboxes.specs.Mails.{has_mailbox, AreNewSeats, AreSeatsOf, ChangesAt, HasNodes, HasNoSteps};
 
 use mailbox::{Letter, MailSeat, Mailbox};
 use plan::CheckedPlan;

@@ -3,8 +3,8 @@ use Rattle.plan.specs.CheckedModel.{checked_model}
 use Rattle.plan.specs.Plan.{plan_data}
 use Rattle.volume_model.specs.Plan.{Plan}
 use Rattle.world.proofs.Low.{is_low}
-use Rattle.node_fleet.proofs.Mails.{has_nodes}
-use Rattle.node_fleet.proofs.mail.Mailboxes.new.Goals as goal
+use Rattle.mailboxes.proofs.Homes.{has_nodes}
+use Rattle.mailboxes.proofs.Mailboxes.new.Goals as goal
 
 pub returns-clause-nodes : goal.returns-clause-nodes
 returns-clause-nodes c =

@@ -2,9 +2,9 @@ use Rattle.std.proofs.Common.{◌≡◌, ℕ, All, Option, Some, vec_len}
 use Rattle.std.specs.Prelude.{slice_get}
 use Rattle.plan.specs.CheckedModel.{checked_model}
 use Rattle.mailbox.specs.declared.Mailbox.{Mailbox}
-use Rattle.node_fleet.specs.Mails.{AreSeatsOf, HasNoSteps}
-use Rattle.node_fleet.proofs.Mails.{IsHome}
-use Rattle.node_fleet.proofs.mail.Mailboxes.new.Given as goal
+use Rattle.mailboxes.specs.Mails.{AreSeatsOf, HasNoSteps}
+use Rattle.mailboxes.proofs.Homes.{IsHome}
+use Rattle.mailboxes.proofs.Mailboxes.new.Given as goal
 
 abbrev pub invariant-loop-k : goal.invariant-loop-k
 invariant-loop-k l = record {

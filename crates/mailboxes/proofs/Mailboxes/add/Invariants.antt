@@ -1,6 +1,6 @@
 use Rattle.std.proofs.Common.{◌≡◌, ◌+◌, All, vec_len}
-use Rattle.node_fleet.specs.Mails.{AreNewSeats, AreSeatsOf, FitEach, HasNoSteps}
-use Rattle.node_fleet.proofs.mail.Mailboxes.add.Given as goal
+use Rattle.mailboxes.specs.Mails.{AreNewSeats, AreSeatsOf, FitEach, HasNoSteps}
+use Rattle.mailboxes.proofs.Mailboxes.add.Given as goal
 
 abbrev pub invariant-loop-caller : goal.invariant-loop-caller
 invariant-loop-caller l = record {

@@ -3,9 +3,9 @@ use Rattle.std.proofs.Props.{props}
 use Rattle.std.proofs.Common.{List, [], ◌∷◌, Option, Some, None}
 use Rattle.mailbox.specs.declared.Mailbox.{Mailbox}
 use Rattle.mailbox.specs.declared.MailSeat.{MailSeat}
-use Rattle.node_fleet.specs.declared.mail.Mailboxes.{Mailboxes}
-use Rattle.node_fleet.specs.declared.mail.MailSeats.{MailSeats}
-use Rattle.node_fleet.specs.Mails.{Fits, FitEach, AreSeatsOf}
+use Rattle.mailboxes.specs.declared.Mailboxes.{Mailboxes}
+use Rattle.mailboxes.specs.declared.MailSeats.{MailSeats}
+use Rattle.mailboxes.specs.Mails.{Fits, FitEach, AreSeatsOf}
 
 fits_prop : (m : Option Mailbox) (s : Option MailSeat) → IsProp (Fits m s)
 fits_prop None None = hlevel props

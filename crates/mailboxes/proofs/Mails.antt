@@ -1,22 +1,16 @@
 -- The mailboxes of nodes, and the seats at them.
-use Rattle.std.proofs.Common.{◌≡◌, ◌≢◌, ℕ, zero, suc, ◌+◌, ◌*◌, ◌/◌, ◌%◌, ◌<◌, ◌≤◌, Bool, true, false, ◌&&◌, nat_lt, List, [], ◌∷◌, ◌++◌, Option, Some, None, is_some, length, set, get_or, refl, sym, ap, ◌∙◌, subst, arith}
+use Rattle.std.proofs.Common.{◌≡◌, ◌≢◌, ℕ, zero, suc, ◌+◌, ◌<◌, Bool, true, false, ◌&&◌, nat_lt, List, [], ◌∷◌, ◌++◌, Option, Some, None, is_some, length, set, get_or, refl, sym, ap, ◌∙◌, subst, arith}
 use Rattle.std.specs.Prelude.{slice_get}
 use Rattle.std.specs.Option.{option_to_list}
 use Rattle.std.proofs.lemmas.List.{length-append}
 use Rattle.std.proofs.lemmas.List.Elements.{All-pop}
 use Rattle.std.proofs.lemmas.Option.{slice_get_read, slice_get_within}
-use Rattle.std.proofs.lemmas.Bool.{le-ltb}
-use Rattle.std.proofs.lemmas.Bool.Decides.{nat_tests}
-use Rattle.volume_model.specs.Lists.{some_below}
-use Rattle.volume_model.specs.Plan.{Plan, has_member, is_named}
 use Rattle.mailbox.specs.declared.Mailbox.{Mailbox}
 use Rattle.mailbox.specs.declared.MailSeat.{MailSeat}
 use Rattle.mailbox.specs.declared.MailStep.{MailStep}
 use Rattle.mailbox.specs.Seats.{IsSeatOf, steps_of}
 use Rattle.world.specs.Slots.{slot_of, in_slot}
-use Rattle.world.proofs.OneNode.{in_place}
-use Rattle.world.proofs.Steps.{LowFor}
-use Rattle.node_fleet.specs.Mails.{Fits, FitEach, AreNewSeats, seat_steps}
+use Rattle.mailboxes.specs.Mails.{Fits, FitEach, AreNewSeats, seat_steps}
 
 -- where a node has a mailbox, it stands in its slot
 pub standing : (low : Bool) (found : Option (Option Mailbox)) → (low && is_some (in_slot found)) ≡ true → (mailbox : Mailbox) × (found ≡ Some (Some mailbox))
@@ -111,34 +105,3 @@ module _ (ms : List (Option Mailbox)) (ss : List (Option MailSeat)) (i : ℕ) (m
 
   pub seat_read : (x : Option MailSeat) → x ≡ get_or ss i x → (s : Option MailSeat) → x ≡ s → slice_get ss i ≡ Some s
   seat_read x read s same = slice_get_read ss (length ss) i x refl seat_within read ∙ ap Some same
-
-none_past : {A : Type 0} (xs : List A) (i : ℕ) → slice_get xs i ≡ None → length xs ≤ i
-none_past [] i e = omega arith
-none_past (x ∷ xs) zero e = absurd cc
-none_past (x ∷ xs) (suc i) e = let rest = none_past xs i e in omega arith
-
--- something stands where the plan names the node
-abbrev pub IsHome : {A : Type 0} → Plan → ℕ → Option A → Type 0
-IsHome plan k m = is_some m ≡ is_named plan (k / 64) (k % 64)
-
--- the same of each place
-abbrev pub AreHomes : {A : Type 0} → Plan → List (Option A) → Type 0
-AreHomes {A} plan ms = (k : ℕ) (m : Option A) → slice_get ms k ≡ Some m → IsHome plan k m
-
-module _ {A : Type 0} (plan : Plan) (ms : List (Option A)) (long : length ms ≡ plan.groups * 64) (low : LowFor plan) (homes : AreHomes plan ms) where
-  within : (g m : ℕ) → m < 64 → (found : Option (Option A)) → slice_get ms (slot_of g m) ≡ found → is_some (in_slot found) ≡ is_named plan g m
-  within g m below None e =
-      let past = none_past ms (slot_of g m) e in
-      let beyond : plan.groups ≤ g = omega arith in
-      sym (ap (λ (b : Bool). b && some_below (plan.configurations g) (λ c. has_member (plan.configuration g c) m)) (le-ltb g plan.groups beyond))
-  within g m below (Some o) e =
-      let p = in_place g m below in
-      let home : IsHome plan (slot_of g m) o = homes (slot_of g m) o e in
-      subst (λ (n : ℕ). is_some o ≡ is_named plan n m) p.0 (subst (λ (n : ℕ). is_some o ≡ is_named plan (slot_of g m / 64) n) p.1 home)
-
-  pub has_nodes : (g m : ℕ) → (nat_lt m 64 && is_some (in_slot (slice_get ms (slot_of g m)))) ≡ is_named plan g m
-  has_nodes g m =
-      elim (nat_lt m 64) as (λ (b : Bool). nat_lt m 64 ≡ b → (b && is_some (in_slot (slice_get ms (slot_of g m)))) ≡ is_named plan g m) [
-        | true ↦ λ t. let below : m < 64 = grind (arith, nat_tests) in within g m below (slice_get ms (slot_of g m)) refl
-        | false ↦ λ t. let above : 64 ≤ m = grind (arith, nat_tests) in sym (low g m above)
-      ] refl

@@ -1,5 +1,5 @@
 use Rattle.std.proofs.Common.{◌≡◌, All, [], vec_len}
-use Rattle.node_fleet.proofs.mail.without_seats.Given as goal
+use Rattle.mailboxes.proofs.without_seats.Given as goal
 
 abbrev pub invariant-loop : goal.invariant-loop
 invariant-loop l = record {

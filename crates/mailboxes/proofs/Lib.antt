@@ -1,0 +1,3 @@
+pub mod Homes
+pub mod Mails
+pub mod Seats
