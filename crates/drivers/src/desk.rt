@@ -3,10 +3,10 @@
 ghost use Rattle.std.specs.Prelude.{◌≡◌, ◌+◌, IfOk, IfErr, vec_len};
 ghost use Rattle.volume_model.specs.declared.fault.Fault.TheVariants.{NoMemory};
 
-use crate::tally::Tally;
-use crate::word::{Told, Word};
+use crate::word::Word;
 use std::alloc::{AllocError, Global};
 use std::sync::{OnceLock, Wait};
+use tallies::{Tally, Told};
 use volume_model::Fault;
 
 /// A word for each order of a script, in which is told what it came to.

@@ -1,7 +1,6 @@
 //! A script's run on threads, from the fleet's opening to its end.
 
-ghost use Rattle.std.specs.Prelude.{◌≡◌, ◌≤◌, ◌<◌, ◌+◌, ◌==◌, ◌&&◌, All, not, is_err, IfErr, IfOk, vec_len};
-ghost use Rattle.std.specs.List.{list_any};
+ghost use Rattle.std.specs.Prelude.{◌≡◌, ◌≤◌, ◌<◌, ◌+◌, All, IfErr, IfOk, vec_len};
 ghost use Rattle.std.specs.Arc.{arc_value};
 ghost use Rattle.volume_model.specs.declared.fault.Fault.TheVariants.{NoMemory};
 ghost use Rattle.plan.specs.CheckedModel.{checked_model};
@@ -15,7 +14,6 @@ use crate::desk::Desk;
 use crate::hand::{Hand, Part};
 use crate::nodes::{Node, receivers};
 use crate::run::Run;
-use crate::tally::Tally;
 use crate::threads::{Crew, run_all};
 use crate::turns::{Turn, turns};
 use journal::{Pass, Row, Site};
@@ -27,8 +25,9 @@ use std::alloc::{AllocError, Global};
 use std::marker::Brand;
 use std::sync::{Arc, Wait};
 use std::thread::Threads;
+use tallies::{Tally, agrees};
 use volume_model::Fault;
-use world::{Event, Outcome, run};
+use world::{Outcome, run};
 
 /// How many client slots there are.
 const SLOTS: u32 = 64;
@@ -132,20 +131,6 @@ fn ran<'f, 'a, L: Site + Send + Sync, R: Threads + Wait + Sync>(
         closer,
     };
     run_all(rt, alloc, &stage.desk.go, crew, nodes)
-}
-
-/// Whether some event was refused.
-fn refuses(results: &[Result<u64, Fault>]) -> bool
-    ensures { result ≡ list_any (λ told. is_err told) results.now }
-{
-    results.iter().any(|told| told.is_err())
-}
-
-/// Whether a run refused nothing, and had so many events.
-fn agrees(outcome: &Outcome, events: &Vec<Event>, steps: usize) -> bool
-    ensures { result ≡ (not (list_any (λ told. is_err told) outcome.now.results.items) && (vec_len events.now == steps)) }
-{
-    !refuses(outcome.results.as_slice()) && events.len() == steps
 }
 
 /// What a closed fleet leaves of a run in which so many orders were made and refused.

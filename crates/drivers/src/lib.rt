@@ -8,7 +8,6 @@ mod driving;
 mod hand;
 mod nodes;
 mod run;
-mod tally;
 mod threads;
 mod turns;
 mod word;

@@ -5,10 +5,10 @@ use crate::calls::call;
 use crate::desk::Desk;
 use crate::nodes::{Node, receiver};
 use crate::turns::Turn;
-use crate::word::Told;
 use journal::{Pass, Site};
 use node_fleet::{ClientDeed, Fleet, StepGate};
 use std::sync::Wait;
+use tallies::Told;
 use wire::Messages;
 use world::{Event, Order};
 

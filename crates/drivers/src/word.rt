@@ -1,10 +1,9 @@
 //! What one order came to, told once to all that wait for it.
 
-use journal::Receipt;
 use std::sync::Wait;
 use std::sync::atomic::{AtomicU64, Ordering};
 use std::thread::yield_now;
-use volume_model::Fault;
+use tallies::Told;
 
 /// Nothing is told yet.
 const UNTOLD: u64 = 0;
@@ -23,37 +22,6 @@ const MADE: u64 = 4;
 
 /// How often a thread looks before it sleeps. Between two looks it lets another thread run, which may be the one that tells.
 const LOOKS: u32 = 100;
-
-/// What an order came to.
-#[derive(Clone, Copy)]
-pub enum Told {
-    /// It was made, with so many messages, of which the first has this number.
-    Made { first: u64, count: u64 },
-    /// It was refused.
-    Refused,
-    /// It was refused for want of memory.
-    Starved,
-}
-
-impl Told {
-    ghost use Rattle.std.specs.Prelude.{◌≡◌, is_ok};
-    ghost use Rattle.drivers.specs.Tallies.{is_made, is_refusal, is_refused};
-
-    /// What is told of a call of the fleet.
-    pub fn of(call: Result<Receipt, Fault>) -> Told
-        ensures made { is_made result ≡ is_ok call }
-        ensures refused { is_refused result ≡ is_refusal call }
-    {
-        match call {
-            Ok(receipt) => Told::Made {
-                first: receipt.first_message,
-                count: receipt.made as u64,
-            },
-            Err(Fault::NoMemory) => Told::Starved,
-            Err(_) => Told::Refused,
-        }
-    }
-}
 
 /// What one order came to, once that is told. Who tells it makes a call of the system only where somebody sleeps.
 #[derive(Drop)]

@@ -2,9 +2,9 @@
 use Rattle.std.specs.Prelude.{◌+◌, Bool, true, false, Result, Ok, Err}
 use Rattle.volume_model.specs.declared.fault.Fault.{Fault}
 use Rattle.volume_model.specs.declared.fault.Fault.TheVariants.{NoMemory}
-use Rattle.drivers.specs.declared.tally.Tally.{Tally}
-use Rattle.drivers.specs.declared.word.Told.{Told}
-use Rattle.drivers.specs.declared.word.Told.TheVariants.{Made, Refused, Starved}
+use Rattle.tallies.specs.declared.tally.Tally.{Tally}
+use Rattle.tallies.specs.declared.told.Told.{Told}
+use Rattle.tallies.specs.declared.told.Told.TheVariants.{Made, Refused, Starved}
 
 -- the order was made
 abbrev pub is_made : Told → Bool

@@ -3,7 +3,7 @@
 ghost use Rattle.std.specs.Prelude.{◌≡◌, ◌+◌, ◌<◌, ◌^◌, IfErr, IfOk};
 ghost use Rattle.volume_model.specs.declared.fault.Fault.TheVariants.{NoMemory};
 
-use crate::word::Told;
+use crate::told::Told;
 use volume_model::Fault;
 
 /// How many orders were made, and how many were refused.
@@ -14,7 +14,7 @@ pub struct Tally {
 }
 
 impl Tally {
-    ghost use Rattle.drivers.specs.Tallies.{IsStarved, tally_with};
+    ghost use Rattle.tallies.specs.Tallies.{IsStarved, tally_with};
 
     /// That of no order.
     pub fn new() -> Tally
