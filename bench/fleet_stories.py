@@ -10,8 +10,9 @@ ghost use Rattle.node_fleet.specs.Bases.{passes_of, IsBaseOf};
 
 use crate::Told;
 use crate::texts::{REPLACED, SIX};
+use fleet_actors::{ClientDeed, NodeDeed, StepGate};
 use journal::{Pass, Receipt, Row, Site};
-use node_fleet::{Base, ClientDeed, Fleet, Journal, NodeDeed, StepGate};
+use node_fleet::{Base, Fleet, Journal};
 use plan::{CheckedPlan, check_plan, read_plan};
 use std::alloc::{AllocError, Global};
 use std::marker::Brand;

@@ -31,8 +31,9 @@ ghost use Rattle.plan.specs.CheckedModel.{checked_model};
 ghost use Rattle.journal.specs.Tokens.{ids_of};
 ghost use Rattle.node_fleet.specs.Bases.{passes_of, IsBaseOf};
 
+use fleet_actors::{ClientDeed, NodeDeed, StepGate};
 use journal::{Pass, Row, Site};
-use node_fleet::{Base, ClientDeed, Fleet, NodeDeed, StepGate};
+use node_fleet::{Base, Fleet};
 use plan::{CheckedPlan, check_plan, read_plan};
 use std::alloc::{AllocError, Global};
 use std::marker::Brand;
@@ -368,7 +369,7 @@ abbrev pub ghosts-on_fleet-L-Site : goal.ghosts-on_fleet-L-Site
 ghosts-on_fleet-L-Site g a = record { plan = checked_model (arc_value a.plan); cells = ids_of a.row.now; table = table_of a.base.height; board = board_table a.base.board; history = a.base.opened.seen.book; slots = 64 }
 """
 
-CRATES = ["volume_model", "plan", "redo_record", "wire", "epochs", "writer_core", "world", "height", "board", "journal", "node_fleet"]
+CRATES = ["volume_model", "plan", "redo_record", "wire", "epochs", "writer_core", "world", "height", "board", "journal", "fleet_actors", "node_fleet"]
 
 # Changes a transaction, passes, rounds.
 JOBS = [(1, 1, 200), (1, 4, 200), (8, 1, 30), (8, 4, 30)]

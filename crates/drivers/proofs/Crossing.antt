@@ -30,9 +30,9 @@ use Rattle.board.proofs.Board.TheSendSync as board
 use Rattle.journal.specs.declared.row.Site as site
 use Rattle.journal.proofs.mark.Mark.TheSendSync as mark
 use Rattle.journal.proofs.log.Log.TheSendSync as log
-use Rattle.node_fleet.specs.contracts.authority.AuthorityActor as AuthorityActor
-use Rattle.node_fleet.specs.contracts.client.ClientActor as ClientActor
-use Rattle.node_fleet.specs.contracts.node.NodeActor as NodeActor
+use Rattle.fleet_actors.specs.contracts.authority.AuthorityActor as AuthorityActor
+use Rattle.fleet_actors.specs.contracts.client.ClientActor as ClientActor
+use Rattle.fleet_actors.specs.contracts.node.NodeActor as NodeActor
 use Rattle.node_fleet.specs.contracts.fleet.Fleet as Fleet
 
 ruleset parts = (sendable, crosses, record_type.the_send, record_type.the_field_send, record_type.the_sync, packet_type.the_send, packet_type.the_field_send, packet_type.the_sync, lineage_type.the_send, lineage_type.the_field_send, records.the_send, records.the_field_send, assembly.the_send, assembly.the_field_send, hydration_type.the_send, hydration_type.the_field_send, copied.the_send, copied.the_field_send, lasts.the_send, lasts.the_field_send, covered.the_send, covered.the_field_send, standing.the_send, standing.the_field_send, found.the_send, found.the_field_send)

@@ -1,7 +1,8 @@
 //! Events, as calls of the fleet.
 
+use fleet_actors::{ClientDeed, NodeDeed};
 use journal::{Pass, Receipt, Site};
-use node_fleet::{ClientDeed, Fleet, NodeDeed};
+use node_fleet::Fleet;
 use std::alloc::AllocError;
 use std::sync::Wait;
 use volume_model::Fault;

@@ -6,11 +6,11 @@ use Rattle.board.specs.declared.BoardStep.{BoardStep}
 use Rattle.journal.specs.declared.entry.Receipt.{Receipt}
 use Rattle.journal.specs.Passes.{AddsStep}
 use Rattle.journal.specs.Standing.{IsElse, Made}
-use Rattle.node_fleet.specs.declared.client_deed.ClientDeed.{ClientDeed}
-use Rattle.node_fleet.specs.declared.client_deed.ClientDeed.TheVariants as deed
+use Rattle.fleet_actors.specs.declared.client_deed.ClientDeed.{ClientDeed}
+use Rattle.fleet_actors.specs.declared.client_deed.ClientDeed.TheVariants as deed
 use Rattle.node_fleet.specs.Calls.{NamesElse, Raises, RaisesBy}
-use Rattle.node_fleet.specs.Deeds.{event_by}
-use Rattle.node_fleet.specs.Volumes.{IsElsewhere}
+use Rattle.fleet_actors.specs.Deeds.{event_by}
+use Rattle.fleet_actors.specs.Volumes.{IsElsewhere}
 
 -- a step of the last try, before which the pass was as at first
 pub adds_first : (event asked : Event) (r : Receipt) (first steps steps' : List Made) (notes notes' before : List Refusal) → asked ≡ event → steps ≡ first → notes ≡ before

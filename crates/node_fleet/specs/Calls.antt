@@ -12,9 +12,9 @@ use Rattle.board.specs.declared.BoardStep.TheVariants.{Raised}
 use Rattle.journal.specs.declared.entry.Receipt.{Receipt}
 use Rattle.journal.specs.Passes.{AddsStep}
 use Rattle.journal.specs.Standing.{IsElse, Made}
-use Rattle.node_fleet.specs.declared.client_deed.ClientDeed.{ClientDeed}
-use Rattle.node_fleet.specs.declared.client_deed.ClientDeed.TheVariants as deed
-use Rattle.node_fleet.specs.Halts.{AddsNote}
+use Rattle.fleet_actors.specs.declared.client_deed.ClientDeed.{ClientDeed}
+use Rattle.fleet_actors.specs.declared.client_deed.ClientDeed.TheVariants as deed
+use Rattle.fleet_actors.specs.Halts.{AddsNote}
 
 -- the pass has the step of this event more, as its receipt says, or a note of the refusal
 abbrev pub Tells : Event → Result Receipt Fault → List Made → List Made → List Refusal → List Refusal → Type 0

@@ -1,11 +1,4 @@
-pub mod Acts
 pub mod Bases
 pub mod Calls
-pub mod Deeds
-pub mod Halts
 pub mod Journals
-pub mod Nodes
 pub mod Places
-pub mod Ready
-pub mod Tried
-pub mod Volumes

@@ -2,13 +2,12 @@
 
 ghost use Rattle.std.specs.Prelude.{◌≡◌};
 ghost use Rattle.journal.specs.Passes.{notes_of, seat_of, steps_of};
-ghost use Rattle.node_fleet.specs.Acts.{event_by};
+ghost use Rattle.fleet_actors.specs.Acts.{event_by};
+ghost use Rattle.fleet_actors.specs.Halts.{Halts};
 ghost use Rattle.node_fleet.specs.Calls.{Tells};
-ghost use Rattle.node_fleet.specs.Halts.{Halts};
 
 use crate::fleet::Fleet;
-use crate::halt::Halt;
-use crate::locking::taken;
+use fleet_actors::{Halt, taken};
 use journal::{Pass, Receipt, Site};
 use std::sync::Wait;
 use volume_model::Fault;
@@ -42,7 +41,7 @@ impl<'a, L: Site> Fleet<'a, L> {
     /// groups stand.
     ///
     /// # Errors
-    /// The authority's own refusal, as [`AuthorityActor::act`](crate::AuthorityActor::act) gives it, `NoSlot` where it
+    /// The authority's own refusal, as [`AuthorityActor::act`](fleet_actors::AuthorityActor::act) gives it, `NoSlot` where it
     /// is to assign and the last volume epoch is that of the last slot, and `JournalFull` where no cell is left.
     /// `NoMemory`, which isn't noted, where a growth was refused.
     pub fn advance<R: Wait>(

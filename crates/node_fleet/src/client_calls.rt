@@ -2,18 +2,13 @@
 
 ghost use Rattle.std.specs.Prelude.{◌≡◌, IfErr, IfOk, OnErr};
 ghost use Rattle.journal.specs.Passes.{notes_of, seat_of, steps_of};
+ghost use Rattle.fleet_actors.specs.Deeds.{event_by};
+ghost use Rattle.fleet_actors.specs.Halts.{Halts};
+ghost use Rattle.fleet_actors.specs.Volumes.{IsUnmade};
 ghost use Rattle.node_fleet.specs.Calls.{is_moving, NamesElse, Raises, RaisesBy, Tells};
-ghost use Rattle.node_fleet.specs.Deeds.{event_by};
-ghost use Rattle.node_fleet.specs.Halts.{Halts};
-ghost use Rattle.node_fleet.specs.Volumes.{IsUnmade};
 
-use crate::client::ClientActor;
-use crate::client_deed::ClientDeed;
-use crate::client_tried::tried;
 use crate::fleet::Fleet;
-use crate::halt::Halt;
-use crate::locking::taken;
-use crate::step::refused;
+use fleet_actors::{ClientActor, ClientDeed, Halt, refused, taken, tried};
 use journal::{Log, Pass, Receipt, Site, Who};
 use std::sync::{Mutex, Wait};
 use volume_model::Fault;
@@ -34,8 +29,8 @@ impl<'a, L: Site> Fleet<'a, L> {
     ghost use Rattle.volume_model.specs.Client.{unborn};
     ghost use Rattle.wire.specs.Message.{message_of};
     ghost use Rattle.journal.specs.Passes.{world_of, HasNoteRoom, SeesAll};
-    ghost use Rattle.node_fleet.specs.Deeds.{IsFound};
-    ghost use Rattle.node_fleet.specs.declared.halt.Halt.TheVariants.{Refused};
+    ghost use Rattle.fleet_actors.specs.Deeds.{IsFound};
+    ghost use Rattle.fleet_actors.specs.declared.halt.Halt.TheVariants.{Refused};
 
     // The client of a volume epoch, if it has a slot.
     fn client(&self, volume: u32) -> Option<&Mutex<ClientActor<L>>> {
@@ -141,7 +136,7 @@ impl<'a, L: Site> Fleet<'a, L> {
     ///
     /// # Errors
     /// `NoMessage` where no step has made the message that it is to take, which isn't noted; then the client's own
-    /// refusal, as [`ClientActor::act`](crate::ClientActor::act) gives it, and `JournalFull` where no cell is left. A
+    /// refusal, as [`ClientActor::act`](fleet_actors::ClientActor::act) gives it, and `JournalFull` where no cell is left. A
     /// client that has no slot is one that no View has reached. `NoMemory`, which isn't noted, where a growth was
     /// refused.
     pub fn client_step<R: Wait>(

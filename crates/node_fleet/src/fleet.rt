@@ -11,11 +11,9 @@ ghost use Rattle.journal.proofs.Plans.{Plan-set};
 ghost use Rattle.std.proofs.Props.{props};
 ghost use Rattle.node_fleet.specs.Places.{HasEach};
 
-use crate::authority::AuthorityActor;
-use crate::client::ClientActor;
 use crate::closed::Journal;
-use crate::node::NodeActor;
 use board::Board;
+use fleet_actors::{AuthorityActor, ClientActor, NodeActor};
 use height::Height;
 use journal::{Log, Pass, Site};
 use plan::CheckedPlan;

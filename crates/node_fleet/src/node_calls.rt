@@ -6,16 +6,12 @@ ghost use Rattle.volume_model.specs.World.{step};
 ghost use Rattle.volume_model.specs.World.Event.{Deliver};
 ghost use Rattle.journal.specs.Passes.{journal_of, letter_number, notes_of, seat_of, steps_of, world_of};
 ghost use Rattle.world.specs.Events.{event_of};
+ghost use Rattle.fleet_actors.specs.Halts.{AddsNote, Halts};
+ghost use Rattle.fleet_actors.specs.Nodes.{event_by};
 ghost use Rattle.node_fleet.specs.Calls.{IsOfNone, Tells, Unmade};
-ghost use Rattle.node_fleet.specs.Halts.{AddsNote, Halts};
-ghost use Rattle.node_fleet.specs.Nodes.{event_by};
 
-use crate::deed::NodeDeed;
 use crate::fleet::Fleet;
-use crate::gate::StepGate;
-use crate::halt::Halt;
-use crate::locking::taken;
-use crate::node::NodeActor;
+use fleet_actors::{Halt, NodeActor, NodeDeed, StepGate, taken};
 use journal::{Letter, Log, Pass, Receipt, Site};
 use std::sync::{Mutex, Wait};
 use volume_model::Fault;
@@ -36,7 +32,7 @@ impl<'a, L: Site> Fleet<'a, L> {
     ghost use Rattle.std.specs.Prelude.{◌≢◌, false, IfNone, IfOk, OnOk};
     ghost use Rattle.volume_model.specs.Plan.{is_named};
     ghost use Rattle.volume_model.specs.declared.fault.Fault.TheVariants.{NoMessage};
-    ghost use Rattle.node_fleet.specs.declared.halt.Halt.TheVariants.{Refused};
+    ghost use Rattle.fleet_actors.specs.declared.halt.Halt.TheVariants.{Refused};
 
     // The node of a member of a group, and none where the plan doesn't name it.
     fn node(&self, group: u8, member: u8) -> Option<&Mutex<NodeActor<L>>>

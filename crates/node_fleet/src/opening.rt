@@ -11,13 +11,11 @@ ghost use Rattle.journal.specs.Tokens.{ids_of};
 ghost use Rattle.journal.specs.Passes.{notes_of, steps_of};
 ghost use Rattle.node_fleet.specs.Places.{HasEach};
 
-use crate::authority::AuthorityActor;
 use crate::base::Base;
-use crate::client::ClientActor;
 use crate::fleet::Fleet;
-use crate::node::NodeActor;
 use board::BoardSeat;
 use epochs::Authority;
+use fleet_actors::{AuthorityActor, ClientActor, NodeActor};
 use height::{Height, Top};
 use journal::{History, Log, Mark, Pass, Row, Site, Who};
 use plan::CheckedPlan;

@@ -1,5 +1,5 @@
 use Rattle.std.proofs.Common.{◌≡◌, vec_len}
-use Rattle.node_fleet.proofs.Homes.{AreHomes}
+use Rattle.mailboxes.proofs.Homes.{AreHomes}
 use Rattle.node_fleet.proofs.opening.nodes.Given as goal
 
 abbrev pub invariant-loop-slot : goal.invariant-loop-slot

@@ -1,8 +1,9 @@
 //! Calls of a fleet, as tables give them.
 
 use super::looks::Look;
+use fleet_actors::{ClientDeed, NodeDeed};
 use journal::{Pass, Receipt, Site};
-use node_fleet::{ClientDeed, Fleet, NodeDeed};
+use node_fleet::Fleet;
 use std::alloc::{AllocError, Global};
 use std::sync::Wait;
 use volume_model::Fault;

@@ -1,6 +1,6 @@
 //! Pages that are looked for among what nodes answer.
 
-use node_fleet::StepGate;
+use fleet_actors::StepGate;
 use std::sync::atomic::{AtomicBool, Ordering};
 use wire::{Message, Messages};
 

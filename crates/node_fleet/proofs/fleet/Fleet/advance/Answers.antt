@@ -1,6 +1,6 @@
 use Rattle.std.proofs.Common.{refl}
 use Rattle.journal.specs.Passes.{notes_of, steps_of}
-use Rattle.node_fleet.specs.Acts.{event_by}
+use Rattle.fleet_actors.specs.Acts.{event_by}
 use Rattle.node_fleet.proofs.Calling.{adds_first}
 use Rattle.node_fleet.proofs.fleet.Fleet.advance.Goals as goal
 

@@ -3,7 +3,7 @@ use Rattle.volume_model.specs.World.{Event}
 use Rattle.board.specs.declared.BoardStep.{BoardStep}
 use Rattle.journal.specs.Passes.{notes_of, seat_of, steps_of}
 use Rattle.node_fleet.specs.Calls.{RaisesBy}
-use Rattle.node_fleet.specs.Deeds.{event_by}
+use Rattle.fleet_actors.specs.Deeds.{event_by}
 use Rattle.node_fleet.proofs.Calling.{adds_first, raises_by}
 use Rattle.node_fleet.proofs.fleet.Fleet.client_step.Goals as goal
 

@@ -6,9 +6,9 @@ use Rattle.wire.specs.Message.{message_of}
 use Rattle.world.specs.Clients.{client_plan, client_volume, seen_client}
 use Rattle.world.specs.Events.{event_of}
 use Rattle.journal.specs.Passes.{journal_of}
-use Rattle.node_fleet.specs.Deeds.{deed_acted, event_by}
-use Rattle.node_fleet.proofs.Acting.{refuses_alike}
-use Rattle.node_fleet.proofs.Exactly.{exact_of}
+use Rattle.fleet_actors.specs.Deeds.{deed_acted, event_by}
+use Rattle.fleet_actors.proofs.Acting.{refuses_alike}
+use Rattle.fleet_actors.proofs.Exactly.{exact_of}
 use Rattle.node_fleet.proofs.fleet.Fleet.refuse_unborn.Goals as goal
 
 pub refused-requires-clause-exact : goal.refused-requires-clause-exact

@@ -1,0 +1,90 @@
+-- The step of a client, in the world.
+use Rattle.std.proofs.Common.{◌≡◌, ℕ, Bool, eq-eqb, List, Option, Some, Result, Ok, Err, MatchResult, IfOk, OnErr, refl, sym, ap, ◌∙◌, subst}
+use Rattle.std.specs.Prelude.{if◌then◌else◌}
+use Rattle.volume_model.specs.declared.fault.Fault.{Fault}
+use Rattle.volume_model.specs.Told.{makes, refusal}
+use Rattle.volume_model.specs.Lists.{put}
+use Rattle.volume_model.specs.Plan.{Plan}
+use Rattle.volume_model.specs.Message as model
+use Rattle.volume_model.specs.Client.{Client, ClientAnswer}
+use Rattle.volume_model.specs.World.{World, Event, Step, after, after_step, of_client, step, take}
+use Rattle.volume_model.specs.Actor.{Actor, actor_of, Agree}
+use Rattle.volume_model.specs.Journal.{Entry, world_at}
+use Rattle.wire.specs.declared.messages.Messages.{Messages}
+use Rattle.wire.specs.Listed.{listed}
+use Rattle.wire.specs.Message.{messages_of}
+use Rattle.fleet_actors.specs.declared.client_deed.ClientDeed.{ClientDeed}
+use Rattle.fleet_actors.specs.declared.client_deed.ClientDeed.TheVariants as deed
+use Rattle.fleet_actors.specs.Deeds.{deed_acted, event_by, HasFound, IsFound}
+use Rattle.fleet_actors.specs.Tried.{made_by}
+
+-- the refusal of a client's step is the client's
+of_client-refusal : (w : World) (volume : ℕ) (answer : ClientAnswer) → refusal (of_client w volume answer) ≡ refusal answer
+of_client-refusal w volume (Err fault) = refl
+of_client-refusal w volume (Ok s) = refl
+
+put-here : {A : Type 0} (f : ℕ → A) (at : ℕ) (x : A) → put f at x at ≡ x
+put-here f at x = ap (λ (b : Bool). if b then x else f at) (eq-eqb at at refl)
+
+-- both are one client, as the mark of its actor says
+pub client_here : (actor : Actor) (volume : ℕ) (w v : World) (now : Client) → actor ≡ Actor.Client volume → Agree actor w v → now ≡ w.clients volume → v.clients volume ≡ now
+client_here actor volume w v now is agree seen = sym (seen ∙ subst (λ (a : Actor). Agree a w v) is agree)
+
+-- whose step it is
+pub event_of_client : (volume : ℕ) (asked : ClientDeed) → actor_of (event_by volume asked) ≡ Actor.Client volume
+event_of_client volume (deed.Issue changes) = refl
+event_of_client volume (deed.Take message) = refl
+event_of_client volume deed.Cut = refl
+event_of_client volume deed.Open = refl
+event_of_client volume (deed.Resend lsn) = refl
+event_of_client volume (deed.Read group block) = refl
+
+-- what was found is there
+pub found_there : (made : List model.Message) (asked : ClientDeed) (found : Option model.Message) → IsFound made asked found → HasFound asked found
+found_there made (deed.Issue changes) found is = tt
+found_there made (deed.Take message) found is = is.0
+found_there made deed.Cut found is = tt
+found_there made deed.Open found is = tt
+found_there made (deed.Resend lsn) found is = tt
+found_there made (deed.Read group block) found is = tt
+
+-- the step of a deed is that of the client's answer
+deed_step : (plan : Plan) (w : World) (volume : ℕ) (asked : ClientDeed) (found : Option model.Message) → IsFound w.messages asked found
+    → step plan w (event_by volume asked) ≡ of_client w volume (deed_acted found asked plan volume (w.clients volume))
+deed_step plan w volume (deed.Issue changes) found is = refl
+deed_step plan w volume (deed.Take message) found is = ap (λ (o : Option model.Message). of_client w volume (take plan volume (w.clients volume) o)) is.1
+deed_step plan w volume deed.Cut found is = refl
+deed_step plan w volume deed.Open found is = refl
+deed_step plan w volume (deed.Resend lsn) found is = refl
+deed_step plan w volume (deed.Read group block) found is = refl
+
+-- a client that was old, of this plan, does what it is asked to, in a world that has it
+module _ (plan own : Plan) (of : own ≡ plan) (w : World) (volume : ℕ) (asked : ClientDeed) (found : Option model.Message) (old new : Client) (event : Event) (here : w.clients volume ≡ old) (is : event ≡ event_by volume asked) (heard : IsFound w.messages asked found) where
+  abbrev pub answer : ClientAnswer
+  answer = deed_acted found asked own volume old
+
+  whole : step plan w event ≡ of_client w volume answer
+  whole = ap (step plan w) is ∙ deed_step plan w volume asked found heard ∙ λ i. of_client w volume (deed_acted found asked (sym of i) volume (here i))
+
+  pub refuses_alike : refusal (step plan w event) ≡ refusal answer
+  refuses_alike = ap refusal whole ∙ of_client-refusal w volume answer
+
+  module _ (made : Messages) (done : answer ≡ Ok (made_by made new)) where
+    stepped : step plan w event ≡ of_client w volume (Ok (made_by made new))
+    stepped = whole ∙ ap (of_client w volume) done
+
+    client_makes : makes (step plan w event) ≡ Some (messages_of (listed made))
+    client_makes = ap makes stepped
+
+    client_after : (after plan w event).clients volume ≡ new
+    client_after = ap (λ (s : Result Step Fault). (after_step w s).clients volume) stepped ∙ put-here w.clients volume new
+
+  pub tried_makes : (tried : Result Messages Fault) → IfOk tried (λ made. answer ≡ Ok (made_by made new)) → IfOk tried (λ made. makes (step plan w event) ≡ Some (messages_of (listed made)))
+  tried_makes (Ok made) done = client_makes made done
+  tried_makes (Err fault) done = tt
+
+  -- what the actor's mark has seen then has the client as it is
+  pub tried_state : (tried : Result Messages Fault) → IfOk tried (λ made. answer ≡ Ok (made_by made new)) → OnErr tried (new ≡ old) → (seen now : List Entry) → old ≡ (world_at plan seen).clients volume
+      → MatchResult tried (λ made. world_at plan now ≡ after plan w event) (λ fault. now ≡ seen) → new ≡ (world_at plan now).clients volume
+  tried_state (Ok made) done still seen now was stands = sym (ap (λ (v : World). v.clients volume) stands ∙ client_after made done)
+  tried_state (Err fault) done still seen now was stands = still ∙ was ∙ ap (λ (es : List Entry). (world_at plan es).clients volume) (sym stands)

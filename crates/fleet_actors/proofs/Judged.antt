@@ -1,0 +1,57 @@
+-- What a refusal of a try shows.
+use Rattle.std.proofs.Common.{◌≡◌, ℕ, Bool, Option, Some, None, Result, Ok, Err, ap, subst}
+use Rattle.volume_model.specs.declared.fault.Fault.{Fault}
+use Rattle.volume_model.specs.declared.fault.Fault.TheVariants.{NoMemory, NoMessage, NoSlot, JournalFull}
+use Rattle.volume_model.specs.Answer.{refusal_of, AnswersLate}
+use Rattle.volume_model.specs.Plan.{Plan}
+use Rattle.volume_model.specs.Message.{Message}
+use Rattle.volume_model.specs.Client.{Client}
+use Rattle.volume_model.specs.Told.{Refuses, IsOwnOfClient}
+use Rattle.volume_model.proofs.Own.{issued_own, taken_own, cut_own, opened_own, resent_own, page_asked_own}
+use Rattle.recovery.specs.Recoveries.{admitted}
+use Rattle.writer_core.specs.Changes.{changes_of}
+use Rattle.fleet_actors.specs.declared.client_deed.ClientDeed.{ClientDeed}
+use Rattle.fleet_actors.specs.declared.client_deed.ClientDeed.TheVariants as deed
+use Rattle.fleet_actors.specs.Deeds.{deed_acted, HasFound}
+use Rattle.fleet_actors.specs.Tried.{JudgedOf}
+
+-- a client finds its refusals by itself
+pub deed_own : (asked : ClientDeed) (found : Option Message) (plan : Plan) (volume : ℕ) (now : Client) → HasFound asked found → Refuses IsOwnOfClient (deed_acted found asked plan volume now)
+deed_own (deed.Issue changes) found plan volume now has = issued_own plan volume now (changes_of changes.items)
+deed_own (deed.Take message) None plan volume now has = absurd cc
+deed_own (deed.Take message) (Some m) plan volume now has = taken_own plan volume now m
+deed_own deed.Cut found plan volume now has = cut_own plan volume now
+deed_own deed.Open found plan volume now has = opened_own plan now
+deed_own (deed.Resend lsn) found plan volume now has = resent_own volume now lsn
+deed_own (deed.Read group block) found plan volume now has = page_asked_own volume now group block
+
+module _ {T : Type 0} (full : Bool) (defined : Result T Fault) (own : Refuses IsOwnOfClient defined) where
+  is_own : (fault : Fault) → defined ≡ Err fault → IsOwnOfClient fault
+  is_own fault e = subst (λ (r : Result T Fault). Refuses IsOwnOfClient r) e own
+
+  judged : (fault : Fault) → defined ≡ Err fault → JudgedOf full defined fault
+  judged NoMemory e = tt
+  judged NoMessage e = is_own NoMessage e
+  judged NoSlot e = absurd (is_own NoSlot e)
+  judged JournalFull e = absurd (is_own JournalFull e)
+  judged fault e = e
+
+  -- an act was refused
+  pub judged_act : {R S : Type 0} (late : Fault → Bool) (step : R → S → T) (old new : S) (fault : Fault) → AnswersLate late step defined old (Err fault) new → JudgedOf full defined fault
+  judged_act late step old new NoMemory h = tt
+  judged_act late step old new fault h = judged fault h.0
+
+-- an act that was refused left the actor as it was
+pub still_act : {R S T : Type 0} (late : Fault → Bool) (step : R → S → T) (defined : Result T Fault) (old new : S) (fault : Fault) → AnswersLate late step defined old (Err fault) new → new ≡ old
+still_act late step defined old new NoMemory h = h.1
+still_act late step defined old new fault h = h.1
+
+-- what is refused by a test is what is defined
+refused_is : {T : Type 0} (defined : Result T Fault) (fault : Fault) → refusal_of defined ≡ Err fault → defined ≡ Err fault
+refused_is (Ok step) fault h = absurd cc
+refused_is (Err other) fault h = let same : other ≡ fault = cc in ap Err same
+
+-- a test refused
+pub judged_test : {T : Type 0} (full : Bool) (defined : Result T Fault) → Refuses IsOwnOfClient defined → (late : Fault → Bool) (fault : Fault) → AnswersLate late admitted (refusal_of defined) tt (Err fault) tt → JudgedOf full defined fault
+judged_test full defined own late NoMemory h = tt
+judged_test full defined own late fault h = judged full defined own fault (refused_is defined fault h.0)

@@ -1,0 +1,169 @@
+-- The step of a node, in the world.
+use Rattle.std.proofs.Common.{◌≡◌, ◌≢◌, ℕ, ◌<◌, ◌≤◌, not, ◌&&◌, nat_lt, Bool, true, List, [], length, Option, Some, option_map, Result, Ok, Err, refl, sym, ap, ap₂, ◌∙◌, subst, arith}
+use Rattle.std.proofs.lemmas.Bool.{le-ltb, lt-ltb}
+use Rattle.std.specs.Prelude.{slice_get}
+use Rattle.volume_model.specs.declared.fault.Fault.{Fault}
+use Rattle.volume_model.specs.declared.fault.Fault.TheVariants.{JournalFull, NoActor, NoMemory, NoMessage, NoSlot}
+use Rattle.volume_model.specs.Actor.{Actor, Agree, actor_of}
+use Rattle.volume_model.specs.Answer.{AnswersLate, Fails}
+use Rattle.volume_model.specs.Judging.{Exact}
+use Rattle.volume_model.specs.Journal.{Entry, world_at}
+use Rattle.volume_model.specs.Lists.{numbered}
+use Rattle.volume_model.specs.Message.{Message}
+use Rattle.volume_model.specs.Node.{Node, NodeAnswer, NodeStep, hydrated, offered, restarted}
+use Rattle.volume_model.specs.Plan.{Plan, is_named}
+use Rattle.volume_model.specs.Refusal.{refuse_if}
+use Rattle.volume_model.specs.Told.{makes, refusal, IsOwn, Refuses}
+use Rattle.volume_model.specs.World.{Event, Step, World, after, after_step, deliver, groups_joined, if_there, of_node, step}
+use Rattle.volume_model.proofs.Frames.{put_at_here}
+use Rattle.volume_model.proofs.ListFacts.{get_there}
+use Rattle.volume_model.proofs.Own.{hydrated_own, offered_own, reaction_own}
+use Rattle.segment_core.specs.declared.act.NodeAct.{NodeAct}
+use Rattle.segment_core.specs.declared.segment.Segment.{Segment}
+use Rattle.segment_core.specs.Acts.{act_late, acted}
+use Rattle.segment_core.specs.Prepared.{step_of}
+use Rattle.segment_core.specs.Segment.{act_of, node_of, IsSameActor, IsSegmentOf}
+use Rattle.wire.specs.declared.message.Message as wire
+use Rattle.wire.specs.Message.{message_of}
+use Rattle.fleet_actors.specs.declared.deed.NodeDeed.{NodeDeed}
+use Rattle.fleet_actors.specs.declared.deed.NodeDeed.TheVariants as deed
+use Rattle.fleet_actors.specs.Nodes.{done_by, event_by}
+
+-- a node that the plan names, and whose group has joined, isn't refused for that
+there_is : (plan : Plan) (joined g m : ℕ) (answer : NodeAnswer) → nat_lt g joined ≡ true → is_named plan g m ≡ true → if_there plan joined g m answer ≡ answer
+there_is plan joined g m answer l e = ap₂ (λ (b c : Bool). refuse_if (not (b && c)) NoActor answer) l e
+
+-- one whose group hasn't joined is
+absent : (plan : Plan) (w : World) (g m : ℕ) (answer : NodeAnswer) → groups_joined w.authority ≤ g → refusal (of_node w g m (if_there plan (groups_joined w.authority) g m answer)) ≡ 82
+absent plan w g m answer h = ap (λ (b : Bool). refusal (of_node w g m (refuse_if (not (b && is_named plan g m)) NoActor answer))) (le-ltb g (groups_joined w.authority) h)
+
+-- what the journal says of the groups that have joined
+pub there_joined : (w : World) (g from joined : ℕ) → joined ≡ groups_joined w.authority → from ≡ g → from < joined → nat_lt g (groups_joined w.authority) ≡ true
+there_joined w g from joined j f h = lt-ltb g (groups_joined w.authority) (omega (arith, h, j, f))
+
+pub not_joined : (w : World) (g from joined : ℕ) → joined ≡ groups_joined w.authority → from ≡ g → joined ≤ from → groups_joined w.authority ≤ g
+not_joined w g from joined j f h = omega (arith, h, j, f)
+
+pub unjoined_delivery : (plan : Plan) (w : World) (g m number : ℕ) → groups_joined w.authority ≤ g → refusal (step plan w (Event.Deliver g m number)) ≡ 82
+unjoined_delivery plan w g m number h = absent plan w g m (deliver plan g m (w.nodes g m) (numbered w.messages number)) h
+
+pub unjoined_deed : (plan : Plan) (w : World) (g m : ℕ) (what : NodeDeed) → groups_joined w.authority ≤ g → refusal (step plan w (event_by g m what)) ≡ 82
+unjoined_deed plan w g m deed.Hydrate h = absent plan w g m (hydrated plan g m (w.nodes g m)) h
+unjoined_deed plan w g m deed.Restart h = absent plan w g m (Ok (record { made = []; node = restarted (w.nodes g m) })) h
+unjoined_deed plan w g m (deed.Offer lsn) h = absent plan w g m (offered g (w.nodes g m) lsn) h
+
+module _ (plan : Plan) (w : World) (g m : ℕ) (joined : nat_lt g (groups_joined w.authority) ≡ true) (named : is_named plan g m ≡ true) (now : Node) (here : now ≡ w.nodes g m) where
+  -- a delivery is the node's own step, of the message that was found
+  delivers : (number : ℕ) (found : Option Message) → numbered w.messages number ≡ found → step plan w (Event.Deliver g m number) ≡ of_node w g m (deliver plan g m now found)
+  delivers number found is =
+      ap (of_node w g m) (there_is plan (groups_joined w.authority) g m (deliver plan g m (w.nodes g m) (numbered w.messages number)) joined named)
+      ∙ ap (λ (n : Node). of_node w g m (deliver plan g m n (numbered w.messages number))) (sym here)
+      ∙ ap (λ (o : Option Message). of_node w g m (deliver plan g m now o)) is
+
+  -- so is what it does of itself
+  does : (what : NodeDeed) → step plan w (event_by g m what) ≡ of_node w g m (done_by plan g m now what)
+  does deed.Hydrate =
+      ap (of_node w g m) (there_is plan (groups_joined w.authority) g m (hydrated plan g m (w.nodes g m)) joined named) ∙ ap (λ (n : Node). of_node w g m (hydrated plan g m n)) (sym here)
+  does deed.Restart =
+      ap (of_node w g m) (there_is plan (groups_joined w.authority) g m (Ok (record { made = []; node = restarted (w.nodes g m) })) joined named)
+      ∙ ap (λ (n : Node). of_node w g m (Ok (record { made = []; node = restarted n }))) (sym here)
+  does (deed.Offer lsn) =
+      ap (of_node w g m) (there_is plan (groups_joined w.authority) g m (offered g (w.nodes g m) lsn) joined named) ∙ ap (λ (n : Node). of_node w g m (offered g n lsn)) (sym here)
+
+-- the refusal of a node is the one of the model
+exact : (plan : Plan) (slots cells : ℕ) (es : List Entry) (g m : ℕ) (e : Event) (answer : NodeAnswer) → step plan (world_at plan es) e ≡ of_node (world_at plan es) g m answer → Refuses IsOwn answer
+    → (fault : Fault) → Fails fault answer → Exact plan slots cells es e fault
+exact plan slots cells es g m e answer is own NoMemory fails = tt
+exact plan slots cells es g m e answer is own NoSlot fails = absurd (subst (Refuses IsOwn) fails own)
+exact plan slots cells es g m e answer is own JournalFull fails = absurd (subst (Refuses IsOwn) fails own)
+exact plan slots cells es g m e answer is own fault fails = ap refusal (is ∙ ap (of_node (world_at plan es) g m) fails)
+
+-- what is refused fails so
+pub failed : (answer : NodeAnswer) (fault : Fault) → answer ≡ Err fault → Fails fault answer
+failed answer NoMemory h = tt
+failed answer fault h = h
+
+-- a node doesn't refuse for want of a message
+pub not_lost : (answer : NodeAnswer) (fault : Fault) → Refuses IsOwn answer → Fails fault answer → fault ≢ NoMessage
+not_lost answer fault own fails e = subst (Refuses IsOwn) (subst (λ (f : Fault). Fails f answer) e fails) own
+
+-- refusals of a node are its own
+delivery_own : (plan : Plan) (g m : ℕ) (now : Node) (found : Option Message) (x : Message) → found ≡ Some x → Refuses IsOwn (deliver plan g m now found)
+delivery_own plan g m now found x is = subst (λ (o : Option Message). Refuses IsOwn (deliver plan g m now o)) (sym is) (reaction_own plan g m now x)
+
+pub letter_own : (plan : Plan) (g m : ℕ) (now : Node) (made : List wire.Message) (index : ℕ) → index < length made → Refuses IsOwn (deliver plan g m now (option_map message_of (slice_get made index)))
+letter_own plan g m now made index inside =
+    let x = get_there made index inside in
+    delivery_own plan g m now (option_map message_of (slice_get made index)) (message_of x.0) (ap (option_map message_of) x.1)
+
+-- which actor does it
+pub deed_actor : (g m : ℕ) (what : NodeDeed) → actor_of (event_by g m what) ≡ Actor.Node g m
+deed_actor g m deed.Hydrate = refl
+deed_actor g m deed.Restart = refl
+deed_actor g m (deed.Offer lsn) = refl
+
+pub deed_own : (plan : Plan) (g m : ℕ) (now : Node) (what : NodeDeed) → Refuses IsOwn (done_by plan g m now what)
+deed_own plan g m now deed.Hydrate = hydrated_own plan g m now
+deed_own plan g m now deed.Restart = tt
+deed_own plan g m now (deed.Offer lsn) = offered_own g now lsn
+
+-- A node that stands in the journal as at its mark: what it refuses, the model refuses.
+module _ (plan : Plan) (slots cells : ℕ) (es : List Entry) (seen : World) (actor : Actor) (g m : ℕ) (now : Node) (who : actor ≡ Actor.Node g m) (named : is_named plan g m ≡ true) (state : now ≡ seen.nodes g m) (agree : Agree actor seen (world_at plan es)) (joined : nat_lt g (groups_joined (world_at plan es).authority) ≡ true) where
+  here : now ≡ (world_at plan es).nodes g m
+  here = state ∙ subst (λ (a : Actor). Agree a seen (world_at plan es)) who agree
+
+  -- a letter
+  pub declines : (number asked : ℕ) (found : Option Message) → Refuses IsOwn (deliver plan g m now found) → asked ≡ number → numbered (world_at plan es).messages number ≡ found → (fault : Fault) → Fails fault (deliver plan g m now found) → Exact plan slots cells es (Event.Deliver g m asked) fault
+  declines number asked found own same is fault fails =
+      exact plan slots cells es g m (Event.Deliver g m asked) (deliver plan g m now found) (delivers plan (world_at plan es) g m joined named now here asked found (ap (numbered (world_at plan es).messages) same ∙ is)) own fault fails
+
+  -- what it does of itself
+  pub denies : (what : NodeDeed) (fault : Fault) → Fails fault (done_by plan g m now what) → Exact plan slots cells es (event_by g m what) fault
+  denies what fault fails =
+      exact plan slots cells es g m (event_by g m what) (done_by plan g m now what) (does plan (world_at plan es) g m joined named now here what) (deed_own plan g m now what) fault fails
+
+  -- the messages that it answers a letter with are the model's
+  pub answers : (number asked : ℕ) (found : Option Message) → asked ≡ number → numbered (world_at plan es).messages number ≡ found → (s : NodeStep) → deliver plan g m now found ≡ Ok s → (made : List Message) → made ≡ s.made → makes (step plan (world_at plan es) (Event.Deliver g m asked)) ≡ Some made
+  answers number asked found same is s ok made are =
+      ap makes (delivers plan (world_at plan es) g m joined named now here asked found (ap (numbered (world_at plan es).messages) same ∙ is) ∙ ap (of_node (world_at plan es) g m) ok) ∙ ap (λ (ms : List Message). Some ms) (sym are)
+
+  -- and it is then the model's node
+  pub becomes : (number asked : ℕ) (found : Option Message) → asked ≡ number → numbered (world_at plan es).messages number ≡ found → (s : NodeStep) → deliver plan g m now found ≡ Ok s → (after plan (world_at plan es) (Event.Deliver g m asked)).nodes g m ≡ s.node
+  becomes number asked found same is s ok =
+      ap (λ (r : Result Step Fault). (after_step (world_at plan es) r).nodes g m) (delivers plan (world_at plan es) g m joined named now here asked found (ap (numbered (world_at plan es).messages) same ∙ is) ∙ ap (of_node (world_at plan es) g m) ok)
+      ∙ put_at_here (world_at plan es).nodes g m s.node
+
+  -- what it does of itself isn't refused where the node does it
+  pub grants : (what : NodeDeed) (s : NodeStep) → done_by plan g m now what ≡ Ok s → refusal (step plan (world_at plan es) (event_by g m what)) ≡ 0
+  grants what s ok = ap refusal (does plan (world_at plan es) g m joined named now here what ∙ ap (of_node (world_at plan es) g m) ok)
+
+  -- so are those that it makes of itself
+  pub tells : (what : NodeDeed) (s : NodeStep) → done_by plan g m now what ≡ Ok s → (made : List Message) → made ≡ s.made → makes (step plan (world_at plan es) (event_by g m what)) ≡ Some made
+  tells what s ok made are =
+      ap makes (does plan (world_at plan es) g m joined named now here what ∙ ap (of_node (world_at plan es) g m) ok) ∙ ap (λ (ms : List Message). Some ms) (sym are)
+
+  -- and it is then the model's node
+  pub done : (what : NodeDeed) (s : NodeStep) → done_by plan g m now what ≡ Ok s → (after plan (world_at plan es) (event_by g m what)).nodes g m ≡ s.node
+  done what s ok =
+      ap (λ (r : Result Step Fault). (after_step (world_at plan es) r).nodes g m) (does plan (world_at plan es) g m joined named now here what ∙ ap (of_node (world_at plan es) g m) ok) ∙ put_at_here (world_at plan es).nodes g m s.node
+
+-- the segment of a member stays its segment
+pub same_of : (plan : Plan) (g m : ℕ) (old new : Segment) → IsSegmentOf plan g m old → IsSameActor old new → IsSegmentOf plan g m new
+same_of plan g m old new of same =
+    record { plan_is = same.plan_is ∙ of.plan_is; group_is = same.group_is ∙ of.group_is; member_is = same.member_is ∙ of.member_is }
+
+-- want of memory, or the refusal that is defined
+late_fails : {R S T : Type 0} (late : Fault → Bool) (step : R → S → T) (defined : Result T Fault) (old new : S) (fault : Fault) → AnswersLate late step defined old (Err fault) new → Fails fault defined
+late_fails late step defined old new NoMemory h = tt
+late_fails late step defined old new fault h = h.0
+
+-- a segment does what it is asked to as the node that it is
+module _ (plan : Plan) (g m : ℕ) (s : Segment) (is : IsSegmentOf plan g m s) (what : NodeDeed) (act : NodeAct) (same : (plan : Plan) (g m : ℕ) (now : Node) → acted act plan g m now ≡ done_by plan g m now what) where
+  same_act : act_of s act ≡ done_by plan g m (node_of s) what
+  same_act = (λ i. acted act (is.plan_is i) (is.group_is i) (is.member_is i) (node_of s)) ∙ same plan g m (node_of s)
+
+  pub deed_steps : (made : NodeStep) → act_of s act ≡ Ok made → done_by plan g m (node_of s) what ≡ Ok made
+  deed_steps made ok = sym same_act ∙ ok
+
+  pub deed_fails : (fault : Fault) → AnswersLate (act_late act) step_of (act_of s act) (node_of s) (Err fault) (node_of s) → Fails fault (done_by plan g m (node_of s) what)
+  deed_fails fault h = subst (Fails fault) same_act (late_fails (act_late act) step_of (act_of s act) (node_of s) (node_of s) fault h)

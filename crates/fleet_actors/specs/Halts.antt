@@ -1,0 +1,34 @@
+-- What a step under both locks does to a pass, and what its refusal says.
+use Rattle.std.specs.Prelude.{◌≡◌, ℕ, List, [], ◌∷◌, ◌++◌, Result, Ok, Err}
+use Rattle.volume_model.specs.declared.fault.Fault.{Fault}
+use Rattle.volume_model.specs.Plan.{Plan}
+use Rattle.volume_model.specs.World.{Event}
+use Rattle.volume_model.specs.Journal.{Entry}
+use Rattle.volume_model.specs.Judging.{Exact, IsNoted, Refusal}
+use Rattle.journal.specs.declared.entry.Receipt.{Receipt}
+use Rattle.journal.specs.Passes.{AddsStep, AddsRefusal}
+use Rattle.journal.specs.Standing.{Made}
+use Rattle.fleet_actors.specs.declared.halt.Halt.{Halt}
+use Rattle.fleet_actors.specs.declared.halt.Halt.TheVariants.{Again, Refused}
+
+-- what a refusal adds to the notes: nothing where it is want of memory or of a message
+pub record AddsNote (event : Event) (fault : Fault) (steps : List Made) (before after : List Refusal) : Type 0 where
+  pub noted : IsNoted fault → AddsRefusal event fault steps before after
+  pub silent : (IsNoted fault → ⊥) → after ≡ before
+
+-- what a step under both locks does to a pass
+abbrev pub Halts : Event → Result Receipt Halt → List Made → List Made → List Refusal → List Refusal → Type 0
+Halts event (Ok r) steps steps' notes notes' = AddsStep event r steps steps' × (notes' ≡ notes)
+Halts event (Err Again) steps steps' notes notes' = (steps' ≡ steps) × (notes' ≡ notes)
+Halts event (Err (Refused fault)) steps steps' notes notes' = (steps' ≡ steps) × AddsNote event fault steps notes notes'
+
+-- the refusal is the one of the model
+abbrev pub IsExact : Plan → ℕ → ℕ → List Entry → Event → Result Receipt Halt → Type 0
+IsExact plan slots cells es event (Ok r) = Unit {0}
+IsExact plan slots cells es event (Err Again) = Unit {0}
+IsExact plan slots cells es event (Err (Refused fault)) = Exact plan slots cells es event fault
+
+-- what it does to the journal: its last entry is the step's, or it is what it was
+abbrev pub Enters : Event → List Entry → List Entry → Result Receipt Halt → Type 0
+Enters event es es' (Ok r) = (e : Entry) × (es' ≡ es ++ e ∷ []) × (e.event ≡ event)
+Enters event es es' (Err halt) = es' ≡ es

@@ -1,0 +1,7 @@
+pub mod Acts
+pub mod Deeds
+pub mod Halts
+pub mod Nodes
+pub mod Ready
+pub mod Tried
+pub mod Volumes

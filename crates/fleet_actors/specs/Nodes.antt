@@ -1,0 +1,41 @@
+-- What contracts see of a node's actor, and what it does.
+use Rattle.std.specs.Prelude.{ℕ, [], Option, Ok}
+use Rattle.std.specs.declared.sync.ledger.Ledger.{Ghosts as LedgerGhosts}
+use Rattle.volume_model.specs.Plan.{Plan}
+use Rattle.volume_model.specs.Message.{Message}
+use Rattle.volume_model.specs.Node.{Node, NodeAnswer, hydrated, offered, restarted}
+use Rattle.volume_model.specs.World.{Event, deliver}
+use Rattle.segment_core.specs.Segment.{node_of}
+use Rattle.journal.specs.declared.row.Site.{Ghosts as SiteGhosts}
+use Rattle.fleet_actors.specs.declared.deed.NodeDeed.{NodeDeed}
+use Rattle.fleet_actors.specs.declared.deed.NodeDeed.TheVariants as deed
+use Rattle.fleet_actors.specs.declared.node.NodeActor.{NodeActor}
+
+-- the event that a node's deed is
+abbrev pub event_by : ℕ → ℕ → NodeDeed → Event
+event_by group member deed.Hydrate = Event.Hydrate group member
+event_by group member deed.Restart = Event.Restart group member
+event_by group member (deed.Offer lsn) = Event.Offer group member lsn
+
+-- what the node of a member of a group does of itself
+abbrev pub done_by : Plan → ℕ → ℕ → Node → NodeDeed → NodeAnswer
+done_by plan group member now deed.Hydrate = hydrated plan group member now
+done_by plan group member now deed.Restart = Ok (record { made = []; node = restarted now })
+done_by plan group member now (deed.Offer lsn) = offered group now lsn
+
+module _ {X : Type 0} {s : SiteGhosts X} {l : LedgerGhosts X} where
+  -- its group
+  abbrev pub actor_group : NodeActor X s l → ℕ
+  actor_group actor = actor.group
+
+  -- the member whose node it is
+  abbrev pub actor_member : NodeActor X s l → ℕ
+  actor_member actor = actor.member
+
+  -- the node of the model that it is
+  abbrev pub actor_node : NodeActor X s l → Node
+  actor_node actor = node_of actor.segment
+
+  -- what it does with a message that was found
+  abbrev pub delivery_of : NodeActor X s l → Option Message → NodeAnswer
+  delivery_of actor found = deliver s.plan actor.group actor.member (node_of actor.segment) found
