@@ -3,7 +3,7 @@
 use crate::broken::Broken;
 use crate::judge::check_promises;
 use crate::outcome::{Find, Outcome, Writer};
-use crate::said::Said;
+use judging::Said;
 
 /// Whether two lists of writers are the same.
 fn same_writers(run: &[Writer], fleet: &[Writer]) -> bool {

@@ -1,5 +1,7 @@
 //! What a run or a fleet prints, read back.
 
+use crate::broken::Broken;
+use judging::Said;
 use std::alloc::{AllocError, Global};
 
 /// What was answered to a line of the script.
@@ -160,13 +162,26 @@ impl Outcome {
     }
 
     /// What this text says, line by line.
-    pub fn read(alloc: Global, text: &str) -> Result<Outcome, AllocError> {
+    fn read(alloc: Global, text: &str) -> Result<Outcome, AllocError> {
         let mut outcome = Outcome::new(alloc);
         for line in text.split('\n') {
             if !line.is_empty() {
                 let words: Vec<&str> = line.split(' ').collect(alloc)?;
                 outcome.add(of_line(words.as_slice()))?;
             }
+        }
+        Ok(outcome)
+    }
+
+    /// What a job of this name printed, where it wasn't refused.
+    pub fn of(alloc: Global, said: &Said, name: &'static str) -> Result<Outcome, Broken> {
+        if said.status > 1 || !said.told.is_empty() {
+            let line = String::from_str(alloc, said.told.as_str().trim_end())?;
+            return Err(Broken::Told(name, line));
+        }
+        let outcome = Outcome::read(alloc, said.printed.as_str())?;
+        if outcome.strange != 0 {
+            return Err(Broken::Strange(name));
         }
         Ok(outcome)
     }

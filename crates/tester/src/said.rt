@@ -1,44 +1,22 @@
-//! Jobs on texts in memory.
+//! Jobs on texts in memory, and what they say.
 
 ghost use Rattle.std.specs.Prelude.{◌≤◌};
 
-use crate::broken::Broken;
-use crate::outcome::Outcome;
 use command_line::{Action, Job};
 use jobs::{Output, Source, perform};
-use std::alloc::Global;
+use judging::Said;
+use std::alloc::{AllocError, Global};
+use std::io;
 use std::sync::Wait;
 use std::thread::Threads;
 
-/// The status of a job, and what it printed.
-#[derive(Drop)]
-pub struct Said {
-    pub status: u8,
-    printed: Vec<u8>,
-    told: Vec<u8>,
-}
-
-impl Said {
-    /// The text on standard output.
-    fn text(&self) -> Option<&str> {
-        std::str::from_utf8(self.printed.as_slice()).ok()
-    }
-
-    /// What was printed, where the job wasn't refused.
-    pub fn outcome(&self, alloc: Global, name: &'static str) -> Result<Outcome, Broken> {
-        let Some(text) = self.text() else {
-            return Err(Broken::Strange(name));
-        };
-        if self.status > 1 || !self.told.is_empty() {
-            let told = std::str::from_utf8(self.told.as_slice()).ok().unwrap_or("");
-            let line = String::from_str(alloc, told.trim_end())?;
-            return Err(Broken::Told(name, line));
-        }
-        let outcome = Outcome::read(alloc, text)?;
-        if outcome.strange != 0 {
-            return Err(Broken::Strange(name));
-        }
-        Ok(outcome)
+/// A plan's check.
+pub fn check() -> Job<'static> {
+    Job {
+        action: Action::Check,
+        plan: "plan",
+        script: None,
+        workers: 1,
     }
 }
 
@@ -65,22 +43,30 @@ pub fn fleet(workers: u8) -> Job<'static>
     }
 }
 
-/// What is said of a job on these texts.
+/// What a job says of a plan's text, which may be one that can't be read, and of a script.
 pub fn say<H: Threads + Wait + Sync>(
-    rt: &H,
+    threads: &H,
     alloc: Global,
     job: &Job<'_>,
-    plan: &str,
+    plan: io::Result<&[u8]>,
     script: &str,
-) -> Said {
-    let mut plan = Source::new(Ok(plan.as_bytes()));
+) -> Result<Said, AllocError> {
+    let mut plan = Source::new(plan);
     let mut script = Source::new(Ok(script.as_bytes()));
     let mut out = Output::new(Vec::new(alloc));
     let mut err = Output::new(Vec::new(alloc));
-    let status = perform(rt, alloc, job, &mut plan, &mut script, &mut out, &mut err);
-    Said {
+    let status = perform(
+        threads,
+        alloc,
+        job,
+        &mut plan,
+        &mut script,
+        &mut out,
+        &mut err,
+    );
+    Ok(Said {
         status,
-        printed: out.into_inner(),
-        told: err.into_inner(),
-    }
+        printed: String::from_utf8_lossy(alloc, out.into_inner().as_slice())?,
+        told: String::from_utf8_lossy(alloc, err.into_inner().as_slice())?,
+    })
 }

@@ -8,7 +8,9 @@ use crate::plans::Plan;
 use crate::said::{fleet, run, say};
 use crate::schedule::Schedule;
 use crate::written::Written;
+use command_line::Job;
 use dice::Dice;
+use judging::Said;
 use std::alloc::{AllocError, Global};
 use std::sync::Wait;
 use std::thread::Threads;
@@ -71,6 +73,17 @@ impl Trial {
         self.script.lines.saturating_sub(self.script.waits)
     }
 
+    /// What a job says of the plan and the script.
+    fn said<H: Threads + Wait + Sync>(
+        &self,
+        rt: &H,
+        alloc: Global,
+        job: &Job<'_>,
+    ) -> Result<Said, AllocError> {
+        let plan = Ok(self.plan.as_bytes());
+        say(rt, alloc, job, plan, self.script.text.as_str())
+    }
+
     /// Runs the script on threads by so many drivers, and judges what is said.
     fn try_fleet<H: Threads + Wait + Sync>(
         &self,
@@ -79,9 +92,8 @@ impl Trial {
         run: Option<&Outcome>,
     ) -> Result<(), Broken> {
         let drivers: u8 = if run.is_some() { 1 } else { 4 };
-        let plan = self.plan.as_str();
-        let said = say(rt, alloc, &fleet(drivers), plan, self.script.text.as_str());
-        let fleet = said.outcome(alloc, "fleet")?;
+        let said = self.said(rt, alloc, &fleet(drivers))?;
+        let fleet = Outcome::of(alloc, &said, "fleet")?;
         check_fleet(&said, &fleet, drivers, self.events())?;
         match run {
             Some(run) => check_alike(run, &fleet),
@@ -97,9 +109,8 @@ impl Trial {
         several: bool,
         counts: &mut Counts,
     ) -> Result<(), Broken> {
-        let plan = self.plan.as_str();
-        let said = say(rt, alloc, &run(), plan, self.script.text.as_str());
-        let outcome = said.outcome(alloc, "run")?;
+        let said = self.said(rt, alloc, &run())?;
+        let outcome = Outcome::of(alloc, &said, "run")?;
         let shown = check_run(
             alloc,
             &outcome,

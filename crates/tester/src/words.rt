@@ -1,25 +1,34 @@
 //! What the words of the command line ask for.
 
-/// What the program is to do.
+/// What the program is to do once it has tried the books that the words name.
 #[derive(Clone, Copy, Debug, PartialEq, Eq)]
 pub enum Wish {
+    /// Nothing else.
+    Books,
     /// Try the runs of so many seeds from this one on.
     Try { seed: u64, count: u64 },
     /// Show the plan and the script of a seed.
     Show { seed: u64 },
 }
 
-/// What these words ask for, behind the program's own name.
+/// Whether a word names a book.
+pub fn is_book(word: &str) -> bool {
+    word.ends_with(".book")
+}
+
+/// What these words ask for beside books, behind the program's own name.
 pub fn asked_by(words: &[String]) -> Option<Wish> {
-    match words {
-        [_, seed] => Some(Wish::Try {
+    let mut others = words.iter().skip(1).filter(|word| !is_book(word.as_str()));
+    match (others.next(), others.next(), others.next()) {
+        (None, _, _) if words.len() > 1 => Some(Wish::Books),
+        (Some(seed), None, _) => Some(Wish::Try {
             seed: number(seed)?,
             count: 1,
         }),
-        [_, show, seed] if show.as_str() == "show" => Some(Wish::Show {
+        (Some(show), Some(seed), None) if show.as_str() == "show" => Some(Wish::Show {
             seed: number(seed)?,
         }),
-        [_, seed, count] => Some(Wish::Try {
+        (Some(seed), Some(count), None) => Some(Wish::Try {
             seed: number(seed)?,
             count: number(count)?,
         }),

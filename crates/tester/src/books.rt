@@ -1,18 +1,16 @@
-//! Tries the cases of books: jobs of the program, each with the answer that is due.
-#![tactic(auto)]
+//! Books of cases: jobs of the program, each with the answer that is due.
 
 mod book;
 mod case;
-mod said;
 mod trial;
 mod wrong;
 
+use crate::words::is_book;
 use book::cases;
 use case::Case;
-use std::process::ExitCode;
 use std::sync::Wait;
 use std::thread::Threads;
-use std::{env, fs, io};
+use std::{fs, io};
 use trial::try_case;
 
 /// Tries the cases of a book, and prints of each what is wrong with it, if anything, or at last that nothing is.
@@ -54,18 +52,17 @@ fn try_book<H: Threads + Wait + Sync>(
     }
 }
 
-/// Tries the books that the words of the command line name; the exit status is 1 where something is wrong with one.
-fn try_all<H: Threads + Wait + Sync>(rt: &HostRuntime, threads: &H) -> io::Result<u8> {
-    let words: Vec<String> = env::args(rt)?.collect(rt.alloc())?;
+/// Tries the books that words of the command line name; the exit status is 1 where something is wrong with one.
+pub fn try_books<H: Threads + Wait + Sync>(
+    rt: &HostRuntime,
+    threads: &H,
+    words: &[String],
+) -> io::Result<u8> {
     let mut status = 0;
     for name in words.iter().skip(1) {
-        if !try_book(rt, threads, name.as_str())? {
+        if is_book(name.as_str()) && !try_book(rt, threads, name.as_str())? {
             status = 1;
         }
     }
     Ok(status)
-}
-
-fn main(rt: HostRuntime) -> ExitCode {
-    ExitCode::from(try_all(&rt, &rt).unwrap_or(2))
 }

@@ -1,14 +1,17 @@
 //! Cases that are tried.
 
-use crate::case::{Case, Question};
-use crate::said::{PlanText, checked, say};
-use crate::wrong::Wrong;
+use crate::books::case::{Case, Question};
+use crate::books::wrong::Wrong;
+use crate::said::{check, say};
 use command_line::{Job, job};
 use judging::Said;
 use std::alloc::{AllocError, Global};
-use std::fs;
 use std::sync::Wait;
 use std::thread::Threads;
+use std::{fs, io};
+
+/// A plan's text, or why it can't be read.
+type PlanText = Result<String, io::Error>;
 
 /// A plan's text, and a script over it.
 #[derive(Clone, Copy)]
@@ -27,8 +30,8 @@ fn prints<H: Threads + Wait + Sync>(
     match question.checked {
         None => Ok(printed == question.printed.as_str()),
         Some(due) => {
-            let plan = String::from_str(alloc, printed)?;
-            Ok(checked(threads, alloc, plan)?.as_str().trim_end() == due)
+            let said = say(threads, alloc, &check(), Ok(printed.as_bytes()), "")?;
+            Ok(said.printed.as_str().trim_end() == due)
         }
     }
 }
@@ -41,7 +44,11 @@ fn try_job<H: Threads + Wait + Sync>(
     job: &Job<'_>,
     texts: &Texts<'_>,
 ) -> Result<Said, Wrong> {
-    let said = say(threads, alloc, job, texts.plan, texts.script)?;
+    let plan = match texts.plan {
+        Ok(text) => Ok(text.as_bytes()),
+        Err(error) => Err(*error),
+    };
+    let said = say(threads, alloc, job, plan, texts.script)?;
     let is_told = said.is(question.status, question.told.as_str());
     if is_told && prints(threads, alloc, question, said.printed.as_str())? {
         Ok(said)

@@ -6,8 +6,8 @@
 //! written to standard error, and `%` what a check prints of the plan that is printed. An empty line and one that begins with
 //! `#` say nothing.
 
-use crate::case::{Case, Edit, Question};
-use crate::wrong::Wrong;
+use crate::books::case::{Case, Edit, Question};
+use crate::books::wrong::Wrong;
 use std::alloc::{AllocError, Global};
 
 /// What a line says of a question's answer.

@@ -1,0 +1,75 @@
+//! The runs of seeds: random plans and scripts, judged by what is printed of them.
+
+use crate::broken::Broken;
+use crate::trial::{Counts, Trial};
+use std::alloc::Global;
+use std::io;
+use std::sync::Wait;
+use std::thread::Threads;
+
+/// A run that has broken a promise.
+#[derive(Drop)]
+struct Found {
+    seed: u64,
+    broken: Broken,
+}
+
+/// Tries the run of a seed.
+fn try_one<H: Threads + Wait + Sync>(
+    rt: &H,
+    alloc: Global,
+    seed: u64,
+    several: bool,
+    counts: &mut Counts,
+) -> Result<(), Broken> {
+    let trial = Trial::new(alloc, seed)?;
+    trial.try_all(rt, alloc, several, counts)
+}
+
+/// Tries the runs of so many seeds, every fourth on several drivers too, up to the first that breaks a promise.
+fn try_many<H: Threads + Wait + Sync>(
+    rt: &H,
+    alloc: Global,
+    first: u64,
+    count: u64,
+) -> Result<Counts, Found> {
+    let mut counts = Counts::new();
+    for run in 0..count {
+        let seed = first.wrapping_add(run);
+        match try_one(rt, alloc, seed, run % 4 == 3, &mut counts) {
+            Ok(()) => {}
+            Err(broken) => return Err(Found { seed, broken }),
+        }
+    }
+    Ok(counts)
+}
+
+/// Tries runs, and prints what they have shown, or the first that breaks a promise; the exit status is 1 where one does.
+pub fn report<H: Threads + Wait + Sync>(
+    rt: &HostRuntime,
+    threads: &H,
+    first: u64,
+    count: u64,
+) -> io::Result<u8> {
+    match try_many(threads, rt.alloc(), first, count) {
+        Ok(counts) => {
+            println!(rt; "runs {}", counts.runs)?;
+            println!(rt; "events {}", counts.events)?;
+            println!(rt; "acknowledged {}", counts.acknowledged)?;
+            println!(rt; "finds {}", counts.finds)?;
+            Ok(0)
+        }
+        Err(found) => {
+            println!(rt; "run {}: {}", found.seed, found.broken)?;
+            Ok(1)
+        }
+    }
+}
+
+/// Prints the plan and the script of a seed.
+pub fn show(rt: &HostRuntime, seed: u64) -> io::Result<u8> {
+    let trial = Trial::new(rt.alloc(), seed)?;
+    println!(rt; "{}", trial.plan)?;
+    print!(rt; "{}", trial.script.text)?;
+    Ok(0)
+}
