@@ -2,18 +2,8 @@
 
 use crate::broken::Broken;
 use crate::judge::check_promises;
-use crate::outcome::{Find, Outcome, Writer};
+use crate::outcome::Outcome;
 use judging::Said;
-
-/// Whether two lists of writers are the same.
-fn same_writers(run: &[Writer], fleet: &[Writer]) -> bool {
-    run.len() == fleet.len() && run.iter().zip(fleet.iter()).all(|(a, b)| *a == *b)
-}
-
-/// Whether two lists of recoveries are the same.
-fn same_finds(run: &[Find], fleet: &[Find]) -> bool {
-    run.len() == fleet.len() && run.iter().zip(fleet.iter()).all(|(a, b)| *a == *b)
-}
 
 /// Whether a fleet's journal is a run of all events, and its status and its recoveries are right.
 pub fn check_fleet(said: &Said, fleet: &Outcome, drivers: u8, events: u64) -> Result<(), Broken> {
@@ -41,9 +31,9 @@ pub fn check_fleet(said: &Said, fleet: &Outcome, drivers: u8, events: u64) -> Re
 
 /// Whether a fleet with one driver says what the run says.
 pub fn check_alike(run: &Outcome, fleet: &Outcome) -> Result<(), Broken> {
-    let what = if !same_writers(run.writers.as_slice(), fleet.writers.as_slice()) {
+    let what = if run.writers != fleet.writers {
         "writers"
-    } else if !same_finds(run.finds.as_slice(), fleet.finds.as_slice()) {
+    } else if run.finds != fleet.finds {
         "recoveries"
     } else if fleet.refused != Some(run.refusals()) {
         "refused"

@@ -14,7 +14,7 @@ struct End {
 }
 
 /// What a run has shown.
-#[derive(Clone, Copy, Debug, PartialEq, Eq)]
+#[derive(Clone, Copy)]
 pub struct Shown {
     /// Transactions that are acknowledged: at or below their writer's durable point.
     pub acknowledged: u64,
@@ -43,12 +43,18 @@ fn check_answers(outcome: &Outcome, lines: u64) -> Result<(), Broken> {
 
 /// Where the numbers of a writer begin: above this one.
 fn start_of(outcome: &Outcome, client: u64) -> u64 {
-    outcome.find_of(client).map_or(0, |find| find.start)
+    match outcome.find_of(client) {
+        Some(find) => find.start,
+        None => 0,
+    }
 }
 
 /// Up to where the recovery of a writer has found the log; 0 where it was none.
 fn cut_of(outcome: &Outcome, client: u64) -> u64 {
-    outcome.find_of(client).map_or(0, |find| find.cut)
+    match outcome.find_of(client) {
+        Some(find) => find.cut,
+        None => 0,
+    }
 }
 
 /// The last record that a writer has issued, of these transactions.
@@ -67,8 +73,8 @@ fn made_by(outcome: &Outcome, line: u64) -> Option<u64> {
     outcome
         .answers
         .iter()
-        .find(|answer| answer.line == line)
-        .and_then(|answer| answer.made)
+        .find(|answer| answer.line == line)?
+        .made
 }
 
 /// The ends of the transactions that were issued.

@@ -13,7 +13,7 @@ pub struct Answer {
 }
 
 /// An open writer at the end.
-#[derive(Clone, Copy, Debug, PartialEq, Eq)]
+#[derive(Clone, Copy, PartialEq, Eq)]
 pub struct Writer {
     pub client: u64,
     pub durable: u64,
@@ -21,7 +21,7 @@ pub struct Writer {
 }
 
 /// What a recovery has found.
-#[derive(Clone, Copy, Debug, PartialEq, Eq)]
+#[derive(Clone, Copy, PartialEq, Eq)]
 pub struct Find {
     pub client: u64,
     pub cut: u64,
@@ -188,7 +188,7 @@ impl Outcome {
 
     /// How many lines weren't refused.
     pub fn happened(&self) -> u64 {
-        self.answers.iter().filter(|a| a.made.is_some()).count() as u64
+        (self.answers.len() as u64).saturating_sub(self.refusals())
     }
 
     /// How many lines were refused.

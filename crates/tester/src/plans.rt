@@ -5,7 +5,7 @@ use dice::Dice;
 use std::alloc::{AllocError, Global};
 
 /// The groups of a plan by what they are about.
-#[derive(Clone, Copy, Debug, PartialEq, Eq)]
+#[derive(Clone, Copy, PartialEq, Eq)]
 pub enum Family {
     SixCopies,
     FullAndTail,

@@ -31,7 +31,7 @@ impl Schedule {
             14..=15 => self.resend(alloc),
             16 => self.read(alloc),
             17 => self.tell(alloc),
-            18 => self.written.wait().map(|_| ()),
+            18 => self.written.wait(),
             _ => self.mistake(alloc),
         }
     }
@@ -122,7 +122,10 @@ impl Schedule {
             4 => "restart 3 1",
             5 => "hydrate 0 1",
             6 => "read 1 0 4294967295",
-            _ => return self.written.of_client(alloc, "open", client).map(|_| ()),
+            _ => {
+                self.written.of_client(alloc, "open", client)?;
+                return Ok(());
+            }
         };
         self.written.put(line)?;
         Ok(())

@@ -4,7 +4,7 @@ use crate::written::Delivery;
 use std::alloc::Global;
 
 /// What a task does once its messages are delivered and their answers taken.
-#[derive(Clone, Copy, Debug, PartialEq, Eq)]
+#[derive(Clone, Copy)]
 pub enum Stage {
     /// A recovery takes the View that this line made.
     View(u64),
@@ -66,7 +66,9 @@ impl Task {
 
     /// Whether nothing is left to do.
     pub fn is_done(&self) -> bool {
-        self.stage == Stage::Finished && self.deliveries.is_empty() && self.answers.is_empty()
+        matches!(self.stage, Stage::Finished)
+            && self.deliveries.is_empty()
+            && self.answers.is_empty()
     }
 
     /// Whether its client takes the answers.

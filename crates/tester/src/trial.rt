@@ -23,7 +23,7 @@ pub struct Trial {
 }
 
 /// What many runs have shown.
-#[derive(Clone, Copy, Debug, PartialEq, Eq)]
+#[derive(Clone, Copy)]
 pub struct Counts {
     pub runs: u64,
     /// Events that weren't refused.

@@ -1,7 +1,7 @@
 //! What the words of the command line ask for.
 
 /// What the program is to do once it has tried the books that the words name.
-#[derive(Clone, Copy, Debug, PartialEq, Eq)]
+#[derive(Clone, Copy)]
 pub enum Wish {
     /// Nothing else.
     Books,

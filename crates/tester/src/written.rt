@@ -137,9 +137,9 @@ impl Written {
     }
 
     /// A line that does nothing.
-    pub fn wait(&mut self) -> Result<u64, AllocError> {
-        let number = self.put("wait")?;
+    pub fn wait(&mut self) -> Result<(), AllocError> {
+        self.put("wait")?;
         self.waits = self.waits.saturating_add(1);
-        Ok(number)
+        Ok(())
     }
 }
