@@ -2,7 +2,7 @@
 
 use crate::schedule::Schedule;
 use crate::written::{Delivery, Issue, Receiver};
-use std::alloc::{AllocError, Global};
+use std::alloc::AllocError;
 
 /// How many transactions such a script begins with.
 const TRANSACTIONS: u8 = 9;
@@ -15,13 +15,13 @@ const PIECES: u64 = 2;
 
 impl Schedule {
     /// The first writer issues the records of a transaction.
-    fn issue_many(&mut self, alloc: Global) -> Result<u64, AllocError> {
-        let mut text = String::from_str(alloc, "issue 1")?;
+    fn issue_many(&mut self) -> Result<u64, AllocError> {
+        self.written.text.push_str("issue 1")?;
         for _ in 0..CHANGES {
             let byte = self.dice.below(256);
-            write!(text, " 0:0:0:{byte:02x}")?;
+            write!(self.written.text, " 0:0:0:{byte:02x}")?;
         }
-        let line = self.written.put(text.as_str())?;
+        let line = self.written.end()?;
         self.written.issues.push(Issue {
             line,
             client: 1,
@@ -31,7 +31,7 @@ impl Schedule {
     }
 
     /// The records of a line are delivered to a member; gives the line that delivers the last.
-    fn deliver_many(&mut self, alloc: Global, line: u64, member: u8) -> Result<u64, AllocError> {
+    fn deliver_many(&mut self, line: u64, member: u8) -> Result<u64, AllocError> {
         let mut last = line;
         for change in 0..CHANGES {
             let delivery = Delivery {
@@ -40,25 +40,25 @@ impl Schedule {
                 group: 0,
                 member,
             };
-            last = self.written.deliver(alloc, delivery, Receiver::Client(1))?;
+            last = self.written.deliver(delivery, Receiver::Client(1))?;
         }
         Ok(last)
     }
 
     /// The first writer commits the records of a transaction.
-    fn commit_many(&mut self, alloc: Global) -> Result<(), AllocError> {
-        let line = self.issue_many(alloc)?;
+    fn commit_many(&mut self) -> Result<(), AllocError> {
+        let line = self.issue_many()?;
         for member in self.members(0).iter() {
-            let last = self.deliver_many(alloc, line, *member)?;
-            self.written.take(alloc, 1, last, 1)?;
+            let last = self.deliver_many(line, *member)?;
+            self.written.take(1, last, 1)?;
         }
         Ok(())
     }
 
     /// Begins a script by so many records of the first group that they make two pieces.
-    pub fn lengthen(&mut self, alloc: Global) -> Result<(), AllocError> {
+    pub fn lengthen(&mut self) -> Result<(), AllocError> {
         for _ in 0..TRANSACTIONS {
-            self.commit_many(alloc)?;
+            self.commit_many()?;
         }
         self.pieces = PIECES;
         Ok(())

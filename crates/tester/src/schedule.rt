@@ -214,12 +214,7 @@ impl Schedule {
     }
 
     /// Delivers a message of a task, unless it is lost.
-    fn deliver(
-        &mut self,
-        alloc: Global,
-        task: &mut Task,
-        delivery: Delivery,
-    ) -> Result<(), AllocError> {
+    fn deliver(&mut self, task: &mut Task, delivery: Delivery) -> Result<(), AllocError> {
         let loss = self.loss;
         if self.dice.chance(loss) {
             self.late.push(delivery)?;
@@ -231,7 +226,7 @@ impl Schedule {
         } else {
             Receiver::Nodes(group)
         };
-        let line = self.written.deliver(alloc, delivery, answer)?;
+        let line = self.written.deliver(delivery, answer)?;
         if self.dice.chance(70) {
             task.forget(group, member);
         }
@@ -244,10 +239,10 @@ impl Schedule {
     }
 
     /// Has a task's client take an answer, unless it is lost.
-    fn take(&mut self, alloc: Global, client: u32, answer: Answered) -> Result<(), AllocError> {
+    fn take(&mut self, client: u32, answer: Answered) -> Result<(), AllocError> {
         let loss = self.loss / 2;
         if !self.dice.chance(loss) {
-            self.written.take(alloc, client, answer.line, 1)?;
+            self.written.take(client, answer.line, 1)?;
         }
         Ok(())
     }
@@ -257,12 +252,12 @@ impl Schedule {
         let chosen = self.dice.below(task.deliveries.len());
         if chosen < task.deliveries.len() {
             let delivery = task.deliveries.swap_remove(chosen);
-            return self.deliver(alloc, task, delivery);
+            return self.deliver(task, delivery);
         }
         let chosen = self.dice.below(task.answers.len());
         if task.takes() && chosen < task.answers.len() {
             let answer = task.answers.swap_remove(chosen);
-            return self.take(alloc, task.client, answer);
+            return self.take(task.client, answer);
         }
         self.next_stage(alloc, task)
     }
@@ -333,7 +328,7 @@ impl Schedule {
     /// late, where the plan has a step; then come its turns, the more of two draws between 30 and 400, each of which is a line at most.
     pub fn fill(&mut self, alloc: Global) -> Result<(), AllocError> {
         if self.plan.is_long() {
-            self.lengthen(alloc)?;
+            self.lengthen()?;
         } else if self.dice.chance(33) {
             self.straggle(alloc)?;
         }

@@ -6,17 +6,17 @@ use crate::written::{Issue, Receiver};
 use std::alloc::{AllocError, Global};
 
 impl Schedule {
-    /// A change by chance, as a script spells it.
-    fn change(&mut self, alloc: Global, group: u8) -> Result<String, AllocError> {
+    /// Adds a change by chance to the line of an issue.
+    fn add_change(&mut self, group: u8) -> Result<(), AllocError> {
         let block = self.dice.below(3);
         let offset = self.dice.below(500);
-        let mut text = format!(in alloc; " {group}:{block}:{offset}:")?;
+        write!(self.written.text, " {group}:{block}:{offset}:")?;
         let bytes = self.dice.from(1, 8);
         for _ in 0..bytes {
             let byte = self.dice.below(256);
-            write!(text, "{byte:02x}")?;
+            write!(self.written.text, "{byte:02x}")?;
         }
-        Ok(text)
+        Ok(())
     }
 
     /// The groups of a transaction's changes.
@@ -34,12 +34,11 @@ impl Schedule {
     pub fn begin_write(&mut self, alloc: Global) -> Result<(), AllocError> {
         let client = self.writer();
         let groups = self.groups_of_changes(alloc)?;
-        let mut text = format!(in alloc; "issue {client}")?;
+        write!(self.written.text, "issue {client}")?;
         for group in groups.iter() {
-            let change = self.change(alloc, *group)?;
-            text.push_str(change.as_str())?;
+            self.add_change(*group)?;
         }
-        let line = self.written.put(text.as_str())?;
+        let line = self.written.end()?;
         let changes = groups.len() as u64;
         self.written.issues.push(Issue {
             line,
@@ -71,7 +70,7 @@ impl Schedule {
         let Some(child) = self.dice.one_of(children) else {
             return self.begin_write(alloc);
         };
-        let line = self.written.of_node(alloc, "advance", group, child)?;
+        let line = self.written.of_node("advance", group, child)?;
         self.written.note(line, 1, Receiver::Nodes(group))?;
         let [first, second] = self.places;
         self.places = if group == 0 {
@@ -91,35 +90,35 @@ impl Schedule {
         match task.stage {
             Stage::View(line) => self.be_born(alloc, task, line),
             Stage::Cut => self.cut(alloc, task),
-            Stage::Open => self.open(alloc, task),
+            Stage::Open => self.open(task),
             Stage::Ask => self.ask(task),
             Stage::Send => self.copy(task),
-            Stage::Hydrate => self.hydrate(alloc, task),
-            Stage::Refresh => self.refresh(alloc, task),
-            Stage::Learn(line) => self.learn(alloc, task, line),
-            Stage::Tell => self.announce(alloc, task),
-            Stage::Join(line) => self.join(alloc, task, line),
+            Stage::Hydrate => self.hydrate(task),
+            Stage::Refresh => self.refresh(task),
+            Stage::Learn(line) => self.learn(task, line),
+            Stage::Tell => self.announce(task),
+            Stage::Join(line) => self.join(task, line),
             Stage::Finished => Ok(()),
         }
     }
 
     /// A recovery takes its View, and fences members that read.
     fn be_born(&mut self, alloc: Global, task: &mut Task, view: u64) -> Result<(), AllocError> {
-        let line = self.written.take(alloc, task.client, view, 1)?;
+        let line = self.written.take(task.client, view, 1)?;
         task.stage = Stage::Cut;
         self.send_fences(alloc, task, line)
     }
 
     /// A recovery cuts, and installs what it has found.
     fn cut(&mut self, alloc: Global, task: &mut Task) -> Result<(), AllocError> {
-        let line = self.written.of_client(alloc, "cut", task.client)?;
+        let line = self.written.of_client("cut", task.client)?;
         task.stage = Stage::Open;
         self.send_installs(alloc, task, line)
     }
 
     /// A recovery opens.
-    fn open(&mut self, alloc: Global, task: &mut Task) -> Result<(), AllocError> {
-        self.written.of_client(alloc, "open", task.client)?;
+    fn open(&mut self, task: &mut Task) -> Result<(), AllocError> {
+        self.written.of_client("open", task.client)?;
         self.open.push(task.client)?;
         task.stage = Stage::Finished;
         Ok(())
@@ -164,27 +163,27 @@ impl Schedule {
     }
 
     /// The fresh member becomes whole.
-    fn hydrate(&mut self, alloc: Global, task: &mut Task) -> Result<(), AllocError> {
+    fn hydrate(&mut self, task: &mut Task) -> Result<(), AllocError> {
         task.answers.clear();
         task.stage = Stage::Refresh;
         if let Some(fresh) = self.plan.family.fresh(self.place(task.group)) {
-            self.written.of_node(alloc, "hydrate", task.group, fresh)?;
+            self.written.of_node("hydrate", task.group, fresh)?;
         }
         Ok(())
     }
 
     /// The newest client is told of the places.
-    fn refresh(&mut self, alloc: Global, task: &mut Task) -> Result<(), AllocError> {
+    fn refresh(&mut self, task: &mut Task) -> Result<(), AllocError> {
         task.client = self.clients;
-        let line = self.written.of_client(alloc, "refresh", task.client)?;
+        let line = self.written.of_client("refresh", task.client)?;
         self.written.note(line, 1, Receiver::Client(task.client))?;
         task.stage = Stage::Learn(line);
         Ok(())
     }
 
     /// The newest client takes what it is told.
-    fn learn(&mut self, alloc: Global, task: &mut Task, view: u64) -> Result<(), AllocError> {
-        let line = self.written.take(alloc, task.client, view, 1)?;
+    fn learn(&mut self, task: &mut Task, view: u64) -> Result<(), AllocError> {
+        let line = self.written.take(task.client, view, 1)?;
         task.stage = Stage::Finished;
         self.written.note_each(line, self.joined)
     }
@@ -199,8 +198,8 @@ impl Schedule {
     }
 
     /// The newest client is told of a group that has joined.
-    fn announce(&mut self, alloc: Global, task: &mut Task) -> Result<(), AllocError> {
-        self.refresh(alloc, task)?;
+    fn announce(&mut self, task: &mut Task) -> Result<(), AllocError> {
+        self.refresh(task)?;
         if let Stage::Learn(line) = task.stage {
             task.stage = Stage::Join(line);
         }
@@ -208,8 +207,8 @@ impl Schedule {
     }
 
     /// It takes what it is told, and what it makes of it goes to members of the group.
-    fn join(&mut self, alloc: Global, task: &mut Task, view: u64) -> Result<(), AllocError> {
-        let line = self.written.take(alloc, task.client, view, 1)?;
+    fn join(&mut self, task: &mut Task, view: u64) -> Result<(), AllocError> {
+        let line = self.written.take(task.client, view, 1)?;
         let group = task.group;
         self.told = self.joined;
         self.written.note(line, 1, Receiver::Nodes(group))?;

@@ -45,10 +45,10 @@ impl Schedule {
     }
 
     /// The first writer issues a record of a group.
-    fn issue_one(&mut self, alloc: Global, group: u8) -> Result<u64, AllocError> {
+    fn issue_one(&mut self, group: u8) -> Result<u64, AllocError> {
         let byte = self.dice.below(256);
-        let text = format!(in alloc; "issue 1 {group}:0:0:{byte:02x}")?;
-        let line = self.written.put(text.as_str())?;
+        write!(self.written.text, "issue 1 {group}:0:0:{byte:02x}")?;
+        let line = self.written.end()?;
         self.written.note(line, 1, Receiver::Nodes(group))?;
         self.written.issues.push(Issue {
             line,
@@ -76,26 +76,26 @@ impl Schedule {
                 group,
                 member: *member,
             };
-            lines.push(self.written.deliver(alloc, delivery, answer)?)?;
+            lines.push(self.written.deliver(delivery, answer)?)?;
         }
         Ok(lines)
     }
 
     /// A client takes the first message of each of these lines.
-    fn take_all(&mut self, alloc: Global, client: u32, lines: &[u64]) -> Result<(), AllocError> {
+    fn take_all(&mut self, client: u32, lines: &[u64]) -> Result<(), AllocError> {
         for line in lines.iter() {
-            self.written.take(alloc, client, *line, 1)?;
+            self.written.take(client, *line, 1)?;
         }
         Ok(())
     }
 
     /// The first writer commits a record of a group.
     fn commit_one(&mut self, alloc: Global, group: u8) -> Result<(), AllocError> {
-        let line = self.issue_one(alloc, group)?;
+        let line = self.issue_one(group)?;
         let members = self.members(group);
         let client = Receiver::Client(1);
         let acks = self.deliver_to(alloc, (line, 1), group, members, client)?;
-        self.take_all(alloc, 1, acks.as_slice())
+        self.take_all(1, acks.as_slice())
     }
 
     /// A group steps on, and the fresh member becomes whole from those that hear of it. Gives the step's line.
@@ -108,7 +108,7 @@ impl Schedule {
         } = parties;
         let (group, fresh) = (*group, *fresh);
         let nodes = Receiver::Nodes(group);
-        let line = self.written.of_node(alloc, "advance", group, 1)?;
+        let line = self.written.of_node("advance", group, 1)?;
         self.written.note(line, 1, nodes)?;
         self.deliver_to(alloc, (line, 1), group, stepped.as_slice(), nodes)?;
         let asked = self.deliver_to(alloc, (line, 1), group, &[fresh], nodes)?;
@@ -118,7 +118,7 @@ impl Schedule {
                 self.deliver_to(alloc, (*copy, 1), group, &[fresh], nodes)?;
             }
         }
-        self.written.of_node(alloc, "hydrate", group, fresh)?;
+        self.written.of_node("hydrate", group, fresh)?;
         let [first, second] = self.places;
         self.places = if group == 0 { [1, second] } else { [first, 1] };
         Ok(line)
@@ -140,8 +140,8 @@ impl Schedule {
         };
         let (from, to) = (*from, *to);
         self.deliver_to(alloc, (step, 1), group, &[from], nodes)?;
-        let text = format!(in alloc; "offer {group} {from} {record}")?;
-        let offer = self.written.put(text.as_str())?;
+        write!(self.written.text, "offer {group} {from} {record}")?;
+        let offer = self.written.end()?;
         self.written.note(offer, 1, nodes)?;
         self.deliver_to(alloc, (offer, 1), group, &[to], Receiver::Client(1))
     }
@@ -160,8 +160,8 @@ impl Schedule {
         let behind = parties.behind.as_slice();
         let acks = self.deliver_to(alloc, (issue, 1), parties.group, behind, client)?;
         let early = self.pass_on(alloc, parties, step, record)?;
-        self.take_all(alloc, 1, acks.as_slice())?;
-        self.take_all(alloc, 1, early.as_slice())
+        self.take_all(1, acks.as_slice())?;
+        self.take_all(1, early.as_slice())
     }
 
     /// A recovery reads members that the late record hasn't reached, and any others of another group.
@@ -170,7 +170,7 @@ impl Schedule {
         self.clients = self.clients.saturating_add(1);
         let client = self.clients;
         self.written.note(line, 1, Receiver::Client(client))?;
-        let fences = self.written.take(alloc, client, line, 1)?;
+        let fences = self.written.take(client, line, 1)?;
         let mut task = Task::new(alloc, Stage::Cut, client);
         self.written.note_each(fences, self.joined)?;
         for group in 0..self.joined {
@@ -198,7 +198,7 @@ impl Schedule {
         for _ in 0..before {
             self.commit_one(alloc, group)?;
         }
-        let line = self.issue_one(alloc, group)?;
+        let line = self.issue_one(group)?;
         let step = self.step_with(alloc, &parties)?;
         self.arrive_late(alloc, &parties, line, step, before.saturating_add(1))?;
         self.recover_without(alloc, &parties)

@@ -25,26 +25,25 @@ impl Schedule {
     /// A line that belongs to no task.
     pub fn stray(&mut self, alloc: Global) -> Result<(), AllocError> {
         match self.dice.below(20) {
-            0..=9 => self.repeat(alloc),
-            10..=11 => self.restart(alloc),
-            12..=13 => self.offer(alloc),
+            0..=9 => self.repeat(),
+            10..=11 => self.restart(),
+            12..=13 => self.offer(),
             14..=15 => self.resend(alloc),
-            16 => self.read(alloc),
+            16 => self.read(),
             17 => self.tell(alloc),
             18 => self.written.wait(),
-            _ => self.mistake(alloc),
+            _ => self.mistake(),
         }
     }
 
     /// A message is delivered or taken once more.
-    fn repeat(&mut self, alloc: Global) -> Result<(), AllocError> {
+    fn repeat(&mut self) -> Result<(), AllocError> {
         let Some(message) = self.any_message() else {
             return Ok(());
         };
         match message.to {
             Receiver::Client(client) => {
-                self.written
-                    .take(alloc, client, message.line, message.place)?;
+                self.written.take(client, message.line, message.place)?;
             }
             Receiver::Nodes(group) => {
                 let member = self.any_member(group);
@@ -55,28 +54,27 @@ impl Schedule {
                     member,
                 };
                 let client = self.newest();
-                self.written
-                    .deliver(alloc, delivery, Receiver::Client(client))?;
+                self.written.deliver(delivery, Receiver::Client(client))?;
             }
         }
         Ok(())
     }
 
     /// A node starts again.
-    fn restart(&mut self, alloc: Global) -> Result<(), AllocError> {
+    fn restart(&mut self) -> Result<(), AllocError> {
         let group = self.any_group();
         let member = self.any_member(group);
-        self.written.of_node(alloc, "restart", group, member)?;
+        self.written.of_node("restart", group, member)?;
         Ok(())
     }
 
     /// A node offers a record to its peers.
-    fn offer(&mut self, alloc: Global) -> Result<(), AllocError> {
+    fn offer(&mut self) -> Result<(), AllocError> {
         let group = self.any_group();
         let member = self.any_member(group);
         let record = self.any_record();
-        let text = format!(in alloc; "offer {group} {member} {record}")?;
-        let line = self.written.put(text.as_str())?;
+        write!(self.written.text, "offer {group} {member} {record}")?;
+        let line = self.written.end()?;
         self.written.note(line, 1, Receiver::Nodes(group))
     }
 
@@ -85,8 +83,8 @@ impl Schedule {
         let client = self.writer();
         let group = self.any_group();
         let record = self.any_record();
-        let text = format!(in alloc; "resend {client} {record}")?;
-        let line = self.written.put(text.as_str())?;
+        write!(self.written.text, "resend {client} {record}")?;
+        let line = self.written.end()?;
         self.written.note(line, 1, Receiver::Nodes(group))?;
         let mut task = Task::new(alloc, Stage::Finished, client);
         let members = self.members(group);
@@ -95,24 +93,24 @@ impl Schedule {
     }
 
     /// A writer asks for a block.
-    fn read(&mut self, alloc: Global) -> Result<(), AllocError> {
+    fn read(&mut self) -> Result<(), AllocError> {
         let client = self.writer();
         let group = self.any_group();
         let block = self.dice.below(3);
-        let text = format!(in alloc; "read {client} {group} {block}")?;
-        let line = self.written.put(text.as_str())?;
+        write!(self.written.text, "read {client} {group} {block}")?;
+        let line = self.written.end()?;
         self.written.note(line, 1, Receiver::Nodes(group))
     }
 
     /// A client is told where the groups stand.
     fn tell(&mut self, alloc: Global) -> Result<(), AllocError> {
         let client = self.clients;
-        let line = self.written.of_client(alloc, "refresh", client)?;
+        let line = self.written.of_client("refresh", client)?;
         self.keep(Task::new(alloc, Stage::Learn(line), client))
     }
 
     /// A line that is wrong on purpose.
-    fn mistake(&mut self, alloc: Global) -> Result<(), AllocError> {
+    fn mistake(&mut self) -> Result<(), AllocError> {
         let client = self.writer();
         let line: &str = match self.dice.below(8) {
             0 => "issue 1 7:0:0:61",
@@ -123,7 +121,7 @@ impl Schedule {
             5 => "hydrate 0 1",
             6 => "read 1 0 4294967295",
             _ => {
-                self.written.of_client(alloc, "open", client)?;
+                self.written.of_client("open", client)?;
                 return Ok(());
             }
         };

@@ -61,12 +61,17 @@ impl Written {
         }
     }
 
-    /// Adds a line, and gives its number.
-    pub fn put(&mut self, line: &str) -> Result<u64, AllocError> {
-        self.text.push_str(line)?;
+    /// Ends the line that the text ends with, and gives its number.
+    pub fn end(&mut self) -> Result<u64, AllocError> {
         self.text.push('\n')?;
         self.lines = self.lines.saturating_add(1);
         Ok(self.lines)
+    }
+
+    /// Adds a line, and gives its number.
+    pub fn put(&mut self, line: &str) -> Result<u64, AllocError> {
+        self.text.push_str(line)?;
+        self.end()
     }
 
     /// Notes a message.
@@ -88,52 +93,35 @@ impl Written {
     }
 
     /// Delivers a message to a node; whom its answer is for is given.
-    pub fn deliver(
-        &mut self,
-        alloc: Global,
-        delivery: Delivery,
-        answer: Receiver,
-    ) -> Result<u64, AllocError> {
+    pub fn deliver(&mut self, delivery: Delivery, answer: Receiver) -> Result<u64, AllocError> {
         let Delivery {
             line,
             place,
             group,
             member,
         } = delivery;
-        let text = format!(in alloc; "deliver {group} {member} {line}.{place}")?;
-        let number = self.put(text.as_str())?;
+        write!(self.text, "deliver {group} {member} {line}.{place}")?;
+        let number = self.end()?;
         self.note(number, 1, answer)?;
         Ok(number)
     }
 
     /// A client takes a message.
-    pub fn take(
-        &mut self,
-        alloc: Global,
-        client: u32,
-        line: u64,
-        place: u64,
-    ) -> Result<u64, AllocError> {
-        let text = format!(in alloc; "take {client} {line}.{place}")?;
-        self.put(text.as_str())
+    pub fn take(&mut self, client: u32, line: u64, place: u64) -> Result<u64, AllocError> {
+        write!(self.text, "take {client} {line}.{place}")?;
+        self.end()
     }
 
     /// A line of a word and a client.
-    pub fn of_client(&mut self, alloc: Global, word: &str, client: u32) -> Result<u64, AllocError> {
-        let text = format!(in alloc; "{word} {client}")?;
-        self.put(text.as_str())
+    pub fn of_client(&mut self, word: &str, client: u32) -> Result<u64, AllocError> {
+        write!(self.text, "{word} {client}")?;
+        self.end()
     }
 
     /// A line of a word, a group and a member.
-    pub fn of_node(
-        &mut self,
-        alloc: Global,
-        word: &str,
-        group: u8,
-        member: u8,
-    ) -> Result<u64, AllocError> {
-        let text = format!(in alloc; "{word} {group} {member}")?;
-        self.put(text.as_str())
+    pub fn of_node(&mut self, word: &str, group: u8, member: u8) -> Result<u64, AllocError> {
+        write!(self.text, "{word} {group} {member}")?;
+        self.end()
     }
 
     /// A line that does nothing.
