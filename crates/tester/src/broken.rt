@@ -1,10 +1,11 @@
 //! What is wrong with a run.
 
 use std::alloc::AllocError;
+use std::fmt;
 use thiserror::Error;
 
 /// A promise that a run has broken.
-#[derive(Debug, Drop, Error)]
+#[derive(Drop, Error)]
 pub enum Broken {
     #[error("memory ran out")]
     Memory(#[from(alloc)] AllocError),
@@ -85,4 +86,10 @@ pub enum Broken {
     Journal {
         drivers: u8,
     },
+}
+
+impl fmt::Debug for Broken {
+    fn fmt<W: fmt::Write>(&self, f: &mut fmt::Formatter<W>) -> fmt::Result {
+        fmt::Display::fmt(self, f)
+    }
 }

@@ -98,6 +98,23 @@ impl Schedule {
         self.take_all(1, acks.as_slice())
     }
 
+    /// The question of the fresh member goes to those that hear of the step, and their copies go to it.
+    fn copy_all(&mut self, alloc: Global, parties: &Parties, ask: u64) -> Result<(), AllocError> {
+        let Parties {
+            group,
+            fresh,
+            stepped,
+            ..
+        } = parties;
+        let (group, fresh) = (*group, *fresh);
+        let nodes = Receiver::Nodes(group);
+        let copies = self.deliver_to(alloc, (ask, 1), group, stepped.as_slice(), nodes)?;
+        for copy in copies.iter() {
+            self.deliver_to(alloc, (*copy, 1), group, &[fresh], nodes)?;
+        }
+        Ok(())
+    }
+
     /// A group steps on, and the fresh member becomes whole from those that hear of it. Gives the step's line.
     fn step_with(&mut self, alloc: Global, parties: &Parties) -> Result<u64, AllocError> {
         let Parties {
@@ -113,10 +130,7 @@ impl Schedule {
         self.deliver_to(alloc, (line, 1), group, stepped.as_slice(), nodes)?;
         let asked = self.deliver_to(alloc, (line, 1), group, &[fresh], nodes)?;
         for ask in asked.iter() {
-            let copies = self.deliver_to(alloc, (*ask, 1), group, stepped.as_slice(), nodes)?;
-            for copy in copies.iter() {
-                self.deliver_to(alloc, (*copy, 1), group, &[fresh], nodes)?;
-            }
+            self.copy_all(alloc, parties, *ask)?;
         }
         self.written.of_node("hydrate", group, fresh)?;
         let [first, second] = self.places;
@@ -164,6 +178,29 @@ impl Schedule {
         self.take_all(1, early.as_slice())
     }
 
+    /// The fences of a recovery are sent to members that the late record hasn't reached, and to all of another group.
+    fn fence_without(
+        &mut self,
+        task: &mut Task,
+        parties: &Parties,
+        fences: u64,
+    ) -> Result<(), AllocError> {
+        self.written.note_each(fences, self.joined)?;
+        for group in 0..self.joined {
+            let place = u64::from(group).saturating_add(1);
+            if group == parties.group {
+                for member in parties.stepped.iter().skip(1) {
+                    self.send(task, (fences, place), group, &[*member])?;
+                }
+                self.send(task, (fences, place), group, &[parties.fresh])?;
+            } else {
+                let members = self.members(group);
+                self.send(task, (fences, place), group, members)?;
+            }
+        }
+        Ok(())
+    }
+
     /// A recovery reads members that the late record hasn't reached, and any others of another group.
     fn recover_without(&mut self, alloc: Global, parties: &Parties) -> Result<(), AllocError> {
         let line = self.written.put("assign")?;
@@ -172,19 +209,7 @@ impl Schedule {
         self.written.note(line, 1, Receiver::Client(client))?;
         let fences = self.written.take(client, line, 1)?;
         let mut task = Task::new(alloc, Stage::Cut, client);
-        self.written.note_each(fences, self.joined)?;
-        for group in 0..self.joined {
-            let place = u64::from(group).saturating_add(1);
-            if group == parties.group {
-                for member in parties.stepped.iter().skip(1) {
-                    self.send(&mut task, (fences, place), group, &[*member])?;
-                }
-                self.send(&mut task, (fences, place), group, &[parties.fresh])?;
-            } else {
-                let members = self.members(group);
-                self.send(&mut task, (fences, place), group, members)?;
-            }
-        }
+        self.fence_without(&mut task, parties, fences)?;
         self.keep(task)
     }
 

@@ -73,7 +73,37 @@ fn plan_of(rt: &HostRuntime, case: &Case<'_>, name: &str) -> Result<PlanText, Wr
     }
 }
 
-/// Tries a command of a question, with each end of the case's script; what it prints at the last.
+/// The words of a command, behind the program's name.
+fn words_of(alloc: Global, command: &str) -> Result<Vec<&str>, AllocError> {
+    let mut words = vec![in alloc; "plan_tool"]?;
+    for word in command.split(' ') {
+        words.push(word)?;
+    }
+    Ok(words)
+}
+
+/// Tries a job of a question with each end of the case's script; what it prints at the last.
+fn try_ends<H: Threads + Wait + Sync>(
+    threads: &H,
+    alloc: Global,
+    case: &Case<'_>,
+    question: &Question<'_>,
+    job: &Job<'_>,
+    plan: &PlanText,
+) -> Result<String, Wrong> {
+    let mut printed = String::new(alloc);
+    for end in case.ends() {
+        let script = format!(in alloc; "{}{end}", case.script)?;
+        let texts = Texts {
+            plan,
+            script: script.as_str(),
+        };
+        printed = try_job(threads, alloc, question, job, &texts)?.printed;
+    }
+    Ok(printed)
+}
+
+/// Tries a command of a question; what it prints at the last.
 fn try_command<H: Threads + Wait + Sync>(
     rt: &HostRuntime,
     threads: &H,
@@ -82,22 +112,12 @@ fn try_command<H: Threads + Wait + Sync>(
     command: &str,
 ) -> Result<String, Wrong> {
     let alloc = rt.alloc();
-    let mut words = vec![in alloc; "plan_tool"]?;
-    for word in command.split(' ') {
-        words.push(word)?;
-    }
-    let job = job(alloc, words.as_slice()).map_err(|_| Wrong::Words)?;
+    let words = words_of(alloc, command)?;
+    let Ok(job) = job(alloc, words.as_slice()) else {
+        return Err(Wrong::Words);
+    };
     let plan = plan_of(rt, case, job.plan)?;
-    let mut printed = String::new(alloc);
-    for end in case.ends() {
-        let script = format!(in alloc; "{}{end}", case.script)?;
-        let texts = Texts {
-            plan: &plan,
-            script: script.as_str(),
-        };
-        printed = try_job(threads, alloc, question, &job, &texts)?.printed;
-    }
-    Ok(printed)
+    try_ends(threads, alloc, case, question, &job, &plan)
 }
 
 /// Tries each command of a question, all of which print the same.

@@ -1,10 +1,11 @@
 //! What is wrong with a book, or with an answer.
 
 use std::alloc::AllocError;
+use std::fmt;
 use thiserror::Error;
 
 /// Why a book's cases can't be tried, or aren't answered as is due.
-#[derive(Debug, Drop, Error)]
+#[derive(Drop, Error)]
 pub enum Wrong {
     #[error("memory ran out")]
     Memory(#[from(alloc)] AllocError),
@@ -22,4 +23,10 @@ pub enum Wrong {
         printed: String,
         told: String,
     },
+}
+
+impl fmt::Debug for Wrong {
+    fn fmt<W: fmt::Write>(&self, f: &mut fmt::Formatter<W>) -> fmt::Result {
+        fmt::Display::fmt(self, f)
+    }
 }
