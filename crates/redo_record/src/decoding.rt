@@ -9,7 +9,10 @@ use crate::payload::Payload;
 use crate::record::Record;
 use volume_model::Fault;
 
-/// The record that the bytes spell. Refused 1 where there are too few bytes, 2 where a number isn't allowed, 3 where there are too many.
+/// The record that the bytes spell. Takes no memory.
+///
+/// # Errors
+/// `Short` where there are too few bytes, `BadField` where a number isn't allowed, `Trailing` where there are too many.
 #[tactic(auto, unfolding(crate::specs::Spelling::decoded))]
 pub fn decode(bytes: &[u8]) -> Result<Record, Fault>
     ensures exact { MatchResult result (λ r. decoded bytes.now ≡ Ok (redo_of r)) (λ fault. decoded bytes.now ≡ Err fault) }

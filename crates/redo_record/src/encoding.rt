@@ -32,7 +32,10 @@ pub fn spell(record: &Record) -> Text
     text
 }
 
-/// The spelling of a record. Refused 9 where there is no memory for it.
+/// The spelling of a record.
+///
+/// # Errors
+/// `NoMemory` where there is no memory for it.
 pub fn encode(alloc: Global, record: &Record) -> Result<Vec<u8>, Fault>
     ensures spelled { IfOk result (λ v. v.items ≡ spelled (redo_of «record».now)) }
     ensures decoded { IfOk result (λ v. decoded v.items ≡ Ok (redo_of «record».now)) }

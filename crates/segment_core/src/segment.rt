@@ -83,7 +83,10 @@ impl Segment {
     ghost use Rattle.segment_core.specs.Prepared.{answers_of, effected, step_of};
     ghost use Rattle.segment_core.specs.Segment.{node_of, segment_plan, segment_group, segment_member, act_of, answered, became, born, copied, hydration_of, offered_step, paged, reaction_of, replaced, CanTake, IsReadExpression, IsSegmentOf, IsSameActor, IsReady};
 
-    /// The segment of a member of a group, as it is born. Refused 82 where the plan names no such member.
+    /// The segment of a member of a group, as it is born.
+    ///
+    /// # Errors
+    /// `NoActor` where the plan names no such member, `NoMemory` where it does and there is no memory for it.
     pub fn new(
         alloc: Global,
         plan: Arc<CheckedPlan>,
@@ -451,7 +454,8 @@ impl Segment {
                 .has_member(self.group, self.configuration, self.member)
     }
 
-    /// The tests of a question for a page: 60 where the member keeps no whole pages, 61 where the segment isn't complete up to the point.
+    /// The tests of a question for a page: `TailSegment` where the member keeps no whole pages, `PointAhead` where the segment isn't
+    /// complete up to the point.
     #[tactic(auto, unfolding(volume_model::specs::Node::page_checks))]
     fn check_page(&self, point: u64) -> Result<(), Fault>
         ensures own { IfErr result (λ fault. fault ≢ NoMemory) }
@@ -471,8 +475,11 @@ impl Segment {
         Ok(())
     }
 
-    /// The page of a block at a point. Refused 54 before the segment is whole, 60 where the member keeps no whole pages, 61 where the
-    /// segment isn't complete up to the point. Takes no memory.
+    /// The page of a block at a point. Takes no memory.
+    ///
+    /// # Errors
+    /// `NotWhole` before the segment is whole, `TailSegment` where the member keeps no whole pages, `PointAhead` where the segment isn't
+    /// complete up to the point.
     pub fn page_at(&self, block: u32, point: u64) -> Result<[u8; BLOCK], Fault>
         ensures { result ≡ paged (segment_plan self.now) (segment_group self.now) (segment_member self.now) (node_of self.now) block point }
     {
@@ -541,9 +548,12 @@ impl Segment {
         })
     }
 
-    /// A record that it holds, for the other nodes of its group, of several with the number the first in the order of their bytes.
-    /// Refused 54 before the segment is whole, 53 where its lineage isn't that of the volume epoch that it has promised, 58 where it
-    /// holds no such record. Takes no memory.
+    /// A record that it holds, for the other nodes of its group, of several with the number the first in the order of their bytes. Takes
+    /// no memory.
+    ///
+    /// # Errors
+    /// `NotWhole` before the segment is whole, `NotInstalled` where its lineage isn't that of the volume epoch that it has promised,
+    /// `NoRecord` where it holds no such record.
     pub fn offer(&self, lsn: u64) -> Result<Carried<'_>, Fault>
         ensures own { IfErr result (λ fault. fault ≢ NoMemory) }
         ensures answers { AnswersAlways offered_step (offered (segment_group self.now) (node_of self.now) lsn) (node_of self.now) result (node_of self.now) }
@@ -755,9 +765,12 @@ impl Segment {
         Ok(self.apply(prepared))
     }
 
-    /// Becomes whole: takes the newest lineage of its copies and all their records that are live in it. Refused 56 where it is whole, 57
-    /// where its member isn't one of the configuration that it took last or the copies aren't those of a read set of it, 55 where more
-    /// records were found than a segment holds; want of memory may come before 55. Then nothing has changed.
+    /// Becomes whole: takes the newest lineage of its copies and all their records that are live in it.
+    ///
+    /// # Errors
+    /// `AlreadyWhole` where it is whole, `NotEnough` where its member isn't one of the configuration that it took last or the copies aren't
+    /// those of a read set of it, `Full` where more records were found than a segment holds; `NoMemory`, which may come before `Full`.
+    /// Then nothing has changed.
     pub fn hydrate(&mut self, alloc: Global) -> Result<(), Fault>
         ensures answers { AnswersLate is_full became (hydration_of self.old) (node_of self.old) result (node_of self.new) }
         ensures actor { IsSameActor self.old self.new }

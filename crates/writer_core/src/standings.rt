@@ -35,6 +35,9 @@ impl Standings {
     ghost use Rattle.writer_core.specs.Groups.{groups_in, standings_plan, keeping};
 
     /// As the first writer comes to a new volume: each group that is there at birth, at its root.
+    ///
+    /// # Errors
+    /// Where a growth was refused.
     pub fn at_roots(alloc: Global, plan: Arc<CheckedPlan>) -> Result<Standings, AllocError>
         ensures groups { IfOk result (λ s. groups_in s ≡ replicate (checked_model (arc_value plan)).born born_group) }
         ensures plan { IfOk result (λ s. standings_plan s ≡ checked_model (arc_value plan)) }
@@ -48,6 +51,9 @@ impl Standings {
     }
 
     /// As a client comes to groups that stand at these places.
+    ///
+    /// # Errors
+    /// Where a growth was refused.
     pub fn at_places(
         alloc: Global,
         plan: Arc<CheckedPlan>,

@@ -175,8 +175,11 @@ impl Writer {
         Ok(())
     }
 
-    /// Takes an acknowledgement. Refused as [`Writer::admits_ack`] says. It is counted where its membership epoch is at most the one
-    /// that the writer knows of the group; a later one changes nothing. Only its own group's point may rise, and only its own group join.
+    /// Takes an acknowledgement. It is counted where its membership epoch is at most the one that the writer knows of the group; a later
+    /// one changes nothing. Only its own group's point may rise, and only its own group join.
+    ///
+    /// # Errors
+    /// As [`Writer::admits_ack`], and `NoMemory` where that admits it and a growth was refused.
     pub fn take_ack(&mut self, ack: &Ack) -> Result<(), Fault>
         ensures answers { Answers silent (taken (writer_plan self.old) (writer_volume self.old) (client_of self.old) (message_of (Message.Ack ack.now))) (client_of self.old) result (client_of self.new) }
         ensures plan { writer_plan self.new ≡ writer_plan self.old }
@@ -213,8 +216,11 @@ impl Writer {
     }
 
     /// Takes a View: each group moves to its place where that is one of a later epoch, those that are new are taken up, and the points of
-    /// all groups are raised. Each group that is raised and hasn't joined is installed, with no records: one Install a group, in their order.
-    /// Refused as [`Writer::admits_view`] says.
+    /// all groups are raised. Each group that moves or is new, and hasn't joined, is installed, with no records: one Install a group, in
+    /// their order.
+    ///
+    /// # Errors
+    /// As [`Writer::admits_view`], and `NoMemory` where that admits it and a growth was refused.
     pub fn view(&mut self, alloc: Global, view: &View) -> Result<Vec<Message>, Fault>
         ensures answers { Answers acted (taken (writer_plan self.old) (writer_volume self.old) (client_of self.old) (message_of (Message.View view.now))) (client_of self.old) result (client_of self.new) }
         ensures plan { writer_plan self.new ≡ writer_plan self.old }
