@@ -41,7 +41,7 @@ fn answer(
     ensures answer { IfOk result (λ answer. IsFound budget (all_lent claims.now) (record { claim = at; answer = answer })) }
     ensures memory { IfErr result (λ e. e ≡ NoMemory) }
 {
-    match take_out(claims, budget, places, at) {
+    match take_out(places, at) {
         Some(answer) => Ok(answer),
         None => search_one(alloc, &claims[at].claim_in(alloc)?, budget),
     }
@@ -131,10 +131,10 @@ fn searched<R: Threads + Wait + Sync, G: Gate + Sync>(
     ensures answers { IfOk result (λ v. AreAnswers budget (all_lent claims.now) (map rule_in v.items)) }
     ensures memory { IfErr result (λ e. e ≡ NoMemory) }
 {
-    let mut places = empty_places(alloc, claims, budget)?;
+    let mut places = empty_places(alloc, claims)?;
     let hands = deal(alloc, claims.len(), workers)?;
     let found = found_by(rt, alloc, claims, hands, budget, gate)?;
-    fill_all(claims, budget, found, &mut places);
+    fill_all(found, &mut places);
     answers(alloc, claims, budget, &mut places)
 }
 
