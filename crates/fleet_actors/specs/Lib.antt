@@ -1,4 +1,5 @@
 pub mod Acts
+pub mod Authorities
 pub mod Deeds
 pub mod Halts
 pub mod Nodes

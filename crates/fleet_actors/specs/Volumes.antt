@@ -2,7 +2,8 @@
 use Rattle.std.specs.Prelude.{◌≡◌, ℕ, List, All, Result, Err}
 use Rattle.std.specs.declared.sync.ledger.Ledger.{Ghosts as LedgerGhosts}
 use Rattle.volume_model.specs.declared.fault.Fault.TheVariants.{NoMessage}
-use Rattle.world.specs.Clients.{client_volume}
+use Rattle.volume_model.specs.Client.{Client}
+use Rattle.world.specs.Clients.{client_volume, seen_client}
 use Rattle.journal.specs.declared.row.Site.{Ghosts as SiteGhosts}
 use Rattle.journal.specs.declared.entry.Receipt.{Receipt}
 use Rattle.journal.specs.Standing.{IsElse, Made}
@@ -16,11 +17,15 @@ use Rattle.fleet_actors.specs.declared.client.ClientActor.{ClientActor}
 abbrev pub actor_volume : {X : Type 0} {s : SiteGhosts X} {l : LedgerGhosts X} → ClientActor X s l → ℕ
 actor_volume actor = client_volume actor.client
 
--- the message that is to be taken was made by none of these steps
+-- the client of the model that it is
+abbrev pub actor_client : {X : Type 0} {s : SiteGhosts X} {l : LedgerGhosts X} → ClientActor X s l → Client
+actor_client actor = seen_client actor.client
+
+-- a message is to be taken, and was made by none of these steps
 abbrev pub IsElsewhere : ClientDeed → List Made → Type 0
 IsElsewhere (deed.Take message) steps = All (IsElse message) steps
-IsElsewhere other steps = Unit {0}
+IsElsewhere other steps = ⊥
 
--- where a message is said not to be there, none of these steps made it
+-- where a message is said not to be there, one is to be taken, and none of these steps made it
 abbrev pub IsUnmade : ClientDeed → List Made → Result Receipt Halt → Type 0
 IsUnmade deed steps result = result ≡ Err (Refused NoMessage) → IsElsewhere deed steps

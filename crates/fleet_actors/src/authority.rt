@@ -29,12 +29,13 @@ pub struct AuthorityActor<L: Site> {
 }
 
 impl<L: Site> AuthorityActor<L> {
-    ghost use Rattle.std.specs.Prelude.{Err, length, OnOk};
+    ghost use Rattle.std.specs.Prelude.{◌≢◌, Err, length, OnErr, OnOk};
     ghost use Rattle.height.specs.Seats.{table_of};
-    ghost use Rattle.volume_model.specs.declared.fault.Fault.TheVariants.{JournalFull, NoSlot};
+    ghost use Rattle.volume_model.specs.declared.fault.Fault.TheVariants.{JournalFull, NoMessage, NoSlot};
     ghost use Rattle.journal.specs.Passes.{journal_of, notes_of, seat_of, steps_of, world_of};
     ghost use Rattle.fleet_actors.specs.declared.halt.Halt.TheVariants.{Again, Refused};
     ghost use Rattle.fleet_actors.specs.Acts.{event_by, IsLeft, IsSpent};
+    ghost use Rattle.fleet_actors.specs.Authorities.{actor_authority};
     ghost use Rattle.fleet_actors.specs.Halts.{Enters, Halts, IsExact};
     ghost use Rattle.fleet_actors.specs.Ready.{IsStale};
 
@@ -55,7 +56,7 @@ impl<L: Site> AuthorityActor<L> {
     /// volume epoch is left, `NoGroup` where no such group has joined, `NotInPlan` where its configuration has no such
     /// child, `Superseded` where the client's volume epoch isn't the last one assigned, or `AllGrown` where every group
     /// has joined; then `NoSlot` where a volume epoch is to be assigned and that of the last slot was, and `JournalFull`
-    /// where no cell is left; and `NoMemory`, which isn't noted. The authority is what it was then.
+    /// where no cell is left; and `NoMemory`, which isn't noted. The authority is what it was then. It is never `NoMessage`.
     pub fn act<'a, R: Wait>(
         &mut self,
         rt: &R,
@@ -76,6 +77,9 @@ impl<L: Site> AuthorityActor<L> {
         ensures entered { Enters (event_by act) (journal_of log.old) (journal_of log.new) result }
         ensures stale { result ≡ Err Again → IsStale self.old.mark log.old }
         ensures seat { seat_of pass.new ≡ seat_of pass.old }
+        ensures found { result ≢ Err (Refused NoMessage) }
+        ensures moved { OnOk result (actor_authority self.new ≡ (world_of log.new).authority) }
+        ensures still { OnErr result (actor_authority self.new ≡ actor_authority self.old) }
     {
         let AuthorityActor { mark, authority } = self;
         if let Err(halt) = ready(height, log, pass, mark) {

@@ -31,7 +31,7 @@ pub struct ClientActor<L: Site> {
 }
 
 impl<L: Site> ClientActor<L> {
-    ghost use Rattle.std.specs.Prelude.{◌≢◌, Err, length, option_map};
+    ghost use Rattle.std.specs.Prelude.{◌≢◌, Err, length, OnErr, OnOk, option_map};
     ghost use Rattle.std.specs.Option.{option_copied};
     ghost use Rattle.height.specs.Seats.{table_of};
     ghost use Rattle.volume_model.specs.declared.fault.Fault.TheVariants.{NoMessage};
@@ -41,7 +41,7 @@ impl<L: Site> ClientActor<L> {
     ghost use Rattle.fleet_actors.specs.Deeds.{event_by, IsFound};
     ghost use Rattle.fleet_actors.specs.Halts.{Enters, Halts, IsExact};
     ghost use Rattle.fleet_actors.specs.Ready.{IsStale};
-    ghost use Rattle.fleet_actors.specs.Volumes.{actor_volume, IsUnmade};
+    ghost use Rattle.fleet_actors.specs.Volumes.{actor_client, actor_volume, IsUnmade};
 
     /// A client as it stands at its mark.
     pub fn new(mark: Mark<L>, client: Client) -> ClientActor<L>
@@ -81,6 +81,8 @@ impl<L: Site> ClientActor<L> {
         ensures seat { seat_of pass.new ≡ seat_of pass.old }
         ensures found { result ≢ Err (Refused NoMessage) }
         ensures same { client_volume self.new.client ≡ client_volume self.old.client }
+        ensures moved { OnOk result (actor_client self.new ≡ (world_of log.new).clients (client_volume self.old.client)) }
+        ensures still { OnErr result (actor_client self.new ≡ actor_client self.old) }
     {
         let ClientActor { mark, client } = self;
         if let Err(halt) = ready(height, log, pass, mark) {
@@ -129,6 +131,8 @@ impl<L: Site> ClientActor<L> {
         ensures seat { seat_of pass.new ≡ seat_of pass.old }
         ensures unmade { IsUnmade deed (steps_of pass.old) result }
         ensures same { actor_volume self.new ≡ actor_volume self.old }
+        ensures moved { OnOk result (actor_client self.new ≡ (world_of log.new).clients (actor_volume self.old)) }
+        ensures still { OnErr result (actor_client self.new ≡ actor_client self.old) }
     {
         match deed {
             ClientDeed::Take { message } => {

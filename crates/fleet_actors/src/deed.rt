@@ -32,7 +32,7 @@ impl NodeDeed {
     ghost use Rattle.fleet_actors.specs.Nodes.{done_by, event_by};
 
     /// The event that it is, of the member of a group.
-    fn event(self, group: u8, member: u8) -> Event
+    pub fn event(self, group: u8, member: u8) -> Event
         ensures { event_of result ≡ event_by group member self }
     {
         match self {

@@ -97,6 +97,7 @@ pub(crate) fn conclude<'a, L: Site, R: Wait>(
     ensures seat { seat_of pass.new ≡ seat_of pass.old }
     ensures mark { marked mark.new ≡ marked mark.old }
     ensures seen { MatchResult tried (λ _. world_at L.plan (seen_at mark.new) ≡ after L.plan (world_of log.old) (event_of event)) (λ _. seen_at mark.new ≡ seen_at mark.old) }
+    ensures moved { OnOk result (seen_at mark.new ≡ journal_of log.new) }
     ensures halt { MatchResult tried (λ _. is_err result ≡ false) (λ fault. result ≡ Err (Refused fault)) }
 {
     match tried {
