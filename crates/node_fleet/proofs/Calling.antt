@@ -1,11 +1,11 @@
 -- What a try of a call tells of the call.
-use Rattle.std.proofs.Common.{◌≡◌, ℕ, List, All, ◌∙◌, subst}
+use Rattle.std.proofs.Common.{◌≡◌, ℕ, List, refl, ◌∙◌, subst}
 use Rattle.volume_model.specs.World.{Event}
 use Rattle.volume_model.specs.Judging.{Refusal}
 use Rattle.board.specs.declared.BoardStep.{BoardStep}
 use Rattle.journal.specs.declared.entry.Receipt.{Receipt}
 use Rattle.journal.specs.Passes.{AddsStep}
-use Rattle.journal.specs.Standing.{IsElse, Made}
+use Rattle.journal.specs.Standing.{Made}
 use Rattle.fleet_actors.specs.declared.client_deed.ClientDeed.{ClientDeed}
 use Rattle.fleet_actors.specs.declared.client_deed.ClientDeed.TheVariants as deed
 use Rattle.node_fleet.specs.Calls.{NamesElse, Raises, RaisesBy}
@@ -29,9 +29,9 @@ raises_by volume (deed.Read group block) durable seat seat' h = h
 
 -- a message that is not there
 pub names_else : (volume : ℕ) (asked : ClientDeed) (steps : List Made) → IsElsewhere asked steps → NamesElse (event_by volume asked) steps
-names_else volume (deed.Take message) steps h number is = let same : message ≡ number = cc in subst (λ n. All (IsElse n) steps) same h
-names_else volume (deed.Issue changes) steps h number is = absurd cc
-names_else volume deed.Cut steps h number is = absurd cc
-names_else volume deed.Open steps h number is = absurd cc
-names_else volume (deed.Resend lsn) steps h number is = absurd cc
-names_else volume (deed.Read group block) steps h number is = absurd cc
+names_else volume (deed.Take message) steps h = (message, refl, h)
+names_else volume (deed.Issue changes) steps h = absurd h
+names_else volume deed.Cut steps h = absurd h
+names_else volume deed.Open steps h = absurd h
+names_else volume (deed.Resend lsn) steps h = absurd h
+names_else volume (deed.Read group block) steps h = absurd h

@@ -51,6 +51,6 @@ RaisesBy (Take volume number) durable seat seat' = seat' ≡ seat ++ Raised dura
 RaisesBy (Open volume) durable seat seat' = seat' ≡ seat ++ Raised durable ∷ []
 RaisesBy event durable seat seat' = seat' ≡ seat
 
--- the message that the event names was made by none of these steps
+-- the event names a message, which was made by none of these steps
 abbrev pub NamesElse : Event → List Made → Type 0
-NamesElse event steps = (number : ℕ) → named_by event ≡ Some number → All (IsElse number) steps
+NamesElse event steps = (number : ℕ) × (named_by event ≡ Some number) × All (IsElse number) steps

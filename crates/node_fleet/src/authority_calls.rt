@@ -1,6 +1,6 @@
 //! What the authority does in a fleet.
 
-ghost use Rattle.std.specs.Prelude.{◌≡◌};
+ghost use Rattle.std.specs.Prelude.{◌≡◌, IfErr};
 ghost use Rattle.journal.specs.Passes.{notes_of, seat_of, steps_of};
 ghost use Rattle.fleet_actors.specs.Acts.{event_by};
 ghost use Rattle.fleet_actors.specs.Halts.{Halts};
@@ -14,6 +14,10 @@ use volume_model::Fault;
 use world::AuthorityAct;
 
 impl<'a, L: Site> Fleet<'a, L> {
+    ghost use Rattle.std.specs.Prelude.{◌≢◌, Err};
+    ghost use Rattle.volume_model.specs.declared.fault.Fault.TheVariants.{NoMessage};
+    ghost use Rattle.fleet_actors.specs.declared.halt.Halt.TheVariants.{Refused};
+
     // One try of what the authority does.
     fn try_authority<R: Wait>(
         &self,
@@ -23,6 +27,7 @@ impl<'a, L: Site> Fleet<'a, L> {
     ) -> Result<Receipt, Halt>
         ensures told { Halts (event_by act) result (steps_of pass.old) (steps_of pass.new) (notes_of pass.old) (notes_of pass.new) }
         ensures seat { seat_of pass.new ≡ seat_of pass.old }
+        ensures found { result ≢ Err (Refused NoMessage) }
     {
         let mut actor = taken(rt, &self.authority);
         let mut log = taken(rt, &self.journal);
@@ -52,6 +57,7 @@ impl<'a, L: Site> Fleet<'a, L> {
     ) -> Result<Receipt, Fault>
         ensures told { Tells (event_by act) result (steps_of pass.old) (steps_of pass.new) (notes_of pass.old) (notes_of pass.new) }
         ensures seat { seat_of pass.new ≡ seat_of pass.old }
+        ensures found { IfErr result (λ fault. fault ≢ NoMessage) }
     {
         for _ in rt.forever() {
             match self.try_authority(rt, pass, act) {

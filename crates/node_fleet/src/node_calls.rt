@@ -17,17 +17,6 @@ use std::sync::{Mutex, Wait};
 use volume_model::Fault;
 use world::{Event, slot};
 
-// The event that a node's deed is.
-fn event(group: u8, member: u8, deed: NodeDeed) -> Event
-    ensures { event_of result ≡ event_by group member deed }
-{
-    match deed {
-        NodeDeed::Hydrate => Event::Hydrate { group, member },
-        NodeDeed::Restart => Event::Restart { group, member },
-        NodeDeed::Offer { lsn } => Event::Offer { group, member, lsn },
-    }
-}
-
 impl<'a, L: Site> Fleet<'a, L> {
     ghost use Rattle.std.specs.Prelude.{◌≢◌, false, IfNone, IfOk, OnOk};
     ghost use Rattle.volume_model.specs.Plan.{is_named};
@@ -215,7 +204,7 @@ impl<'a, L: Site> Fleet<'a, L> {
         ensures seat { seat_of pass.new ≡ seat_of pass.old }
     {
         let Some(node) = self.node(group, member) else {
-            return Err(self.refuse_absent(rt, pass, event(group, member, deed)));
+            return Err(self.refuse_absent(rt, pass, deed.event(group, member)));
         };
         for _ in rt.forever() {
             match self.try_node(rt, pass, node, group, member, deed) {

@@ -1,6 +1,6 @@
 //! A new fleet, with its passes.
 
-ghost use Rattle.std.specs.Prelude.{◌≡◌, ◌+◌, All, [], IfErr, IfOk, is_some, vec_len};
+ghost use Rattle.std.specs.Prelude.{◌≡◌, ◌≤◌, ◌+◌, All, [], IfErr, IfOk, is_some, vec_len};
 ghost use Rattle.std.specs.Arc.{arc_value};
 ghost use Rattle.height.specs.Seats.{table_of, top_table, height_of};
 ghost use Rattle.board.specs.Seats.{IsSeatIn};
@@ -137,7 +137,8 @@ impl<'a, L: Site> Fleet<'a, L> {
     ghost use Rattle.node_fleet.specs.Bases.{passes_of, IsBaseOf};
 
     /// A fleet of a new volume over a plan, with an empty journal over a row of cells that nobody has written, for
-    /// clients of the volume epochs up to that of the last slot; and the passes of its callers.
+    /// clients of the volume epochs up to that of the last slot; and the passes of its callers. There is at least one
+    /// slot: with none a client could be born that has none, and a call for it would try for good.
     ///
     /// # Errors
     /// `NoMemory` where a growth was refused.
@@ -151,6 +152,7 @@ impl<'a, L: Site> Fleet<'a, L> {
         requires plan { checked_model (arc_value plan) ≡ L.plan }
         requires cells { ids_of row.old ≡ L.cells }
         requires slots { slots ≡ L.slots }
+        requires first { 1 ≤ slots }
         requires base { IsBaseOf L.table L.board L.history L.name L.parts base }
         ensures count { IfOk result (λ f. vec_len f.1 ≡ passes_of base) }
         ensures fresh { IfOk result (λ f. All (λ p. (steps_of p ≡ []) × (notes_of p ≡ [])) f.1.items) }
@@ -168,12 +170,11 @@ impl<'a, L: Site> Fleet<'a, L> {
         let history = opened.named::<L>();
         let made = passes(alloc, &height, &mut top, rest, &history, seats)?;
         let nodes = nodes(alloc, &plan, &history)?;
-        let volumes = slots.max(1);
-        let clients = clients(alloc, &plan, volumes, &history)?;
+        let clients = clients(alloc, &plan, slots, &history)?;
         let authority = Authority::new(alloc, plan.clone()?)?;
         let authority = AuthorityActor::new(Mark::new(Who::TheAuthority, &history), authority);
         let born = u64::from(plan.born());
-        let log = Log::new(alloc, row, volumes, plan.groups(), born, book, top, history)?;
+        let log = Log::new(alloc, row, slots, plan.groups(), born, book, top, history)?;
         let fleet = Fleet {
             alloc,
             plan,

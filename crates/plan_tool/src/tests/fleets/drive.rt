@@ -1,6 +1,6 @@
 //! Fleets from their opening to their end.
 
-ghost use Rattle.std.specs.Prelude.{◌≡◌, ◌<◌, vec_len};
+ghost use Rattle.std.specs.Prelude.{◌≡◌, ◌<◌, ◌≤◌, vec_len};
 ghost use Rattle.std.specs.Arc.{arc_value};
 ghost use Rattle.plan.specs.CheckedModel.{checked_model};
 ghost use Rattle.journal.specs.Tokens.{ids_of};
@@ -96,6 +96,7 @@ fn drive<L: Site, R: Wait>(
     requires plan { checked_model (arc_value plan) ≡ L.plan }
     requires cells { ids_of row.old ≡ L.cells }
     requires slots { slots ≡ L.slots }
+    requires first { 1 ≤ slots }
     requires base { IsBaseOf L.table L.board L.history L.name L.parts base }
     requires passes { 0 < passes_of base }
 {
@@ -116,7 +117,8 @@ pub fn run_table<R: Wait>(
     steps: &[Step],
     look: &Look,
 ) -> Result<Ending, Fault>
-    requires { 0 < passes }
+    requires passes { 0 < passes }
+    requires slots { 1 ≤ slots }
 {
     let plan = checked(alloc, text)?;
     let mut row = Row::new(alloc, cells)?;
