@@ -1,5 +1,5 @@
 -- The weights of the children that hold, added up one after the other.
-use Rattle.std.proofs.Common.{◌≡◌, ℕ, ◌+◌, ◌-◌, ◌*◌, ◌<◌, ◌≤◌, List, length, get_or, drop, arith, ap, ◌∙◌, sym}
+use Rattle.std.proofs.Common.{◌≡◌, ℕ, ◌+◌, ◌-◌, ◌*◌, ◌==◌, ◌<◌, ◌≤◌, List, length, get_or, drop, arith, ap, ◌∙◌, sym}
 use Rattle.std.specs.Prelude.{true, false, nat_le, nat_lt, if◌then◌else◌, Vec}
 use Rattle.volume_model.specs.Formula.{Formula, Members, sat, weight_held, total_weight, dual_of}
 use Rattle.quorum_expr.specs.declared.expression.Expr.{Expr}
@@ -54,11 +54,35 @@ nothing_left held rest whole h e = omega arith
 pub sat-Member : {A : Type 0} (e : Expr A) (m : ℕ) (s : Members) → e ≡ Member m → sat (formula_of e) s ≡ s m
 sat-Member {A} e m s is = ap (λ f. sat f s) (ap formula_of is ∙ formula_of-Member A m)
 
--- what was counted says whether the threshold is met
-pub sat-KOf : {A : Type 0} (e : Expr A) (k : ℕ) (of : Vec (ℕ × Expr A) A) (s : Members) (xs : List (ℕ × Expr A)) (i held n : ℕ) → e ≡ KOf k of → xs ≡ of.items → length xs ≤ i → held + held_of (drop i xs) s ≡ held_of xs s → n ≡ k → nat_le n held ≡ sat (formula_of e) s
-sat-KOf e k of s xs i held n is list past so_far same =
-    let all : held ≡ held_of of.items s = nothing_left held (held_of (drop i xs) s) (held_of xs s) (ap (λ of. weight_held of s) (weighed-done formula_of xs i past)) so_far ∙ ap (λ ys. held_of ys s) list in
-    (λ j. nat_le (same j) (all j)) ∙ sym (ap (λ f. sat f s) (ap formula_of is ∙ formula_of-KOf k of))
+-- ---- what is missing of a threshold
+
+one_less : (now missing w rest before whole : ℕ) → now ≡ missing - w → before ≡ w + rest → missing - before ≡ whole → now - rest ≡ whole
+one_less now missing w rest before whole h e i = omega arith
+
+no_less : (now missing rest before whole : ℕ) → now ≡ missing → before ≡ 0 + rest → missing - before ≡ whole → now - rest ≡ whole
+no_less now missing rest before whole h e i = omega arith
+
+-- one that holds
+pub missing_less : {A : Type 0} (xs : List (ℕ × Expr A)) (i : ℕ) (x : ℕ × Expr A) (s : Members) (now missing w whole : ℕ) → i < length xs → x ≡ get_or xs i x → sat (formula_of x.1) s ≡ true → now ≡ missing - w → w ≡ x.0 → missing - held_of (drop i xs) s ≡ whole → now - held_of (drop (i + 1) xs) s ≡ whole
+missing_less xs i x s now missing w whole h is holds less same so_far =
+    one_less now missing w (held_of (drop (i + 1) xs) s) (held_of (drop i xs) s) whole less (split formula_of xs i x s h is ∙ ap (λ b. (if b then x.0 else 0) + held_of (drop (i + 1) xs) s) holds ∙ ap (λ n. n + held_of (drop (i + 1) xs) s) (sym same)) so_far
+
+-- one that doesn't
+pub missing_same : {A : Type 0} (xs : List (ℕ × Expr A)) (i : ℕ) (x : ℕ × Expr A) (s : Members) (now missing whole : ℕ) → i < length xs → x ≡ get_or xs i x → sat (formula_of x.1) s ≡ false → now ≡ missing → missing - held_of (drop i xs) s ≡ whole → now - held_of (drop (i + 1) xs) s ≡ whole
+missing_same xs i x s now missing whole h is fails same so_far =
+    no_less now missing (held_of (drop (i + 1) xs) s) (held_of (drop i xs) s) whole same (split formula_of xs i x s h is ∙ ap (λ b. (if b then x.0 else 0) + held_of (drop (i + 1) xs) s) fails) so_far
+
+nothing_less : (missing rest whole : ℕ) → rest ≡ 0 → missing - rest ≡ whole → missing ≡ whole
+nothing_less missing rest whole h e = omega arith
+
+met : (k held missing : ℕ) → missing ≡ k - held → (missing == 0) ≡ nat_le k held
+met k held missing is = grind (arith, nat_tests)
+
+-- whether nothing is missing says whether the threshold is met
+pub sat-KOf : {A : Type 0} (e : Expr A) (k : ℕ) (of : Vec (ℕ × Expr A) A) (s : Members) (xs : List (ℕ × Expr A)) (i missing : ℕ) → e ≡ KOf k of → xs ≡ of.items → length xs ≤ i → missing - held_of (drop i xs) s ≡ k - held_of xs s → (missing == 0) ≡ sat (formula_of e) s
+sat-KOf e k of s xs i missing is list past so_far =
+    let all : missing ≡ k - held_of of.items s = nothing_less missing (held_of (drop i xs) s) (k - held_of xs s) (ap (λ of. weight_held of s) (weighed-done formula_of xs i past)) so_far ∙ ap (λ ys. k - held_of ys s) list in
+    met k (held_of of.items s) missing all ∙ sym (ap (λ f. sat f s) (ap formula_of is ∙ formula_of-KOf k of))
 
 -- ---- the same of the dual
 

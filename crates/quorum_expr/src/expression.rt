@@ -37,17 +37,17 @@ pub fn holds<A: Allocator>(expr: &Expr<A>, members: MemberSet) -> bool
     match expr {
         Expr::Member(member) => members.contains(*member),
         Expr::KOf { k, of } => {
-            let mut held = 0u128;
+            let mut missing = *k;
             for (weight, child) in of {
                 let is_held = match child {
                     Expr::Member(member) => members.contains(*member),
                     Expr::KOf { .. } => holds(child, members),
                 };
                 if is_held {
-                    held += wide(*weight);
+                    missing = missing.saturating_sub(u16::from(*weight));
                 }
             }
-            held >= u128::from(*k)
+            missing == 0
         }
     }
 }

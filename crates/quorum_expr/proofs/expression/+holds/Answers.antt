@@ -1,10 +1,10 @@
-use Rattle.std.proofs.Common.{◌≡◌, ◌+◌, ◌∙◌, ap, sym}
-use Rattle.std.proofs.Math.Nat.{le_of_lt, le_refl}
+use Rattle.std.proofs.Common.{◌≡◌, ◌∙◌, refl, sym}
+use Rattle.std.proofs.Math.Nat.{le_of_lt}
 use Rattle.std.specs.FinSet as set
 use borrow.Author.Count.{falls}
 use Rattle.volume_model.specs.Formula.{sat}
 use Rattle.quorum_expr.specs.Expr.{formula_of}
-use Rattle.quorum_expr.proofs.Held.{none_yet, held_more, held_same, few_more, few_same, sat-Member, sat-KOf}
+use Rattle.quorum_expr.proofs.Held.{missing_less, missing_same, sat-Member, sat-KOf}
 use Rattle.quorum_expr.proofs.Smaller.{smaller}
 use Rattle.quorum_expr.proofs.expression.+holds.Goals as goal
 use Rattle.quorum_expr.proofs.expression.+holds.Goals.{in-Member-child, in-KOf-child, then-is_held, else-is_held}
@@ -13,7 +13,7 @@ pub returns-in-Member : goal.returns-in-Member
 returns-in-Member g t c = c.contains.ensures.is_in ∙ sym (sat-Member c.args.expr.now c.in-Member.member (set.contains c.args.members) c.in-Member.is)
 
 pub loop-weight-init : goal.loop-weight-init
-loop-weight-init g t c = record { so_far = none_yet _; few = le_refl 0 }
+loop-weight-init g t c = refl
 
 pub offset_bounds-weight-items-weight-index : goal.offset_bounds-weight-items-weight-index
 offset_bounds-weight-items-weight-index g t c = le_of_lt c.loop-weight-test.true
@@ -34,15 +34,9 @@ loop-weight-preserved g t c =
       | in-KOf-child w ↦ sym (w.is_held-is ∙ w.holds-is_held.ensures)
     ] in
     elim c.if-is_held.branch [
-      | then-is_held w ↦ record {
-        so_far = held_more formula_of c.deref-weight-items.result.now c.loop-weight.weight-index c.loop-weight-item.result (set.contains c.args.members) _ _ _ c.loop-weight-test.true c.loop-weight-item.is (told ∙ w.if-is_held.true) (w.held-is ∙ ap (λ n. c.loop-weight.held + n) w.wide-held.ensures.same) c.loop-weight.invariant.so_far;
-        few = few_more _ _ w.wide-held.result c.loop-weight.weight-index w.wide-held.ensures.small w.held-is c.loop-weight.invariant.few;
-      }
-      | else-is_held w ↦ record {
-        so_far = held_same formula_of c.deref-weight-items.result.now c.loop-weight.weight-index c.loop-weight-item.result (set.contains c.args.members) _ _ _ c.loop-weight-test.true c.loop-weight-item.is (told ∙ w.if-is_held.false) w.held-is c.loop-weight.invariant.so_far;
-        few = few_same _ _ c.loop-weight.weight-index w.held-is c.loop-weight.invariant.few;
-      }
+      | then-is_held w ↦ missing_less c.deref-weight-items.result.now c.loop-weight.weight-index c.loop-weight-item.result (set.contains c.args.members) _ _ w.from.result _ c.loop-weight-test.true c.loop-weight-item.is (told ∙ w.if-is_held.true) (w.missing-is ∙ w.saturating_sub-missing.ensures) w.from.ensures c.loop-weight.invariant
+      | else-is_held w ↦ missing_same c.deref-weight-items.result.now c.loop-weight.weight-index c.loop-weight-item.result (set.contains c.args.members) _ _ _ c.loop-weight-test.true c.loop-weight-item.is (told ∙ w.if-is_held.false) w.missing-is c.loop-weight.invariant
     ]
 
 pub returns-after-loop-weight : goal.returns-after-loop-weight
-returns-after-loop-weight g t c = sat-KOf c.args.expr.now c.in-KOf.k c.in-KOf.of (set.contains c.args.members) c.deref-weight-items.result.now c.loop-weight.weight-index _ _ c.in-KOf.is c.deref-weight-items.ensures.value c.loop-weight-test.false c.loop-weight.invariant.so_far c.from.ensures
+returns-after-loop-weight g t c = sat-KOf c.args.expr.now c.in-KOf.k c.in-KOf.of (set.contains c.args.members) c.deref-weight-items.result.now c.loop-weight.weight-index _ c.in-KOf.is c.deref-weight-items.ensures.value c.loop-weight-test.false c.loop-weight.invariant

@@ -1,4 +1,4 @@
-use Rattle.std.proofs.Common.{◌≡◌, ◌+◌, ◌≤◌, drop, ◌*◌}
+use Rattle.std.proofs.Common.{◌≡◌, ◌-◌, drop}
 use Rattle.std.specs.FinSet as set
 use Rattle.volume_model.specs.Formula.{weight_held}
 use Rattle.quorum_expr.specs.Expr.{formula_of, weighed}
@@ -9,10 +9,7 @@ use Rattle.quorum_expr.proofs.expression.+holds.Given as goal
 abbrev pub decreases-holds : goal.decreases-holds
 decreases-holds g l = nodes (formula_of l.expr.now)
 
--- what held so far, and what holds of the children that are left
+-- what is missing so far, less what holds of the children that are left
 abbrev pub invariant-loop-weight : goal.invariant-loop-weight
 invariant-loop-weight g l =
-    record {
-      so_far : l.held + weight_held (weighed formula_of (drop l.weight-index l.weight-items)) (set.contains l.members) ≡ weight_held (weighed formula_of l.weight-items) (set.contains l.members);
-      few : l.held ≤ 255 * l.weight-index;
-    }
+    l.missing - weight_held (weighed formula_of (drop l.weight-index l.weight-items)) (set.contains l.members) ≡ l.initial.missing - weight_held (weighed formula_of l.weight-items) (set.contains l.members)
