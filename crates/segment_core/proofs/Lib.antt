@@ -2,6 +2,7 @@ pub mod Rises
 pub mod Sets
 pub mod BlockLists
 pub mod ListPlaces
+pub mod PageIndexes
 pub mod Reaching
 pub mod Taking
 pub mod Hydrating

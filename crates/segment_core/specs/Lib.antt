@@ -1,6 +1,7 @@
 pub mod Ordered
 pub mod BlockList
 pub mod Blocks
+pub mod PageIndex
 pub mod Link
 pub mod Records
 pub mod Assembly

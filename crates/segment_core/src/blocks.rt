@@ -6,6 +6,7 @@ ghost use Rattle.std.specs.Ordering.{nat_cmp};
 ghost use Rattle.std.specs.BTreeMap.{get};
 
 use crate::block_list::BlockList;
+use crate::entrant::OfBlock;
 use redo_record::{Packet, RecordSet};
 use std::alloc::{AllocError, Global};
 use std::collections::BTreeMap;
@@ -62,7 +63,7 @@ impl Blocks {
     ///
     /// # Errors
     /// Where a growth was refused; then no packet has changed.
-    pub fn make_room(&mut self, alloc: Global, block: u32) -> Result<u32, AllocError>
+    fn make_room(&mut self, alloc: Global, block: u32) -> Result<u32, AllocError>
         ensures same { (b : ℕ) → block_records self.new b ≡ block_records self.old b }
         ensures room { IfOk result (λ place. HasRoomAt block place self.new) }
     {
@@ -105,11 +106,27 @@ impl Blocks {
         Ok(place)
     }
 
-    /// Takes a packet into its block, whose list has this place.
-    pub fn add(&mut self, place: u32, packet: Packet)
-        requires { HasRoomAt (packet_redo packet).block place self.old }
-        ensures { (b : ℕ) → block_records self.new b ≡ (if b == (packet_redo packet).block then with_record (packet_redo packet) (block_records self.old b) else block_records self.old b) }
+    /// Makes ready to take a packet into its block.
+    ///
+    /// # Errors
+    /// Where a growth was refused; then no packet has changed.
+    pub fn prepare(&mut self, alloc: Global, packet: &Packet) -> Result<OfBlock, AllocError>
+        ensures same { (b : ℕ) → block_records self.new b ≡ block_records self.old b }
+        ensures shows { IfOk result (λ of_block. packet_redo of_block.packet ≡ packet_redo packet.now) }
+        ensures room { IfOk result (λ of_block. HasRoomAt (packet_redo packet.now).block of_block.place self.new) }
     {
+        Ok(OfBlock {
+            place: self.make_room(alloc, packet.record().block)?,
+            packet: packet.clone()?,
+        })
+    }
+
+    /// Takes a packet that is made ready into its block.
+    pub fn add(&mut self, of_block: OfBlock)
+        requires { HasRoomAt (packet_redo of_block.packet).block of_block.place self.old }
+        ensures { (b : ℕ) → block_records self.new b ≡ (if b == (packet_redo of_block.packet).block then with_record (packet_redo of_block.packet) (block_records self.old b) else block_records self.old b) }
+    {
+        let OfBlock { place, packet } = of_block;
         self.lists[place as usize].add(packet);
     }
 
@@ -117,8 +134,8 @@ impl Blocks {
     fn push(&mut self, alloc: Global, packet: &Packet) -> Result<(), AllocError>
         ensures { OnOk result ((b : ℕ) → block_records self.new b ≡ (if b == (packet_redo packet.now).block then with_record (packet_redo packet.now) (block_records self.old b) else block_records self.old b)) }
     {
-        let place = self.make_room(alloc, packet.record().block)?;
-        self.add(place, packet.clone()?);
+        let of_block = self.prepare(alloc, packet)?;
+        self.add(of_block);
         Ok(())
     }
 }

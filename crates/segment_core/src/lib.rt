@@ -8,6 +8,7 @@ mod blocks;
 mod entrant;
 mod one_chain;
 mod ordered;
+mod page_index;
 mod prepared;
 mod records;
 mod segment;

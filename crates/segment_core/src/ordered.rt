@@ -81,6 +81,7 @@ impl Ordered {
     }
 
     /// Where the record would stand, `None` where it is there already.
+    #[inline(always)]
     pub fn place_for(&self, packet: &Packet) -> Option<Place>
         ensures { MatchOption result (IsHeldIn (redos_in self.now) (packet_redo packet.now)) (λ place. StandsAt place self.now (packet_redo packet.now)) }
     {
@@ -91,6 +92,7 @@ impl Ordered {
     ///
     /// # Errors
     /// Where a growth was refused; then nothing has changed.
+    #[inline(always)]
     pub fn make_room(&mut self, alloc: Global, place: Place) -> Result<(), AllocError>
         ensures room { OnOk result (HasRoomFor place self.new) }
         ensures same { runs_of self.new.runs ≡ runs_of self.old.runs }
@@ -99,6 +101,7 @@ impl Ordered {
     }
 
     /// Takes a packet into its place.
+    #[inline(always)]
     pub fn insert(&mut self, place: Place, packet: Packet)
         requires room { HasRoomFor place self.old }
         requires place { StandsAt place self.old (packet_redo packet) }

@@ -3,27 +3,28 @@
 ghost use Rattle.std.proofs.Props.{props};
 ghost use Rattle.chains.specs.Chains.{AreChainsOf};
 ghost use Rattle.segment_core.specs.Ordered.{redos_in};
-ghost use Rattle.segment_core.specs.Blocks.{AreBlocksOf};
+ghost use Rattle.segment_core.specs.PageIndex.{IsIndexOf};
 
 use crate::blocks::Blocks;
 use crate::entrant::{Entrant, Link};
 use crate::one_chain::end_of_chain;
 use crate::ordered::Ordered;
+use crate::page_index::PageIndex;
 use chains::Chains;
 use pages::{BLOCK, page_of};
 use redo_record::{Packet, RecordSet};
 use runs::Place;
 use std::alloc::{AllocError, Global};
 
-/// The records that a segment holds, each once, in the order of their bytes, how far they hang together, and which are of
-/// which block.
+/// The records that a segment holds, each once, in the order of their bytes, how far they hang together, and, from the first page on, which
+/// are of which block.
 #[derive(Drop)]
 pub struct Records {
     ordered: Ordered,
     chains: Chains,
-    blocks: Blocks,
+    index: PageIndex,
     ghost chained: { ∥ AreChainsOf (redos_in ordered) chains ∥₁ },
-    ghost parted: { ∥ AreBlocksOf (redos_in ordered) blocks ∥₁ },
+    ghost parted: { ∥ IsIndexOf (redos_in ordered) index ∥₁ },
 }
 
 impl Records {
@@ -46,7 +47,7 @@ impl Records {
         Records {
             ordered: Ordered::new(alloc),
             chains: Chains::new(alloc),
-            blocks: Blocks::new(alloc),
+            index: PageIndex::new(),
         }
     }
 
@@ -77,7 +78,7 @@ impl Records {
         Ok(Records {
             ordered: Ordered::from_set(alloc, set)?,
             chains: Chains::of_one_chain(alloc, last),
-            blocks: Blocks::from_set(alloc, set)?,
+            index: PageIndex::new(),
         })
     }
 
@@ -100,11 +101,22 @@ impl Records {
         self.ordered.to_set(alloc)
     }
 
-    /// The bytes of a block, made from its records up to the point.
-    pub fn page(&self, block: u32, point: u64) -> [u8; BLOCK]
-        ensures { result ≡ page_of (records_of self.now) block point }
+    /// The bytes of a block, made from its records up to the point. The first page parts all records by their blocks.
+    ///
+    /// # Errors
+    /// Where a growth was refused.
+    pub fn page(&mut self, alloc: Global, block: u32, point: u64) -> Result<[u8; BLOCK], AllocError>
+        ensures page { IfOk result (λ page. page ≡ page_of (records_of self.new) block point) }
+        ensures same { records_of self.new ≡ records_of self.old }
     {
-        page_of(self.blocks.of(block), block, point)
+        if let Some(blocks) = &self.index.blocks {
+            return Ok(page_of(blocks.of(block), block, point));
+        }
+        let set = self.ordered.to_set(alloc)?;
+        let blocks = Blocks::from_set(alloc, &set)?;
+        let page = page_of(blocks.of(block), block, point);
+        self.index.blocks = Some(blocks);
+        Ok(page)
     }
 
     /// The record with this number, of several the first in the order of their bytes.
@@ -158,11 +170,12 @@ impl Records {
     }
 
     /// What the record would do to the chains; where it would wait there is room for it.
+    #[inline(always)]
     fn link(&mut self, alloc: Global, packet: &Packet) -> Result<Link, AllocError>
         ensures link { IfOk result (λ link. IsLinkOf (records_of self.new) self.new.chains (packet_redo packet.now) link) }
         ensures room { IfOk result (λ link. CanTie link self.new.chains (packet_redo packet.now)) }
         ensures ordered { self.new.ordered ≡ self.old.ordered }
-        ensures blocks { self.new.blocks ≡ self.old.blocks }
+        ensures index { self.new.index ≡ self.old.index }
     {
         let (before, number) = (packet.prev_group(), packet.lsn());
         if !self.is_reached(before) {
@@ -193,13 +206,12 @@ impl Records {
         ensures same { records_of self.new ≡ records_of self.old }
     {
         self.ordered.make_room(alloc, place)?;
-        let list = self.blocks.make_room(alloc, packet.record().block)?;
+        let of_block = self.index.prepare(alloc, packet)?;
         let link = self.link(alloc, packet)?;
         Ok(Entrant {
             place,
             packet: packet.clone()?,
-            list,
-            of_block: packet.clone()?,
+            of_block,
             link,
         })
     }
@@ -221,12 +233,11 @@ impl Records {
         let Entrant {
             place,
             packet,
-            list,
             of_block,
             link,
         } = entrant;
         link.tie(&mut self.chains, &packet);
-        self.blocks.add(list, of_block);
+        self.index.add(of_block);
         self.ordered.insert(place, packet);
     }
 

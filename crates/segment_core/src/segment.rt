@@ -19,7 +19,7 @@ use std::sync::Arc;
 use volume_model::Fault;
 use wire::{
     Ack, Carried, Contents, CopyAsk, CopyReport, Fence, Install, Label, MOST_PIECES, Message,
-    Messages, Page, PageAsk, Report, StepTo,
+    Messages, Page, PageAsk, Report, StepTo, Write,
 };
 
 /// How many records a segment holds at most.
@@ -475,38 +475,43 @@ impl Segment {
         Ok(())
     }
 
-    /// The page of a block at a point. Takes no memory.
+    /// The page of a block at a point. The first page parts what is held by its blocks.
     ///
     /// # Errors
     /// `NotWhole` before the segment is whole, `TailSegment` where the member keeps no whole pages, `PointAhead` where the segment isn't
-    /// complete up to the point.
-    pub fn page_at(&self, block: u32, point: u64) -> Result<[u8; BLOCK], Fault>
-        ensures { result ≡ paged (segment_plan self.now) (segment_group self.now) (segment_member self.now) (node_of self.now) block point }
+    /// complete up to the point; `NoMemory` where none applies and a growth was refused.
+    pub fn page_at(&mut self, alloc: Global, block: u32, point: u64) -> Result<[u8; BLOCK], Fault>
+        ensures page { AnswersNew (λ page. page) (paged (segment_plan self.old) (segment_group self.old) (segment_member self.old) (node_of self.old) block point) result }
+        ensures node { node_of self.new ≡ node_of self.old }
+        ensures actor { IsSameActor self.old self.new }
     {
         if !self.whole {
             return Err(Fault::NotWhole);
         }
         self.check_page(point)?;
-        Ok(self.records.page(block, point))
+        Ok(self.records.page(alloc, block, point)?)
     }
 
     /// The step that answers a question with a page.
     #[tactic(auto, unfolding(volume_model::specs::Node::page_answer))]
-    fn answer_page(&self, alloc: Global, ask: &PageAsk) -> Result<Prepared, Fault>
-        ensures step { Answers step_of (page_answer (segment_plan self.now) (segment_group self.now) (segment_member self.now) (node_of self.now) (label_of ask.now.label) ask.now.block ask.now.point) (node_of self.now) result (node_of self.now) }
-        ensures ready { IfOk result (λ prepared. CanTake self.now prepared.effect) }
+    fn answer_page(&mut self, alloc: Global, ask: &PageAsk) -> Result<Prepared, Fault>
+        ensures step { Answers step_of (page_answer (segment_plan self.old) (segment_group self.old) (segment_member self.old) (node_of self.old) (label_of ask.now.label) ask.now.block ask.now.point) (node_of self.old) result (node_of self.old) }
+        ensures ready { IfOk result (λ prepared. CanTake self.new prepared.effect) }
+        ensures node { node_of self.new ≡ node_of self.old }
+        ensures actor { IsSameActor self.old self.new }
     {
         if self.lineage.last_epoch() != ask.label.volume {
             return Err(Fault::NotInstalled);
         }
         self.check_page(ask.point)?;
+        let bytes = self.records.page(alloc, ask.block, ask.point)?;
         let page = Page {
             group: self.group,
             from: self.member,
             label: ask.label,
             block: ask.block,
             point: ask.point,
-            bytes: Box::new(alloc, self.records.page(ask.block, ask.point))?,
+            bytes: Box::new(alloc, bytes)?,
         };
         Ok(Prepared {
             answers: Messages::One(Message::Page(page)),
@@ -515,9 +520,11 @@ impl Segment {
     }
 
     /// Makes ready to answer with a page.
-    fn prepare_page(&self, alloc: Global, ask: &PageAsk) -> Result<Prepared, Fault>
-        ensures step { Answers step_of (reaction_of self.now (message_of (Message.PageAsk ask.now))) (node_of self.now) result (node_of self.now) }
-        ensures ready { IfOk result (λ prepared. CanTake self.now prepared.effect) }
+    fn prepare_page(&mut self, alloc: Global, ask: &PageAsk) -> Result<Prepared, Fault>
+        ensures step { Answers step_of (reaction_of self.old (message_of (Message.PageAsk ask.now))) (node_of self.old) result (node_of self.old) }
+        ensures ready { IfOk result (λ prepared. CanTake self.new prepared.effect) }
+        ensures node { node_of self.new ≡ node_of self.old }
+        ensures actor { IsSameActor self.old self.new }
     {
         if ask.group != self.group {
             return Err(Fault::NotAddressed);
@@ -565,6 +572,20 @@ impl Segment {
         }
     }
 
+    /// Makes ready for a record that a client writes.
+    #[inline(always)]
+    fn written(&mut self, alloc: Global, write: &Write) -> Result<Prepared, Fault>
+        ensures step { Answers step_of (reaction_of self.old (message_of (Message.Write write.now))) (node_of self.old) result (node_of self.old) }
+        ensures ready { IfOk result (λ prepared. CanTake self.new prepared.effect) }
+        ensures node { node_of self.new ≡ node_of self.old }
+        ensures actor { IsSameActor self.old self.new }
+    {
+        if !write.is_for(self.group) {
+            return Err(Fault::NotAddressed);
+        }
+        self.prepare_record(alloc, write.label, &write.packet)
+    }
+
     /// Makes ready for a message, as [`Segment::prepare`] does.
     #[inline(always)]
     fn prepared(&mut self, alloc: Global, message: &Message) -> Result<Prepared, Fault>
@@ -576,9 +597,7 @@ impl Segment {
         match message {
             Message::Fence(fence) => self.prepare_fence(alloc, fence),
             Message::Install(install) => self.prepare_install(alloc, install),
-            Message::Write(write) if write.is_for(self.group) => {
-                self.prepare_record(alloc, write.label, &write.packet)
-            }
+            Message::Write(write) => self.written(alloc, write),
             Message::Gossip(gossip) if gossip.is_for(self.group) => {
                 self.prepare_record(alloc, gossip.label, &gossip.packet)
             }
@@ -603,8 +622,21 @@ impl Segment {
         ensures node { node_of self.new ≡ node_of self.old }
         ensures actor { IsSameActor self.old self.new }
     {
-        let prepared = self.prepared(alloc, message)?;
-        Ok(prepared)
+        self.prepared(alloc, message)
+    }
+
+    /// Makes ready to take a record that a client writes, as [`Segment::prepare`] does for its message. Most messages are such.
+    ///
+    /// # Errors
+    /// As [`Segment::prepare`].
+    #[inline(always)]
+    pub fn prepare_write(&mut self, alloc: Global, write: &Write) -> Result<Prepared, Fault>
+        ensures step { Answers step_of (reaction_of self.old (message_of (Message.Write write.now))) (node_of self.old) result (node_of self.old) }
+        ensures ready { IfOk result (λ prepared. IsReady self.new prepared) }
+        ensures node { node_of self.new ≡ node_of self.old }
+        ensures actor { IsSameActor self.old self.new }
+    {
+        self.written(alloc, write)
     }
 
     /// The read expression of the configuration that it took last, `None` where its member isn't one of it.

@@ -85,7 +85,7 @@ pub fn answer(alloc: Global, node: &mut Segment, told: Told) -> Result<Said, Fau
             Ok(Said::Nothing)
         }
         Told::Offer(lsn) => Ok(said_in(&node.offer(lsn)?.gossip()?)),
-        Told::ByteOf(block, point, place) => match node.page_at(block, point)?.get(place) {
+        Told::ByteOf(block, point, place) => match node.page_at(alloc, block, point)?.get(place) {
             Some(byte) => Ok(Said::Byte(*byte)),
             None => Ok(Said::Another),
         },
