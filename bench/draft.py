@@ -76,20 +76,22 @@ def made_in(room):
 
 def translated(work, words, module):
     """Has `rt try` translate the program of a crate, and takes the module while the program runs with these words."""
-    with tempfile.TemporaryDirectory() as room:
+    kept = pathlib.Path(f"{module}.new")
+    with tempfile.TemporaryDirectory(dir=module.parent) as room:
         tried = ["rt", "try", "--seconds", "900", "--", *words]
         ran = subprocess.Popen(tried, cwd=work, env={**os.environ, "TMPDIR": room}, stdout=subprocess.DEVNULL)
         taken = None
         while ran.poll() is None:
             made = made_in(room)
             with contextlib.suppress(FileNotFoundError):
-                if made and made.stat().st_mtime_ns != taken:
-                    taken = made.stat().st_mtime_ns
-                    shutil.copyfile(made, f"{module}.new")
+                if made and made.stat().st_ino != taken:
+                    kept.unlink(missing_ok=True)
+                    os.link(made, kept)
+                    taken = made.stat().st_ino
             time.sleep(0.1)
     if ran.returncode or taken is None:
         sys.exit(f"rt try made no program: run it in {work} to see why")
-    pathlib.Path(f"{module}.new").rename(module)
+    kept.rename(module)
 
 
 def drafted(out, work, words, inline=()):
