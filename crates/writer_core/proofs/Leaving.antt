@@ -1,7 +1,7 @@
 -- The record that was entered last among the last numbers of groups and blocks is taken out again.
-use Rattle.std.proofs.Common.{◌≡◌, ℕ, ◌+◌, ◌<◌, ◌≤◌, Bool, true, false, ◌&&◌, nat_eq, List, [], ◌∷◌, ◌++◌, length, length-append, get_or, take, if◌then◌else◌, Some, None, cond, ◌⊎◌, sym, ap, ap₂, ◌∙◌, subst, inl, inr, arith}
+use Rattle.std.proofs.Common.{◌≡◌, ℕ, ◌+◌, ◌<◌, ◌≤◌, Bool, true, false, ◌&&◌, nat_eq, List, [], ◌∷◌, ◌++◌, length, length-append, get_or, take, if◌then◌else◌, Some, None, ◌⊎◌, sym, ap, ap₂, ◌∙◌, subst, inl, inr, arith}
 use Rattle.std.specs.Prelude.{◌-◌, Option, Result, Ok, Err, OnOk, OnErr, slice_set, unwrap_or, refl}
-use Rattle.std.specs.BTreeMap.{BTreeMap, UpdatesBy, Updates, get}
+use Rattle.std.specs.BTreeMap.{Updates, get}
 use Rattle.std.proofs.lemmas.Bool.{cases_lt, and_parts, eqb-true}
 use Rattle.std.proofs.Math.ListN.{get_or-append}
 use Rattle.std.proofs.Math.Seq.{get_or-append_seam}
@@ -13,93 +13,78 @@ use Rattle.redo_record.specs.declared.«record».Record.{Record}
 use Rattle.redo_record.specs.Packet.{packet_redo}
 use Rattle.redo_record.specs.Record.{redo_of}
 use Rattle.writer_core.specs.Logs.{log_of}
-use Rattle.writer_core.specs.Lasts.{block_cmp, kept_of_group, kept_of_block, AreLasts, AreLastsOfFront, IsLinked, AreLinkedFrom, Leaves}
+use Rattle.writer_core.specs.Kept.{Blocks, block_cmp, kept_in, PutsIn}
+use Rattle.writer_core.specs.Lasts.{kept_of_group, kept_of_block, AreLasts, AreLastsOfAll, AreLastsOfFront, Enters, IsLinked, AreLinkedFrom, Leaves}
 use Rattle.writer_core.specs.declared.lasts.Lasts.{Lasts}
 use Rattle.writer_core.proofs.Logs.{log_of-more}
-use Rattle.writer_core.proofs.Entering.{group-entered, block-same, block-entered}
+use Rattle.writer_core.proofs.Entering.{group-entered, puts-some}
 
 -- what was kept of the record's own place is what it names, and all else stays
 left : (same : Bool) (new old lsn prev last : ℕ) → new ≡ (if same then prev else old) → old ≡ (if same then lsn else last) → (same ≡ true → prev ≡ last) → new ≡ last
 left true new old lsn prev last e f names = e ∙ names refl
 left false new old lsn prev last e f names = e ∙ f
 
-block-removed : (test same : Bool) (found : Option ℕ) → test ≡ same → unwrap_or (cond test None found) 0 ≡ (if same then 0 else unwrap_or found 0)
-block-removed true true found e = refl
-block-removed true false found e = cc
-block-removed false true found e = cc
-block-removed false false found e = refl
-
--- the numbers that are kept by group and block
-abbrev Blocks : Type 0
-Blocks = BTreeMap (ℕ × ℕ) ℕ
-
--- the number that is kept of one
-abbrev kept_in : Blocks → ℕ → ℕ → ℕ
-kept_in blocks group block = unwrap_or (get block_cmp blocks (group, block)) 0
-
--- the number of the record's own block is what it names, those of all others stay
-abbrev pub PutsBack : Blocks → Record → Blocks → Type 0
-PutsBack old r new = (group block : ℕ) → kept_in new group block ≡ (if nat_eq r.group group && nat_eq r.block block then r.prev_block else kept_in old group block)
-
--- it names none
-pub puts-none : (old : Blocks) (r : Record) (new : Blocks) → r.prev_block ≡ 0 → UpdatesBy block_cmp (block_cmp (r.group, r.block)) old new None → PutsBack old r new
-puts-none old r new none updates q b =
-    ap (λ (found : Option ℕ). unwrap_or found 0) (updates.0 (q, b))
-    ∙ block-removed _ (nat_eq r.group q && nat_eq r.block b) (get block_cmp old (q, b)) (block-same r.group r.block q b)
-    ∙ ap (λ n. if nat_eq r.group q && nat_eq r.block b then n else kept_in old q b) (sym none)
-
--- it names one
-puts-one : (old : Blocks) (r : Record) (new : Blocks) → Updates block_cmp old new (r.group, r.block) (Some r.prev_block) → PutsBack old r new
-puts-one old r new updates q b =
-    ap (λ (found : Option ℕ). unwrap_or found 0) (updates.0 (q, b))
-    ∙ block-entered _ (nat_eq r.group q && nat_eq r.block b) (get block_cmp old (q, b)) r.prev_block (kept_in old q b) (block-same r.group r.block q b) refl
-
 -- the block isn't there, or what the record names is put back
-abbrev pub IsAbsentOr : Blocks → Record → Type 0 → Type 0
-IsAbsentOr old r put = (kept_in old r.group r.block ≡ 0) ⊎ put
+abbrev pub IsAbsentOr : Blocks → ℕ → ℕ → Type 0 → Type 0
+IsAbsentOr old group block put = (kept_in old group block ≡ 0) ⊎ put
 
-pub puts-inserted : {A B : Type 0} (result : Result A B) (old : Blocks) (r : Record) (new : Blocks) → OnOk result (Updates block_cmp old new (r.group, r.block) (Some r.prev_block)) → OnErr result (get block_cmp old (r.group, r.block) ≡ None) → IsAbsentOr old r (PutsBack old r new)
-puts-inserted (Ok x) old r new updates absent = inr (puts-one old r new updates)
-puts-inserted (Err x) old r new updates absent = inl (ap (λ (found : Option ℕ). unwrap_or found 0) absent)
+pub puts-inserted : {A B : Type 0} (result : Result A B) (old : Blocks) (group block prev : ℕ) (new : Blocks) → OnOk result (Updates block_cmp old new (block, group) (Some prev)) → OnErr result (get block_cmp old (block, group) ≡ None) → IsAbsentOr old group block (PutsIn old group block prev new)
+puts-inserted (Ok x) old group block prev new updates absent = inr (puts-some old group block prev new updates)
+puts-inserted (Err x) old group block prev new updates absent = inl (ap (λ (found : Option ℕ). unwrap_or found 0) absent)
 
-pub lasts-left : (old new : Lasts) (i : ℕ) (r : Record) → i ≡ r.group → new.entered + 1 ≡ old.entered → new.groups ≡ slice_set old.groups i r.prev_group → IsAbsentOr old.blocks r (PutsBack old.blocks r new.blocks) → Leaves old new (redo_of r)
-lasts-left old new i r is counted groups (inl absent) = record {
+own : (g b lsn last : ℕ) → (if nat_eq g g && nat_eq b b then lsn else last) ≡ lsn
+own g b lsn last = grind (arith, nat_tests)
+
+pub lasts-left : (old new : Lasts) (i group block prev_group prev_block : ℕ) → i ≡ group → group < 16 → new.entered + 1 ≡ old.entered → new.groups ≡ slice_set old.groups i prev_group → IsAbsentOr old.blocks group block (PutsIn old.blocks group block prev_block new.blocks)
+    → Leaves old new group block prev_group prev_block
+lasts-left old new i group block prev_group prev_block is below counted groups (inl absent) = record {
   counted = counted;
-  lasts = λ log linked before. absurd (
+  lasts = λ r on_group on_block names_group names_block some log linked before. absurd (
+      let gone : kept_of_block old r.group r.block ≡ 0 = ap₂ (λ g b. kept_of_block old g b) on_group on_block ∙ absent in
       let there : kept_of_block old r.group r.block ≡ r.lsn = before.of_block r.group r.block ∙ own r.group r.block r.lsn (last_of_block r.group r.block log) in
-      omega (arith, absent, there, r.lsn_positive));
+      omega (arith, gone, there, some));
 }
-  where
-    own : (g b lsn last : ℕ) → (if nat_eq g g && nat_eq b b then lsn else last) ≡ lsn
-    own g b lsn last = grind (arith, nat_tests)
-lasts-left old new i r is counted groups (inr put) = record {
+lasts-left old new i group block prev_group prev_block is below counted groups (inr put) = record {
   counted = counted;
-  lasts = λ log linked before. record {
+  lasts = λ r on_group on_block names_group names_block some log linked before. record {
     of_group = λ q h.
-        let within : i < length old.groups = omega (arith, old.each_group, r.group_in_range) in
+        let within : i < length old.groups = omega (arith, old.each_group, below, is) in
         let kept : kept_of_group new q ≡ (if nat_eq r.group q then r.prev_group else kept_of_group old q) =
-        ap (λ xs. get_or xs q 0) groups ∙ group-entered old.groups i q r.prev_group (kept_of_group old q) within refl ∙ ap (λ k. if nat_eq k q then r.prev_group else kept_of_group old q) is in
+        ap (λ xs. get_or xs q 0) groups ∙ group-entered old.groups i q prev_group (kept_of_group old q) within refl
+        ∙ ap₂ (λ k n. if nat_eq k q then n else kept_of_group old q) (is ∙ sym on_group) (sym names_group) in
         left (nat_eq r.group q) (kept_of_group new q) (kept_of_group old q) r.lsn r.prev_group (last_of_group q log) kept (before.of_group q h)
         (λ e. linked.group ∙ ap (λ k. last_of_group k log) (eqb-true r.group q e));
     of_block = λ q b.
-        left (nat_eq r.group q && nat_eq r.block b) (kept_of_block new q b) (kept_of_block old q b) r.lsn r.prev_block (last_of_block q b log) (put q b) (before.of_block q b)
+        let kept : kept_of_block new q b ≡ (if nat_eq r.group q && nat_eq r.block b then r.prev_block else kept_of_block old q b) =
+        put q b ∙ ap₂ (λ k m. if nat_eq k q && nat_eq m b then prev_block else kept_of_block old q b) (sym on_group) (sym on_block)
+        ∙ ap (λ n. if nat_eq r.group q && nat_eq r.block b then n else kept_of_block old q b) (sym names_block) in
+        left (nat_eq r.group q && nat_eq r.block b) (kept_of_block new q b) (kept_of_block old q b) r.lsn r.prev_block (last_of_block q b log) kept (before.of_block q b)
         (λ e. (let parts : (nat_eq r.group q ≡ true) × (nat_eq r.block b ≡ true) = and_parts _ _ e in linked.block ∙ ap₂ (λ k m. last_of_block k m log) (eqb-true r.group q parts.0) (eqb-true r.block b parts.1)));
   };
 }
 
 -- one record of the front is taken out
-pub front-left : (old new : Lasts) (records : List Packet) (p : Packet) (r : Redo) (place : ℕ) → place < old.entered → AreLinkedFrom place records → p ≡ get_or records (old.entered - 1) p → r ≡ packet_redo p → Leaves old new r → AreLastsOfFront old records → AreLastsOfFront new records
+pub front-left : (old new : Lasts) (records : List Packet) (p : Packet) (r : Record) (place : ℕ) → place < old.entered → AreLinkedFrom place records → p ≡ get_or records (old.entered - 1) p → redo_of r ≡ packet_redo p
+    → Leaves old new r.group r.block r.prev_group r.prev_block → AreLastsOfFront old records → AreLastsOfFront new records
 front-left old new records p r place more linked is shows leaves front =
     let counted : old.entered - 1 ≡ new.entered = omega (arith, leaves.counted) in
     let here : p ≡ get_or records new.entered p = is ∙ ap (λ n. get_or records n p) counted in
     let within : new.entered < length records = omega (arith, leaves.counted, front.within) in
-    let one : log_of (take old.entered records) ≡ r ∷ log_of (take new.entered records) =
+    let one : log_of (take old.entered records) ≡ redo_of r ∷ log_of (take new.entered records) =
     ap (λ n. log_of (take n records)) (sym leaves.counted) ∙ log_of-more records new.entered p within ∙ ap (λ x. packet_redo x ∷ log_of (take new.entered records)) (sym here) ∙ ap (λ s. s ∷ log_of (take new.entered records)) (sym shows) in
-    let link : IsLinked r (log_of (take new.entered records)) = subst (λ s. IsLinked s (log_of (take new.entered records))) (ap packet_redo (sym here) ∙ sym shows) (linked new.entered p (omega (arith, leaves.counted, more)) within) in
+    let link : IsLinked (redo_of r) (log_of (take new.entered records)) = subst (λ s. IsLinked s (log_of (take new.entered records))) (ap packet_redo (sym here) ∙ sym shows) (linked new.entered p (omega (arith, leaves.counted, more)) within) in
     record {
       within = omega (arith, within);
-      front = leaves.lasts (log_of (take new.entered records)) link (subst (AreLasts old) one front.front);
+      front = leaves.lasts (redo_of r) refl refl refl refl r.lsn_positive (log_of (take new.entered records)) link (subst (AreLasts old) one front.front);
     }
+
+-- the record that was entered behind all others, and names what is before it, is taken out
+pub all-left : (old mid new : Lasts) (records : List Packet) (r : Redo) (lsn prev_group prev_block : ℕ) → r.lsn ≡ lsn → r.prev_group ≡ prev_group → r.prev_block ≡ prev_block → 1 ≤ r.lsn → IsLinked r (log_of records)
+    → Enters old mid r.group r.block lsn → Leaves mid new r.group r.block prev_group prev_block → AreLastsOfAll old records → AreLastsOfAll new records
+all-left old mid new records r lsn prev_group prev_block has_lsn names_group names_block some linked enters leaves all = record {
+  counted = omega (arith, enters.counted, leaves.counted, all.counted);
+  all = leaves.lasts r refl refl names_group names_block some (log_of records) linked (enters.lasts r refl refl has_lsn (log_of records) all.all);
+}
 
 -- what is entered is the front of a front
 pub front-cut : (lasts : Lasts) (records : List Packet) (n : ℕ) → lasts.entered ≤ n → AreLastsOfFront lasts records → AreLastsOfFront lasts (take n records)

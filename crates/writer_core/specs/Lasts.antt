@@ -1,17 +1,11 @@
 -- The last numbers of groups and blocks, as a table keeps them.
-use Rattle.std.specs.Prelude.{◌≡◌, ℕ, ◌+◌, ◌<◌, ◌≤◌, List, ◌∷◌, length, take, slice_index, slice_index_or, unwrap_or}
-use Rattle.std.specs.declared.cmp.Ordering.{Ordering}
-use Rattle.std.specs.Ordering.{nat_cmp, ordering_then}
-use Rattle.std.specs.BTreeMap.{get}
+use Rattle.std.specs.Prelude.{◌≡◌, ℕ, ◌+◌, ◌<◌, ◌≤◌, List, ◌∷◌, length, take, slice_index, slice_index_or}
 use Rattle.volume_model.specs.Redo.{Redo, last_of_group, last_of_block}
 use Rattle.redo_record.specs.declared.packet.Packet.{Packet}
 use Rattle.redo_record.specs.Packet.{packet_redo}
 use Rattle.writer_core.specs.Logs.{log_of}
+use Rattle.writer_core.specs.Kept.{kept_in}
 use Rattle.writer_core.specs.declared.lasts.Lasts.{Lasts}
-
--- blocks stand in the order of their groups, and those of a group in the order of their numbers
-abbrev pub block_cmp : ℕ × ℕ → ℕ × ℕ → Ordering
-block_cmp a b = ordering_then (nat_cmp a.0 b.0) (nat_cmp a.1 b.1)
 
 -- the number that is kept of a group
 abbrev pub kept_of_group : Lasts → ℕ → ℕ
@@ -19,7 +13,7 @@ kept_of_group lasts group = slice_index lasts.groups group
 
 -- the number that is kept of a block of a group
 abbrev pub kept_of_block : Lasts → ℕ → ℕ → ℕ
-kept_of_block lasts group block = unwrap_or (get block_cmp lasts.blocks (group, block)) 0
+kept_of_block lasts group block = kept_in lasts.blocks group block
 
 -- what is kept of each group and block is its last number in this log
 pub record AreLasts (lasts : Lasts) (log : List Redo) : Type 0 where
@@ -31,10 +25,15 @@ pub record AreLastsOfFront (lasts : Lasts) (records : List Packet) : Type 0 wher
   pub within : lasts.entered ≤ length records
   pub front : AreLasts lasts (log_of (take lasts.entered records))
 
--- one record more is entered
-pub record Enters (old new : Lasts) (r : Redo) : Type 0 where
+-- all records are entered
+pub record AreLastsOfAll (lasts : Lasts) (records : List Packet) : Type 0 where
+  pub counted : lasts.entered ≡ length records
+  pub all : AreLasts lasts (log_of records)
+
+-- one record more is entered, one of this number on a block of a group
+pub record Enters (old new : Lasts) (group block lsn : ℕ) : Type 0 where
   pub counted : new.entered ≡ old.entered + 1
-  pub lasts : (log : List Redo) → AreLasts old log → AreLasts new (r ∷ log)
+  pub lasts : (r : Redo) → r.group ≡ group → r.block ≡ block → r.lsn ≡ lsn → (log : List Redo) → AreLasts old log → AreLasts new (r ∷ log)
 
 -- no record more is entered
 pub record EntersNone (old new : Lasts) : Type 0 where
@@ -50,7 +49,8 @@ pub record IsLinked (r : Redo) (older : List Redo) : Type 0 where
 abbrev pub AreLinkedFrom : ℕ → List Packet → Type 0
 AreLinkedFrom place records = (k : ℕ) (d : Packet) → place ≤ k → k < length records → IsLinked (packet_redo (slice_index_or records k d)) (log_of (take k records))
 
--- the last record that was entered is taken out again
-pub record Leaves (old new : Lasts) (r : Redo) : Type 0 where
+-- the last record that was entered is taken out again, one on a block of a group that names these numbers before it
+pub record Leaves (old new : Lasts) (group block prev_group prev_block : ℕ) : Type 0 where
   pub counted : new.entered + 1 ≡ old.entered
-  pub lasts : (log : List Redo) → IsLinked r log → AreLasts old (r ∷ log) → AreLasts new log
+  pub lasts : (r : Redo) → r.group ≡ group → r.block ≡ block → r.prev_group ≡ prev_group → r.prev_block ≡ prev_block → 1 ≤ r.lsn
+      → (log : List Redo) → IsLinked r log → AreLasts old (r ∷ log) → AreLasts new log

@@ -1,5 +1,6 @@
 pub mod Logs
 pub mod Log
+pub mod Kept
 pub mod Lasts
 pub mod Covered
 pub mod Counts

@@ -1,5 +1,5 @@
 -- A log of a program, as the model's.
-use Rattle.std.specs.Prelude.{List, ◌++◌}
+use Rattle.std.specs.Prelude.{ℕ, List, ◌++◌, ◌-◌, vec_len, vec_capacity}
 use Rattle.volume_model.specs.Redo.{Redo}
 use Rattle.redo_record.specs.declared.packet.Packet.{Packet}
 use Rattle.redo_record.specs.declared.record_set.RecordSet.{RecordSet}
@@ -18,3 +18,7 @@ packets_in log = packets_of log.found ++ log.issued.items
 -- the log of the model that it is
 abbrev pub log_in : Log → List Redo
 log_in log = log_of (packets_in log)
+
+-- for how many records more there is room
+abbrev pub room_in : Log → ℕ
+room_in log = vec_capacity log.issued - vec_len log.issued

@@ -1,19 +1,18 @@
 //! The records of a transaction, and the messages that carry them.
 
-ghost use Rattle.std.specs.Prelude.{◌≡◌, ◌+◌, ◌^◌, ◌<◌, ◌≤◌, ◌++◌, true, length, max, take, OnOk, IfErr};
+ghost use Rattle.std.specs.Prelude.{◌≡◌, ◌+◌, ◌^◌, ◌<◌, ◌≤◌, ◌++◌, ◌∷◌, [], true, length, max, take, IfOk, IfErr, OnOk, OnErr};
 ghost use Rattle.volume_model.specs.declared.fault.Fault.TheVariants.{NoMemory};
 ghost use Rattle.volume_model.specs.Redo.{last_lsn};
 ghost use Rattle.volume_model.specs.Client.{place_of};
 ghost use Rattle.volume_model.specs.ClientWriter.{record_of, issued_log, issued_writes, is_change};
 ghost use Rattle.volume_model.specs.Lists.{every};
-ghost use Rattle.redo_record.specs.Record.{redo_of};
 ghost use Rattle.redo_record.specs.Packet.{packet_redo};
 ghost use Rattle.redo_record.specs.Payload.{HasRoom};
 ghost use Rattle.volume_model.specs.Message as model;
 ghost use Rattle.volume_model.specs.Client.{label_of};
 ghost use Rattle.wire.specs.Message.{messages_of};
 ghost use Rattle.writer_core.specs.Log.{found_of, log_in, packets_in};
-ghost use Rattle.writer_core.specs.Lasts.{AreLasts, AreLastsOfFront, AreLinkedFrom};
+ghost use Rattle.writer_core.specs.Lasts.{AreLastsOfAll, AreLastsOfFront, AreLinkedFrom};
 ghost use Rattle.writer_core.specs.Groups.{groups_in};
 ghost use Rattle.writer_core.specs.Changes.{change_of, changes_of};
 ghost use Rattle.writer_core.specs.Carried.{carried_write};
@@ -23,7 +22,7 @@ use crate::lasts::Lasts;
 use crate::log::Log;
 use crate::standings::Standings;
 use redo_record::{Packet, Payload, Record};
-use std::alloc::Global;
+use std::alloc::{AllocError, Global};
 use volume_model::Fault;
 use wire::{Carried, Message};
 
@@ -35,31 +34,52 @@ pub struct Span {
     pub ghost assigned: { 1 ≤ volume },
 }
 
-/// The record of a change behind a log, of which the last LSNs are known; `point` makes it a consistency point.
-fn next_record(span: Span, log: &Log, lasts: &Lasts, change: &Change, point: bool) -> Record
-    requires lasts { AreLasts lasts.now (log_in log.now) }
+/// The packet of a change's record behind a log, of which the last LSNs are known; `point` makes it a consistency point. They then know
+/// the record too, and where memory runs out they don't.
+#[inline(always)]
+fn next_packet(
+    alloc: Global,
+    span: Span,
+    log: &Log,
+    lasts: &mut Lasts,
+    change: &Change,
+    point: bool,
+) -> Result<Packet, AllocError>
+    requires lasts { AreLastsOfAll lasts.old (packets_in log.now) }
     requires room { max (last_lsn (log_in log.now)) span.start < 2 ^ 62 }
     requires group { change.now.group < 16 }
     requires bytes { HasRoom (length change.now.bytes.items) }
     requires place { change.now.offset + length change.now.bytes.items ≤ 512 }
-    ensures { redo_of result ≡ record_of span.volume span.start (log_in log.now) (change_of change.now) point }
+    ensures made { IfOk result (λ packet. packet_redo packet ≡ record_of span.volume span.start (log_in log.now) (change_of change.now) point) }
+    ensures entered { IfOk result (λ packet. AreLastsOfAll lasts.new (packets_in log.now ++ packet ∷ [])) }
+    ensures err { OnErr result (AreLastsOfAll lasts.new (packets_in log.now)) }
 {
     let last = log.last_lsn();
+    let lsn = last.max(span.start) + 1;
+    let prev_group = lasts.of_group(change.group);
+    let prev_block = lasts.enter(change.group, change.block, lsn)?;
     let bytes = match Payload::new(change.bytes.as_slice()) {
         Some(bytes) => bytes,
         None => unreachable!(),
     };
-    Record {
-        lsn: last.max(span.start) + 1,
+    let record = Record {
+        lsn,
         volume_epoch: span.volume,
         prev_volume: last,
-        prev_group: lasts.of_group(change.group),
-        prev_block: lasts.of_block(change.group, change.block),
+        prev_group,
+        prev_block,
         group: change.group,
         block: change.block,
         offset: change.offset,
         bytes,
         point,
+    };
+    match Packet::pack(alloc, record) {
+        Ok(packet) => Ok(packet),
+        Err(error) => {
+            lasts.leave(change.group, change.block, prev_group, prev_block);
+            Err(error)
+        }
     }
 }
 
@@ -75,8 +95,8 @@ pub fn carry<'a>(volume: u32, standings: &Standings, packet: &'a Packet) -> Carr
     }
 }
 
-/// Adds the records of a transaction's changes to a log, and their messages to others. The last LSNs of the log follow it, up to
-/// the last record but one. Where memory runs out the log has only grown, by records that name the last LSNs before them.
+/// Adds the records of a transaction's changes to a log, and their messages to others. The last LSNs of the log follow it. Where
+/// memory runs out the log has only grown, by records that name the last LSNs before them.
 pub fn append(
     alloc: Global,
     span: Span,
@@ -98,12 +118,13 @@ pub fn append(
     ensures found { found_of log.new ≡ found_of log.old }
     ensures linked { AreLinkedFrom (length (packets_in log.old)) (packets_in log.new) }
 {
+    lasts.follow(log)?;
+    log.reserve(changes.len())?;
     for (i, change) in changes.iter().enumerate() {
-        lasts.follow(log)?;
-        let record = next_record(span, log, lasts, change, i + 1 == changes.len());
-        let packet = Packet::pack(alloc, record)?;
-        messages.push(carry(span.volume, standings, &packet).write()?)?;
-        log.push(packet)?;
+        let packet = next_packet(alloc, span, log, lasts, change, i + 1 == changes.len())?;
+        let message = carry(span.volume, standings, &packet).write();
+        log.push_reserved(packet);
+        messages.push(message?)?;
     }
     Ok(())
 }

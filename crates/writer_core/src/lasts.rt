@@ -1,14 +1,29 @@
 //! The last LSN of each group and of each block of a log.
 
-ghost use Rattle.std.specs.Prelude.{◌≡◌, length};
+ghost use Rattle.std.specs.Prelude.{◌≡◌, length, IfOk, OnOk, OnErr};
+ghost use Rattle.writer_core.specs.Kept.{kept_in, PutsIn, AreSameIn};
 
 use crate::log::Log;
-use redo_record::Record;
 use std::alloc::{AllocError, Global};
 use std::collections::BTreeMap;
+use std::mem;
 
 /// The most groups that a volume has.
 pub const GROUPS: usize = 16;
+
+/// Puts a number for a block, and answers the one that stood there, 0 where there was none. Where memory runs out nothing has changed.
+#[inline(always)]
+fn put(blocks: &mut BTreeMap<(u32, u8), u64>, place: (u32, u8), lsn: u64) -> Result<u64, AllocError>
+    ensures before { IfOk result (λ before. before ≡ kept_in blocks.old place.1 place.0) }
+    ensures ok { OnOk result (PutsIn blocks.old place.1 place.0 lsn blocks.new) }
+    ensures err { OnErr result (AreSameIn blocks.old blocks.new) }
+{
+    if let Some(last) = blocks.get_mut(&place) {
+        return Ok(mem::replace(last, lsn));
+    }
+    blocks.insert(place, lsn)?;
+    Ok(0)
+}
 
 /// The last LSN of each group and of each block in the front of a log.
 #[derive(Drop)]
@@ -17,16 +32,15 @@ pub struct Lasts {
     entered: usize,
     /// By group, 0 where it has no record.
     groups: [u64; GROUPS],
-    /// By group and block.
-    blocks: BTreeMap<(u8, u32), u64>,
+    /// By block and group.
+    blocks: BTreeMap<(u32, u8), u64>,
     ghost each_group: { length groups ≡ 16 },
 }
 
 impl Lasts {
-    ghost use Rattle.std.specs.Prelude.{◌+◌, ◌^◌, ◌<◌, [], OnOk, OnErr, take};
-    ghost use Rattle.redo_record.specs.Record.{redo_of};
-    ghost use Rattle.writer_core.specs.Log.{log_in, packets_in};
-    ghost use Rattle.writer_core.specs.Lasts.{kept_of_group, kept_of_block, AreLasts, AreLastsOfFront, AreLinkedFrom, Enters, EntersNone, Leaves};
+    ghost use Rattle.std.specs.Prelude.{◌+◌, ◌^◌, ◌<◌, [], IfOk, OnOk, OnErr, take};
+    ghost use Rattle.writer_core.specs.Log.{packets_in};
+    ghost use Rattle.writer_core.specs.Lasts.{kept_of_group, kept_of_block, AreLasts, AreLastsOfAll, AreLastsOfFront, AreLinkedFrom, Enters, EntersNone, Leaves};
 
     /// No record is entered yet. Takes no memory.
     pub fn new(alloc: Global) -> Lasts
@@ -48,51 +62,50 @@ impl Lasts {
         self.groups[usize::from(group)]
     }
 
-    /// The last LSN on a block of a group, 0 where there is none.
-    pub fn of_block(&self, group: u8, block: u32) -> u64
-        ensures { result ≡ kept_of_block self.now group block }
-    {
-        self.blocks.get(&(group, block)).copied().unwrap_or(0)
-    }
-
-    /// Enters the log's next record. Where memory runs out nothing is entered.
-    fn enter(&mut self, record: &Record) -> Result<(), AllocError>
-        requires { self.old.entered + 1 < 2 ^ 64 }
-        ensures ok { OnOk result (Enters self.old self.new (redo_of «record».now)) }
+    /// Enters the log's next record, one of this number on a block of a group, and answers the last LSN on the block before it. Where memory
+    /// runs out nothing is entered.
+    #[inline(always)]
+    pub fn enter(&mut self, group: u8, block: u32, lsn: u64) -> Result<u64, AllocError>
+        requires group { group < 16 }
+        requires few { self.old.entered + 1 < 2 ^ 64 }
+        ensures before { IfOk result (λ before. before ≡ kept_of_block self.old group block) }
+        ensures ok { OnOk result (Enters self.old self.new group block lsn) }
         ensures err { OnErr result (EntersNone self.old self.new) }
     {
-        self.blocks
-            .insert((record.group, record.block), record.lsn)?;
-        self.groups[usize::from(record.group)] = record.lsn;
+        let before = put(&mut self.blocks, (block, group), lsn)?;
+        self.groups[usize::from(group)] = lsn;
         self.entered += 1;
-        Ok(())
+        Ok(before)
     }
 
     /// Enters what the log has behind the records that are entered. Where memory runs out some of it may be.
     pub fn follow(&mut self, log: &Log) -> Result<(), AllocError>
         requires { AreLastsOfFront self.old (packets_in log.now) }
-        ensures ok { OnOk result (AreLasts self.new (log_in log.now)) }
+        ensures ok { OnOk result (AreLastsOfAll self.new (packets_in log.now)) }
         ensures front { AreLastsOfFront self.new (packets_in log.now) }
     {
         while self.entered < log.len() {
-            self.enter(log.packet(self.entered).record())?;
+            let record = log.packet(self.entered).record();
+            self.enter(record.group, record.block, record.lsn)?;
         }
         Ok(())
     }
 
     /// Takes the record out again that was entered last: what it names stands there as before.
-    fn leave(&mut self, record: &Record)
-        requires { 0 < self.old.entered }
-        ensures { Leaves self.old self.new (redo_of «record».now) }
+    #[inline(never)]
+    pub fn leave(&mut self, group: u8, block: u32, prev_group: u64, prev_block: u64)
+        requires group { group < 16 }
+        requires entered { 0 < self.old.entered }
+        ensures { Leaves self.old self.new group block prev_group prev_block }
     {
-        let block = (record.group, record.block);
-        if record.prev_block == 0 {
-            self.blocks.remove(&block);
+        let place = (block, group);
+        if prev_block == 0 {
+            self.blocks.remove(&place);
         } else {
             // The block is there, so this takes no memory.
-            let _ = self.blocks.insert(block, record.prev_block);
+            let _ = self.blocks.insert(place, prev_block);
         }
-        self.groups[usize::from(record.group)] = record.prev_group;
+        self.groups[usize::from(group)] = prev_group;
         self.entered -= 1;
     }
 
@@ -103,7 +116,13 @@ impl Lasts {
         ensures { AreLastsOfFront self.new (take records (packets_in log.now)) }
     {
         while self.entered > records {
-            self.leave(log.packet(self.entered - 1).record());
+            let record = log.packet(self.entered - 1).record();
+            self.leave(
+                record.group,
+                record.block,
+                record.prev_group,
+                record.prev_block,
+            );
         }
     }
 }

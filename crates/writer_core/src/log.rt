@@ -21,13 +21,13 @@ pub struct Log {
 }
 
 impl Log {
-    ghost use Rattle.std.specs.Prelude.{◌≤◌, [], ◌∷◌, take, slice_index_or, option_copied, option_map, OnOk, OnErr};
+    ghost use Rattle.std.specs.Prelude.{◌≤◌, ◌+◌, [], ◌∷◌, take, slice_index_or, option_copied, option_map, OnOk, OnErr};
     ghost use Rattle.volume_model.specs.Redo.{last_lsn, record_at};
     ghost use Rattle.volume_model.specs.ClientPoints.{is_consistency_point};
     ghost use Rattle.redo_record.specs.Packet.{packet_redo};
     ghost use Rattle.redo_record.specs.RecordSet.{records_of};
     ghost use Rattle.writer_core.specs.Logs.{log_of_set};
-    ghost use Rattle.writer_core.specs.Log.{found_of, packets_in, log_in};
+    ghost use Rattle.writer_core.specs.Log.{found_of, packets_in, log_in, room_in};
 
     /// The log that was found, with no record behind it. Takes no memory.
     pub fn begin(alloc: Global, found: RecordSet) -> Log
@@ -100,15 +100,24 @@ impl Log {
         }
     }
 
-    /// Adds a record behind all others. Where memory runs out the log is what it was.
-    pub(crate) fn push(&mut self, packet: Packet) -> Result<(), AllocError>
-        requires { last_lsn (log_in self.old) < (packet_redo packet).lsn }
-        ensures ok { OnOk result (packets_in self.new ≡ packets_in self.old ++ packet ∷ []) }
-        ensures err { OnErr result (packets_in self.new ≡ packets_in self.old) }
+    /// Makes room for so many records more. The log stays what it is.
+    pub(crate) fn reserve(&mut self, more: usize) -> Result<(), AllocError>
+        ensures packets { packets_in self.new ≡ packets_in self.old }
         ensures found { found_of self.new ≡ found_of self.old }
+        ensures room { OnOk result (more ≤ room_in self.new) }
     {
-        self.issued.push(packet)?;
-        Ok(())
+        self.issued.reserve(more)
+    }
+
+    /// Adds a record behind all others, for which there is room.
+    pub(crate) fn push_reserved(&mut self, packet: Packet)
+        requires room { 0 < room_in self.old }
+        requires above { last_lsn (log_in self.old) < (packet_redo packet).lsn }
+        ensures packets { packets_in self.new ≡ packets_in self.old ++ packet ∷ [] }
+        ensures found { found_of self.new ≡ found_of self.old }
+        ensures room { room_in self.old ≡ room_in self.new + 1 }
+    {
+        self.issued.push_reserved(packet);
     }
 
     /// Leaves so many records, of which none is left out that was found.

@@ -1,18 +1,19 @@
-use Rattle.std.proofs.Common.{◌≡◌, ◌+◌, ◌^◌, ◌≤◌, ◌++◌, true, drop, take, length, max}
+use Rattle.std.proofs.Common.{◌≡◌, ◌+◌, ◌-◌, ◌^◌, ◌≤◌, ◌++◌, true, drop, take, length, max}
 use Rattle.volume_model.specs.Lists.{every}
 use Rattle.volume_model.specs.Redo.{last_lsn}
 use Rattle.volume_model.specs.Client.{place_of}
 use Rattle.volume_model.specs.ClientWriter.{is_change, issued_log, issued_writes}
 use Rattle.wire.specs.Message.{messages_of}
-use Rattle.writer_core.specs.Log.{found_of, log_in, packets_in}
-use Rattle.writer_core.specs.Lasts.{AreLastsOfFront, AreLinkedFrom}
+use Rattle.writer_core.specs.Log.{found_of, log_in, packets_in, room_in}
+use Rattle.writer_core.specs.Lasts.{AreLastsOfAll, AreLinkedFrom}
 use Rattle.writer_core.specs.Groups.{groups_in}
 use Rattle.writer_core.specs.Changes.{changes_of}
 use Rattle.writer_core.proofs.issuing.append.Given as goal
 
 abbrev pub invariant-loop-i : goal.invariant-loop-i
 invariant-loop-i l = record {
-  lasts : AreLastsOfFront l.lasts (packets_in l.log);
+  lasts : AreLastsOfAll l.lasts (packets_in l.log);
+  spare : length l.changes - l.i ≤ room_in l.log;
   room : max (last_lsn (log_in l.log)) l.span.start + length (drop l.i l.changes) ≤ 2 ^ 62;
   good : every (is_change (length (groups_in l.standings))) (changes_of (drop l.i l.changes)) ≡ true;
   logged : issued_log l.span.volume l.span.start (changes_of (drop l.i l.changes)) (log_in l.log) ≡ issued_log l.span.volume l.span.start (changes_of l.changes) (log_in l.initial.log);
