@@ -162,6 +162,18 @@ impl Client {
         ensures answers { AnswersLate (client_late act.entry) acted (client_acted act.entry (client_plan self.old) (client_volume self.old) (seen_client self.old)) (seen_client self.old) result (seen_client self.new) }
         ensures same { IsSameClient self.old self.new }
     {
+        if let ClientState::Writer(writer) = &mut self.state {
+            return writing::act(alloc, writer, act);
+        }
+        self.act_early(alloc, act)
+    }
+
+    /// The same, apart from it, as what leads to a writer takes much more of the stack than what a writer does.
+    #[inline(never)]
+    fn act_early(&mut self, alloc: Global, act: ClientAct<'_>) -> Result<Vec<Message>, Fault>
+        ensures answers { AnswersLate (client_late act.entry) acted (client_acted act.entry (client_plan self.old) (client_volume self.old) (seen_client self.old)) (seen_client self.old) result (seen_client self.new) }
+        ensures same { IsSameClient self.old self.new }
+    {
         match &mut self.state {
             ClientState::Unborn => match birth::act(alloc, &self.plan, self.volume, act) {
                 Ok((recovery, made)) => {
