@@ -14,6 +14,7 @@ use fleet_actors::{ClientDeed, NodeDeed, StepGate};
 use journal::{Pass, Receipt, Row, Site};
 use node_fleet::{Base, Fleet, Journal};
 use plan::{CheckedPlan, check_plan, read_plan};
+use redo_record::Payload;
 use std::alloc::{AllocError, Global};
 use std::marker::Brand;
 use std::sync::{Arc, Wait};
@@ -117,7 +118,7 @@ fn deed(alloc: Global, call: Call) -> Result<ClientDeed, Fault> {
                     group: 0,
                     block: 0,
                     offset: u16::try_from(offset).unwrap_or(0),
-                    bytes: vec![in alloc; byte]?,
+                    bytes: Payload::new(&[byte]).ok_or(AllocError)?,
                 })?;
             }
             Ok(ClientDeed::Issue(changes))

@@ -35,6 +35,7 @@ use fleet_actors::{ClientDeed, NodeDeed, StepGate};
 use journal::{Pass, Row, Site};
 use node_fleet::{Base, Fleet};
 use plan::{CheckedPlan, check_plan, read_plan};
+use redo_record::Payload;
 use std::alloc::{AllocError, Global};
 use std::marker::Brand;
 use std::process::ExitCode;
@@ -142,7 +143,7 @@ fn transaction(alloc: Global, first: u32, changes: u32) -> Result<ClientDeed, Al
             group: 0,
             block: first.wrapping_add(change) % BLOCKS,
             offset: 0,
-            bytes: vec![in alloc; 5u8; 8]?,
+            bytes: Payload::new(&[5; 8]).ok_or(AllocError)?,
         })?;
     }
     Ok(ClientDeed::Issue(all))

@@ -3,6 +3,7 @@
 use super::said::Said::{self, Count, Install, Point, Record, Yes};
 use super::said::said_by;
 use super::texts::{GROWING, SIX, checked};
+use redo_record::Payload;
 use std::alloc::Global;
 use std::test::*;
 use volume_model::Fault::{
@@ -154,7 +155,7 @@ pub fn changes(alloc: Global, groups: &[u8]) -> Result<Vec<Change>, Fault> {
             group: *group,
             block: 0,
             offset: 0,
-            bytes: vec![in alloc; 97]?,
+            bytes: Payload::new(b"a").ok_or(Fault::Malformed)?,
         })?;
     }
     Ok(changes)

@@ -10,6 +10,7 @@ use Rattle.volume_model.specs.Client as client
 use Rattle.volume_model.specs.ClientWriter.{record_of, is_last, issued_log, issued_writes, is_change}
 use Rattle.redo_record.specs.declared.packet.Packet.{Packet}
 use Rattle.redo_record.specs.Packet.{packet_redo}
+use Rattle.redo_record.specs.Payload.{payload_bytes}
 use Rattle.wire.specs.declared.message.Message.{Message}
 use Rattle.wire.specs.Message.{message_of, messages_of}
 use Rattle.writer_core.specs.declared.change.Change.{Change}
@@ -34,23 +35,19 @@ here_is changes i change within is = ap changes_of (drop-cons changes i change w
 -- what a good change keeps to
 pub record IsGood (groups : ℕ) (change : Change) : Type 0 where
   pub group : change.group < groups
-  pub not_empty : 1 ≤ length change.bytes.items
-  pub not_more : length change.bytes.items ≤ 64
-  pub place : change.offset + length change.bytes.items ≤ 512
+  pub place : change.offset + length (payload_bytes change.bytes) ≤ 512
 
 -- the change at hand is a good one
 pub good_here : (groups : ℕ) (changes : List Change) (i : ℕ) (change : Change) → i < length changes → change ≡ get_or changes i change → every (is_change groups) (changes_of (drop i changes)) ≡ true → IsGood groups change
 good_here groups changes i change within is h =
     let good : (is_change groups (change_of change) && every (is_change groups) (changes_of (drop (i + 1) changes))) ≡ true = sym (ap (every (is_change groups)) (here_is changes i change within is)) ∙ h in
     let a = and_parts (is_change groups (change_of change)) (every (is_change groups) (changes_of (drop (i + 1) changes))) good in
-    let b = and_parts (nat_lt change.group groups) (nat_le 1 (length change.bytes.items) && (nat_le (length change.bytes.items) 64 && nat_le (change.offset + length change.bytes.items) 512)) a.0 in
-    let c = and_parts (nat_le 1 (length change.bytes.items)) (nat_le (length change.bytes.items) 64 && nat_le (change.offset + length change.bytes.items) 512) b.1 in
-    let d = and_parts (nat_le (length change.bytes.items) 64) (nat_le (change.offset + length change.bytes.items) 512) c.1 in
+    let b = and_parts (nat_lt change.group groups) (nat_le 1 (length (payload_bytes change.bytes)) && (nat_le (length (payload_bytes change.bytes)) 64 && nat_le (change.offset + length (payload_bytes change.bytes)) 512)) a.0 in
+    let c = and_parts (nat_le 1 (length (payload_bytes change.bytes))) (nat_le (length (payload_bytes change.bytes)) 64 && nat_le (change.offset + length (payload_bytes change.bytes)) 512) b.1 in
+    let d = and_parts (nat_le (length (payload_bytes change.bytes)) 64) (nat_le (change.offset + length (payload_bytes change.bytes)) 512) c.1 in
     record {
       group = ltb-true change.group groups b.0;
-      not_empty = leb-true 1 (length change.bytes.items) c.0;
-      not_more = leb-true (length change.bytes.items) 64 d.0;
-      place = leb-true (change.offset + length change.bytes.items) 512 d.1;
+      place = leb-true (change.offset + length (payload_bytes change.bytes)) 512 d.1;
     }
 
 module _ (volume start : ℕ) (places : ℕ → model.Place) (changes : List Change) (i : ℕ) (change : Change) (within : i < length changes) (is : change ≡ get_or changes i change) (records : List Packet) (p : Packet) (made : packet_redo p ≡ record_of volume start (log_of records) (change_of change) (nat_eq (i + 1) (length changes))) where

@@ -7,7 +7,7 @@ ghost use Rattle.volume_model.specs.Client.{place_of};
 ghost use Rattle.volume_model.specs.ClientWriter.{record_of, issued_log, issued_writes, is_change};
 ghost use Rattle.volume_model.specs.Lists.{every};
 ghost use Rattle.redo_record.specs.Packet.{packet_redo};
-ghost use Rattle.redo_record.specs.Payload.{HasRoom};
+ghost use Rattle.redo_record.specs.Payload.{payload_bytes};
 ghost use Rattle.volume_model.specs.Message as model;
 ghost use Rattle.volume_model.specs.Client.{label_of};
 ghost use Rattle.wire.specs.Message.{messages_of};
@@ -21,7 +21,7 @@ use crate::change::Change;
 use crate::lasts::Lasts;
 use crate::log::Log;
 use crate::standings::Standings;
-use redo_record::{Packet, Payload, Record};
+use redo_record::{Packet, Record};
 use std::alloc::{AllocError, Global};
 use volume_model::Fault;
 use wire::{Carried, Message};
@@ -48,8 +48,7 @@ fn next_packet(
     requires lasts { AreLastsOfAll lasts.old (packets_in log.now) }
     requires room { max (last_lsn (log_in log.now)) span.start < 2 ^ 62 }
     requires group { change.now.group < 16 }
-    requires bytes { HasRoom (length change.now.bytes.items) }
-    requires place { change.now.offset + length change.now.bytes.items ≤ 512 }
+    requires place { change.now.offset + length (payload_bytes change.now.bytes) ≤ 512 }
     ensures made { IfOk result (λ packet. packet_redo packet ≡ record_of span.volume span.start (log_in log.now) (change_of change.now) point) }
     ensures entered { IfOk result (λ packet. AreLastsOfAll lasts.new (packets_in log.now ++ packet ∷ [])) }
     ensures err { OnErr result (AreLastsOfAll lasts.new (packets_in log.now)) }
@@ -58,10 +57,6 @@ fn next_packet(
     let lsn = last.max(span.start) + 1;
     let prev_group = lasts.of_group(change.group);
     let prev_block = lasts.enter(change.group, change.block, lsn)?;
-    let bytes = match Payload::new(change.bytes.as_slice()) {
-        Some(bytes) => bytes,
-        None => unreachable!(),
-    };
     let record = Record {
         lsn,
         volume_epoch: span.volume,
@@ -71,7 +66,7 @@ fn next_packet(
         group: change.group,
         block: change.block,
         offset: change.offset,
-        bytes,
+        bytes: change.bytes,
         point,
     };
     match Packet::pack(alloc, record) {

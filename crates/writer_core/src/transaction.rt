@@ -14,18 +14,12 @@ const BLOCK: usize = 512;
 /// The most changes that a transaction asks for.
 const MOST_CHANGES: usize = 32;
 
-/// The most bytes that a record writes.
-const MOST_BYTES: usize = 64;
-
-/// Whether a change is one of a group that there is, of 1 to 64 bytes within a block.
+/// Whether a change is one of a group that there is, within a block.
 fn is_change(groups: usize, change: &Change) -> bool
     ensures { result ≡ is_change groups (change_of change.now) }
 {
-    let length = change.bytes.len();
     usize::from(change.group) < groups
-        && 1 <= length
-        && length <= MOST_BYTES
-        && usize::from(change.offset) + length <= BLOCK
+        && usize::from(change.offset) + change.bytes.as_slice().len() <= BLOCK
 }
 
 /// Whether there are 1 to 32 changes, each of them a good one.

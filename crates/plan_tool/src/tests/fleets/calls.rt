@@ -4,6 +4,7 @@ use super::looks::Look;
 use fleet_actors::{ClientDeed, NodeDeed};
 use journal::{Pass, Receipt, Site};
 use node_fleet::Fleet;
+use redo_record::Payload;
 use std::alloc::{AllocError, Global};
 use std::sync::Wait;
 use volume_model::Fault;
@@ -45,7 +46,7 @@ fn changes(alloc: Global, bytes: &str) -> Result<Vec<Change>, AllocError> {
             group: 0,
             block: 0,
             offset: u16::try_from(offset).unwrap_or(0),
-            bytes: vec![in alloc; byte]?,
+            bytes: Payload::new(&[byte]).ok_or(AllocError)?,
         })?;
     }
     Ok(changes)

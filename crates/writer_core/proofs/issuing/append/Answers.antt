@@ -21,12 +21,6 @@ next_packet-requires-clause-group c =
     let good : IsGood groups c.index-changes-i.result = good_here groups c.args.changes.now c.loop-i.i c.index-changes-i.result c.loop-i-test.true c.index-changes-i.is c.loop-i.invariant.good in
     omega (arith, good.group, c.requires.few)
 
-pub next_packet-requires-clause-bytes : goal.next_packet-requires-clause-bytes
-next_packet-requires-clause-bytes c =
-    let groups = length (groups_in c.args.standings.now) in
-    let good : IsGood groups c.index-changes-i.result = good_here groups c.args.changes.now c.loop-i.i c.index-changes-i.result c.loop-i-test.true c.index-changes-i.is c.loop-i.invariant.good in
-    record { not_empty = good.not_empty; not_more = good.not_more }
-
 pub next_packet-requires-clause-place : goal.next_packet-requires-clause-place
 next_packet-requires-clause-place c =
     let groups = length (groups_in c.args.standings.now) in
