@@ -40,7 +40,7 @@ each_of p xs i inside before here k less =
     let here : get_or (take (i + 1) xs) k 0 ≡ get_or xs k 0 = get_or-take (i + 1) xs k 0 (omega arith) in
     ap p (sym here) ∙ more k 0 (omega arith)
 
-and_both : (a b : Bool) → (a && b) ≡ true → (a ≡ true) × (b ≡ true)
+pub and_both : (a b : Bool) → (a && b) ≡ true → (a ≡ true) × (b ≡ true)
 and_both true b e = (refl, e)
 and_both false b e = absurd cc
 

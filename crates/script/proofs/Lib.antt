@@ -7,3 +7,4 @@ pub mod Heads
 pub mod Turns
 pub mod Places
 pub mod LastWords
+pub mod NamedLines

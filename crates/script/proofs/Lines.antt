@@ -1,24 +1,13 @@
 -- The first line of a text, and the rest.
-use Rattle.std.proofs.Common.{◌≡◌, ◌≢◌, ◌∙◌, ap, sym, ℕ, ◌+◌, ◌-◌, ◌<◌, ◌≤◌, suc, List, [], ◌∷◌, Bool, true, false, Some, None, length, drop, take, get_or, arith, refl, cond, ltb, eqb}
+use Rattle.std.proofs.Common.{◌≡◌, ◌≢◌, ◌∙◌, ap, sym, ℕ, ◌+◌, ◌-◌, ◌<◌, ◌≤◌, suc, List, [], ◌∷◌, Bool, true, false, Option, Some, None, length, drop, take, arith, refl, cond, ltb, eqb}
 use Rattle.std.specs.List.{position, position_or_len}
-use Rattle.std.specs.Str.{IsUtf8}
-use Rattle.std.proofs.lemmas.Bool.{eqb-true}
-use Rattle.std.proofs.lemmas.List.Quantifiers.{position-Some}
-use Rattle.std.proofs.lemmas.Str.{IsCharBoundary-after_ascii, IsCharBoundary-before_ascii, IsUtf8-drop, IsUtf8-take}
 use Rattle.std.proofs.lemmas.Bool.Decides.{nat_tests}
 use Rattle.std.proofs.lemmas.Grind.{common_steps}
+use Rattle.script.specs.Named.{IsFirstLine}
 use Rattle.script.specs.Pieces.{pieces, before_newline}
 
 abbrev pub newline_at : List ℕ → ℕ
 newline_at text = position_or_len (λ b. eqb b 10) text
-
--- a text is UTF-8 before a newline, and behind it
-pub utf8_around : (text : List ℕ) (n : ℕ) → Some n ≡ position (λ b. eqb b 10) text → IsUtf8 text → IsUtf8 (take n text) × IsUtf8 (drop (n + 1) text)
-utf8_around text n e utf8 =
-    let found = position-Some (λ b. eqb b 10) text n 0 (sym e) in
-    let newline : get_or text n 0 ≡ 10 = eqb-true (get_or text n 0) 10 found.1 in
-    let inside : n < length text = found.0 in
-    (IsUtf8-take text n utf8 (IsCharBoundary-before_ascii text n inside (omega (arith, newline))), IsUtf8-drop text (n + 1) utf8 (IsCharBoundary-after_ascii text n utf8 inside (omega (arith, newline))))
 
 -- a place that was found is one
 found : (n m e : ℕ) → cond (ltb n m) (Some n) None ≡ Some e → (n < m) × (n ≡ e)
@@ -71,12 +60,7 @@ no_newline (b ∷ text) h = go (no_newline text) (eqb b 10) refl
     go later false e = rw (e, later (omega (arith, newline_later b text e, h))) refl
 
 -- the first line ends at the first newline
-pub record IsSplit (text line after : List ℕ) : Type 0 where
-  pub first : line ≡ before_newline (take (length text - length after) text)
-  pub pieces_are : pieces text ≡ take (length text - length after) text ∷ pieces after
-  pub shorter : length after < length text
-
-split_by : (text after : List ℕ) (n : ℕ) → newline_at text ≡ n → n < length text → after ≡ drop (suc n) text → IsSplit text (take n text) after
+split_by : (text after : List ℕ) (n : ℕ) → newline_at text ≡ n → n < length text → after ≡ drop (suc n) text → IsFirstLine text (take n text) after
 split_by text after n e less is_after =
     let long : length after + suc n ≡ length text = rw is_after (grind (arith, common_steps)) in
     let taken : length text - length after ≡ suc n = omega arith in
@@ -87,13 +71,13 @@ split_by text after n e less is_after =
       shorter = omega arith;
     }
 
-pub split_at_newline : (text after : List ℕ) (n : ℕ) → Some n ≡ position (λ b. eqb b 10) text → after ≡ drop (n + 1) text → IsSplit text (take n text) after
+pub split_at_newline : (text after : List ℕ) (n : ℕ) → Some n ≡ position (λ b. eqb b 10) text → after ≡ drop (n + 1) text → IsFirstLine text (take n text) after
 split_at_newline text after n e is_after =
     let f = found (newline_at text) (length text) n (sym e) in
     let less : n < length text = omega arith in
     split_by text after n f.1 less (is_after ∙ grind (arith, common_steps))
 
-pub split_without_newline : (text : List ℕ) → text ≢ [] → None ≡ position (λ b. eqb b 10) text → IsSplit text text []
+pub split_without_newline : (text : List ℕ) → text ≢ [] → None ≡ position (λ b. eqb b 10) text → IsFirstLine text text []
 split_without_newline [] some e = absurd (some refl)
 split_without_newline (b ∷ text) some e =
     let long = none_found (newline_at (b ∷ text)) (length (b ∷ text)) (sym e) in
@@ -110,3 +94,11 @@ rest_is text n = grind (arith, common_steps)
 
 pub is_some : (text : List ℕ) → 0 < length text → text ≢ []
 is_some text some none = absurd (omega (arith, some, ap length none))
+
+-- a text that isn't empty has a first line
+pub first_there : (text : List ℕ) → text ≢ [] → (line : List ℕ) × (after : List ℕ) × IsFirstLine text line after
+first_there text some = go (position (λ b. eqb b 10) text) refl
+  where
+    go : (place : Option ℕ) → position (λ b. eqb b 10) text ≡ place → (line : List ℕ) × (after : List ℕ) × IsFirstLine text line after
+    go None e = (text, [], split_without_newline text some (sym e))
+    go (Some n) e = (take n text, drop (n + 1) text, split_at_newline text (drop (n + 1) text) n (sym e) refl)

@@ -50,6 +50,11 @@ all_after : (bytes : List ℕ) (b : ℕ) (there : Option (List ℕ)) → option_
 all_after bytes b None = refl
 all_after bytes b (Some more) = ap Some (sym (append_assoc bytes (b ∷ []) more))
 
+-- before any byte
+pub none_yet : (there : Option (List ℕ)) → there ≡ option_map (λ more. [] ++ more) there
+none_yet None = refl
+none_yet (Some bytes) = refl
+
 -- one byte more
 pub bytes_more : (word bytes items digits rest : List ℕ) (b : ℕ) → all_bytes_in word ≡ option_map (λ more. bytes ++ more) (all_bytes_in digits) → 2 ≤ length digits → rest ≡ drop 2 digits
     → byte_in (get_or digits 0 0) (get_or digits 1 0) ≡ Some b → items ≡ bytes ++ b ∷ [] → all_bytes_in word ≡ option_map (λ more. items ++ more) (all_bytes_in rest)

@@ -1,5 +1,6 @@
 -- A script that is read line by line.
-use Rattle.std.proofs.Common.{◌≡◌, ◌∙◌, ap, sym, subst, ℕ, zero, suc, ◌+◌, ◌-◌, ◌<◌, ◌≤◌, List, [], ◌∷◌, ◌++◌, Option, Some, None, Ok, Err, length, drop, take, get_or, arith, refl, sum_by, length-drop, option_map}
+use Rattle.std.proofs.Common.{◌≡◌, ◌≢◌, ◌∙◌, ap, sym, subst, ℕ, zero, suc, ◌+◌, ◌-◌, ◌<◌, ◌≤◌, List, [], ◌∷◌, ◌++◌, Option, Some, None, Ok, Err, length, drop, take, get_or, arith, refl, sum_by, length-drop, option_map}
+use Rattle.std.specs.Borrow.{Bor}
 use Rattle.std.specs.Str.{IsUtf8}
 use Rattle.std.proofs.lemmas.List.{length-take-le, length_push}
 use Rattle.std.proofs.lemmas.List.Sums.{fold-append, sum_by_push}
@@ -7,12 +8,14 @@ use Rattle.std.proofs.Math.Seq.{take-suc}
 use Rattle.volume_model.specs.declared.fault.Fault.{Fault}
 use Rattle.volume_model.specs.declared.fault.Fault.TheVariants.{NoMemory}
 use Rattle.script.specs.Grammar.{Deed, deed_of}
+use Rattle.script.specs.Named.{AddsFirst, IsFirstLine}
 use Rattle.script.specs.Pieces.{pieces, before_newline}
 use Rattle.script.specs.Seen.{Seen, seen_deed}
 use Rattle.script.specs.Seen.Seen.{Silent, Pause, Asks}
 use Rattle.script.specs.Script.{AddsLine, AreDeeds, Does, IsFirstBad, IsScript, Keeps, Kept, ReadsScript, kept_in, kept_of, line_at, nothing_kept, stop_at, with_deed, with_line}
 use Rattle.script.specs.Script.AreDeeds.{none, more}
 use Rattle.script.specs.declared.reading.Script.{Script}
+use Rattle.script.proofs.Lines.{first_there}
 
 -- Of a text the first lines were read; what comes after them is the rest, and there is so much room for it.
 pub record IsReading (text rest : List ℕ) (room : ℕ) (now : Kept) : Type 0 where
@@ -118,11 +121,33 @@ starts_empty text script indexes no_steps no_orders no_indexes =
     subst (λ (n : Kept). IsReading text text 16777216 n) (sym nothing) (starts text)
 
 -- what the first line is
-pub next_line : (rest line after : List ℕ) → line ≡ before_newline (take (length rest - length after) rest) → pieces rest ≡ take (length rest - length after) rest ∷ pieces after
-    → IsNext rest line after (length rest - length after)
-next_line rest line after first pieces_are = record { first = first; pieces_are = pieces_are; long = length-take-le (length rest - length after) rest (omega arith) }
+pub next_line : (rest line after : List ℕ) → IsFirstLine rest line after → IsNext rest line after (length rest - length after)
+next_line rest line after f = record { first = f.first; pieces_are = f.pieces_are; long = length-take-le (length rest - length after) rest (omega (arith, f.shorter)) }
 
 -- a line that asks for something says a deed that asks for it
 pub deed_seen : (there : Option Deed) (events : List (Option ℕ)) (asks : Seen) → option_map (seen_deed events) there ≡ Some asks → (deed : Deed) × (there ≡ Some deed) × (seen_deed events deed ≡ asks)
 deed_seen None events asks e = absurd cc
 deed_seen (Some deed) events asks e = let same : seen_deed events deed ≡ asks = cc in (deed, refl, same)
+
+module _ (text rest : List ℕ) (room number : ℕ) (now new : Kept) (so_far : IsReading text rest room now) where
+  -- the first line of the rest was added
+  pub reads_next : (after : Bor (List ℕ)) → AddsFirst rest now (Ok after) new → length rest - length after.now ≤ room → suc (length now.indexes) ≤ 100000 → IsReading text after.now (room - (length rest - length after.now)) new
+  reads_next after (line, first, adds) fits few = reads_more text rest line after.now room (length rest - length after.now) now new tt so_far (next_line rest line after.now first) fits few adds
+
+  -- or it doesn't fit
+  pub reads_over : (after : Bor (List ℕ)) → AddsFirst rest now (Ok after) new → number ≡ suc (length now.indexes) → room < length rest - length after.now → IsFirstBad text number
+  reads_over after (line, first, adds) numbered over =
+      reads_bad text rest line after.now room (length rest - length after.now) number now numbered so_far (next_line rest line after.now first) (λ deed fits few utf8 says. omega (arith, fits, over))
+
+  -- or it was refused
+  pub reads_refused : (fault : Fault) → AddsFirst rest now (Err fault) new → number ≡ suc (length now.indexes) → ReadsScript text (Err (stop_at fault number))
+  reads_refused fault (line, after, first, refused) numbered =
+      reads_fault text rest line after room (length rest - length after) number now new fault numbered so_far (next_line rest line after first) refused
+
+  -- or there were too many before it
+  pub reads_late : rest ≢ [] → number ≡ suc (length now.indexes) → 100000 < number → IsFirstBad text number
+  reads_late some numbered late = go (first_there rest some)
+    where
+      go : (line : List ℕ) × (after : List ℕ) × IsFirstLine rest line after → IsFirstBad text number
+      go (line, after, first) =
+          reads_bad text rest line after room (length rest - length after) number now numbered so_far (next_line rest line after first) (λ deed fits few utf8 says. omega (arith, few, late, numbered))

@@ -1,6 +1,10 @@
 -- Words that are read in turn.
-use Rattle.std.proofs.Common.{◌≡◌, ap, sym, subst, ℕ, List, [], ◌∷◌, Option, Some, None, Result, Ok, Err, refl, option_map}
+use Rattle.std.proofs.Common.{◌≡◌, ◌∙◌, ◌&&◌, ap, sym, subst, ℕ, Bool, true, false, if◌then◌else◌, List, [], ◌∷◌, Option, Some, None, Result, Ok, Err, All, eqb, leb, length, refl, option_map}
+use Rattle.std.specs.List.{join_with_byte}
 use Rattle.std.specs.Result.{IsErrAnd}
+use Rattle.std.proofs.lemmas.Bool.{ne_eqb}
+use Rattle.std.proofs.lemmas.List.Elements.{All-cons, All-nil}
+use Rattle.std.proofs.lemmas.List.Splits.{join_with_byte-slice_split, slice_split_none}
 use Rattle.volume_model.specs.World.{Event}
 use Rattle.volume_model.specs.declared.fault.Fault.{Fault}
 use Rattle.volume_model.specs.declared.fault.Fault.TheVariants.{Malformed, NoMemory}
@@ -8,7 +12,7 @@ use Rattle.script.specs.Grammar.{change_by, deliver_in, most_blocks, most_ids, m
 use Rattle.script.specs.Grammar.Deed.{Delivers}
 use Rattle.script.specs.Parts.{ended, first_number, only_name}
 use Rattle.script.specs.Reads.{ReadsBy}
-use Rattle.script.specs.Words.{bytes_in, number_in}
+use Rattle.script.specs.Words.{all_bytes_in, bytes_in, digit_in, fields_in, number_in}
 
 -- the first word spells the number that was taken
 record Taken (most : ℕ) (words : List (List ℕ)) (n : ℕ) (later : List (List ℕ)) : Type 0 where
@@ -123,19 +127,48 @@ module _ (group member : ℕ) (words second third : List (List ℕ)) (g : first_
       go (c ∷ []) none a b ea eb = rw (ea, eb, untaken most_numbers c [] none) refl
       go (c ∷ d ∷ more) none a b ea eb = refl
 
--- and of a change
-module _ (group block offset : ℕ) (bytes : List ℕ) (fields second third last : List (List ℕ)) (g : first_number most_ids fields ≡ Some (group, second)) (b : first_number most_blocks second ≡ Some (block, third))
-    (o : first_number most_offsets third ≡ Some (offset, last)) (one_left : last ≡ bytes ∷ []) where
+-- and of a change, whose bytes have no separator
+no_colon : (word hex : List ℕ) → all_bytes_in word ≡ Some hex → All (λ b. eqb b 58 ≡ false) word
+no_colon [] hex e = All-nil (λ b. eqb b 58 ≡ false)
+no_colon (high ∷ []) hex e = absurd cc
+no_colon (high ∷ low ∷ more) hex e = go (digit_in high) (digit_in low) (all_bytes_in more) refl refl refl (λ later em. no_colon more later em)
+  where
+    digit : (b : ℕ) (value : ℕ) → digit_in b ≡ Some value → eqb b 58 ≡ false
+    digit b value is = ne_eqb b 58 (λ same. let bad : None ≡ Some value = sym (ap digit_in same) ∙ is in absurd cc)
+
+    go : (h l : Option ℕ) (later : Option (List ℕ)) → digit_in high ≡ h → digit_in low ≡ l → all_bytes_in more ≡ later → ((found : List ℕ) → all_bytes_in more ≡ Some found → All (λ b. eqb b 58 ≡ false) more)
+        → All (λ b. eqb b 58 ≡ false) (high ∷ low ∷ more)
+    go None l later eh el em rest = absurd (let none : all_bytes_in (high ∷ low ∷ more) ≡ None = rw eh refl in let bad : None ≡ Some hex = sym none ∙ e in cc)
+    go (Some h) None later eh el em rest = absurd (let none : all_bytes_in (high ∷ low ∷ more) ≡ None = rw (eh, el) refl in let bad : None ≡ Some hex = sym none ∙ e in cc)
+    go (Some h) (Some l) None eh el em rest = absurd (let none : all_bytes_in (high ∷ low ∷ more) ≡ None = rw (eh, el, em) refl in let bad : None ≡ Some hex = sym none ∙ e in cc)
+    go (Some h) (Some l) (Some later) eh el em rest = All-cons (λ b. eqb b 58 ≡ false) high (low ∷ more) (digit high h eh) (All-cons (λ b. eqb b 58 ≡ false) low more (digit low l el) (rest later em))
+
+alone : (bytes hex : List ℕ) → bytes_in bytes ≡ Some hex → fields_in bytes ≡ bytes ∷ []
+alone bytes hex e = go (leb 1 (length bytes) && leb (length bytes) 128) refl
+  where
+    go : (b : Bool) → (leb 1 (length bytes) && leb (length bytes) 128) ≡ b → fields_in bytes ≡ bytes ∷ []
+    go true sized = slice_split_none (λ b. eqb b 58) bytes (no_colon bytes hex (ap (λ b. if b then all_bytes_in bytes else None) (sym sized) ∙ e))
+    go false sized = absurd (let none : bytes_in bytes ≡ None = rw sized refl in let bad : None ≡ Some hex = sym none ∙ e in cc)
+
+module _ (group block offset : ℕ) (bytes : List ℕ) (fields second third : List (List ℕ)) (g : first_number most_ids fields ≡ Some (group, second)) (b : first_number most_blocks second ≡ Some (block, third))
+    (o : first_number most_offsets third ≡ Some (offset, fields_in bytes)) where
   pub change_is : (hex : List ℕ) → bytes_in bytes ≡ Some hex → change_by fields ≡ Some (record { group = group; block = block; offset = offset; bytes = hex })
   change_is hex spelled =
       let one = taken most_ids fields group second g in
       let two = taken most_blocks second block third b in
-      let three = taken most_offsets third offset last o in
-      rw (one.is, two.is, three.is, one_left, one.spells, two.spells, three.spells, spelled) refl
+      let three = taken most_offsets third offset (fields_in bytes) o in
+      rw (one.is, two.is, three.is, alone bytes hex spelled, one.spells, two.spells, three.spells, spelled) refl
 
   pub no_change : bytes_in bytes ≡ None → change_by fields ≡ None
   no_change spelled =
       let one = taken most_ids fields group second g in
       let two = taken most_blocks second block third b in
-      let three = taken most_offsets third offset last o in
-      rw (one.is, two.is, three.is, one_left, one.spells, two.spells, three.spells, spelled) refl
+      let three = taken most_offsets third offset (fields_in bytes) o in
+      rw (one.is, two.is, three.is) (go (fields_in bytes) refl one.word two.word three.word one.spells two.spells three.spells)
+    where
+      go : (left : List (List ℕ)) → fields_in bytes ≡ left → (x y z : List ℕ) → number_in most_ids x ≡ Some group → number_in most_blocks y ≡ Some block → number_in most_offsets z ≡ Some offset → change_by (x ∷ y ∷ z ∷ left) ≡ None
+      go [] is x y z ex ey ez = refl
+      go (w ∷ []) is x y z ex ey ez =
+          let same : w ≡ bytes = ap (join_with_byte 58) (sym is) ∙ join_with_byte-slice_split 58 bytes in
+          rw (same, ex, ey, ez, spelled) refl
+      go (w ∷ v ∷ more) is x y z ex ey ez = refl

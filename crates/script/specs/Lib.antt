@@ -5,4 +5,5 @@ pub mod Words
 pub mod Grammar
 pub mod Seen
 pub mod Script
+pub mod Named
 pub mod Examples

@@ -9,7 +9,7 @@ ghost use Rattle.script.specs.Reads.{ReadsBy};
 ghost use Rattle.script.specs.Words.{fields_in};
 
 use crate::parts::Parts;
-use crate::payload::bytes_of;
+use crate::payload::payload_of;
 use std::alloc::Global;
 use volume_model::Fault;
 use world::Event;
@@ -33,23 +33,23 @@ fn all_changes(alloc: Global, mut words: Parts) -> Result<Vec<Change>, Fault>
 {
     let mut changes = Vec::with_capacity(alloc, words.len())?;
     while let Some(word) = words.take_first() {
-        changes.push(change(alloc, word)?)?;
+        changes.push(change(word)?)?;
     }
     Ok(changes)
 }
 
 /// `G:B:O:HEX`
-fn change(alloc: Global, word: &[u8]) -> Result<Change, Fault>
+fn change(word: &[u8]) -> Result<Change, Fault>
     ensures { ReadsBy change_of (change_by (fields_in word.now)) result }
 {
     let mut fields = Parts::new(word, b':');
     let group = fields.take_id()?;
     let block = fields.take_block()?;
     let offset = fields.take_offset()?;
-    let Some(bytes) = fields.one() else {
+    let Some(bytes) = fields.rest() else {
         return Err(Fault::Malformed);
     };
-    let bytes = bytes_of(alloc, bytes)?;
+    let bytes = payload_of(bytes)?;
     Ok(Change {
         group,
         block,

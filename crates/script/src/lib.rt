@@ -4,6 +4,7 @@
 mod changes;
 mod examples;
 mod line;
+mod named;
 mod names;
 mod numbers;
 mod numeral;

@@ -1,6 +1,6 @@
 //! What one line of a script says.
 
-ghost use Rattle.std.specs.Prelude.{◌≡◌, ◌++◌, [], IfOk, IfSome, codes, length, option_map};
+ghost use Rattle.std.specs.Prelude.{◌≡◌, [], IfOk, length, option_map};
 ghost use Rattle.world.specs.Events.{event_of};
 ghost use Rattle.script.specs.Grammar.{deed_of, is_silent, said_by, verb_in, wait_in};
 ghost use Rattle.script.specs.Reads.{ReadsBy};
@@ -83,27 +83,6 @@ fn verb_by(word: &[u8]) -> Option<Verb>
     }
 }
 
-/// The words after `deliver`, where a line begins with it.
-#[inline(always)]
-fn after_deliver(line: &[u8]) -> Option<&[u8]>
-    ensures { IfSome result (λ words. line.now ≡ codes "deliver " ++ words.now) }
-{
-    match line {
-        [b'd', b'e', b'l', b'i', b'v', b'e', b'r', b' ', words @ ..] => Some(words),
-        _ => None,
-    }
-}
-
-/// The words after `take`, where a line begins with it.
-fn after_take(line: &[u8]) -> Option<&[u8]>
-    ensures { IfSome result (λ words. line.now ≡ codes "take " ++ words.now) }
-{
-    match line {
-        [b't', b'a', b'k', b'e', b' ', words @ ..] => Some(words),
-        _ => None,
-    }
-}
-
 /// Whether a line does nothing.
 fn is_silent(line: &[u8]) -> bool
     ensures { result ≡ is_silent line.now }
@@ -118,13 +97,6 @@ pub fn line_of(alloc: Global, text: &[u8], events: &[Option<u32>]) -> Result<Lin
 {
     if is_silent(text) {
         return Ok(Line::Empty);
-    }
-    // Most lines deliver or take, so these two are told by their first bytes.
-    if let Some(words) = after_deliver(text) {
-        return Ok(Line::Order(deliver(alloc, Parts::new(words, b' '), events)?));
-    }
-    if let Some(words) = after_take(text) {
-        return Ok(Line::Order(take(alloc, Parts::new(words, b' '), events)?));
     }
     let mut words = Parts::new(text, b' ');
     let Some(verb) = words.take_first() else {

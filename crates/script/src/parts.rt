@@ -1,12 +1,12 @@
 //! The parts of a text between separators, taken one by one.
 
-ghost use Rattle.std.specs.Prelude.{◌≡◌, ◌≢◌, ◌+◌, ◌^◌, ◌<◌, ◌==◌, ◌↔◌, ◌∷◌, [], IsTrue, MatchOption, count_by, length};
+ghost use Rattle.std.specs.Prelude.{◌≡◌, ◌≢◌, ◌==◌, ◌↔◌, ◌∷◌, [], IsTrue, MatchOption, length};
 ghost use Rattle.std.specs.List.{slice_split};
 ghost use Rattle.script.specs.Parts.{ended, first_number, left_of, parts_left};
 ghost use Rattle.script.specs.Reads.{Reads, ReadsBy};
 
 use crate::numeral::split_number;
-use crate::seeking::first_place;
+use crate::seeking::{count_of, first_place};
 use volume_model::Fault;
 
 /// What is left of a text that is taken part by part.
@@ -29,20 +29,6 @@ fn split_first(text: &[u8], separator: u8) -> (&[u8], Option<&[u8]>)
     }
 }
 
-/// How many separators a text has.
-fn separators_in(text: &[u8], separator: u8) -> usize
-    ensures counted { result ≡ count_by (λ b. b == separator) text.now }
-    ensures within { result + 1 < 2 ^ 64 }
-{
-    let mut count = 0;
-    for byte in text {
-        if *byte == separator {
-            count += 1;
-        }
-    }
-    count
-}
-
 impl<'a> Parts<'a> {
     /// All parts of a text.
     pub fn new(text: &'a [u8], separator: u8) -> Self
@@ -61,7 +47,7 @@ impl<'a> Parts<'a> {
         ensures { result ≡ length (parts_left self.now) }
     {
         match self.left {
-            Some(text) => separators_in(text, self.separator) + 1,
+            Some(text) => count_of(text, self.separator) + 1,
             None => 0,
         }
     }
@@ -120,7 +106,8 @@ impl<'a> Parts<'a> {
     /// Takes the first that is left, an offset in a block, below 2^16.
     #[inline(always)]
     pub fn take_offset(&mut self) -> Result<u16, Fault>
-        ensures { ReadsBy (λ number. (number, parts_left self.new)) (first_number 65535 (parts_left self.old)) result }
+        ensures number { ReadsBy (λ number. (number, parts_left self.new)) (first_number 65535 (parts_left self.old)) result }
+        ensures between { self.new.separator ≡ self.old.separator }
     {
         Ok(self.take_number(u64::from(u16::MAX))? as u16)
     }
@@ -151,14 +138,5 @@ impl<'a> Parts<'a> {
         ensures { left_of self.entry.separator result ≡ parts_left self.entry }
     {
         self.left
-    }
-
-    /// The one that is left, if it is the only one.
-    #[inline(always)]
-    pub fn one(mut self) -> Option<&'a [u8]>
-        ensures { MatchOption result (length (parts_left self.entry) ≢ 1) (λ part. parts_left self.entry ≡ part.now ∷ []) }
-    {
-        let first = self.take_first()?;
-        if self.is_empty() { Some(first) } else { None }
     }
 }

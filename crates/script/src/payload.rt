@@ -1,11 +1,15 @@
 //! The bytes that a change's digits spell.
 
 ghost use Rattle.std.specs.Prelude.{◌≡◌};
+ghost use Rattle.redo_record.specs.Payload.{payload_bytes};
 ghost use Rattle.script.specs.Words.{digit_in, byte_in, bytes_in, all_bytes_in};
 ghost use Rattle.script.specs.Reads.{Reads, ReadsBy};
 
-use std::alloc::Global;
+use redo_record::Payload;
 use volume_model::Fault;
+
+/// The most bytes of a change.
+const MOST_BYTES: usize = 64;
 
 /// The value of a hexadecimal digit in lower case.
 #[inline(always)]
@@ -28,22 +32,25 @@ fn byte_of(high: u8, low: u8) -> Result<u8, Fault>
 }
 
 /// 1 to 64 bytes, each of them two hexadecimal digits in lower case.
-#[inline(never)]
-pub fn bytes_of(alloc: Global, word: &[u8]) -> Result<Vec<u8>, Fault>
-    ensures { ReadsBy (λ bytes. bytes.items) (bytes_in word.now) result }
+pub fn payload_of(word: &[u8]) -> Result<Payload, Fault>
+    ensures { ReadsBy payload_bytes (bytes_in word.now) result }
 {
     let mut digits = word;
-    if digits.is_empty() || digits.len() > 128 {
+    if digits.is_empty() || digits.len() > 2 * MOST_BYTES {
         return Err(Fault::Malformed);
     }
-    let mut bytes = Vec::with_capacity(alloc, digits.len() / 2)?;
+    let mut bytes = [0; MOST_BYTES];
+    let mut count = 0;
     while let [high, low, more @ ..] = digits {
-        bytes.push(byte_of(*high, *low)?)?;
+        bytes[count] = byte_of(*high, *low)?;
+        count += 1;
         digits = more;
     }
-    if digits.is_empty() {
-        Ok(bytes)
-    } else {
-        Err(Fault::Malformed)
+    if !digits.is_empty() {
+        return Err(Fault::Malformed);
+    }
+    match Payload::new(&bytes[..count]) {
+        Some(payload) => Ok(payload),
+        None => Err(Fault::Malformed),
     }
 }

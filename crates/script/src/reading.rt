@@ -1,13 +1,15 @@
 //! The lines of a script in turn: one event a line.
 
-ghost use Rattle.std.specs.Prelude.{◌≡◌, ◌<◌, ◌≤◌, ◌↔◌, IfOk, IsTrue, OnOk, vec_len};
+ghost use Rattle.std.specs.Prelude.{◌≡◌, ◌<◌, ◌≤◌, ◌↔◌, IfOk, IsTrue, OnOk, length, vec_len};
 ghost use Rattle.std.specs.Str.{IsUtf8};
-ghost use Rattle.script.specs.Seen.{seen};
+ghost use Rattle.script.specs.Seen.{Seen, asked_by, seen};
+ghost use Rattle.script.specs.Named.{AddsFirst};
 ghost use Rattle.script.specs.Script.{AddsLine, ReadsScript, kept_in, stop_at, with_line};
 
 use crate::line::{Line, line_of};
+use crate::named::named_order;
 use crate::pieces::first_line;
-use memchr::memchr_iter;
+use crate::seeking::count_of;
 use std::alloc::{AllocError, Global};
 use volume_model::Fault;
 use world::Order;
@@ -62,10 +64,30 @@ impl From<AllocError> for ScriptFault {
 fn index_of(events: usize) -> Result<u32, AllocError>
     ensures { IfOk result (λ index. index ≡ events) }
 {
-    match u32::try_from(events) {
-        Ok(index) => Ok(index),
-        Err(_) => Err(AllocError),
+    if events > u32::MAX as usize {
+        return Err(AllocError);
     }
+    Ok(events as u32)
+}
+
+/// Adds a line with an event. `events` has the index of each earlier line's event.
+#[inline(always)]
+fn keep_order(
+    script: &mut Script,
+    events: &mut Vec<Option<u32>>,
+    order: Order,
+) -> Result<(), AllocError>
+    requires { vec_len events.old < SCRIPT_LINES }
+    ensures { OnOk result (kept_in script.new events.new.items ≡ with_line (kept_in script.old events.old.items) (Seen.Asks (asked_by order))) }
+{
+    let line = events.len() as u32 + 1;
+    events.push(Some(index_of(script.orders.len())?))?;
+    script.orders.push(order)?;
+    script.steps.push(Step {
+        line,
+        has_event: true,
+    })?;
+    Ok(())
 }
 
 /// Adds a line. `events` has the index of each earlier line's event.
@@ -73,24 +95,17 @@ fn keep(script: &mut Script, events: &mut Vec<Option<u32>>, line: Line) -> Resul
     requires { vec_len events.old < SCRIPT_LINES }
     ensures { OnOk result (kept_in script.new events.new.items ≡ with_line (kept_in script.old events.old.items) (seen line)) }
 {
-    let number = events.len() as u32 + 1;
     match line {
         Line::Empty => events.push(None)?,
         Line::Wait => {
+            let line = events.len() as u32 + 1;
             events.push(None)?;
             script.steps.push(Step {
-                line: number,
+                line,
                 has_event: false,
             })?;
         }
-        Line::Order(order) => {
-            events.push(Some(index_of(script.orders.len())?))?;
-            script.orders.push(order)?;
-            script.steps.push(Step {
-                line: number,
-                has_event: true,
-            })?;
-        }
+        Line::Order(order) => keep_order(script, events, order)?,
     }
     Ok(())
 }
@@ -102,19 +117,18 @@ fn is_utf8(bytes: &[u8]) -> bool
     str::from_utf8(bytes).is_ok()
 }
 
-/// Adds what a line says, which is UTF-8 where all of its script is.
+/// Adds what a line says.
+#[inline(never)]
 fn add_line(
     alloc: Global,
     script: &mut Script,
     events: &mut Vec<Option<u32>>,
     line: &[u8],
-    is_text: bool,
 ) -> Result<(), Fault>
-    requires text { IsTrue is_text → IsUtf8 line.now }
-    requires few { vec_len events.old < SCRIPT_LINES }
+    requires { vec_len events.old < SCRIPT_LINES }
     ensures { AddsLine line.now (kept_in script.old events.old.items) result (kept_in script.new events.new.items) }
 {
-    if !is_text && !is_utf8(line) {
+    if !is_utf8(line) {
         return Err(Fault::Malformed);
     }
     match line_of(alloc, line, events.as_slice()) {
@@ -122,6 +136,29 @@ fn add_line(
             keep(script, events, line)?;
             Ok(())
         }
+        Err(fault) => Err(fault),
+    }
+}
+
+/// Adds what the first line of a text says, and gives what comes after the line.
+#[inline(always)]
+fn add_first<'a>(
+    alloc: Global,
+    script: &mut Script,
+    events: &mut Vec<Option<u32>>,
+    text: &'a [u8],
+) -> Result<&'a [u8], Fault>
+    requires some { 0 < length text.now }
+    requires few { vec_len events.old < SCRIPT_LINES }
+    ensures { AddsFirst text.now (kept_in script.old events.old.items) result (kept_in script.new events.new.items) }
+{
+    if let Some((order, after)) = named_order(text, events.as_slice()) {
+        keep_order(script, events, order)?;
+        return Ok(after);
+    }
+    let (line, after) = first_line(text);
+    match add_line(alloc, script, events, line) {
+        Ok(()) => Ok(after),
         Err(fault) => Err(fault),
     }
 }
@@ -140,10 +177,7 @@ fn stop_at(fault: Fault, line: usize) -> ScriptFault
 fn lines_at_most(text: &[u8]) -> usize
     ensures { result ≤ SCRIPT_LINES }
 {
-    memchr_iter(b'\n', text)
-        .count()
-        .saturating_add(1)
-        .min(SCRIPT_LINES)
+    (count_of(text, b'\n') + 1).min(SCRIPT_LINES)
 }
 
 /// What a text does as a script, or its first line that isn't one of a script: at most 100,000 lines in 16,777,216 bytes,
@@ -157,19 +191,20 @@ pub fn read_script(alloc: Global, text: &[u8]) -> Result<Script, ScriptFault>
         orders: Vec::with_capacity(alloc, lines)?,
     };
     let mut events = Vec::with_capacity(alloc, lines)?;
-    let is_text = is_utf8(text);
     let mut room = SCRIPT_BYTES;
     let mut rest = text;
     while !rest.is_empty() {
-        let (line, after) = first_line(rest);
-        let bytes = rest.len() - after.len();
         let number = events.len() + 1;
-        if bytes > room || number > SCRIPT_LINES {
+        if number > SCRIPT_LINES {
             return Err(ScriptFault::Line(number));
         }
-        match add_line(alloc, &mut script, &mut events, line, is_text) {
-            Ok(()) => {}
+        let after = match add_first(alloc, &mut script, &mut events, rest) {
+            Ok(after) => after,
             Err(fault) => return Err(stop_at(fault, number)),
+        };
+        let bytes = rest.len() - after.len();
+        if bytes > room {
+            return Err(ScriptFault::Line(number));
         }
         room -= bytes;
         rest = after;

@@ -1,8 +1,11 @@
-//! Where a byte stands in a text.
+//! Where a byte stands in a text, and how often.
 
-ghost use Rattle.std.specs.Prelude.{◌≡◌, ◌==◌, position};
+ghost use Rattle.std.specs.Prelude.{◌≡◌, ◌+◌, ◌^◌, ◌<◌, ◌≤◌, ◌==◌, count_by, length, position};
 
 use memchr::memchr;
+
+/// How many bytes are counted at a time: no more than a count of one byte can say.
+const PIECE: usize = 192;
 
 /// The first place of a byte in a text.
 #[inline(always)]
@@ -10,4 +13,35 @@ pub fn first_place(text: &[u8], byte: u8) -> Option<usize>
     ensures { result ≡ position (λ b. b == byte) text.now }
 {
     memchr(byte, text)
+}
+
+/// How often a byte stands in a piece of a text.
+#[inline(always)]
+fn count_in_piece(piece: &[u8], byte: u8) -> u8
+    requires { length piece.now ≤ PIECE }
+    ensures counted { result ≡ count_by (λ b. b == byte) piece.now }
+    ensures few { result ≤ length piece.now }
+{
+    let mut count = 0;
+    for other in piece {
+        if *other == byte {
+            count += 1;
+        }
+    }
+    count
+}
+
+/// How often a byte stands in a text.
+pub fn count_of(text: &[u8], byte: u8) -> usize
+    ensures counted { result ≡ count_by (λ b. b == byte) text.now }
+    ensures within { result + 1 < 2 ^ 64 }
+{
+    let mut count = 0;
+    let mut rest = text;
+    while !rest.is_empty() {
+        let (piece, after) = rest.split_at(rest.len().min(PIECE));
+        count += usize::from(count_in_piece(piece, byte));
+        rest = after;
+    }
+    count
 }

@@ -1,5 +1,4 @@
-use Rattle.std.proofs.Common.{IsTrue, length}
-use Rattle.std.specs.Str.{IsUtf8}
+use Rattle.std.proofs.Common.{length}
 use Rattle.script.specs.Script.{kept_in}
 use Rattle.script.proofs.Scripts.{IsReading}
 use Rattle.script.proofs.reading.read_script.Given as goal
@@ -8,7 +7,4 @@ abbrev pub decreases-loop-rest : goal.decreases-loop-rest
 decreases-loop-rest l = length l.rest
 
 abbrev pub invariant-loop-rest : goal.invariant-loop-rest
-invariant-loop-rest l = record {
-  reading : IsReading l.text l.rest l.room (kept_in l.script l.events.items);
-  utf8 : IsTrue l.is_text → IsUtf8 l.rest;
-}
+invariant-loop-rest l = IsReading l.text l.rest l.room (kept_in l.script l.events.items)
