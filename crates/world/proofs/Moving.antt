@@ -1,5 +1,5 @@
 -- Answers of actors, carried along.
-use Rattle.std.proofs.Common.{◌≡◌, ℕ, Bool, false, true≢false, List, [], ◌++◌, length, Result, Ok, Err, refl, sym, ap, ◌∙◌}
+use Rattle.std.proofs.Common.{◌≡◌, ℕ, Bool, false, true≢false, List, [], ◌++◌, length, Result, Ok, Err, refl, sym, ap, subst, ◌∙◌}
 use Rattle.std.specs.Prelude.{is_err, OnOk}
 use Rattle.std.proofs.lemmas.List.{length-map}
 use Rattle.volume_model.specs.declared.fault.Fault.{Fault}
@@ -10,8 +10,9 @@ use Rattle.volume_model.specs.Message as model
 use Rattle.wire.specs.declared.message.Message.{Message}
 use Rattle.wire.specs.Message.{message_of, messages_of}
 use Rattle.volume_model.specs.Client.{Client, ClientAnswer}
+use Rattle.volume_model.specs.Node.{Node, NodeAnswer, NodeStep}
 use Rattle.recovery.specs.Recoveries.{admitted}
-use Rattle.world.specs.Moves.{told_of, ClientMoves, Moves}
+use Rattle.world.specs.Moves.{told_of, ClientMoves, Moves, NodeMoves}
 use Rattle.world.proofs.Messages.{added-messages}
 
 -- what is defined, seen otherwise
@@ -62,3 +63,9 @@ wants_told late made actor kept (Ok step) = refl
 pub refused_moves : {R S T : Type 0} (made : T → List model.Message) (actor : T → S) (late : Fault → Bool) (step : R → S → T) (defined : Result T Fault) (old new : S) (kept : List model.Message) (fault : Fault) → AnswersLate late step defined old (Err fault) new → Moves made actor late defined old kept (Err fault) new kept
 refused_moves made actor late step defined old new kept NoMemory h = (wants_told late made actor kept defined ∙ h.0, ap (λ now. record { actor = now; messages = kept }) h.1)
 refused_moves made actor late step defined old new kept fault h = (ap (told_of made actor kept) h.0, ap (λ now. record { actor = now; messages = kept }) h.1)
+
+-- a step that a node was made ready for is the one that is defined
+pub ready_moves : (late : Fault → Bool) (defined : NodeAnswer) (step : Node → NodeStep) (old ready new : Node) (kept now : List model.Message) (result : Result ℕ Fault)
+    → defined ≡ Ok (step old) → ready ≡ old → NodeMoves late (Ok (step ready)) ready kept result new now → NodeMoves late defined old kept result new now
+ready_moves late defined step old ready new kept now result is same moves =
+    subst (λ (d : NodeAnswer). NodeMoves late d old kept result new now) (sym is) (subst (λ (n : Node). NodeMoves late (Ok (step n)) n kept result new now) same moves)

@@ -35,6 +35,7 @@ impl Actors {
     ghost use Rattle.std.specs.BTreeMap.{get};
     ghost use Rattle.volume_model.specs.Client.{unborn};
     ghost use Rattle.volume_model.specs.ClientRecovery.{opened};
+    ghost use Rattle.volume_model.specs.World as model;
     ghost use Rattle.volume_model.specs.World.{groups_joined, if_there, of_authority, of_client, of_node, opening, step};
     ghost use Rattle.plan.specs.CheckedModel.{checked_model};
     ghost use Rattle.volume_model.specs.Answer.{never_late};
@@ -152,6 +153,34 @@ impl Actors {
         }
     }
 
+    /// A node takes the message with this number.
+    #[inline(always)]
+    pub(crate) fn deliver(
+        &mut self,
+        alloc: Global,
+        group: u8,
+        member: u8,
+        message: u64,
+    ) -> Result<u64, Fault>
+        requires { AreActors self.old }
+        ensures steps { Steps never_late (step (plan_of self.old) (world_of self.old) (model.Event.Deliver group member message)) (world_of self.old) result (world_of self.new) }
+        ensures good { AreActors self.new }
+        ensures plan { plan_of self.new ≡ plan_of self.old }
+    {
+        self.node_step(alloc, group, member, NodeOrder::Deliver { message })
+    }
+
+    /// A client takes the message with this number.
+    #[inline(always)]
+    pub(crate) fn take(&mut self, alloc: Global, volume: u32, message: u64) -> Result<u64, Fault>
+        requires { AreActors self.old }
+        ensures steps { Steps never_late (step (plan_of self.old) (world_of self.old) (model.Event.Take volume message)) (world_of self.old) result (world_of self.new) }
+        ensures good { AreActors self.new }
+        ensures plan { plan_of self.new ≡ plan_of self.old }
+    {
+        self.client_step(alloc, volume, ClientOrder::Take { message })
+    }
+
     /// Makes an event happen, and answers how many messages it made; or refuses it, and nothing has changed.
     pub fn step(&mut self, alloc: Global, event: &Event) -> Result<u64, Fault>
         requires { AreActors self.old }
@@ -178,9 +207,7 @@ impl Actors {
             Event::Issue { volume, changes } => {
                 self.client_step(alloc, *volume, ClientOrder::Act(ClientAct::Issue(changes)))
             }
-            Event::Take { volume, message } => {
-                self.client_step(alloc, *volume, ClientOrder::Take { message: *message })
-            }
+            Event::Take { volume, message } => self.take(alloc, *volume, *message),
             Event::Cut { volume } => {
                 self.client_step(alloc, *volume, ClientOrder::Act(ClientAct::Cut))
             }
@@ -207,10 +234,7 @@ impl Actors {
                 group,
                 member,
                 message,
-            } => {
-                let order = NodeOrder::Deliver { message: *message };
-                self.node_step(alloc, *group, *member, order)
-            }
+            } => self.deliver(alloc, *group, *member, *message),
             Event::Restart { group, member } => {
                 self.node_step(alloc, *group, *member, NodeOrder::Act(NodeAct::Restart))
             }

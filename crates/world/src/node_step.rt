@@ -1,16 +1,18 @@
 //! A node's step, among all messages.
 
-ghost use Rattle.std.specs.Prelude.{◌≡◌, [], MatchResult};
+ghost use Rattle.std.specs.Prelude.{◌≡◌, Bool, [], Ok, MatchResult};
 ghost use Rattle.volume_model.specs.Lists.{added};
+ghost use Rattle.volume_model.specs.declared.fault.Fault.{Fault as FaultName};
 ghost use Rattle.volume_model.specs.declared.fault.Fault.TheVariants.{NoMessage};
 ghost use Rattle.wire.specs.Message.{messages_of};
-ghost use Rattle.segment_core.specs.Segment.{node_of, segment_plan, segment_group, segment_member, IsSameActor};
+ghost use Rattle.segment_core.specs.Prepared.{step_of};
+ghost use Rattle.segment_core.specs.Segment.{node_of, segment_plan, segment_group, segment_member, IsReady, IsSameActor};
 ghost use Rattle.world.specs.Acts.{node_late, node_ordered, IsNodeOrderOf, IsRefusedNodeOrder};
 ghost use Rattle.world.specs.Moves.{NodeMoves};
 
 use crate::acts::NodeOrder;
 use crate::numbering::{enter_answers, named};
-use segment_core::{NodeAct, Segment};
+use segment_core::{NodeAct, Prepared, Segment};
 use std::alloc::Global;
 use volume_model::Fault;
 use wire::Message;
@@ -25,6 +27,39 @@ fn act_of<'a>(order: NodeOrder<'a>, messages: &'a [Message]) -> Result<NodeAct<'
     }
 }
 
+/// Takes a step that a segment was made ready for, and adds the messages that it makes to the others, for which it makes room before the
+/// segment changes. Where memory runs out nothing has changed.
+#[inline(always)]
+fn take(
+    segment: &mut Segment,
+    messages: &mut Vec<Message>,
+    prepared: Prepared,
+) -> Result<u64, Fault>
+    requires { IsReady segment.old prepared }
+    ensures moves { (late : FaultName → Bool) → NodeMoves late (Ok (step_of prepared (node_of segment.old))) (node_of segment.old) (added (messages_of messages.old.items) []) result (node_of segment.new) (added (messages_of messages.new.items) []) }
+    ensures actor { IsSameActor segment.old segment.new }
+{
+    messages.reserve(prepared.answers().len())?;
+    let made = segment.apply(prepared);
+    Ok(enter_answers(messages, made))
+}
+
+/// Lets a segment act, as [`act`] does.
+#[inline(never)]
+fn act_at_large(
+    alloc: Global,
+    segment: &mut Segment,
+    messages: &mut Vec<Message>,
+    order: NodeOrder<'_>,
+) -> Result<u64, Fault>
+    ensures moves { NodeMoves (node_late order.entry) (node_ordered (added (messages_of messages.old.items) []) order.entry (segment_plan segment.old) (segment_group segment.old) (segment_member segment.old) (node_of segment.old)) (node_of segment.old) (added (messages_of messages.old.items) []) result (node_of segment.new) (added (messages_of messages.new.items) []) }
+    ensures actor { IsSameActor segment.old segment.new }
+{
+    let act = act_of(order, messages.as_slice())?;
+    let prepared = segment.prepare_act(alloc, act)?;
+    take(segment, messages, prepared)
+}
+
 /// Lets a segment act, and adds the messages that it makes to the others, for which it makes room before the segment changes. Where memory
 /// runs out nothing has changed.
 pub fn act(
@@ -36,9 +71,12 @@ pub fn act(
     ensures moves { NodeMoves (node_late order.entry) (node_ordered (added (messages_of messages.old.items) []) order.entry (segment_plan segment.old) (segment_group segment.old) (segment_member segment.old) (node_of segment.old)) (node_of segment.old) (added (messages_of messages.old.items) []) result (node_of segment.new) (added (messages_of messages.new.items) []) }
     ensures actor { IsSameActor segment.old segment.new }
 {
-    let act = act_of(order, messages.as_slice())?;
-    let prepared = segment.prepare_act(alloc, act)?;
-    messages.reserve(prepared.answers().len())?;
-    let made = segment.apply(prepared);
-    Ok(enter_answers(messages, made))
+    // Most orders deliver a record, so these have a short way of their own.
+    if let NodeOrder::Deliver { message } = order {
+        if let Message::Write(write) = named(messages.as_slice(), message)? {
+            let prepared = segment.prepare_write(alloc, write)?;
+            return take(segment, messages, prepared);
+        }
+    }
+    act_at_large(alloc, segment, messages, order)
 }

@@ -45,6 +45,7 @@ pub fn enter(messages: &mut Vec<Message>, made: Vec<Message>) -> u64
 }
 
 /// Adds what a node answers to the other messages, as [`enter`] does.
+#[inline(always)]
 pub fn enter_answers(messages: &mut Vec<Message>, answers: Messages) -> u64
     requires { vec_len messages.old + length (listed answers) ≤ vec_capacity messages.old }
     ensures added { messages.new.items ≡ messages.old.items ++ listed answers }

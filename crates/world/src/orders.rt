@@ -6,7 +6,7 @@ ghost use Rattle.world.specs.Actors.{event_late, plan_of, world_of, AreActors, S
 ghost use Rattle.world.specs.Events.{made_by, firsts_of, total_made, number_from, ordered};
 
 use crate::actors::Actors;
-use crate::event::{Event, Order};
+use crate::event::Order;
 use std::alloc::Global;
 use volume_model::Fault;
 
@@ -61,12 +61,7 @@ pub fn follow(
             place,
         } => {
             let message = number_of(firsts, results, event as usize, place);
-            let delivery = Event::Deliver {
-                group,
-                member,
-                message,
-            };
-            actors.step(alloc, &delivery)
+            actors.deliver(alloc, group, member, message)
         }
         Order::TakeFrom {
             volume,
@@ -74,8 +69,7 @@ pub fn follow(
             place,
         } => {
             let message = number_of(firsts, results, event as usize, place);
-            let taking = Event::Take { volume, message };
-            actors.step(alloc, &taking)
+            actors.take(alloc, volume, message)
         }
     }
 }

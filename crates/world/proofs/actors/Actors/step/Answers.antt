@@ -1,7 +1,7 @@
 use Rattle.world.proofs.actors.Actors.step.Goals as goal
 
 pub returns-in-Deliver-clause-steps : goal.returns-in-Deliver-clause-steps
-returns-in-Deliver-clause-steps c = rw c.in-Deliver.is c.node_step-in-Deliver.ensures.steps
+returns-in-Deliver-clause-steps c = rw c.in-Deliver.is c.deliver.ensures.steps
 
 pub returns-in-Restart-clause-steps : goal.returns-in-Restart-clause-steps
 returns-in-Restart-clause-steps c = rw c.in-Restart.is c.node_step-in-Restart.ensures.steps
@@ -16,7 +16,7 @@ pub returns-in-Issue-clause-steps : goal.returns-in-Issue-clause-steps
 returns-in-Issue-clause-steps c = rw (c.in-Issue.is, ← c.deref.ensures.value) c.client_step.ensures.steps
 
 pub returns-in-Take-clause-steps : goal.returns-in-Take-clause-steps
-returns-in-Take-clause-steps c = rw c.in-Take.is c.client_step-in-Take.ensures.steps
+returns-in-Take-clause-steps c = rw c.in-Take.is c.take.ensures.steps
 
 pub returns-in-Resend-clause-steps : goal.returns-in-Resend-clause-steps
 returns-in-Resend-clause-steps c = rw c.in-Resend.is c.client_step-in-Resend.ensures.steps
