@@ -1,4 +1,4 @@
-pub mod Adding
+pub mod Growing
 pub mod Maps
 pub mod Each
 pub mod Tokens

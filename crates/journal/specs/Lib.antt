@@ -2,6 +2,7 @@ pub mod Actors
 pub mod Entries
 pub mod Standing
 pub mod History
+pub mod Fronts
 pub mod Named
 pub mod Tokens
 pub mod Lasts

@@ -1,17 +1,12 @@
--- The name of no table, and of no book, and the plan of no group.
+-- The name of no table, and the plan of no group.
 use Rattle.std.specs.Prelude.{[]}
 use Rattle.atomic_table.specs.Seated.{TableId}
-use Rattle.logbook.specs.Pages.{Book}
 use Rattle.volume_model.specs.Formula.Formula.{member}
 use Rattle.volume_model.specs.Plan.{Plan}
 
 -- the name of no table
 abbrev pub no_table : TableId
 no_table = record { words = 0; slots = 0; views_name = 0; atom = 0; block = 0; offset = 0; slot_names = [] }
-
--- the name of no book
-abbrev pub no_book : Book
-no_book = record { number = 0; log_name = 0; cells_name = 0 }
 
 -- the plan of no group
 abbrev pub no_plan : Plan

@@ -21,6 +21,7 @@ use Rattle.journal.specs.declared.letter.Letter.{Letter}
 use Rattle.journal.specs.declared.log.Log.{Log}
 use Rattle.journal.specs.Actors.{seen_who}
 use Rattle.journal.specs.Entries.{entry_of, entries_of, note_of}
+use Rattle.journal.specs.Fronts.{front_log}
 use Rattle.journal.specs.Lasts.{last_in}
 use Rattle.wire.specs.Listed.{listed}
 use Rattle.journal.specs.Standing.{Made, made}
@@ -74,7 +75,7 @@ module _ {X : Type 0} {s : SiteGhosts X} {l : LedgerGhosts X} where
 
   -- the pass has seen the whole journal
   abbrev pub SeesAll : Pass X s → Log X s l → Type 0
-  SeesAll pass log = pass.seen.log ≡ kept_in log
+  SeesAll pass log = front_log pass.seen ≡ kept_in log
 
   -- the actor of a mark
   abbrev pub marked : Mark X s l → Actor
@@ -86,7 +87,7 @@ module _ {X : Type 0} {s : SiteGhosts X} {l : LedgerGhosts X} where
 
   -- the entries up to the actor's last one
   abbrev pub seen_at : Mark X s l → List model.Entry
-  seen_at mark = entries_of mark.seen.log
+  seen_at mark = entries_of (front_log mark.seen)
 
   -- the number of a letter's message
   abbrev pub letter_number : Letter X s l → ℕ

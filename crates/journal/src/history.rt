@@ -1,128 +1,217 @@
-//! The history of all steps, which exists in proofs alone, and the one who adds to it.
+//! The history of all steps, which exists in proofs alone: its one keeper adds to it, and what others saw of it are its beginnings.
 
-ghost use Rattle.std.specs.Prelude.{◌≡◌, ◌+◌, ◌<◌, ◌^◌, ◌++◌, ◌∷◌, [], length, MatchBool};
+ghost use Rattle.std.specs.Prelude.{◌≡◌, true, [], length};
 ghost use Rattle.std.specs.Coded.{Coded-set};
-ghost use Rattle.logbook.specs.Pages.{book_coded, named_coded};
-ghost use Rattle.journal.specs.History.{head_of};
+ghost use Rattle.atomic_table.specs.Seated.{table_id_coded};
 
 use crate::entry::Entry;
 use crate::row::Site;
-use logbook::{Gain, Offer, Plain, Play, Rule, Seen, Start, Word};
-use std::marker::PhantomData;
+use atomic_table::{Join, Play, Seat, Split, Table, TableRule};
+use std::alloc::{AllocError, Global};
+use std::collections::LinkedList;
+use std::marker::{Brand, PhantomData};
+use std::mem;
 
-/// The rule of the history.
-pub struct Law;
-
-impl Rule<Entry, u64> for Law {
-    ghost use Rattle.std.specs.Prelude.{[]};
-    ghost use base.Fml.{ftrue};
-    ghost use Rattle.journal.specs.History.{IsKept};
-
-    ghost holds = { λ cells log. IsKept cells log };
-
-    ghost first = { [] };
-
-    ghost hinted = { λ n log. Unit {0} };
-
-    ghost shows = { λ log. [] };
-
-    ghost keeps = { λ names log. ftrue };
-
-    ghost moves = { λ ask before after answer. Unit {0} };
+/// What a seat knows: whether it keeps the history, a beginning of it, and one that it compares. No value of it is made.
+pub struct Line {
+    pub keeps: bool,
+    pub log: LinkedList<Entry>,
+    pub claim: LinkedList<Entry>,
 }
 
-/// Callers trade nothing.
-pub struct Nothing;
+/// The rule: what seats know are beginnings of what the keeper knows.
+pub struct Begun;
 
-impl Gain<Entry, u64> for Nothing {
-    ghost use base.Fml.{ftrue};
+impl TableRule<(), Line, ()> for Begun {
+    ghost use Rattle.std.specs.Prelude.{true, []};
+    ghost use Rattle.journal.specs.History.{line, Stands};
 
-    ghost after = { λ names about answer. ftrue };
+    ghost holds = { λ _ s. Stands s.views };
+
+    ghost first = { λ _. line true [] [] };
 }
 
-/// A step that adds an entry.
-pub struct Extend;
+/// A new seat knows what its maker does.
+pub struct Fronts;
 
-impl Play<Entry, u64> for Extend {
-    ghost use Rattle.journal.specs.History.{Extends};
+impl Split<Line> for Fronts {
+    ghost use Rattle.std.specs.Prelude.{false, []};
+    ghost use Rattle.journal.specs.History.{line};
 
-    ghost then = { Extends };
+    ghost left = { λ v. v };
+
+    ghost right = { λ v. line false v.log [] };
 }
 
-/// What it asks for: the entry.
-impl Plain<Entry, Entry, u64> for Extend {
-    ghost use Rattle.std.specs.Prelude.{None};
+/// A seat compares what another knows, and gives it back.
+pub struct Claims;
 
-    ghost ask = { λ entry. entry };
+impl Join<Line> for Claims {
+    ghost use Rattle.std.specs.Prelude.{false, []};
+    ghost use Rattle.journal.specs.History.{line};
 
-    ghost state = { λ entry. None };
+    ghost both = { λ v w. line v.keeps v.log w.log };
+
+    ghost spent = { line false [] [] };
+}
+
+impl Split<Line> for Claims {
+    ghost use Rattle.std.specs.Prelude.{false, []};
+    ghost use Rattle.journal.specs.History.{line};
+
+    ghost left = { λ v. line v.keeps v.log [] };
+
+    ghost right = { λ v. line false v.claim [] };
+}
+
+/// Names an entry. Each call picks it.
+pub trait Named {
+    ghost use Rattle.journal.specs.declared.entry.Entry.{Entry};
+
+    // The entry.
+    ghost entry: { Entry };
+}
+
+impl Named for Brand {
+    ghost use Rattle.journal.specs.History.{no_entry};
+
+    ghost entry = { no_entry };
+}
+
+/// The keeper adds an entry.
+pub struct Extend<N: Named> {
+    marker: PhantomData<N>,
+}
+
+impl<N: Named> Play<(), Line> for Extend<N> {
+    ghost use Rattle.std.specs.Prelude.{◌≡◌, ◌++◌, ◌∷◌, []};
+    ghost use Rattle.journal.specs.History.{line};
+
+    ghost then = { λ step before found after. (after.0 ≡ line before.0.keeps (before.0.log ++ N.entry ∷ []) []) × (after.1 ≡ before.1) };
+}
+
+/// The keeper finds that what it compares is a beginning.
+pub struct Compare;
+
+impl Play<(), Line> for Compare {
+    ghost use Rattle.std.specs.Prelude.{◌≡◌};
+    ghost use mathlib.Core.List.{IsPrefix};
+
+    ghost then = { λ step before found after. IsPrefix before.0.claim before.0.log × (after.0 ≡ before.0) × (after.1 ≡ before.1) };
 }
 
 /// A beginning of the history that was seen.
-pub type Front = Seen<Entry, u64, Law>;
-
-/// An empty history, which no journal has yet.
 #[derive(Drop)]
-pub struct Opened {
-    head: Word<Entry, u64, Law>,
-    seen: Front,
-    ghost empty: { length seen.log ≡ 0 },
-    ghost head_is: { head ≡ head_of seen.book } by { Coded-set named_coded head (head_of seen.book) },
+pub struct Front {
+    seat: Seat<(), Line>,
+    ghost no_slot: { seat.me.1 ≡ [] },
 }
 
-/// The history, as the journal has it: all that was seen, and the word that counts it.
+/// A history, as its one keeper has it.
+#[derive(Drop)]
+pub struct Opened {
+    table: Table<(), Line, (), Begun, Global>,
+    seat: Seat<(), Line>,
+    ghost one_word: { table.shared.table_id.words ≡ 1 },
+    ghost own: { seat.table_id ≡ table.shared.table_id },
+    ghost keeps: { seat.me.0.keeps ≡ true },
+    ghost no_slot: { seat.me.1 ≡ [] },
+}
+
+/// The history under a name, as its one keeper has it.
 #[derive(Drop)]
 pub struct History<L: Site> {
-    head: Word<Entry, u64, Law>,
-    pub(crate) seen: Front,
+    pub(crate) opened: Opened,
     site: PhantomData<L>,
-    ghost head_is: { head ≡ head_of L.history } by { Coded-set named_coded head (head_of L.history) },
-    ghost history: { seen.book ≡ L.history } by { Coded-set book_coded seen.book L.history },
+    ghost history: { opened.table.shared.table_id ≡ L.history } by { Coded-set table_id_coded opened.table.shared.table_id L.history },
 }
 
 impl Opened {
+    ghost use Rattle.std.specs.Prelude.{◌++◌, ◌∷◌, IfOk};
+    ghost use mathlib.Core.List.{IsPrefix};
+    ghost use Rattle.journal.specs.Fronts.{book_of, front_book, front_log, log_of};
+
     /// An empty history.
-    pub fn new() -> Opened {
-        let (seen, mut first, _second) = Seen::open(Start::alone(), 0, 0);
-        Opened {
-            head: Word::tracked(0, &mut first),
-            seen,
-        }
+    ///
+    /// # Errors
+    /// Where a growth was refused.
+    pub fn new(alloc: Global) -> Result<Opened, AllocError>
+        ensures { IfOk result (λ h. log_of h ≡ []) }
+    {
+        let (table, seat) = Table::of_words(alloc, &[0], &())?;
+        Ok(Opened { table, seat })
+    }
+
+    // Adds the entry that is named.
+    #[inline(always)]
+    fn extend<N: Named>(&mut self, entry: &Entry)
+        requires { entry.now ≡ N.entry }
+        ensures { (log_of self.new ≡ log_of self.old ++ entry.now ∷ []) × (book_of self.new ≡ book_of self.old) }
+    {
+        let _ = entry;
+        let Opened { table, seat } = self;
+        table.shared.load::<Extend<N>>(seat, 0);
+    }
+
+    /// Adds an entry.
+    #[inline(always)]
+    pub(crate) fn add(&mut self, entry: &Entry)
+        ensures { (log_of self.new ≡ log_of self.old ++ entry.now ∷ []) × (book_of self.new ≡ book_of self.old) }
+    {
+        self.extend::<Brand>(entry);
+    }
+
+    /// All of it.
+    #[inline(always)]
+    pub(crate) fn front(&mut self) -> Front
+        ensures same { (log_of self.new ≡ log_of self.old) × (book_of self.new ≡ book_of self.old) }
+        ensures front { (front_log result ≡ log_of self.old) × (front_book result ≡ book_of self.old) }
+    {
+        let Opened { table, seat } = self;
+        let seat = table.shared.split_seat::<Fronts>(seat);
+        Front { seat }
+    }
+
+    /// Shows that what was seen is a beginning of it.
+    #[inline(always)]
+    pub(crate) fn compare(&mut self, front: &mut Front)
+        requires { front_book front.old ≡ book_of self.old }
+        ensures same { (log_of self.new ≡ log_of self.old) × (book_of self.new ≡ book_of self.old) }
+        ensures front { (front_log front.new ≡ front_log front.old) × (front_book front.new ≡ front_book front.old) }
+        ensures begins { IsPrefix (front_log front.old) (log_of self.old) }
+    {
+        let fresh = self.front();
+        let Front { seat: other } = mem::replace(front, fresh);
+        let Opened { table, seat } = self;
+        table.shared.join_seat::<Claims>(seat, other);
+        table.shared.load::<Compare>(seat, 0);
+        let seat = table.shared.split_seat::<Claims>(seat);
+        *front = Front { seat };
+    }
+
+    /// Shows that what was seen is a beginning of it. From then on it is all of it.
+    #[inline(always)]
+    pub(crate) fn meet(&mut self, front: &mut Front)
+        requires { front_book front.old ≡ book_of self.old }
+        ensures same { (log_of self.new ≡ log_of self.old) × (book_of self.new ≡ book_of self.old) }
+        ensures front { (front_log front.new ≡ log_of self.old) × (front_book front.new ≡ front_book front.old) }
+        ensures begins { IsPrefix (front_log front.old) (log_of self.old) }
+    {
+        let fresh = self.front();
+        let Front { seat: other } = mem::replace(front, fresh);
+        let Opened { table, seat } = self;
+        table.shared.join_seat::<Claims>(seat, other);
+        table.shared.load::<Compare>(seat, 0);
     }
 
     /// The history under a name.
     pub fn named<L: Site>(self) -> History<L>
-        requires { self.seen.book ≡ L.history }
-        ensures { result.seen.log ≡ [] }
+        requires { book_of self ≡ L.history }
+        ensures { log_of result.opened ≡ log_of self }
     {
-        let Opened { head, seen } = self;
         History {
-            head,
-            seen,
+            opened: self,
             site: PhantomData,
         }
-    }
-}
-
-impl<L: Site> History<L> {
-    // Adds an entry to all that was seen, and says whether it did: not where the history is longer.
-    pub(crate) fn add(&mut self, entry: &Entry, entries: usize) -> bool
-        requires { (length self.old.seen.log ≡ entries) × (entries + 1 < 2 ^ 64) }
-        ensures { MatchBool result (self.new.seen.log ≡ self.old.seen.log ++ entry.now ∷ []) (self.new.seen.log ≡ self.old.seen.log) }
-    {
-        let mut seen = self.seen.again();
-        let mut offer: Offer<Entry, u64, Law, Nothing> = seen.plain::<Nothing, Entry, Extend>(
-            entry,
-        );
-        let mut pen = seen.no_pen();
-        let old = entries as u64;
-        let found = self
-            .head
-            .compare_exchange::<Extend, Nothing>(old, old + 1, &mut seen, &mut offer, &mut pen);
-        let added = found == old;
-        if added {
-            self.seen = seen;
-        }
-        added
     }
 }

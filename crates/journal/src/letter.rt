@@ -3,7 +3,8 @@
 ghost use Rattle.std.specs.Prelude.{◌≡◌, ◌+◌, ◌<◌, length, slice_get, Some};
 ghost use Rattle.std.proofs.Props.{props};
 ghost use Rattle.std.specs.Coded.{Coded-set};
-ghost use Rattle.logbook.specs.Pages.{book_coded};
+ghost use Rattle.atomic_table.specs.Seated.{table_id_coded};
+ghost use Rattle.journal.specs.Fronts.{front_book, front_log};
 ghost use Rattle.wire.specs.Listed.{listed};
 
 use crate::entry::Entry;
@@ -21,8 +22,8 @@ pub struct Letter<'a, L: Site> {
     pub(crate) entry: &'a Entry,
     pub(crate) seen: Front,
     pub(crate) site: PhantomData<L>,
-    ghost history: { seen.book ≡ L.history } by { Coded-set book_coded seen.book L.history },
-    ghost is: { slice_get seen.log cell ≡ Some entry.now } by { Prim.hlevel props },
+    ghost history: { front_book seen ≡ L.history } by { Coded-set table_id_coded (front_book seen) L.history },
+    ghost is: { slice_get (front_log seen) cell ≡ Some entry.now } by { Prim.hlevel props },
     ghost inside: { index < length (listed entry.now.made) },
     ghost number_is: { number ≡ entry.now.first + index + 1 },
 }

@@ -11,6 +11,7 @@ ghost use Rattle.volume_model.specs.Journal.{world_at, last_of, IsRun};
 ghost use Rattle.world.specs.Events.{event_of};
 ghost use Rattle.journal.specs.Joined.{joined_after};
 ghost use Rattle.journal.specs.Entries.{entries_of};
+ghost use Rattle.journal.specs.Fronts.{front_book, front_log, log_of};
 ghost use Rattle.journal.specs.Lasts.{last_in, last_known};
 ghost use Rattle.journal.specs.Tokens.{ids_of, shown};
 
@@ -25,6 +26,7 @@ use crate::who::Who;
 use height::{Height, Top};
 use std::alloc::{AllocError, Global};
 use std::marker::PhantomData;
+use std::mem;
 use std::sync::Wait;
 use std::sync::ledger::Book;
 use volume_model::Fault;
@@ -44,7 +46,7 @@ pub struct Log<'a, L: Site> {
     book: Book<L>,
     top: Top,
     history: History<L>,
-    ghost same: { shown entries.items ≡ history.seen.log } by { Prim.hlevel props },
+    ghost same: { shown entries.items ≡ log_of history.opened } by { Prim.hlevel props },
     ghost table: { top_table top ≡ L.table } by { Coded-set table_id_coded (top_table top) L.table },
     ghost risen: { height_of top ≡ vec_len entries },
     ghost cells: { vec_len entries + length rest.now ≡ length L.cells },
@@ -65,6 +67,7 @@ fn never<R: Wait, T>(rt: &R) -> T
 }
 
 // The entry, as it stands in the first of these cells from then on.
+#[inline(always)]
 fn write<'a>(rest: &mut &'a mut [Option<Entry>], entry: Entry) -> &'a Entry
     requires { 0 < length rest.old.now }
     ensures value { result.now ≡ entry }
@@ -73,7 +76,10 @@ fn write<'a>(rest: &mut &'a mut [Option<Entry>], entry: Entry) -> &'a Entry
     let Some(cell) = rest.split_off_first_mut() else {
         unreachable!()
     };
-    cell.insert(entry)
+    // Nothing stands in it, so nothing is lost.
+    mem::forget(mem::replace(cell, Some(entry)));
+    let Some(written) = cell else { unreachable!() };
+    written
 }
 
 // The number after so many messages more. Past 2^64 it waits for good.
@@ -140,7 +146,7 @@ impl<'a, L: Site> Log<'a, L> {
     ) -> Result<Log<'a, L>, AllocError>
         requires cells { ids_of row.old ≡ L.cells }
         requires top { (top_table top ≡ L.table) × (height_of top ≡ 0) }
-        requires history { history.seen.log ≡ [] }
+        requires history { log_of history.opened ≡ [] }
         requires book { book.total ≡ 0 }
         requires born { born ≡ L.plan.born }
         ensures empty { IfOk result (λ log. journal_of log ≡ []) }
@@ -164,16 +170,18 @@ impl<'a, L: Site> Log<'a, L> {
     /// Whether the actor stands here as it stands under its own lock, as it always does where the journal keeps its last
     /// number. Then it is in the state that the journal says.
     #[inline(always)]
-    pub fn compare(&self, mark: &Mark<L>) -> bool
-        ensures agree { MatchBool result (Agree (marked mark.now) (world_at L.plan (seen_at mark.now)) (world_of self.now)) (Unit {0}) }
-        ensures last { MatchBool result ((mark_number mark.now ≡ last_of (marked mark.now) (journal_of self.now)) × HasPlace self.now (marked mark.now)) (HasPlace self.now (marked mark.now) → mark_number mark.now ≡ last_of (marked mark.now) (journal_of self.now) → ⊥) }
-        ensures seen { MatchBool result (take (mark_number mark.now) (journal_of self.now) ≡ seen_at mark.now) (Unit {0}) }
+    pub fn compare(&mut self, mark: &mut Mark<L>) -> bool
+        ensures log { (self.new.entries ≡ self.old.entries) × (self.new.firsts ≡ self.old.firsts) × (self.new.lasts ≡ self.old.lasts) }
+        ensures mark { (marked mark.new ≡ marked mark.old) × (mark_number mark.new ≡ mark_number mark.old) × (seen_at mark.new ≡ seen_at mark.old) }
+        ensures agree { MatchBool result (Agree (marked mark.old) (world_at L.plan (seen_at mark.old)) (world_of self.old)) (Unit {0}) }
+        ensures last { MatchBool result ((mark_number mark.old ≡ last_of (marked mark.old) (journal_of self.old)) × HasPlace self.old (marked mark.old)) (HasPlace self.old (marked mark.old) → mark_number mark.old ≡ last_of (marked mark.old) (journal_of self.old) → ⊥) }
+        ensures seen { MatchBool result (take (mark_number mark.old) (journal_of self.old) ≡ seen_at mark.old) (Unit {0}) }
     {
         if self.lasts.get(mark.who) != Some(mark.number) {
             return false;
         }
-        let mut both = self.history.seen.again();
-        both.learn(&mark.seen);
+        let Log { history, .. } = self;
+        history.opened.compare(&mut mark.seen);
         true
     }
 
@@ -193,9 +201,8 @@ impl<'a, L: Site> Log<'a, L> {
         ensures pass { (pass.new.steps ≡ pass.old.steps) × (pass.new.notes ≡ pass.old.notes) × (seat_of pass.new ≡ seat_of pass.old) }
     {
         height.meet(&mut self.top, &mut pass.floor);
-        let mut both = self.history.seen.again();
-        both.learn(&pass.seen);
-        pass.seen = self.history.seen.again();
+        let Log { history, .. } = self;
+        history.opened.meet(&mut pass.seen);
     }
 
     /// Makes room for a step.
@@ -232,19 +239,15 @@ impl<'a, L: Site> Log<'a, L> {
         self.joined
     }
 
-    // The history has one entry more.
-    fn add<R: Wait>(rt: &R, history: &mut History<L>, entry: &Entry, entries: usize)
-        requires { (length history.old.seen.log ≡ entries) × (entries + 1 < 2 ^ 64) }
-        ensures { history.new.seen.log ≡ history.old.seen.log ++ entry.now ∷ [] }
-    {
-        if !history.add(entry, entries) {
-            never(rt)
-        }
-    }
-
-    // Enters an entry.
+    // Enters an entry, and answers what was seen then.
     #[inline(always)]
-    fn append<R: Wait>(&mut self, rt: &R, height: &Height, entry: Entry, pass: &mut Pass<'a, L>)
+    fn append<R: Wait>(
+        &mut self,
+        rt: &R,
+        height: &Height,
+        entry: Entry,
+        pass: &mut Pass<'a, L>,
+    ) -> Front
         requires height { table_of height.now ≡ L.table }
         requires cell { 0 < length self.old.rest.now }
         requires settled { SeesAll pass.old self.old }
@@ -258,6 +261,7 @@ impl<'a, L: Site> Log<'a, L> {
         ensures seen { SeesAll pass.new self.new }
         ensures steps { steps_of pass.new ≡ steps_of pass.old ++ made (length (kept_in self.old)) (entry_of entry) entry.durable ∷ [] }
         ensures notes { (notes_of pass.new ≡ notes_of pass.old) × (seat_of pass.new ≡ seat_of pass.old) }
+        ensures front { (front_log result ≡ kept_in self.new) × (front_book result ≡ L.history) }
     {
         let Log {
             rest,
@@ -280,28 +284,26 @@ impl<'a, L: Site> Log<'a, L> {
             seat: _,
         } = pass;
         let cell = entries.len();
+        let who = Who::of(&entry.event);
+        let grown = joined_after(rt, *joined, &entry.event);
+        let count = entry.made.len();
         let entry = write(rest, entry);
-        Self::add(rt, history, entry, cell);
+        history.opened.add(entry);
         height.rise(top);
         *floor = height.floor(top);
-        *seen = history.seen.again();
+        *seen = history.opened.front();
+        let whole = history.opened.front();
         book.add(share, 1);
         steps.push_reserved(Held {
             entry,
             site: PhantomData,
         });
-        lasts.set(Who::of(&entry.event), cell + 1);
-        *joined = joined_after(rt, *joined, &entry.event);
+        lasts.set(who, cell + 1);
+        *joined = grown;
         firsts.push_reserved(*messages);
-        *messages = total(rt, *messages, entry.made.len());
+        *messages = total(rt, *messages, count);
         entries.push_reserved(entry);
-    }
-
-    // All that was seen.
-    fn front(&self) -> Front
-        ensures { (result.log ≡ kept_in self.now) × (result.book ≡ L.history) }
-    {
-        self.history.seen.again()
+        whole
     }
 
     /// Enters a step of an actor, whose lock the caller holds, and answers what is told of it.
@@ -342,8 +344,8 @@ impl<'a, L: Site> Log<'a, L> {
             cell,
             durable,
         };
-        self.append(rt, height, entry, pass);
-        mark.advance(self.front(), self.entries.len());
+        let seen = self.append(rt, height, entry, pass);
+        mark.advance(seen, self.entries.len());
         Receipt {
             number: cell + 1,
             first_message: total(rt, first, 1),
@@ -398,6 +400,7 @@ impl<'a, L: Site> Log<'a, L> {
     }
 
     // The place of the step that made a message: looked for behind this place where it stands there, else from the end on.
+    #[inline(always)]
     fn maker(&self, near: usize, number: u64) -> usize
         requires { (0 < number) × (number ≤ self.now.messages) }
         ensures { (result < vec_len self.now.entries) × (before L.plan (journal_of self.now) result < number) × (number ≤ before L.plan (journal_of self.now) (result + 1)) }
@@ -412,50 +415,45 @@ impl<'a, L: Site> Log<'a, L> {
     }
 
     // Looks a message up by its number, beginning near this place. None where no step has made it.
-    fn find_near(&self, near: usize, number: u64) -> Option<Letter<'a, L>>
+    #[inline(always)]
+    fn find_near(&mut self, near: usize, number: u64) -> Option<Letter<'a, L>>
+        ensures log { (self.new.entries ≡ self.old.entries) × (self.new.firsts ≡ self.old.firsts) × (self.new.lasts ≡ self.old.lasts) }
+        ensures history { log_of self.new.history.opened ≡ log_of self.old.history.opened }
         ensures some { IfSome result (λ l. letter_number l ≡ number) }
-        ensures is { IfSome result (λ l. numbered (world_of self.now).messages number ≡ letter_message l) }
-        ensures none { IfNone result (numbered (world_of self.now).messages number ≡ None) }
+        ensures is { IfSome result (λ l. numbered (world_of self.old).messages number ≡ letter_message l) }
+        ensures none { IfNone result (numbered (world_of self.old).messages number ≡ None) }
     {
         if number == 0 || number > self.messages {
             return None;
         }
         let cell = self.maker(near, number);
         let entry = self.entry(cell);
+        let Log { history, .. } = self;
+        let seen = history.opened.front();
         Some(Letter {
             number,
             cell,
             index: (number - 1 - entry.first) as usize,
             entry,
-            seen: self.front(),
+            seen,
             site: PhantomData,
         })
     }
 
-    /// Looks a message up by its number. None where no step has made it.
-    pub fn find(&self, number: u64) -> Option<Letter<'a, L>>
-        ensures some { IfSome result (λ l. letter_number l ≡ number) }
-        ensures is { IfSome result (λ l. numbered (world_of self.now).messages number ≡ letter_message l) }
-        ensures none { IfNone result (numbered (world_of self.now).messages number ≡ None) }
+    /// Shows that the journal has a letter that was found before: its message has the letter's number.
+    #[inline(always)]
+    pub fn has(&mut self, letter: &mut Letter<'a, L>)
+        ensures log { journal_of self.new ≡ journal_of self.old }
+        ensures letter { (letter_number letter.new ≡ letter_number letter.old) × (letter_message letter.new ≡ letter_message letter.old) }
+        ensures is { numbered (world_of self.old).messages (letter_number letter.old) ≡ letter_message letter.old }
     {
-        self.find_near(usize::MAX, number)
-    }
-
-    /// Whether the journal has a letter that was found before, as it always has: then its message has the letter's
-    /// number.
-    pub fn has(&self, letter: &Letter<'a, L>) -> bool
-        ensures { MatchBool result (numbered (world_of self.now).messages (letter_number letter.now) ≡ letter_message letter.now) (length (journal_of self.now) ≤ letter_step letter.now) }
-    {
-        if letter.cell >= self.entries.len() {
-            return false;
-        }
-        let mut both = self.history.seen.again();
-        both.learn(&letter.seen);
-        true
+        let Log { history, .. } = self;
+        history.opened.compare(&mut letter.seen);
     }
 
     /// Looks a message up for a pass, which from then on has seen the whole journal. None where no step has made it; then
     /// no step of the pass did.
+    #[inline(always)]
     pub fn seek(
         &mut self,
         height: &Height,

@@ -2,7 +2,8 @@
 
 ghost use Rattle.std.specs.Prelude.{◌≡◌, length, []};
 ghost use Rattle.std.specs.Coded.{Coded-set};
-ghost use Rattle.logbook.specs.Pages.{book_coded};
+ghost use Rattle.atomic_table.specs.Seated.{table_id_coded};
+ghost use Rattle.journal.specs.Fronts.{front_book, front_log, log_of};
 
 use crate::history::{Front, History};
 use crate::row::Site;
@@ -17,29 +18,30 @@ pub struct Mark<L: Site> {
     pub(crate) number: usize,
     pub(crate) seen: Front,
     site: PhantomData<L>,
-    ghost history: { seen.book ≡ L.history } by { Coded-set book_coded seen.book L.history },
-    ghost long: { length seen.log ≡ number },
+    ghost history: { front_book seen ≡ L.history } by { Coded-set table_id_coded (front_book seen) L.history },
+    ghost long: { length (front_log seen) ≡ number },
 }
 
 impl<L: Site> Mark<L> {
     /// An actor that has made no step.
-    pub fn new(who: Who, history: &History<L>) -> Mark<L>
-        requires { history.now.seen.log ≡ [] }
+    pub fn new(who: Who, history: &mut History<L>) -> Mark<L>
+        requires { log_of history.old.opened ≡ [] }
+        ensures history { log_of history.new.opened ≡ [] }
         ensures who { result.who ≡ who }
-        ensures seen { result.seen.log ≡ [] }
+        ensures seen { front_log result.seen ≡ [] }
     {
         Mark {
             who,
             number: 0,
-            seen: history.seen.again(),
+            seen: history.opened.front(),
             site: PhantomData,
         }
     }
 
     // The actor has made a step, which ends the history.
     pub(crate) fn advance(&mut self, seen: Front, number: usize)
-        requires { (seen.book ≡ L.history) × (length seen.log ≡ number) }
-        ensures { (self.new.who ≡ self.old.who) × (self.new.number ≡ number) × (self.new.seen.log ≡ seen.log) }
+        requires { (front_book seen ≡ L.history) × (length (front_log seen) ≡ number) }
+        ensures { (self.new.who ≡ self.old.who) × (self.new.number ≡ number) × (front_log self.new.seen ≡ front_log seen) }
     {
         self.number = number;
         self.seen = seen;

@@ -5,7 +5,7 @@ ghost use Rattle.std.proofs.Props.{props};
 ghost use Rattle.height.specs.Seats.{floor_table, floor_of};
 ghost use Rattle.atomic_table.specs.Seated.{table_id_coded};
 ghost use Rattle.std.specs.Coded.{Coded-set};
-ghost use Rattle.logbook.specs.Pages.{book_coded};
+ghost use Rattle.journal.specs.Fronts.{front_book, front_log, log_of};
 ghost use Rattle.board.specs.Seats.{seat_table};
 ghost use Rattle.volume_model.specs.Judging.{IsRefused};
 ghost use Rattle.journal.specs.Entries.{entry_of, entries_of, note_of};
@@ -43,11 +43,11 @@ pub struct Pass<'a, L: Site> {
     ghost table: { floor_table floor ≡ L.table } by { Coded-set table_id_coded (floor_table floor) L.table },
     ghost board: { seat_table seat ≡ L.board } by { Coded-set table_id_coded (seat_table seat) L.board },
     ghost no_slot: { seat.seat.me.1 ≡ [] },
-    ghost history: { seen.book ≡ L.history } by { Coded-set book_coded seen.book L.history },
-    ghost long: { length seen.log ≡ floor_of floor },
-    ghost room: { length seen.log ≤ length L.cells },
-    ghost stand: { All (λ h. Stands L.plan (entries_of seen.log) (made h.entry.now.cell (entry_of h.entry.now) h.entry.now.durable)) steps.items } by { Prim.hlevel props },
-    ghost refused: { All (λ n. IsRefused L.plan L.slots (length L.cells) (entries_of seen.log) (note_of n)) notes.items } by { Prim.hlevel props },
+    ghost history: { front_book seen ≡ L.history } by { Coded-set table_id_coded (front_book seen) L.history },
+    ghost long: { length (front_log seen) ≡ floor_of floor },
+    ghost room: { length (front_log seen) ≤ length L.cells },
+    ghost stand: { All (λ h. Stands L.plan (entries_of (front_log seen)) (made h.entry.now.cell (entry_of h.entry.now) h.entry.now.durable)) steps.items } by { Prim.hlevel props },
+    ghost refused: { All (λ n. IsRefused L.plan L.slots (length L.cells) (entries_of (front_log seen)) (note_of n)) notes.items } by { Prim.hlevel props },
     ghost part: { share.parts ≡ 1 },
     ghost counted: { share.amount ≡ vec_len steps },
 }
@@ -65,13 +65,14 @@ impl<'a, L: Site> Pass<'a, L> {
         alloc: Global,
         share: Share<L>,
         floor: Floor,
-        history: &History<L>,
+        history: &mut History<L>,
         seat: BoardSeat,
     ) -> Pass<'a, L>
         requires share { (share.parts ≡ 1) × (share.amount ≡ 0) }
         requires floor { (floor_table floor ≡ L.table) × (floor_of floor ≡ 0) }
-        requires history { history.now.seen.log ≡ [] }
+        requires history { log_of history.old.opened ≡ [] }
         requires seat { IsSeatIn L.board seat }
+        ensures history { log_of history.new.opened ≡ [] }
         ensures empty { (steps_of result ≡ []) × (notes_of result ≡ []) }
         ensures seat { seat_of result ≡ board.steps_of seat }
     {
@@ -81,7 +82,7 @@ impl<'a, L: Site> Pass<'a, L> {
             notes: Vec::new(alloc),
             near: usize::MAX,
             floor,
-            seen: history.seen.again(),
+            seen: history.opened.front(),
             seat,
         }
     }
@@ -92,7 +93,7 @@ impl<'a, L: Site> Pass<'a, L> {
     /// Where a growth was refused; what the pass did and was refused is what it was.
     #[inline(always)]
     pub fn reserve(&mut self) -> Result<(), AllocError>
-        ensures same { (steps_of self.new ≡ steps_of self.old) × (notes_of self.new ≡ notes_of self.old) × (seat_of self.new ≡ seat_of self.old) × (self.new.seen.log ≡ self.old.seen.log) }
+        ensures same { (steps_of self.new ≡ steps_of self.old) × (notes_of self.new ≡ notes_of self.old) × (seat_of self.new ≡ seat_of self.old) × (front_log self.new.seen ≡ front_log self.old.seen) }
         ensures room { IfOk result (λ _. HasStepRoom self.new × HasNoteRoom self.new) }
     {
         self.steps.reserve(1)?;
@@ -102,7 +103,7 @@ impl<'a, L: Site> Pass<'a, L> {
     // Keeps where the step stands that made the message which was found last.
     pub(crate) fn stay(&mut self, near: usize)
         ensures did { (self.new.steps ≡ self.old.steps) × (self.new.notes ≡ self.old.notes) × (seat_of self.new ≡ seat_of self.old) }
-        ensures seen { self.new.seen.log ≡ self.old.seen.log }
+        ensures seen { front_log self.new.seen ≡ front_log self.old.seen }
     {
         self.near = near;
     }
@@ -110,8 +111,8 @@ impl<'a, L: Site> Pass<'a, L> {
     // Notes a refusal.
     pub(crate) fn note(&mut self, event: Event, fault: Fault, number: usize)
         requires room { HasNoteRoom self.old }
-        requires refused { IsRefused L.plan L.slots (length L.cells) (entries_of self.old.seen.log) (record { event = event_of event; fault = fault; number = number }) }
-        ensures same { (steps_of self.new ≡ steps_of self.old) × (seat_of self.new ≡ seat_of self.old) × (self.new.seen.log ≡ self.old.seen.log) }
+        requires refused { IsRefused L.plan L.slots (length L.cells) (entries_of (front_log self.old.seen)) (record { event = event_of event; fault = fault; number = number }) }
+        ensures same { (steps_of self.new ≡ steps_of self.old) × (seat_of self.new ≡ seat_of self.old) × (front_log self.new.seen ≡ front_log self.old.seen) }
         ensures note { notes_of self.new ≡ notes_of self.old ++ record { event = event_of event; fault = fault; number = number } ∷ [] }
     {
         self.notes.push_reserved(Note {

@@ -10,7 +10,6 @@ use std::sync::ledger::Ledger;
 pub trait Site: Ledger {
     ghost use Rattle.std.specs.Prelude.{ℕ, List};
     ghost use Rattle.atomic_table.specs.Seated.{TableId};
-    ghost use Rattle.logbook.specs.Pages.{Book};
     ghost use Rattle.volume_model.specs.Plan.{Plan};
 
     // The plan of the volume.
@@ -25,8 +24,8 @@ pub trait Site: Ledger {
     // The table of the board.
     ghost board: { TableId };
 
-    // The book of the journal's history.
-    ghost history: { Book };
+    // The table of the journal's history.
+    ghost history: { TableId };
 
     // How many client slots there are.
     ghost slots: { ℕ };
@@ -34,7 +33,7 @@ pub trait Site: Ledger {
 
 impl Site for Brand {
     ghost use Rattle.std.specs.Prelude.{[]};
-    ghost use Rattle.journal.specs.Named.{no_book, no_plan, no_table};
+    ghost use Rattle.journal.specs.Named.{no_plan, no_table};
 
     ghost plan = { no_plan };
 
@@ -44,7 +43,7 @@ impl Site for Brand {
 
     ghost board = { no_table };
 
-    ghost history = { no_book };
+    ghost history = { no_table };
 
     ghost slots = { 0 };
 }

@@ -3,6 +3,7 @@ use Rattle.std.specs.Arc.{arc_value}
 use Rattle.height.specs.Seats.{table_of}
 use Rattle.board.specs.Seats.{board_table}
 use Rattle.plan.specs.CheckedModel.{checked_model}
+use Rattle.journal.specs.Fronts.{book_of}
 use Rattle.journal.specs.Tokens.{ids_of}
 use Rattle.node_fleet.specs.Bases.{passes_of}
 use Rattle.drivers.proofs.driving.drive.Given as goal
@@ -11,4 +12,4 @@ abbrev pub ghosts-drive_fleet-L-Ledger : goal.ghosts-drive_fleet-L-Ledger
 ghosts-drive_fleet-L-Ledger g a = record { name = a.base.blank.name; parts = passes_of a.base }
 
 abbrev pub ghosts-drive_fleet-L-Site : goal.ghosts-drive_fleet-L-Site
-ghosts-drive_fleet-L-Site g a = record { plan = checked_model (arc_value a.plan.now); cells = ids_of a.row.now; table = table_of a.base.height; board = board_table a.base.board; history = a.base.opened.seen.book; slots = 64 }
+ghosts-drive_fleet-L-Site g a = record { plan = checked_model (arc_value a.plan.now); cells = ids_of a.row.now; table = table_of a.base.height; board = board_table a.base.board; history = book_of a.base.opened; slots = 64 }

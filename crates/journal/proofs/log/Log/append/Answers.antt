@@ -9,6 +9,7 @@ use Rattle.journal.specs.declared.entry.Entry.{Entry}
 use Rattle.journal.specs.declared.pass.Held.{Held}
 use Rattle.journal.specs.Actors.{seen_who}
 use Rattle.journal.specs.Entries.{entry_of, entries_of, note_of}
+use Rattle.journal.specs.Fronts.{front_log, log_of}
 use Rattle.journal.specs.Lasts.{last_known, or_zero}
 use Rattle.wire.specs.Listed.{listed}
 use Rattle.journal.specs.Standing.{made, Stands}
@@ -37,11 +38,11 @@ invariant_of-pass g c =
     let plan = g.L.Site.plan in
     let es = shown log.entries.items in
     let x = c.args.entry in
-    let now = c.again.result.log in
-    let old : log.history.seen.log ≡ es = sym log.same in
-    let longer : now ≡ es ++ x ∷ [] = ap (λ s. s.log) c.again.ensures ∙ c.add.ensures ∙ (λ i. old i ++ c.write-entry.ensures.value i ∷ []) in
-    let p : IsPrefix pass.seen.log now = (x ∷ [], ap (λ (l : List Entry). l ++ x ∷ []) c.requires.settled ∙ sym longer) in
-    let begin = entries_begin pass.seen.log now p in
+    let now = front_log c.front.result in
+    let old : log_of log.history.opened ≡ es = sym log.same in
+    let longer : now ≡ es ++ x ∷ [] = c.front.ensures.front.0 ∙ c.add.ensures.0 ∙ (λ i. old i ++ c.write-entry.ensures.value i ∷ []) in
+    let p : IsPrefix (front_log pass.seen) now = (x ∷ [], ap (λ (l : List Entry). l ++ x ∷ []) c.requires.settled ∙ sym longer) in
+    let begin = entries_begin (front_log pass.seen) now p in
     let long : length es ≡ vec_len log.entries = length-shown log.entries.items ∙ search rules in
     let count : length now ≡ vec_len log.entries + 1 = omega (arith, length_more es now x longer, long) in
     let room : length now ≤ length g.L.Site.cells = omega (arith, count, log.cells, c.requires.cell) in
@@ -54,12 +55,12 @@ invariant_of-pass g c =
       table = c.floor.ensures.floor.0 ∙ c.requires.height;
       board = pass.board;
       no_slot = pass.no_slot;
-      history = ap (λ s. s.book) c.again.ensures ∙ c.add.new.history.history;
+      history = c.front.ensures.front.1 ∙ c.add.ensures.1 ∙ log.history.history;
       long = omega (arith, count, c.floor.ensures.floor.1, c.rise.ensures.1, log.risen);
       room = room;
       stand = subst (All told) (sym c.push_reserved.ensures.items)
-          (all_push told pass.steps.items _ (λ k d lt. let h = get_or pass.steps.items k d in stands_longer plan (entries_of pass.seen.log) (entries_of now) (made h.entry.now.cell (entry_of h.entry.now) h.entry.now.durable) begin (pass.stand k d lt)) here);
-      refused = λ k d lt. refused_longer plan g.L.Site.slots (length g.L.Site.cells) (entries_of pass.seen.log) (entries_of now) (note_of (get_or pass.notes.items k d)) begin few (pass.refused k d lt);
+          (all_push told pass.steps.items _ (λ k d lt. let h = get_or pass.steps.items k d in stands_longer plan (entries_of (front_log pass.seen)) (entries_of now) (made h.entry.now.cell (entry_of h.entry.now) h.entry.now.durable) begin (pass.stand k d lt)) here);
+      refused = λ k d lt. refused_longer plan g.L.Site.slots (length g.L.Site.cells) (entries_of (front_log pass.seen)) (entries_of now) (note_of (get_or pass.notes.items k d)) begin few (pass.refused k d lt);
       part = c.add-2.ensures.parts ∙ pass.part;
       counted = omega (arith, c.add-2.ensures.amount, pass.counted, c.push_reserved.ensures.len);
     }
@@ -75,23 +76,34 @@ invariant_of-self g c =
     let n : vec_len c.push_reserved-3.new.self ≡ vec_len log.entries + 1 = omega (arith, c.push_reserved-3.ensures.len) in
     let longer : shown ts ≡ es ++ x ∷ [] = ap shown e ∙ shown_push log.entries.items c.write-entry.result ∙ ap (λ (y : Entry). es ++ y ∷ []) c.write-entry.ensures.value in
     let long : length es ≡ vec_len log.entries = length-shown log.entries.items ∙ search rules in
-    let old : log.history.seen.log ≡ es = sym log.same in
+    let old : log_of log.history.opened ≡ es = sym log.same in
     let first : x.first ≡ length (world_at plan (entries_of es)).messages = c.requires.first ∙ log.messages_are in
     let goes : Goes plan (world_at plan (entries_of es)) (entry_of x) = (c.requires.goes, first) in
     let at : c.len-cell.result ≡ length (entries_of es) = omega (arith, long, length-entries es, c.len-cell.ensures) in
-    let actor = c.of.ensures ∙ ap (λ (y : Entry). actor_of (event_of y.event)) c.write-entry.ensures.value in
-    let more : c.len.result ≡ length (listed x.made) = c.len.ensures ∙ ap (λ (y : Entry). length (listed y.made)) c.write-entry.ensures.value in
+    let actor = c.of-who.ensures in
+    let more : c.len-count.result ≡ length (listed x.made) = c.len-count.ensures in
     record {
-      same = longer ∙ sym (c.add.ensures ∙ (λ i. old i ++ c.write-entry.ensures.value i ∷ []));
+      same = longer ∙ sym (c.front-whole.ensures.same.0 ∙ c.front.ensures.same.0 ∙ c.add.ensures.0 ∙ (λ i. old i ++ c.write-entry.ensures.value i ∷ []));
       table = c.floor.ensures.same.0 ∙ c.rise.ensures.0 ∙ log.table;
       risen = omega (arith, c.floor.ensures.same.1, c.rise.ensures.1, log.risen, n);
       cells = omega (arith, log.cells, c.write-entry.ensures.rest, n);
       run = entries_run plan es (shown ts) x longer log.run goes;
       firsts_are = c.push_reserved-2.ensures.items ∙ (λ i. log.firsts_are i ++ sym c.requires.first i ∷ []) ∙ sym (firsts_push es x) ∙ ap (map (λ (y : Entry). y.first)) (sym longer);
       messages_are = omega (arith, c.total.ensures, c.requires.first, more, entries_messages plan es (shown ts) x longer goes);
-      joined_are = c.joined_after.ensures ∙ (λ i. joined_after (log.joined_are i) (event_of (c.write-entry.ensures.value i).event))
+      joined_are = c.joined_after-grown.ensures ∙ ap (λ n. joined_after n (event_of x.event)) log.joined_are
           ∙ sym (joined_step plan (world_at plan (entries_of es)) (event_of x.event) _ c.requires.goes) ∙ ap (λ (w : World). groups_joined w.authority) (sym (entries_world plan es (shown ts) x longer));
-      newest = λ other. newest_push (seen_who c.of.result) other (entries_of es) (entries_of (shown ts)) (entry_of x) (last_known c.set.new.self other) c.len-cell.result (entries_push es (shown ts) x longer) actor at (same_actor (seen_who c.of.result) other) refl
-          (on_both (same_actor (seen_who c.of.result) other) (λ q. ap or_zero q) (λ q. ap or_zero q ∙ log.newest other) (c.set.ensures other));
+      newest = λ other. newest_push (seen_who c.of-who.result) other (entries_of es) (entries_of (shown ts)) (entry_of x) (last_known c.set.new.self other) c.len-cell.result (entries_push es (shown ts) x longer) actor at (same_actor (seen_who c.of-who.result) other) refl
+          (on_both (same_actor (seen_who c.of-who.result) other) (λ q. ap or_zero q) (λ q. ap or_zero q ∙ log.newest other) (c.set.ensures other));
       counted = omega (arith, c.add-2.ensures.total, log.counted, n);
     }
+
+pub returns-clause-front : goal.returns-clause-front
+returns-clause-front g c =
+    let log = c.args.self.now in
+    let es = shown log.entries.items in
+    let x = c.args.entry in
+    let old : log_of log.history.opened ≡ es = sym log.same in
+    let longer : shown c.push_reserved-3.new.self.items ≡ es ++ x ∷ [] = ap shown c.push_reserved-3.ensures.items ∙ shown_push log.entries.items c.write-entry.result ∙ ap (λ (y : Entry). es ++ y ∷ []) c.write-entry.ensures.value in (
+      c.front-whole.ensures.front.0 ∙ c.front.ensures.same.0 ∙ c.add.ensures.0 ∙ (λ i. old i ++ c.write-entry.ensures.value i ∷ []) ∙ sym longer,
+      c.front-whole.ensures.front.1 ∙ c.front.ensures.same.1 ∙ c.add.ensures.1 ∙ log.history.history,
+    )

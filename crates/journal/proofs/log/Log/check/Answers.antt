@@ -3,6 +3,7 @@ use Rattle.volume_model.specs.Judging.{IsRefused}
 use Rattle.journal.specs.declared.entry.Entry.{Entry}
 use Rattle.journal.specs.declared.pass.Held.{Held}
 use Rattle.journal.specs.Entries.{entries_of, note_of}
+use Rattle.journal.specs.Fronts.{front_log}
 use Rattle.journal.specs.Passes.{made_of}
 use Rattle.journal.specs.Standing.{Stands}
 use Rattle.journal.specs.Tokens.{shown}
@@ -13,14 +14,14 @@ pub returns-clause-stands : goal.returns-clause-stands
 returns-clause-stands g c =
     let pass = c.settle.new.pass in
     let plan = g.L.Site.plan in
-    let all = all_map (λ (h : Held g.row.L.Denot). made_of h) (Stands plan (entries_of pass.seen.log)) pass.steps.items pass.stand in
+    let all = all_map (λ (h : Held g.row.L.Denot). made_of h) (Stands plan (entries_of (front_log pass.seen))) pass.steps.items pass.stand in
     subst (λ (l : List Entry). All (Stands plan (entries_of l)) (map (λ (h : Held g.row.L.Denot). made_of h) c.args.pass.now.steps.items)) (c.settle.ensures.seen ∙ ap (λ ts. shown ts.items) c.settle.ensures.log.0)
-    (subst (λ hs. All (Stands plan (entries_of pass.seen.log)) (map (λ (h : Held g.row.L.Denot). made_of h) hs.items)) c.settle.ensures.pass.0 all)
+    (subst (λ hs. All (Stands plan (entries_of (front_log pass.seen))) (map (λ (h : Held g.row.L.Denot). made_of h) hs.items)) c.settle.ensures.pass.0 all)
 
 pub returns-clause-refused : goal.returns-clause-refused
 returns-clause-refused g c =
     let pass = c.settle.new.pass in
     let plan = g.L.Site.plan in
-    let all = all_map note_of (IsRefused plan g.L.Site.slots (length g.L.Site.cells) (entries_of pass.seen.log)) pass.notes.items pass.refused in
+    let all = all_map note_of (IsRefused plan g.L.Site.slots (length g.L.Site.cells) (entries_of (front_log pass.seen))) pass.notes.items pass.refused in
     subst (λ (l : List Entry). All (IsRefused plan g.L.Site.slots (length g.L.Site.cells) (entries_of l)) (map note_of c.args.pass.now.notes.items)) (c.settle.ensures.seen ∙ ap (λ ts. shown ts.items) c.settle.ensures.log.0)
-    (subst (λ ns. All (IsRefused plan g.L.Site.slots (length g.L.Site.cells) (entries_of pass.seen.log)) (map note_of ns.items)) c.settle.ensures.pass.1 all)
+    (subst (λ ns. All (IsRefused plan g.L.Site.slots (length g.L.Site.cells) (entries_of (front_log pass.seen))) (map note_of ns.items)) c.settle.ensures.pass.1 all)

@@ -1,9 +1,11 @@
 use Rattle.std.proofs.Common.{◌≡◌, List, Some, sym, ap, ◌∙◌, subst, rules}
 use mathlib.Core.List.{IsPrefix}
+use Rattle.volume_model.proofs.Fronts.{prefix_self}
 use Rattle.volume_model.proofs.Worlds.{known}
 use Rattle.journal.specs.declared.entry.Entry.{Entry}
 use Rattle.journal.specs.Actors.{seen_who}
 use Rattle.journal.specs.Entries.{entries_of}
+use Rattle.journal.specs.Fronts.{front_log}
 use Rattle.journal.specs.Lasts.{last_in, or_zero}
 use Rattle.journal.specs.Tokens.{shown}
 use Rattle.journal.proofs.Entered.{entries_begin, length-entries}
@@ -16,10 +18,9 @@ returns-clause-agree g c =
     let es = shown log.entries.items in
     let actor = seen_who mark.who in
     let there : last_in log.lasts actor ≡ Some mark.number = search rules in
-    let both = c.learn.new.self.log in
-    let whole : es ≡ c.again-both.result.log = log.same ∙ sym (ap (λ s. s.log) c.again-both.ensures) in
-    let all = subst (λ (l : List Entry). IsPrefix l both) (sym whole) c.learn.ensures.2 in
-    (known g.L.Site.plan actor mark.number (entries_of mark.seen.log) (entries_of es) (entries_of both) (sym (ap or_zero there) ∙ log.newest actor) (length-entries mark.seen.log ∙ mark.long) (entries_begin mark.seen.log both c.learn.ensures.3) (entries_begin es both all)).0
+    let old = front_log mark.seen in
+    let begin : IsPrefix old es = subst (λ (l : List Entry). IsPrefix old l) (sym log.same) c.compare.ensures.begins in
+    (known g.L.Site.plan actor mark.number (entries_of old) (entries_of es) (entries_of es) (sym (ap or_zero there) ∙ log.newest actor) (length-entries old ∙ mark.long) (entries_begin old es begin) (prefix_self (entries_of es))).0
 
 pub returns-clause-last : goal.returns-clause-last
 returns-clause-last g c =
@@ -36,8 +37,6 @@ returns-clause-seen g c =
     let es = shown log.entries.items in
     let actor = seen_who mark.who in
     let there : last_in log.lasts actor ≡ Some mark.number = search rules in
-    let both = c.learn.new.self.log in
-    let whole : es ≡ c.again-both.result.log = log.same ∙ sym (ap (λ s. s.log) c.again-both.ensures) in
-    let all = subst (λ (l : List Entry). IsPrefix l both) (sym whole) c.learn.ensures.2 in
-    let k = known g.L.Site.plan actor mark.number (entries_of mark.seen.log) (entries_of es) (entries_of both) (sym (ap or_zero there) ∙ log.newest actor) (length-entries mark.seen.log ∙ mark.long) (entries_begin mark.seen.log both c.learn.ensures.3) (entries_begin es both all) in
-    k.1
+    let old = front_log mark.seen in
+    let begin : IsPrefix old es = subst (λ (l : List Entry). IsPrefix old l) (sym log.same) c.compare.ensures.begins in
+    (known g.L.Site.plan actor mark.number (entries_of old) (entries_of es) (entries_of es) (sym (ap or_zero there) ∙ log.newest actor) (length-entries old ∙ mark.long) (entries_begin old es begin) (prefix_self (entries_of es))).1

@@ -33,8 +33,8 @@ invariant_of-result g c =
     let e = c.entry-entry.result.now in
     let made = made_within g.L.Site.plan (shown log.entries.items) cell c.args.number e log.run c.entry-entry.ensures m.1 m.2 in
     record {
-      history = c.front.ensures.1;
-      is = ap (λ (l : List Entry). slice_get l cell) c.front.ensures.0 ∙ c.entry-entry.ensures;
+      history = c.front-seen.ensures.front.1 ∙ log.history.history;
+      is = ap (λ (l : List Entry). slice_get l cell) (c.front-seen.ensures.front.0 ∙ sym log.same) ∙ c.entry-entry.ensures;
       inside = omega (arith, made);
       number_is = omega (arith, made);
     }
