@@ -76,7 +76,10 @@ fn write<'a>(rest: &mut &'a mut [Option<Entry>], entry: Entry) -> &'a Entry
     let Some(cell) = rest.split_off_first_mut() else {
         unreachable!()
     };
-    // Nothing stands in it, so nothing is lost.
+    // What stands in it is of a journal before, if the row had one.
+    if cell.is_some() {
+        *cell = None;
+    }
     mem::forget(mem::replace(cell, Some(entry)));
     let Some(written) = cell else { unreachable!() };
     written
