@@ -1,14 +1,19 @@
 -- The step of the authority, in the world.
-use Rattle.std.proofs.Common.{◌≡◌, ℕ, Result, Ok, Err, refl, sym, ap, ◌∙◌, subst}
+use Rattle.std.proofs.Common.{◌≡◌, ℕ, List, Result, Ok, Err, MatchResult, IfOk, OnErr, refl, sym, ap, ◌∙◌, subst}
 use Rattle.volume_model.specs.declared.fault.Fault.{Fault}
 use Rattle.volume_model.specs.Told.{refusal}
 use Rattle.volume_model.specs.Plan.{Plan}
-use Rattle.volume_model.specs.World.{Authority, AuthorityStep, Event, World, of_authority, step}
+use Rattle.volume_model.specs.World.{Authority, AuthorityStep, Event, Step, World, after, after_step, of_authority, step}
 use Rattle.volume_model.specs.Actor.{Actor, Agree}
+use Rattle.volume_model.specs.Journal.{Entry, world_at}
+use Rattle.wire.specs.declared.messages.Messages.{Messages}
+use Rattle.wire.specs.Listed.{listed}
+use Rattle.wire.specs.Message.{messages_of}
 use Rattle.world.specs.declared.acts.AuthorityAct.{AuthorityAct}
 use Rattle.world.specs.declared.acts.AuthorityAct.TheVariants as act
 use Rattle.world.specs.Acts.{authority_acted}
 use Rattle.fleet_actors.specs.Acts.{event_by, IsSpent}
+use Rattle.fleet_actors.specs.Tried.{IsDone}
 
 of_authority-refusal : (w : World) (answer : Result AuthorityStep Fault) → refusal (of_authority w answer) ≡ refusal answer
 of_authority-refusal w (Err fault) = refl
@@ -36,3 +41,13 @@ slots_spent w act.Assign old event given slots here is same spent = (is, ap (λ 
 slots_spent w (act.Advance group configuration) old event given slots here is same spent = absurd spent
 slots_spent w (act.Refresh volume) old event given slots here is same spent = absurd spent
 slots_spent w act.Grow old event given slots here is same spent = absurd spent
+
+-- what the actor's mark has seen then has the authority as it is
+pub ruled_state : (plan own : Plan) → own ≡ plan → (w : World) (asked : AuthorityAct) (old new : Authority) (event : Event) → w.authority ≡ old → event ≡ event_by asked → (tried : Result Messages Fault)
+    → IfOk tried (λ made. IsDone (authority_acted own old asked) (messages_of (listed made)) new) → OnErr tried (new ≡ old) → (seen now : List Entry) → old ≡ (world_at plan seen).authority
+    → MatchResult tried (λ made. world_at plan now ≡ after plan w event) (λ fault. now ≡ seen) → new ≡ (world_at plan now).authority
+ruled_state plan own of w asked old new event here is (Ok made) done still seen now was stands =
+    let acted : authority_acted plan w.authority asked ≡ Ok done.step = (λ i. authority_acted (sym of i) (here i) asked) ∙ done.is in
+    let whole : step plan w event ≡ of_authority w (Ok done.step) = ap (step plan w) is ∙ act_step plan w asked ∙ ap (of_authority w) acted in
+    done.leaves ∙ sym (ap (λ (v : World). v.authority) stands ∙ ap (λ (s : Result Step Fault). (after_step w s).authority) whole)
+ruled_state plan own of w asked old new event here is (Err fault) done still seen now was stands = still ∙ was ∙ ap (λ (es : List Entry). (world_at plan es).authority) (sym stands)

@@ -9,16 +9,16 @@ ghost use Rattle.journal.specs.Passes.{marked, seen_at};
 ghost use Rattle.journal.proofs.Plans.{Plan-set};
 
 use crate::client_deed::ClientDeed;
-use crate::client_tried::{shown, tried};
+use crate::client_tried::{durable_point, shown, took, tried};
 use crate::halt::Halt;
-use crate::step::{conclude, ready};
+use crate::step::{conclude, poised};
 use height::Height;
 use journal::{Log, Mark, Pass, Receipt, Site};
 use std::alloc::Global;
 use std::sync::Wait;
 use volume_model::Fault;
 use wire::Message;
-use world::Client;
+use world::{Client, Event};
 
 /// The client of a volume epoch, and where it stands in the history.
 #[derive(Drop)]
@@ -36,7 +36,8 @@ impl<L: Site> ClientActor<L> {
     ghost use Rattle.height.specs.Seats.{table_of};
     ghost use Rattle.volume_model.specs.declared.fault.Fault.TheVariants.{NoMessage};
     ghost use Rattle.wire.specs.Message.{message_of};
-    ghost use Rattle.journal.specs.Passes.{journal_of, notes_of, seat_of, steps_of, world_of};
+    ghost use Rattle.volume_model.specs.World.Event.{Take};
+    ghost use Rattle.journal.specs.Passes.{journal_of, notes_of, seat_of, steps_of, world_of, SeesAll};
     ghost use Rattle.fleet_actors.specs.declared.halt.Halt.TheVariants.{Again, Refused};
     ghost use Rattle.fleet_actors.specs.Deeds.{event_by, IsFound};
     ghost use Rattle.fleet_actors.specs.Halts.{Enters, Halts, IsExact};
@@ -73,6 +74,7 @@ impl<L: Site> ClientActor<L> {
         found: Option<&Message>,
     ) -> Result<Receipt, Halt>
         requires height { table_of height.now ≡ L.table }
+        requires settled { SeesAll pass.old log.old }
         requires found { IsFound (world_of log.old).messages deed (option_map message_of (option_copied found)) }
         ensures told { Halts (event_by (client_volume self.old.client) deed) result (steps_of pass.old) (steps_of pass.new) (notes_of pass.old) (notes_of pass.new) }
         ensures exact { IsExact L.plan L.slots (length L.cells) (journal_of log.old) (event_by (client_volume self.old.client) deed) result }
@@ -85,7 +87,7 @@ impl<L: Site> ClientActor<L> {
         ensures still { OnErr result (actor_client self.new ≡ actor_client self.old) }
     {
         let ClientActor { mark, client } = self;
-        if let Err(halt) = ready(height, log, pass, mark) {
+        if let Err(halt) = poised(log, pass, mark) {
             return Err(halt);
         }
         let volume = client.volume();
@@ -101,6 +103,45 @@ impl<L: Site> ClientActor<L> {
             done,
             durable,
         )
+    }
+
+    /// Takes the message with this number, and enters the step. Its caller holds the client's lock and the journal's.
+    ///
+    /// # Errors
+    /// As [`ClientActor::act`] gives them of a message.
+    #[inline(always)]
+    pub fn take<'a, R: Wait>(
+        &mut self,
+        rt: &R,
+        alloc: Global,
+        height: &Height,
+        log: &mut Log<'a, L>,
+        pass: &mut Pass<'a, L>,
+        message: u64,
+    ) -> Result<Receipt, Halt>
+        requires height { table_of height.now ≡ L.table }
+        ensures told { Halts (Take (actor_volume self.old) message) result (steps_of pass.old) (steps_of pass.new) (notes_of pass.old) (notes_of pass.new) }
+        ensures exact { IsExact L.plan L.slots (length L.cells) (journal_of log.old) (Take (actor_volume self.old) message) result }
+        ensures entered { Enters (Take (actor_volume self.old) message) (journal_of log.old) (journal_of log.new) result }
+        ensures stale { result ≡ Err Again → IsStale self.old.mark log.old }
+        ensures seat { seat_of pass.new ≡ seat_of pass.old }
+        ensures unmade { IsUnmade (ClientDeed.Take message) (steps_of pass.old) result }
+        ensures same { actor_volume self.new ≡ actor_volume self.old }
+        ensures moved { OnOk result (actor_client self.new ≡ (world_of log.new).clients (actor_volume self.old)) }
+        ensures still { OnErr result (actor_client self.new ≡ actor_client self.old) }
+    {
+        let Some(letter) = log.seek(height, pass, message) else {
+            return Err(Halt::Refused(Fault::NoMessage));
+        };
+        let ClientActor { mark, client } = self;
+        if let Err(halt) = poised(log, pass, mark) {
+            return Err(halt);
+        }
+        let volume = client.volume();
+        let done = took(alloc, client, log.is_full(), letter.message());
+        let durable = durable_point(client);
+        let event = Event::Take { volume, message };
+        conclude(rt, height, log, mark, pass, event, done, durable)
     }
 
     /// Does what it is asked to, and enters the step. Its caller holds the client's lock and the journal's.
@@ -135,14 +176,11 @@ impl<L: Site> ClientActor<L> {
         ensures still { OnErr result (actor_client self.new ≡ actor_client self.old) }
     {
         match deed {
-            ClientDeed::Take { message } => {
-                let Some(letter) = log.seek(height, pass, message) else {
-                    return Err(Halt::Refused(Fault::NoMessage));
-                };
-                let found = letter.message();
-                self.step(rt, alloc, height, log, pass, deed, Some(found))
+            ClientDeed::Take { message } => self.take(rt, alloc, height, log, pass, message),
+            other => {
+                log.settle(height, pass);
+                self.step(rt, alloc, height, log, pass, other, None)
             }
-            other => self.step(rt, alloc, height, log, pass, other, None),
         }
     }
 }

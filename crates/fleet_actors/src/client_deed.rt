@@ -28,6 +28,7 @@ impl ClientDeed {
     ghost use Rattle.fleet_actors.specs.Deeds.{event_by};
 
     /// The event that it is, of the client of a volume epoch.
+    #[inline(always)]
     pub fn event(self, volume: u32) -> Event
         ensures { event_of result ≡ event_by volume self }
     {

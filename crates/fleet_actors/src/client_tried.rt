@@ -1,8 +1,9 @@
 //! What a client does under both locks, before it is entered.
 
-ghost use Rattle.std.specs.Prelude.{◌≡◌, false, Ok, IfErr, IfOk, OnErr, OnOk, option_map};
+ghost use Rattle.std.specs.Prelude.{◌≡◌, false, Ok, Some, IfErr, IfOk, OnErr, OnOk, option_map};
 ghost use Rattle.std.specs.Option.{option_copied};
 ghost use Rattle.volume_model.specs.Answer.{refusal_of, AnswersLate};
+ghost use Rattle.volume_model.specs.World.{take};
 ghost use Rattle.wire.specs.Message.{message_of};
 ghost use Rattle.writer_core.specs.Writers.{acted};
 ghost use Rattle.recovery.specs.Recoveries.{admitted};
@@ -112,8 +113,35 @@ pub fn tried(
     }
 }
 
+/// Tries what a client does with a message, where the journal is full or not: else as [`tried`] says.
+#[inline(always)]
+pub(crate) fn took(
+    alloc: Global,
+    client: &mut Client,
+    is_full: bool,
+    message: &Message,
+) -> Result<Messages, Fault>
+    ensures done { IfOk result (λ made. take (client_plan client.old) (client_volume client.old) (seen_client client.old) (Some (message_of message.now)) ≡ Ok (made_by made (seen_client client.new))) }
+    ensures room { OnOk result (is_full ≡ false) }
+    ensures refused { IfErr result (λ fault. JudgedOf is_full (take (client_plan client.old) (client_volume client.old) (seen_client client.old) (Some (message_of message.now))) fault) }
+    ensures still { OnErr result (seen_client client.new ≡ seen_client client.old) }
+    ensures same { IsSameClient client.old client.new }
+{
+    if is_full {
+        if let Err(fault) = client.admits(alloc, ClientAct::Take(message)) {
+            return Err(fault);
+        }
+        return Err(Fault::JournalFull);
+    }
+    match client.act(alloc, ClientAct::Take(message)) {
+        Ok(made) => Ok(Messages::of(made)),
+        Err(fault) => Err(fault),
+    }
+}
+
 /// The durable point of a client, 0 before its opening.
-fn durable_point(client: &Client) -> u64
+#[inline(always)]
+pub(crate) fn durable_point(client: &Client) -> u64
     ensures { result ≡ durable_of (seen_client client.now) }
 {
     match client.state() {

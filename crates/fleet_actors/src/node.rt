@@ -35,6 +35,7 @@ impl<L: Site> NodeActor<L> {
     ghost use Rattle.plan.specs.CheckedModel.{checked_model};
     ghost use Rattle.volume_model.specs.Answer.{AnswersNew};
     ghost use Rattle.segment_core.specs.Segment.{born};
+    ghost use Rattle.journal.specs.Fronts.{log_of};
     ghost use Rattle.fleet_actors.specs.Nodes.{actor_group, actor_member, actor_node};
 
     /// The node of a member of a group, as it stands at its mark.
@@ -63,10 +64,11 @@ impl<L: Site> NodeActor<L> {
         plan: Arc<CheckedPlan>,
         group: u8,
         member: u8,
-        history: &History<L>,
+        history: &mut History<L>,
     ) -> Result<NodeActor<L>, Fault>
         requires plan { checked_model (arc_value plan) ≡ L.plan }
-        requires history { history.now.seen.log ≡ [] }
+        requires history { log_of history.old.opened ≡ [] }
+        ensures history { log_of history.new.opened ≡ [] }
         ensures born { AnswersNew actor_node (born L.plan group member) result }
         ensures of { IfOk result (λ actor. (actor_group actor ≡ group) × (actor_member actor ≡ member)) }
     {

@@ -47,15 +47,15 @@ impl<L: Site> NodeActor<L> {
         height: &Height,
         log: &mut Log<'a, L>,
         pass: &mut Pass<'a, L>,
-        letter: &Letter<'a, L>,
+        letter: &mut Letter<'a, L>,
         prepared: Prepared,
     ) -> Result<Receipt, Halt>
         requires height { table_of height.now ≡ L.table }
         requires ready { IsReady self.old.segment prepared }
-        requires step { delivery_of self.old (letter_message letter.now) ≡ Ok (step_of prepared (node_of self.old.segment)) }
-        ensures told { Halts (Deliver self.old.group self.old.member (letter_number letter.now)) result (steps_of pass.old) (steps_of pass.new) (notes_of pass.old) (notes_of pass.new) }
-        ensures exact { IsExact L.plan L.slots (length L.cells) (journal_of log.old) (Deliver self.old.group self.old.member (letter_number letter.now)) result }
-        ensures entered { Enters (Deliver self.old.group self.old.member (letter_number letter.now)) (journal_of log.old) (journal_of log.new) result }
+        requires step { delivery_of self.old (letter_message letter.old) ≡ Ok (step_of prepared (node_of self.old.segment)) }
+        ensures told { Halts (Deliver self.old.group self.old.member (letter_number letter.old)) result (steps_of pass.old) (steps_of pass.new) (notes_of pass.old) (notes_of pass.new) }
+        ensures exact { IsExact L.plan L.slots (length L.cells) (journal_of log.old) (Deliver self.old.group self.old.member (letter_number letter.old)) result }
+        ensures entered { Enters (Deliver self.old.group self.old.member (letter_number letter.old)) (journal_of log.old) (journal_of log.new) result }
         ensures seat { seat_of pass.new ≡ seat_of pass.old }
         ensures found { IfErr result (λ halt. halt ≢ Refused NoMessage) }
         ensures same { (self.new.group ≡ self.old.group) × (self.new.member ≡ self.old.member) }
@@ -67,10 +67,8 @@ impl<L: Site> NodeActor<L> {
             group,
             member,
         } = self;
+        log.has(letter);
         ready(height, log, pass, mark)?;
-        if !log.has(letter) {
-            return Err(Halt::Again);
-        }
         let event = Event::Deliver {
             group: *group,
             member: *member,
@@ -88,25 +86,25 @@ impl<L: Site> NodeActor<L> {
 
     /// Notes that the node refuses a letter. Its caller holds the node's lock and the journal's.
     fn decline<'a>(
-        &self,
+        &mut self,
         height: &Height,
         log: &mut Log<'a, L>,
         pass: &mut Pass<'a, L>,
-        letter: &Letter<'a, L>,
+        letter: &mut Letter<'a, L>,
         fault: Fault,
     ) -> Result<Receipt, Halt>
         requires height { table_of height.now ≡ L.table }
-        requires fails { Fails fault (delivery_of self.now (letter_message letter.now)) }
-        ensures told { Halts (Deliver self.now.group self.now.member (letter_number letter.now)) result (steps_of pass.old) (steps_of pass.new) (notes_of pass.old) (notes_of pass.new) }
-        ensures exact { IsExact L.plan L.slots (length L.cells) (journal_of log.old) (Deliver self.now.group self.now.member (letter_number letter.now)) result }
-        ensures entered { Enters (Deliver self.now.group self.now.member (letter_number letter.now)) (journal_of log.old) (journal_of log.new) result }
+        requires fails { Fails fault (delivery_of self.old (letter_message letter.old)) }
+        ensures told { Halts (Deliver self.old.group self.old.member (letter_number letter.old)) result (steps_of pass.old) (steps_of pass.new) (notes_of pass.old) (notes_of pass.new) }
+        ensures exact { IsExact L.plan L.slots (length L.cells) (journal_of log.old) (Deliver self.old.group self.old.member (letter_number letter.old)) result }
+        ensures entered { Enters (Deliver self.old.group self.old.member (letter_number letter.old)) (journal_of log.old) (journal_of log.new) result }
         ensures seat { seat_of pass.new ≡ seat_of pass.old }
         ensures found { IfErr result (λ halt. halt ≢ Refused NoMessage) }
+        ensures same { (self.new.group ≡ self.old.group) × (self.new.member ≡ self.old.member) }
+        ensures still { actor_node self.new ≡ actor_node self.old }
     {
-        ready(height, log, pass, &self.mark)?;
-        if !log.has(letter) {
-            return Err(Halt::Again);
-        }
+        log.has(letter);
+        ready(height, log, pass, &mut self.mark)?;
         let event = Event::Deliver {
             group: self.group,
             member: self.member,
@@ -139,11 +137,11 @@ impl<L: Site> NodeActor<L> {
         journal: &Mutex<Log<'a, L>>,
         height: &Height,
         pass: &mut Pass<'a, L>,
-        letter: &Letter<'a, L>,
+        letter: &mut Letter<'a, L>,
         gate: &G,
     ) -> Result<Receipt, Halt>
         requires height { table_of height.now ≡ L.table }
-        ensures told { Halts (Deliver (actor_group self.old) (actor_member self.old) (letter_number letter.now)) result (steps_of pass.old) (steps_of pass.new) (notes_of pass.old) (notes_of pass.new) }
+        ensures told { Halts (Deliver (actor_group self.old) (actor_member self.old) (letter_number letter.old)) result (steps_of pass.old) (steps_of pass.new) (notes_of pass.old) (notes_of pass.new) }
         ensures seat { seat_of pass.new ≡ seat_of pass.old }
         ensures found { IfErr result (λ halt. halt ≢ Refused NoMessage) }
         ensures same { (actor_group self.new ≡ actor_group self.old) × (actor_member self.new ≡ actor_member self.old) }

@@ -4,7 +4,7 @@ ghost use Rattle.std.specs.Prelude.{◌≡◌, ◌<◌, false, Err, Some, is_err
 ghost use Rattle.height.specs.Seats.{table_of};
 ghost use Rattle.volume_model.specs.World.{after, step};
 ghost use Rattle.volume_model.specs.Told.{makes};
-ghost use Rattle.volume_model.specs.Actor.{actor_of};
+ghost use Rattle.volume_model.specs.Actor.{actor_of, Agree};
 ghost use Rattle.volume_model.specs.Journal.{last_of, world_at};
 ghost use Rattle.volume_model.specs.Judging.{Exact};
 ghost use Rattle.wire.specs.Listed.{listed};
@@ -24,30 +24,53 @@ use volume_model::Fault;
 use wire::Messages;
 use world::Event;
 
-/// Compares an actor with the journal, makes room for a step and a note, and settles the pass.
+/// Compares an actor with the journal, which the pass has seen, and makes room for a step and a note.
 #[inline(always)]
-pub(crate) fn ready<'a, L: Site>(
-    height: &Height,
+pub(crate) fn poised<'a, L: Site>(
     log: &mut Log<'a, L>,
     pass: &mut Pass<'a, L>,
-    mark: &Mark<L>,
+    mark: &mut Mark<L>,
 ) -> Result<(), Halt>
-    requires { table_of height.now ≡ L.table }
+    requires settled { SeesAll pass.old log.old }
     ensures log { journal_of log.new ≡ journal_of log.old }
     ensures steps { steps_of pass.new ≡ steps_of pass.old }
     ensures notes { notes_of pass.new ≡ notes_of pass.old }
     ensures seat { seat_of pass.new ≡ seat_of pass.old }
-    ensures ready { IfOk result (λ _. IsPoised mark.now log.new pass.new) }
+    ensures mark { (marked mark.new ≡ marked mark.old) × (mark_number mark.new ≡ mark_number mark.old) × (seen_at mark.new ≡ seen_at mark.old) }
+    ensures ready { IfOk result (λ _. IsPoised mark.new log.new pass.new) }
+    ensures agree { IfOk result (λ _. Agree (marked mark.old) (world_at L.plan (seen_at mark.old)) (world_of log.new)) }
     ensures early { IfErr result (λ halt. IsEarly halt) }
-    ensures stale { result ≡ Err Again → IsStale mark.now log.old }
+    ensures stale { result ≡ Err Again → IsStale mark.old log.old }
 {
     if !log.compare(mark) {
         return Err(Halt::Again);
     }
     log.reserve()?;
     pass.reserve()?;
-    log.settle(height, pass);
     Ok(())
+}
+
+/// The same, once the pass was shown the journal.
+#[inline(always)]
+pub(crate) fn ready<'a, L: Site>(
+    height: &Height,
+    log: &mut Log<'a, L>,
+    pass: &mut Pass<'a, L>,
+    mark: &mut Mark<L>,
+) -> Result<(), Halt>
+    requires { table_of height.now ≡ L.table }
+    ensures log { journal_of log.new ≡ journal_of log.old }
+    ensures steps { steps_of pass.new ≡ steps_of pass.old }
+    ensures notes { notes_of pass.new ≡ notes_of pass.old }
+    ensures seat { seat_of pass.new ≡ seat_of pass.old }
+    ensures mark { (marked mark.new ≡ marked mark.old) × (mark_number mark.new ≡ mark_number mark.old) × (seen_at mark.new ≡ seen_at mark.old) }
+    ensures ready { IfOk result (λ _. IsPoised mark.new log.new pass.new) }
+    ensures agree { IfOk result (λ _. Agree (marked mark.old) (world_at L.plan (seen_at mark.old)) (world_of log.new)) }
+    ensures early { IfErr result (λ halt. IsEarly halt) }
+    ensures stale { result ≡ Err Again → IsStale mark.old log.old }
+{
+    log.settle(height, pass);
+    poised(log, pass, mark)
 }
 
 /// Notes a refusal, unless it is want of memory or of a message.

@@ -1,12 +1,12 @@
-use Rattle.std.proofs.Common.{length}
-use Rattle.volume_model.specs.Journal.{world_at}
+use Rattle.std.proofs.Common.{List, length, sym, ap, ◌∙◌}
+use Rattle.volume_model.specs.Journal.{Entry, world_at}
 use Rattle.epochs.specs.Authority.{authority_of, authority_plan}
 use Rattle.world.specs.Acts.{authority_acted}
 use Rattle.world.specs.Events.{event_of}
 use Rattle.journal.specs.Passes.{journal_of, marked, seen_at}
 use Rattle.fleet_actors.specs.Acts.{IsSpent}
 use Rattle.fleet_actors.proofs.Exactly.{tried_exact}
-use Rattle.fleet_actors.proofs.Ruling.{authority_here, authority_refuses, slots_spent}
+use Rattle.fleet_actors.proofs.Ruling.{authority_here, authority_refuses, ruled_state, slots_spent}
 use Rattle.fleet_actors.proofs.authority.AuthorityActor.act.Goals as goal
 
 pub conclude-requires-clause-exact : goal.conclude-requires-clause-exact
@@ -19,7 +19,23 @@ conclude-requires-clause-exact g c =
     let own = authority_plan self.authority in
     let old = authority_of self.authority in
     let event = event_of c.event.result in
-    let here = authority_here (marked self.mark) (world_at plan (seen_at self.mark)) w old self.who c.in_default.ensures.ready.agree self.state in
+    let here = authority_here (marked self.mark) (world_at plan (seen_at self.mark)) w old self.who c.in_default.ensures.agree self.state in
     let same = authority_refuses plan own self.plan w act old event here c.event.ensures in
     let spends = slots_spent w act old event c.args.slots g.L.Site.slots here c.event.ensures c.requires.slots in
     tried_exact plan g.L.Site.slots (length g.L.Site.cells) es event (IsSpent act old c.args.slots) c.is_full.result (authority_acted own old act) spends c.is_full.ensures same c.tried-done.result c.tried-done.ensures.refused
+
+pub invariant_of-self-2-clause-who : goal.invariant_of-self-2-clause-who
+invariant_of-self-2-clause-who g c = c.conclude.ensures.mark ∙ c.ready.ensures.mark.0 ∙ c.args.self.now.who
+
+pub invariant_of-self-2-clause-state : goal.invariant_of-self-2-clause-state
+invariant_of-self-2-clause-state g c =
+    let self = c.args.self.now in
+    let plan = g.L.Site.plan in
+    let act = c.args.act in
+    let w = world_at plan (journal_of c.ready.new.log) in
+    let old = authority_of self.authority in
+    let new = authority_of c.tried-done.new.authority in
+    let event = event_of c.event.result in
+    let here = authority_here (marked self.mark) (world_at plan (seen_at self.mark)) w old self.who c.in_default.ensures.agree self.state in
+    let was = self.state ∙ ap (λ (l : List Entry). (world_at plan l).authority) (sym c.ready.ensures.mark.2) in
+    ruled_state plan (authority_plan self.authority) self.plan w act old new event here c.event.ensures c.tried-done.result c.tried-done.ensures.done c.tried-done.ensures.still (seen_at c.ready.new.mark) (seen_at c.conclude.new.mark) was c.conclude.ensures.seen

@@ -33,7 +33,7 @@ refused-requires-in-Err-clause-exact g c =
     let node = c.args.self.now in
     let es = journal_of c.ready.new.log in
     subst (λ (e : Event). Exact plan slots cells es e c.in-Err.fault) (sym c.event-event.ensures)
-    (denies plan slots cells es (world_at plan (seen_at node.mark)) (marked node.mark) node.group node.member (node_of node.segment) node.who node.named node.state c.in_ok-ready.ensures.ready.agree (there_joined (world_at plan es) node.group c.from.result c.joined.result c.joined.ensures c.from.ensures c.if-from-joined.false)
+    (denies plan slots cells es (world_at plan (seen_at node.mark)) (marked node.mark) node.group node.member (node_of node.segment) node.who node.named node.state c.in_ok-ready.ensures.agree (there_joined (world_at plan es) node.group c.from.result c.joined.result c.joined.ensures c.from.ensures c.if-from-joined.false)
     c.args.deed c.in-Err.fault (deed_fails plan node.group node.member node.segment node.of c.args.deed c.act.result c.act.ensures c.in-Err.fault c.in-Err.ensures.step))
 
 pub enter-requires-clause-goes : goal.enter-requires-clause-goes
@@ -43,14 +43,14 @@ enter-requires-clause-goes g c =
     let es = journal_of c.ready.new.log in
     let made : NodeStep = step_of c.in-Ok.prepared (node_of node.segment) in
     ap (λ (e : Event). makes (step plan (world_at plan es) e)) c.event-event.ensures
-    ∙ tells plan g.L.Site.slots 0 es (world_at plan (seen_at node.mark)) (marked node.mark) node.group node.member (node_of node.segment) node.who node.named node.state c.in_ok-ready.ensures.ready.agree (there_joined (world_at plan es) node.group c.from.result c.joined.result c.joined.ensures c.from.ensures c.if-from-joined.false)
+    ∙ tells plan g.L.Site.slots 0 es (world_at plan (seen_at node.mark)) (marked node.mark) node.group node.member (node_of node.segment) node.who node.named node.state c.in_ok-ready.ensures.agree (there_joined (world_at plan es) node.group c.from.result c.joined.result c.joined.ensures c.from.ensures c.if-from-joined.false)
     c.args.deed made (deed_steps plan node.group node.member node.segment node.of c.args.deed c.act.result c.act.ensures made c.in-Ok.ensures.step)
     (messages_of (listed c.apply-made.result)) (ap messages_of c.apply-made.ensures.answers)
 
 pub enter-requires-clause-who : goal.enter-requires-clause-who
 enter-requires-clause-who g c =
     let node = c.args.self.now in
-    ap actor_of c.event-event.ensures ∙ deed_actor node.group node.member c.args.deed ∙ sym node.who
+    ap actor_of c.event-event.ensures ∙ deed_actor node.group node.member c.args.deed ∙ sym node.who ∙ sym c.ready.ensures.mark.0
 
 pub refused-requires-then-is_full-clause-exact : goal.refused-requires-then-is_full-clause-exact
 refused-requires-then-is_full-clause-exact g c =
@@ -59,7 +59,7 @@ refused-requires-then-is_full-clause-exact g c =
     let es = journal_of c.ready.new.log in
     let made : NodeStep = step_of c.in-Ok.prepared (node_of node.segment) in
     let goes =
-    grants plan g.L.Site.slots 0 es (world_at plan (seen_at node.mark)) (marked node.mark) node.group node.member (node_of node.segment) node.who node.named node.state c.in_ok-ready.ensures.ready.agree (there_joined (world_at plan es) node.group c.from.result c.joined.result c.joined.ensures c.from.ensures c.if-from-joined.false)
+    grants plan g.L.Site.slots 0 es (world_at plan (seen_at node.mark)) (marked node.mark) node.group node.member (node_of node.segment) node.who node.named node.state c.in_ok-ready.ensures.agree (there_joined (world_at plan es) node.group c.from.result c.joined.result c.joined.ensures c.from.ensures c.if-from-joined.false)
     c.args.deed made (deed_steps plan node.group node.member node.segment node.of c.args.deed c.act.result c.act.ensures made c.in-Ok.ensures.step) in
     (ap (λ (e : Event). refusal (step plan (world_at plan es) e)) c.event-event.ensures ∙ goes, c.if-is_full.ensures)
 
@@ -85,7 +85,7 @@ returns-in-Err-clause-exact g c =
     let event = event_by node.group node.member c.args.deed in
     let es = journal_of c.ready.new.log in
     let here =
-    denies plan slots cells es (world_at plan (seen_at node.mark)) (marked node.mark) node.group node.member (node_of node.segment) node.who node.named node.state c.in_ok-ready.ensures.ready.agree (there_joined (world_at plan es) node.group c.from.result c.joined.result c.joined.ensures c.from.ensures c.if-from-joined.false)
+    denies plan slots cells es (world_at plan (seen_at node.mark)) (marked node.mark) node.group node.member (node_of node.segment) node.who node.named node.state c.in_ok-ready.ensures.agree (there_joined (world_at plan es) node.group c.from.result c.joined.result c.joined.ensures c.from.ensures c.if-from-joined.false)
     c.args.deed c.in-Err.fault (deed_fails plan node.group node.member node.segment node.of c.args.deed c.act.result c.act.ensures c.in-Err.fault c.in-Err.ensures.step) in
     subst (λ (h : Halt). IsExact plan slots cells (journal_of c.args.log.now) event (Err h)) (sym c.refused-in-Err.ensures.halt)
     (subst (λ (es : List Entry). Exact plan slots cells es event c.in-Err.fault) c.in_ok-ready.ensures.log here)
@@ -107,7 +107,7 @@ returns-then-is_full-clause-exact g c =
     let es = journal_of c.ready.new.log in
     let made : NodeStep = step_of c.in-Ok.prepared (node_of node.segment) in
     let goes =
-    grants plan slots 0 es (world_at plan (seen_at node.mark)) (marked node.mark) node.group node.member (node_of node.segment) node.who node.named node.state c.in_ok-ready.ensures.ready.agree (there_joined (world_at plan es) node.group c.from.result c.joined.result c.joined.ensures c.from.ensures c.if-from-joined.false)
+    grants plan slots 0 es (world_at plan (seen_at node.mark)) (marked node.mark) node.group node.member (node_of node.segment) node.who node.named node.state c.in_ok-ready.ensures.agree (there_joined (world_at plan es) node.group c.from.result c.joined.result c.joined.ensures c.from.ensures c.if-from-joined.false)
     c.args.deed made (deed_steps plan node.group node.member node.segment node.of c.args.deed c.act.result c.act.ensures made c.in-Ok.ensures.step) in
     let here : Exact plan slots cells es event JournalFull = (goes, c.if-is_full.ensures) in
     subst (λ (h : Halt). IsExact plan slots cells (journal_of c.args.log.now) event (Err h)) (sym c.refused-then-is_full.ensures.halt)
@@ -120,11 +120,11 @@ invariant_of-self-2 g c =
     let es = journal_of c.ready.new.log in
     let made : NodeStep = step_of c.in-Ok.prepared (node_of node.segment) in
     let now =
-    done plan g.L.Site.slots 0 es (world_at plan (seen_at node.mark)) (marked node.mark) node.group node.member (node_of node.segment) node.who node.named node.state c.in_ok-ready.ensures.ready.agree (there_joined (world_at plan es) node.group c.from.result c.joined.result c.joined.ensures c.from.ensures c.if-from-joined.false)
+    done plan g.L.Site.slots 0 es (world_at plan (seen_at node.mark)) (marked node.mark) node.group node.member (node_of node.segment) node.who node.named node.state c.in_ok-ready.ensures.agree (there_joined (world_at plan es) node.group c.from.result c.joined.result c.joined.ensures c.from.ensures c.if-from-joined.false)
     c.args.deed made (deed_steps plan node.group node.member node.segment node.of c.args.deed c.act.result c.act.ensures made c.in-Ok.ensures.step) in
     let left = ap (λ (e : Event). (after plan (world_at plan es) e).nodes node.group node.member) c.event-event.ensures ∙ now in
     record {
-      who = c.enter.ensures.mark.0 ∙ node.who;
+      who = c.enter.ensures.mark.0 ∙ c.ready.ensures.mark.0 ∙ node.who;
       of = same_of plan node.group node.member c.prepare_act.new.self c.apply-made.new.self (same_of plan node.group node.member node.segment c.prepare_act.new.self node.of c.in-Ok.ensures.actor) c.apply-made.ensures.actor;
       named = node.named;
       state = c.apply-made.ensures.node ∙ ap (λ (n : Node). (step_of c.in-Ok.prepared n).node) c.in-Ok.ensures.node ∙ sym left ∙ ap (λ (w : World). w.nodes node.group node.member) (sym c.enter.ensures.world) ∙ ap (λ (es : List Entry). (world_at plan es).nodes node.group node.member) (sym c.enter.ensures.mark.1);

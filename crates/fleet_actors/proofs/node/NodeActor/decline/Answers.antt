@@ -1,6 +1,7 @@
-use Rattle.std.proofs.Common.{List, length, Err, refl, sym, subst}
+use Rattle.std.proofs.Common.{List, length, Err, refl, sym, ap, ◌∙◌, subst}
 use Rattle.volume_model.specs.Judging.{Exact}
 use Rattle.volume_model.specs.Journal.{Entry, world_at}
+use Rattle.volume_model.specs.Lists.{numbered}
 use Rattle.volume_model.specs.World.Event.{Deliver}
 use Rattle.segment_core.specs.Segment.{node_of}
 use Rattle.wire.specs.Listed.{listed}
@@ -24,8 +25,8 @@ refused-requires-2-clause-exact g c =
     let letter = c.args.letter.now in
     let es = journal_of c.ready.new.log in
     let own = letter_own plan node.group node.member (node_of node.segment) (listed letter.entry.now.made) letter.index letter.inside in
-    declines plan g.L.Site.slots (length g.L.Site.cells) es (world_at plan (seen_at node.mark)) (marked node.mark) node.group node.member (node_of node.segment) node.who node.named node.state c.in_ok-ready.ensures.ready.agree (there_joined (world_at plan es) node.group c.from.result c.joined.result c.joined.ensures c.from.ensures c.if-from-joined.false)
-    (letter_number letter) c.number.result (letter_message letter) own c.number.ensures c.if-not-has.ensures c.args.fault c.requires.fails
+    declines plan g.L.Site.slots (length g.L.Site.cells) es (world_at plan (seen_at node.mark)) (marked node.mark) node.group node.member (node_of node.segment) node.who node.named node.state c.in_ok-ready.ensures.agree (there_joined (world_at plan es) node.group c.from.result c.joined.result c.joined.ensures c.from.ensures c.if-from-joined.false)
+    (letter_number letter) c.number.result (letter_message letter) own (c.number.ensures ∙ c.has.ensures.letter.0) (ap (λ (l : List Entry). numbered (world_at g.L.Site.plan l).messages (letter_number letter)) (c.ready.ensures.log ∙ c.has.ensures.log) ∙ c.has.ensures.is) c.args.fault c.requires.fails
 
 pub returns-clause-exact : goal.returns-clause-exact
 returns-clause-exact g c =
@@ -38,10 +39,10 @@ returns-clause-exact g c =
     let es = journal_of c.ready.new.log in
     let own = letter_own plan node.group node.member (node_of node.segment) (listed letter.entry.now.made) letter.index letter.inside in
     let here =
-    declines plan slots cells es (world_at plan (seen_at node.mark)) (marked node.mark) node.group node.member (node_of node.segment) node.who node.named node.state c.in_ok-ready.ensures.ready.agree (there_joined (world_at plan es) node.group c.from.result c.joined.result c.joined.ensures c.from.ensures c.if-from-joined.false)
-    (letter_number letter) (letter_number letter) (letter_message letter) own refl c.if-not-has.ensures c.args.fault c.requires.fails in
+    declines plan slots cells es (world_at plan (seen_at node.mark)) (marked node.mark) node.group node.member (node_of node.segment) node.who node.named node.state c.in_ok-ready.ensures.agree (there_joined (world_at plan es) node.group c.from.result c.joined.result c.joined.ensures c.from.ensures c.if-from-joined.false)
+    (letter_number letter) (letter_number letter) (letter_message letter) own refl (ap (λ (l : List Entry). numbered (world_at g.L.Site.plan l).messages (letter_number letter)) (c.ready.ensures.log ∙ c.has.ensures.log) ∙ c.has.ensures.is) c.args.fault c.requires.fails in
     subst (λ (h : Halt). IsExact plan slots cells (journal_of c.args.log.now) event (Err h)) (sym c.refused-2.ensures.halt)
-    (subst (λ (es : List Entry). Exact plan slots cells es event c.args.fault) c.in_ok-ready.ensures.log here)
+    (subst (λ (es : List Entry). Exact plan slots cells es event c.args.fault) (c.in_ok-ready.ensures.log ∙ c.has.ensures.log) here)
 
 pub returns-clause-found : goal.returns-clause-found
 returns-clause-found g c e =

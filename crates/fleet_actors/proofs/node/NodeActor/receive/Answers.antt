@@ -1,5 +1,6 @@
 use Rattle.std.proofs.Common.{List, sym, ap, ◌∙◌}
 use Rattle.volume_model.specs.Journal.{Entry, world_at}
+use Rattle.volume_model.specs.Lists.{numbered}
 use Rattle.volume_model.specs.World.{World}
 use Rattle.wire.specs.Listed.{listed}
 use Rattle.wire.specs.Message.{messages_of}
@@ -20,8 +21,8 @@ enter-requires-clause-goes g c =
     let plan = g.L.Site.plan in
     let node = c.args.self.now in
     let letter = c.args.letter.now in
-    answers plan g.L.Site.slots 0 (journal_of c.ready.new.log) (world_at plan (seen_at node.mark)) (marked node.mark) node.group node.member (node_of node.segment) node.who node.named node.state c.in_ok-ready.ensures.ready.agree (there_joined (world_at plan (journal_of c.ready.new.log)) node.group c.from.result c.joined.result c.joined.ensures c.from.ensures c.if-from-joined.false)
-    (letter_number letter) c.number.result (letter_message letter) c.number.ensures c.if-not-has.ensures (step_of c.args.prepared (node_of node.segment)) c.requires.step
+    answers plan g.L.Site.slots 0 (journal_of c.ready.new.log) (world_at plan (seen_at node.mark)) (marked node.mark) node.group node.member (node_of node.segment) node.who node.named node.state c.in_ok-ready.ensures.agree (there_joined (world_at plan (journal_of c.ready.new.log)) node.group c.from.result c.joined.result c.joined.ensures c.from.ensures c.if-from-joined.false)
+    (letter_number letter) c.number.result (letter_message letter) (c.number.ensures ∙ c.has.ensures.letter.0) (ap (λ (l : List Entry). numbered (world_at g.L.Site.plan l).messages (letter_number letter)) (c.ready.ensures.log ∙ c.has.ensures.log) ∙ c.has.ensures.is) (step_of c.args.prepared (node_of node.segment)) c.requires.step
     (messages_of (listed c.apply-made.result)) (ap messages_of c.apply-made.ensures.answers)
 
 pub invariant_of-self-2 : goal.invariant_of-self-2
@@ -30,10 +31,10 @@ invariant_of-self-2 g c =
     let node = c.args.self.now in
     let letter = c.args.letter.now in
     let now =
-    becomes plan g.L.Site.slots 0 (journal_of c.ready.new.log) (world_at plan (seen_at node.mark)) (marked node.mark) node.group node.member (node_of node.segment) node.who node.named node.state c.in_ok-ready.ensures.ready.agree (there_joined (world_at plan (journal_of c.ready.new.log)) node.group c.from.result c.joined.result c.joined.ensures c.from.ensures c.if-from-joined.false)
-    (letter_number letter) c.number.result (letter_message letter) c.number.ensures c.if-not-has.ensures (step_of c.args.prepared (node_of node.segment)) c.requires.step in
+    becomes plan g.L.Site.slots 0 (journal_of c.ready.new.log) (world_at plan (seen_at node.mark)) (marked node.mark) node.group node.member (node_of node.segment) node.who node.named node.state c.in_ok-ready.ensures.agree (there_joined (world_at plan (journal_of c.ready.new.log)) node.group c.from.result c.joined.result c.joined.ensures c.from.ensures c.if-from-joined.false)
+    (letter_number letter) c.number.result (letter_message letter) (c.number.ensures ∙ c.has.ensures.letter.0) (ap (λ (l : List Entry). numbered (world_at g.L.Site.plan l).messages (letter_number letter)) (c.ready.ensures.log ∙ c.has.ensures.log) ∙ c.has.ensures.is) (step_of c.args.prepared (node_of node.segment)) c.requires.step in
     record {
-      who = c.enter.ensures.mark.0 ∙ node.who;
+      who = c.enter.ensures.mark.0 ∙ c.ready.ensures.mark.0 ∙ node.who;
       of = same_of plan node.group node.member node.segment c.apply-made.new.self node.of c.apply-made.ensures.actor;
       named = node.named;
       state = c.apply-made.ensures.node ∙ sym now ∙ ap (λ (w : World). w.nodes node.group node.member) (sym c.enter.ensures.world) ∙ ap (λ (es : List Entry). (world_at plan es).nodes node.group node.member) (sym c.enter.ensures.mark.1);
