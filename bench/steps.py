@@ -4,12 +4,12 @@
     python3 bench/steps.py [--draft OUT] [OTHER]
 
 It builds a small program over the crate `node_fleet` in a folder of its own, which takes some minutes, and then times it, with one pass and with four that
-step in turn. A round issues sixteen transactions of one change of 8 bytes, or of eight, delivers each record to four of six nodes, takes each
-acknowledgement, and restarts a node 64 times; each of the four is a window. Where OTHER is named, a program that takes the same words and prints the
+step in turn. A round issues sixteen transactions of one change of 8 bytes, or of eight, of which the journal keeps a copy (issued) or which it is given
+(given), in turn, delivers each record to four of six nodes, takes each acknowledgement, and restarts a node 64 times; each of the four is a window. Where OTHER is named, a program that takes the same words and prints the
 same lines, both run in turn. Told are, in nanoseconds a call, the least of the runs' lower quarters, and the least window.
 
 With `--draft` the program is built without its proof, as `bench/draft.py` builds plan_tool, and is left as OUT. Where other work is on the machine its
-instructions say more than its times: each kind of step is a call of its own in it (`issue`, `deliver`, `take`, `restart`), so that
+instructions say more than its times: each kind of step is a call of its own in it (`issue`, `give`, `deliver`, `take`, `restart`), so that
 `valgrind --tool=callgrind` tells what each takes in all, and the difference of two runs that make more and fewer rounds is what the steps between them took.
 
     valgrind --tool=callgrind --toggle-collect='step_work::take::*' OUT CHANGES PASSES ROUNDS
@@ -123,6 +123,7 @@ impl Times {
 #[derive(Drop)]
 struct Table {
     issued: Times,
+    given: Times,
     delivered: Times,
     taken: Times,
     restarted: Times,
@@ -176,6 +177,27 @@ fn issue<'a, L: Site, R: Wait + Clock>(
         }
     }
     times.add(rt, start, deeds.len())
+}
+
+/// Issues the transactions of a round, which the journal is given.
+#[inline(never)]
+fn give<'a, L: Site, R: Wait + Clock>(
+    rt: &R,
+    fleet: &Fleet<'a, L>,
+    callers: &mut Callers<'a, L>,
+    deeds: Vec<ClientDeed>,
+    writes: &mut Vec<u64>,
+    times: &mut Times,
+) -> Option<()> {
+    let count = deeds.len();
+    let start = Instant::now(rt).ok()?;
+    for deed in deeds {
+        let receipt = fleet.client_does(rt, callers.next()?, 1, deed).ok()?;
+        for place in 0..receipt.made as u64 {
+            writes.push(receipt.first_message.wrapping_add(place)).ok()?;
+        }
+    }
+    times.add(rt, start, count)
 }
 
 /// Delivers the records of a round to the nodes.
@@ -238,20 +260,26 @@ fn round<'a, L: Site, R: Wait + Clock>(
     rt: &R,
     fleet: &Fleet<'a, L>,
     callers: &mut Callers<'a, L>,
-    deeds: &[ClientDeed],
+    deeds: &Vec<ClientDeed>,
+    gives: bool,
     made: &mut Made,
     table: &mut Table,
 ) -> Option<()> {
     let Made { writes, acks } = made;
     let Table {
         issued,
+        given,
         delivered,
         taken,
         restarted,
     } = table;
     writes.clear();
     acks.clear();
-    issue(rt, fleet, callers, deeds, writes, issued)?;
+    if gives {
+        give(rt, fleet, callers, deeds.clone().ok()?, writes, given)?;
+    } else {
+        issue(rt, fleet, callers, deeds.as_slice(), writes, issued)?;
+    }
     deliver(rt, fleet, callers, writes.as_slice(), acks, delivered)?;
     take(rt, fleet, callers, acks.as_slice(), taken)?;
     restart(rt, fleet, callers, 64, restarted)
@@ -269,6 +297,7 @@ fn rounds<'a, L: Site, R: Wait + Clock>(
     let windows = count as usize;
     let mut table = Table {
         issued: Times::new(alloc, windows).ok()?,
+        given: Times::new(alloc, windows).ok()?,
         delivered: Times::new(alloc, windows).ok()?,
         taken: Times::new(alloc, windows).ok()?,
         restarted: Times::new(alloc, windows).ok()?,
@@ -279,8 +308,8 @@ fn rounds<'a, L: Site, R: Wait + Clock>(
     };
     let deeds = transactions(alloc, changes).ok()?;
     let mut callers = Callers { passes, at: 0 };
-    for _ in 0..count {
-        round(rt, fleet, &mut callers, deeds.as_slice(), &mut made, &mut table)?;
+    for number in 0..count {
+        round(rt, fleet, &mut callers, &deeds, number % 2 > 0, &mut made, &mut table)?;
     }
     Some(table)
 }
@@ -340,6 +369,7 @@ fn run<R: Clock + Print + Env + Wait>(rt: &R, alloc: Global) -> io::Result<bool>
         return Ok(false);
     };
     told(rt, "issued", &mut table.issued)?;
+    told(rt, "given", &mut table.given)?;
     told(rt, "delivered", &mut table.delivered)?;
     told(rt, "taken", &mut table.taken)?;
     told(rt, "restarted", &mut table.restarted)?;
@@ -359,6 +389,7 @@ use Rattle.std.specs.Arc.{arc_value}
 use Rattle.height.specs.Seats.{table_of}
 use Rattle.board.specs.Seats.{board_table}
 use Rattle.plan.specs.CheckedModel.{checked_model}
+use Rattle.journal.specs.Fronts.{book_of}
 use Rattle.journal.specs.Tokens.{ids_of}
 use Rattle.node_fleet.specs.Bases.{passes_of}
 use Rattle.step_work.proofs.timed.Given as goal
@@ -367,7 +398,7 @@ abbrev pub ghosts-on_fleet-L-Ledger : goal.ghosts-on_fleet-L-Ledger
 ghosts-on_fleet-L-Ledger g a = record { name = a.base.blank.name; parts = passes_of a.base }
 
 abbrev pub ghosts-on_fleet-L-Site : goal.ghosts-on_fleet-L-Site
-ghosts-on_fleet-L-Site g a = record { plan = checked_model (arc_value a.plan); cells = ids_of a.row.now; table = table_of a.base.height; board = board_table a.base.board; history = a.base.opened.seen.book; slots = 64 }
+ghosts-on_fleet-L-Site g a = record { plan = checked_model (arc_value a.plan); cells = ids_of a.row.now; table = table_of a.base.height; board = board_table a.base.board; history = book_of a.base.opened; slots = 64 }
 """
 
 CRATES = ["volume_model", "plan", "redo_record", "wire", "epochs", "writer_core", "world", "height", "board", "journal", "fleet_actors", "node_fleet"]
@@ -418,7 +449,8 @@ def main(*words):
             for kind, (low, quarter) in ours.items():
                 text = f"  {kind}: {quarter:.1f} ns, at least {low:.1f}"
                 for other in others:
-                    text += f"; plain {other[kind][1]:.1f}, at least {other[kind][0]:.1f}; ratio {quarter / other[kind][1]:.2f}"
+                    least_plain, plain = other.get(kind, other["issued"])
+                    text += f"; plain {plain:.1f}, at least {least_plain:.1f}; ratio {quarter / plain:.2f}"
                 print(text)
 
 

@@ -1,5 +1,7 @@
 -- What a try of a call tells of the call.
-use Rattle.std.proofs.Common.{◌≡◌, ℕ, List, refl, ◌∙◌, subst}
+use Rattle.std.proofs.Common.{◌≡◌, ℕ, List, Result, Err, refl, ap, ◌∙◌, subst}
+use Rattle.volume_model.specs.declared.fault.Fault.{Fault}
+use Rattle.volume_model.specs.declared.fault.Fault.TheVariants.{NoMessage}
 use Rattle.volume_model.specs.World.{Event}
 use Rattle.volume_model.specs.Judging.{Refusal}
 use Rattle.board.specs.declared.BoardStep.{BoardStep}
@@ -8,9 +10,12 @@ use Rattle.journal.specs.Passes.{AddsStep}
 use Rattle.journal.specs.Standing.{Made}
 use Rattle.fleet_actors.specs.declared.client_deed.ClientDeed.{ClientDeed}
 use Rattle.fleet_actors.specs.declared.client_deed.ClientDeed.TheVariants as deed
-use Rattle.node_fleet.specs.Calls.{NamesElse, Raises, RaisesBy}
+use Rattle.fleet_actors.specs.declared.halt.Halt.{Halt}
+use Rattle.fleet_actors.specs.declared.halt.Halt.TheVariants.{Refused}
+use Rattle.fleet_actors.specs.Halts.{Halts}
+use Rattle.node_fleet.specs.Calls.{NamesElse, Raises, RaisesBy, Tells}
 use Rattle.fleet_actors.specs.Deeds.{event_by}
-use Rattle.fleet_actors.specs.Volumes.{IsElsewhere}
+use Rattle.fleet_actors.specs.Volumes.{IsElsewhere, IsUnmade}
 
 -- a step of the last try, before which the pass was as at first
 pub adds_first : (event asked : Event) (r : Receipt) (first steps steps' : List Made) (notes notes' before : List Refusal) → asked ≡ event → steps ≡ first → notes ≡ before
@@ -35,3 +40,15 @@ names_else volume deed.Cut steps h = absurd h
 names_else volume deed.Open steps h = absurd h
 names_else volume (deed.Resend lsn) steps h = absurd h
 names_else volume (deed.Read group block) steps h = absurd h
+
+-- a try that was refused
+pub tells_refused : (event : Event) (halt : Halt) (fault : Fault) (steps steps' : List Made) (notes notes' : List Refusal) → halt ≡ Refused fault → Halts event (Err halt) steps steps' notes notes' → Tells event (Err fault) steps steps' notes notes'
+tells_refused event halt fault steps steps' notes notes' is told = subst (λ (h : Halt). Halts event (Err h) steps steps' notes notes') is told
+
+-- a refusal for want of a message
+pub lost_halt : (halt : Halt) (fault : Fault) → halt ≡ Refused fault → fault ≡ NoMessage → halt ≡ Refused NoMessage
+lost_halt halt fault is lost = is ∙ ap Refused lost
+
+-- what is told of a message that is not there
+pub unmade_names : (volume : ℕ) (asked : ClientDeed) (steps : List Made) (halt : Halt) → IsUnmade asked steps (Err halt) → halt ≡ Refused NoMessage → NamesElse (event_by volume asked) steps
+unmade_names volume asked steps halt unmade is = names_else volume asked steps (unmade (ap (λ (h : Halt). let r : Result Receipt Halt = Err h in r) is))

@@ -1,9 +1,9 @@
 -- What contracts see of the base of a fleet.
 use Rattle.std.specs.Prelude.{◌≡◌, ℕ, vec_len}
 use Rattle.atomic_table.specs.Seated.{TableId}
-use Rattle.logbook.specs.Pages.{Book}
 use Rattle.height.specs.Seats.{table_of}
 use Rattle.board.specs.Seats.{board_table}
+use Rattle.journal.specs.Fronts.{book_of}
 use Rattle.node_fleet.specs.declared.base.Base.{Base}
 
 -- for how many passes it is
@@ -11,9 +11,9 @@ abbrev pub passes_of : Base → ℕ
 passes_of base = vec_len base.seats
 
 -- the height and the board of the base have these tables, and its history and the ledger of its steps these names
-pub record IsBaseOf (table board : TableId) (history : Book) (name parts : ℕ) (base : Base) : Type 0 where
+pub record IsBaseOf (table board history : TableId) (name parts : ℕ) (base : Base) : Type 0 where
   pub table_is : table_of base.height ≡ table
   pub board_is : board_table base.board ≡ board
-  pub history_is : base.opened.seen.book ≡ history
+  pub history_is : book_of base.opened ≡ history
   pub name_is : base.blank.name ≡ name
   pub parts_are : passes_of base ≡ parts

@@ -1,9 +1,10 @@
 //! What a fleet stands on, before its site has a name.
 
-ghost use Rattle.std.specs.Prelude.{◌≡◌, ◌<◌, All, vec_len};
+ghost use Rattle.std.specs.Prelude.{◌≡◌, ◌<◌, All, length, vec_len};
 ghost use Rattle.std.proofs.Props.{props};
 ghost use Rattle.height.specs.Seats.{table_of, top_table, height_of};
 ghost use Rattle.board.specs.Seats.{IsSeatOf};
+ghost use Rattle.journal.specs.Fronts.{log_of};
 
 use board::{Board, BoardSeat};
 use height::{Height, Top};
@@ -24,6 +25,7 @@ pub struct Base {
     ghost one_table: { top_table top ≡ table_of height },
     ghost low: { height_of top ≡ 0 },
     ghost seats_of: { All (λ s. IsSeatOf board s) seats.items } by { Prim.hlevel props },
+    ghost empty: { length (log_of opened) ≡ 0 },
     ghost parts: { blank.parts ≡ vec_len seats },
 }
 
@@ -46,7 +48,7 @@ impl Base {
             top,
             board,
             seats,
-            opened: Opened::new(),
+            opened: Opened::new(alloc)?,
             blank: Blank::new(passes as u64),
         })
     }

@@ -1,6 +1,7 @@
 //! What clients do in a fleet.
 
 ghost use Rattle.std.specs.Prelude.{◌≡◌, IfErr, IfOk, OnErr};
+ghost use Rattle.volume_model.specs.World.Event.{Take};
 ghost use Rattle.journal.specs.Passes.{notes_of, seat_of, steps_of};
 ghost use Rattle.fleet_actors.specs.Deeds.{event_by};
 ghost use Rattle.fleet_actors.specs.Halts.{Halts};
@@ -8,6 +9,7 @@ ghost use Rattle.fleet_actors.specs.Volumes.{IsUnmade};
 ghost use Rattle.node_fleet.specs.Calls.{is_moving, NamesElse, Raises, RaisesBy, Tells};
 
 use crate::fleet::Fleet;
+use crate::settling::refusal_of;
 use fleet_actors::{ClientActor, ClientDeed, Halt, refused, taken, tried};
 use journal::{Log, Pass, Receipt, Site, Who};
 use std::sync::{Mutex, Wait};
@@ -131,14 +133,105 @@ impl<'a, L: Site> Fleet<'a, L> {
         Ok(receipt)
     }
 
-    /// A client does what it is asked to. After a message taken or an opening its durable point, 0 before its opening,
-    /// is raised on the board under the client's lock.
+    // A client does what it is asked to, in one try.
+    #[inline(always)]
+    fn does<R: Wait>(
+        &self,
+        rt: &R,
+        pass: &mut Pass<'a, L>,
+        volume: u32,
+        deed: ClientDeed,
+    ) -> Result<Receipt, Fault>
+        ensures told { Tells (event_by volume deed) result (steps_of pass.old) (steps_of pass.new) (notes_of pass.old) (notes_of pass.new) }
+        ensures raised { IfOk result (λ r. RaisesBy (event_by volume deed) r.durable (seat_of pass.old) (seat_of pass.new)) }
+        ensures still { OnErr result (seat_of pass.new ≡ seat_of pass.old) }
+        ensures unmade { IfErr result (λ fault. fault ≡ NoMessage → NamesElse (event_by volume deed) (steps_of pass.old)) }
+    {
+        match self.try_client(rt, pass, volume, deed) {
+            Ok(receipt) => Ok(receipt),
+            Err(halt) => Err(refusal_of(rt, halt)),
+        }
+    }
+
+    // One try of a client's taking of the message with this number.
+    #[inline(always)]
+    fn try_take<R: Wait>(
+        &self,
+        rt: &R,
+        pass: &mut Pass<'a, L>,
+        volume: u32,
+        message: u64,
+    ) -> Result<Receipt, Halt>
+        ensures told { Halts (Take volume message) result (steps_of pass.old) (steps_of pass.new) (notes_of pass.old) (notes_of pass.new) }
+        ensures raised { IfOk result (λ r. Raises (ClientDeed.Take message) r.durable (seat_of pass.old) (seat_of pass.new)) }
+        ensures still { OnErr result (seat_of pass.new ≡ seat_of pass.old) }
+        ensures unmade { IsUnmade (ClientDeed.Take message) (steps_of pass.old) result }
+    {
+        let Some(client) = self.client(volume) else {
+            let deed = ClientDeed::Take { message };
+            return Err(self.refuse_slotless(rt, pass, volume, deed));
+        };
+        let mut actor = taken(rt, client);
+        if actor.volume() != volume {
+            return Err(Halt::Again);
+        }
+        let receipt = {
+            let mut log = taken(rt, &self.journal);
+            actor.take(rt, self.alloc, &self.height, &mut log, pass, message)?
+        };
+        pass.raise(&self.board, receipt.durable);
+        Ok(receipt)
+    }
+
+    // A client takes the message with this number, in one try.
+    fn take<R: Wait>(
+        &self,
+        rt: &R,
+        pass: &mut Pass<'a, L>,
+        volume: u32,
+        message: u64,
+    ) -> Result<Receipt, Fault>
+        ensures told { Tells (Take volume message) result (steps_of pass.old) (steps_of pass.new) (notes_of pass.old) (notes_of pass.new) }
+        ensures raised { IfOk result (λ r. RaisesBy (Take volume message) r.durable (seat_of pass.old) (seat_of pass.new)) }
+        ensures still { OnErr result (seat_of pass.new ≡ seat_of pass.old) }
+        ensures unmade { IfErr result (λ fault. fault ≡ NoMessage → NamesElse (Take volume message) (steps_of pass.old)) }
+    {
+        match self.try_take(rt, pass, volume, message) {
+            Ok(receipt) => Ok(receipt),
+            Err(halt) => Err(refusal_of(rt, halt)),
+        }
+    }
+
+    /// A client does what it is asked to, which the journal keeps: nothing of it is copied. After a message taken or an
+    /// opening its durable point, 0 before its opening, is raised on the board under the client's lock.
     ///
     /// # Errors
     /// `NoMessage` where no step has made the message that it is to take, which isn't noted; then the client's own
     /// refusal, as [`ClientActor::act`](fleet_actors::ClientActor::act) gives it, and `JournalFull` where no cell is left. A
     /// client that has no slot is one that no View has reached. `NoMemory`, which isn't noted, where a growth was
     /// refused.
+    pub fn client_does<R: Wait>(
+        &self,
+        rt: &R,
+        pass: &mut Pass<'a, L>,
+        volume: u32,
+        deed: ClientDeed,
+    ) -> Result<Receipt, Fault>
+        ensures told { Tells (event_by volume deed) result (steps_of pass.old) (steps_of pass.new) (notes_of pass.old) (notes_of pass.new) }
+        ensures raised { IfOk result (λ r. RaisesBy (event_by volume deed) r.durable (seat_of pass.old) (seat_of pass.new)) }
+        ensures still { OnErr result (seat_of pass.new ≡ seat_of pass.old) }
+        ensures unmade { IfErr result (λ fault. fault ≡ NoMessage → NamesElse (event_by volume deed) (steps_of pass.old)) }
+    {
+        match deed {
+            ClientDeed::Take { message } => self.take(rt, pass, volume, message),
+            other => self.does(rt, pass, volume, other),
+        }
+    }
+
+    /// A client does what it is asked to, of which the journal keeps a copy: else as [`Fleet::client_does`].
+    ///
+    /// # Errors
+    /// As [`Fleet::client_does`] says.
     pub fn client_step<R: Wait>(
         &self,
         rt: &R,
@@ -151,14 +244,10 @@ impl<'a, L: Site> Fleet<'a, L> {
         ensures still { OnErr result (seat_of pass.new ≡ seat_of pass.old) }
         ensures unmade { IfErr result (λ fault. fault ≡ NoMessage → NamesElse (event_by volume deed.now) (steps_of pass.old)) }
     {
-        for _ in rt.forever() {
-            let asked = deed.clone()?;
-            match self.try_client(rt, pass, volume, asked) {
-                Ok(receipt) => return Ok(receipt),
-                Err(Halt::Again) => {}
-                Err(Halt::Refused(fault)) => return Err(fault),
-            }
+        if let ClientDeed::Take { message } = deed {
+            return self.take(rt, pass, volume, *message);
         }
-        unreachable!()
+        let asked = deed.clone()?;
+        self.client_does(rt, pass, volume, asked)
     }
 }

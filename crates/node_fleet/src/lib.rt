@@ -8,6 +8,7 @@ mod closed;
 mod fleet;
 mod node_calls;
 mod opening;
+mod settling;
 
 pub use base::Base;
 pub use closed::Journal;

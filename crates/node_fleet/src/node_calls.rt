@@ -11,6 +11,7 @@ ghost use Rattle.fleet_actors.specs.Nodes.{event_by};
 ghost use Rattle.node_fleet.specs.Calls.{IsOfNone, Tells, Unmade};
 
 use crate::fleet::Fleet;
+use crate::settling::refusal_of;
 use fleet_actors::{Halt, NodeActor, NodeDeed, StepGate, taken};
 use journal::{Letter, Log, Pass, Receipt, Site};
 use std::sync::{Mutex, Wait};
@@ -100,10 +101,10 @@ impl<'a, L: Site> Fleet<'a, L> {
         node: &Mutex<NodeActor<L>>,
         group: u8,
         member: u8,
-        letter: &Letter<'a, L>,
+        letter: &mut Letter<'a, L>,
         gate: &G,
     ) -> Result<Receipt, Halt>
-        ensures told { Halts (Deliver group member (letter_number letter.now)) result (steps_of pass.old) (steps_of pass.new) (notes_of pass.old) (notes_of pass.new) }
+        ensures told { Halts (Deliver group member (letter_number letter.old)) result (steps_of pass.old) (steps_of pass.new) (notes_of pass.old) (notes_of pass.new) }
         ensures found { IfErr result (λ halt. halt ≢ Refused NoMessage) }
         ensures seat { seat_of pass.new ≡ seat_of pass.old }
     {
@@ -150,18 +151,14 @@ impl<'a, L: Site> Fleet<'a, L> {
             };
             return Err(self.refuse_absent(rt, pass, event));
         };
-        let letter = match self.find(rt, pass, group, member, message) {
+        let mut letter = match self.find(rt, pass, group, member, message) {
             Ok(letter) => letter,
             Err(fault) => return Err(fault),
         };
-        for _ in rt.forever() {
-            match self.try_deliver(rt, pass, node, group, member, &letter, gate) {
-                Ok(receipt) => return Ok(receipt),
-                Err(Halt::Again) => {}
-                Err(Halt::Refused(fault)) => return Err(fault),
-            }
+        match self.try_deliver(rt, pass, node, group, member, &mut letter, gate) {
+            Ok(receipt) => Ok(receipt),
+            Err(halt) => Err(refusal_of(rt, halt)),
         }
-        unreachable!()
     }
 
     // One try of what a node does of itself.
@@ -206,13 +203,9 @@ impl<'a, L: Site> Fleet<'a, L> {
         let Some(node) = self.node(group, member) else {
             return Err(self.refuse_absent(rt, pass, deed.event(group, member)));
         };
-        for _ in rt.forever() {
-            match self.try_node(rt, pass, node, group, member, deed) {
-                Ok(receipt) => return Ok(receipt),
-                Err(Halt::Again) => {}
-                Err(Halt::Refused(fault)) => return Err(fault),
-            }
+        match self.try_node(rt, pass, node, group, member, deed) {
+            Ok(receipt) => Ok(receipt),
+            Err(halt) => Err(refusal_of(rt, halt)),
         }
-        unreachable!()
     }
 }

@@ -8,6 +8,7 @@ ghost use Rattle.volume_model.specs.declared.fault.Fault.TheVariants.{NoMemory};
 ghost use Rattle.volume_model.specs.Plan.{is_named};
 ghost use Rattle.plan.specs.CheckedModel.{checked_model};
 ghost use Rattle.journal.specs.Tokens.{ids_of};
+ghost use Rattle.journal.specs.Fronts.{log_of};
 ghost use Rattle.journal.specs.Passes.{notes_of, steps_of};
 ghost use Rattle.node_fleet.specs.Places.{HasEach};
 
@@ -34,13 +35,14 @@ fn passes<'a, L: Site>(
     height: &Height,
     top: &mut Top,
     mut rest: Share<L>,
-    history: &History<L>,
+    history: &mut History<L>,
     mut seats: Vec<BoardSeat>,
 ) -> Result<Vec<Pass<'a, L>>, AllocError>
     requires table { (table_of height.now ≡ L.table) × (top_table top.old ≡ L.table) × (height_of top.old ≡ 0) }
     requires parts { (rest.parts ≡ vec_len seats) × (rest.amount ≡ 0) }
-    requires history { history.now.seen.log ≡ [] }
+    requires history { log_of history.old.opened ≡ [] }
     requires seats { All (λ s. IsSeatIn L.board s) seats.items }
+    ensures history { log_of history.new.opened ≡ [] }
     ensures top { (top_table top.new ≡ top_table top.old) × (height_of top.new ≡ height_of top.old) }
     ensures count { IfOk result (λ made. vec_len made ≡ vec_len seats) }
     ensures fresh { IfOk result (λ made. All (λ p. (steps_of p ≡ []) × (notes_of p ≡ [])) made.items) }
@@ -59,10 +61,11 @@ fn client<L: Site>(
     alloc: Global,
     plan: &Arc<CheckedPlan>,
     volume: u32,
-    history: &History<L>,
+    history: &mut History<L>,
 ) -> Result<ClientActor<L>, Fault>
     requires plan { checked_model (arc_value plan.now) ≡ L.plan }
-    requires history { history.now.seen.log ≡ [] }
+    requires history { log_of history.old.opened ≡ [] }
+    ensures history { log_of history.new.opened ≡ [] }
     ensures memory { IfErr result (λ fault. fault ≡ NoMemory) }
 {
     let client = if volume == 1 {
@@ -79,10 +82,11 @@ fn clients<L: Site>(
     alloc: Global,
     plan: &Arc<CheckedPlan>,
     slots: u32,
-    history: &History<L>,
+    history: &mut History<L>,
 ) -> Result<Vec<Mutex<ClientActor<L>>>, Fault>
     requires plan { checked_model (arc_value plan.now) ≡ L.plan }
-    requires history { history.now.seen.log ≡ [] }
+    requires history { log_of history.old.opened ≡ [] }
+    ensures history { log_of history.new.opened ≡ [] }
     ensures count { IfOk result (λ made. vec_len made ≡ slots + 1) }
     ensures memory { IfErr result (λ fault. fault ≡ NoMemory) }
 {
@@ -100,10 +104,11 @@ fn node<L: Site>(
     plan: &Arc<CheckedPlan>,
     group: u8,
     member: u8,
-    history: &History<L>,
+    history: &mut History<L>,
 ) -> Result<Option<Mutex<NodeActor<L>>>, Fault>
     requires plan { checked_model (arc_value plan.now) ≡ L.plan }
-    requires history { history.now.seen.log ≡ [] }
+    requires history { log_of history.old.opened ≡ [] }
+    ensures history { log_of history.new.opened ≡ [] }
     ensures there { IfOk result (λ made. is_some made ≡ is_named L.plan group member) }
     ensures memory { IfErr result (λ fault. fault ≡ NoMemory) }
 {
@@ -118,10 +123,11 @@ fn node<L: Site>(
 fn nodes<L: Site>(
     alloc: Global,
     plan: &Arc<CheckedPlan>,
-    history: &History<L>,
+    history: &mut History<L>,
 ) -> Result<Vec<Option<Mutex<NodeActor<L>>>>, Fault>
     requires plan { checked_model (arc_value plan.now) ≡ L.plan }
-    requires history { history.now.seen.log ≡ [] }
+    requires history { log_of history.old.opened ≡ [] }
+    ensures history { log_of history.new.opened ≡ [] }
     ensures each { IfOk result (λ made. HasEach L.plan made.items) }
     ensures memory { IfErr result (λ fault. fault ≡ NoMemory) }
 {
@@ -167,12 +173,12 @@ impl<'a, L: Site> Fleet<'a, L> {
             blank,
         } = base;
         let (book, rest) = blank.open::<L>();
-        let history = opened.named::<L>();
-        let made = passes(alloc, &height, &mut top, rest, &history, seats)?;
-        let nodes = nodes(alloc, &plan, &history)?;
-        let clients = clients(alloc, &plan, slots, &history)?;
+        let mut history = opened.named::<L>();
+        let made = passes(alloc, &height, &mut top, rest, &mut history, seats)?;
+        let nodes = nodes(alloc, &plan, &mut history)?;
+        let clients = clients(alloc, &plan, slots, &mut history)?;
         let authority = Authority::new(alloc, plan.clone()?)?;
-        let authority = AuthorityActor::new(Mark::new(Who::TheAuthority, &history), authority);
+        let authority = AuthorityActor::new(Mark::new(Who::TheAuthority, &mut history), authority);
         let born = u64::from(plan.born());
         let log = Log::new(alloc, row, slots, plan.groups(), born, book, top, history)?;
         let fleet = Fleet {

@@ -1,5 +1,9 @@
-use Rattle.std.proofs.Common.{◌≡◌, ◌+◌, vec_len}
+use Rattle.std.proofs.Common.{◌≡◌, ◌+◌, [], vec_len}
+use Rattle.journal.specs.Fronts.{log_of}
 use Rattle.node_fleet.proofs.opening.clients.Given as goal
 
 abbrev pub invariant-loop-slot : goal.invariant-loop-slot
-invariant-loop-slot g l = vec_len l.made ≡ l.slot + 1
+invariant-loop-slot g l = record {
+  long : vec_len l.made ≡ l.slot + 1;
+  history : log_of l.history.opened ≡ [];
+}
