@@ -79,7 +79,7 @@ pub fn call<'a, L: Site, R: Wait>(
         return fleet.node_step(rt, pass, group, member, deed);
     }
     match client_deed(event)? {
-        Some((volume, deed)) => fleet.client_step(rt, pass, volume, &deed),
+        Some((volume, deed)) => fleet.client_does(rt, pass, volume, deed),
         None => Err(Fault::NoMessage),
     }
 }

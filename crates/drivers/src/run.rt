@@ -107,7 +107,7 @@ impl<'f, 'a, L: Site> Run<'f, 'a, L> {
         let call = match order {
             Order::TakeFrom { volume, .. } => {
                 let deed = ClientDeed::Take { message };
-                self.fleet.client_step(rt, pass, *volume, &deed)
+                self.fleet.client_does(rt, pass, *volume, deed)
             }
             Order::Event(event) => call(rt, self.fleet, pass, event),
             Order::DeliverFrom { .. } => return,

@@ -15,6 +15,9 @@ use volume_model::Fault;
 use world::Event;
 use writer_core::Change;
 
+/// For how many changes room is made at once: a transaction of more is refused when it is issued.
+const MOST_CHANGES: usize = 32;
+
 /// `issue V G:B:O:HEX ..`, with at least one change.
 pub fn issue(alloc: Global, mut words: Parts) -> Result<Event, Fault>
     ensures { ReadsBy event_of (issue_in (parts_left words.entry)) result }
@@ -31,7 +34,7 @@ pub fn issue(alloc: Global, mut words: Parts) -> Result<Event, Fault>
 fn all_changes(alloc: Global, mut words: Parts) -> Result<Vec<Change>, Fault>
     ensures { ReadsBy (λ v. changes_of v.items) (changes_in (parts_left words.entry)) result }
 {
-    let mut changes = Vec::with_capacity(alloc, words.len())?;
+    let mut changes = Vec::with_capacity(alloc, words.len().min(MOST_CHANGES))?;
     while let Some(word) = words.take_first() {
         changes.push(change(word)?)?;
     }
