@@ -120,7 +120,7 @@ impl<L: Site> NodeActor<L> {
     /// journal is free, then takes the letter and enters the step.
     ///
     /// # Errors
-    /// [`Again`](Halt::Again) where the journal doesn't have the node as it stands here, or not the letter. Else, and these are noted:
+    /// [`Again`](Halt::Again) where the journal doesn't have the node as it stands here. Else, and these are noted:
     /// `NoActor` where the node's group hasn't joined; the first that applies to a message of its kind, as
     /// [`Segment::prepare`](segment_core::Segment::prepare) gives it: `NotAddressed` where it isn't for this node,
     /// `AlreadyWhole` of a copy where the node is whole, `StaleMember` and `AheadMember` where it is at a later or an earlier membership

@@ -202,14 +202,14 @@ impl<'a, L: Site> Fleet<'a, L> {
         }
     }
 
-    /// A client does what it is asked to, which the journal keeps: nothing of it is copied. After a message taken or an
-    /// opening its durable point, 0 before its opening, is raised on the board under the client's lock.
+    /// A client does what it is asked to, which goes into the journal's entry or into the note of a refusal: nothing of it is copied.
+    /// After a message taken or an opening its durable point, 0 before its opening, is raised on the board under the client's lock.
     ///
     /// # Errors
     /// `NoMessage` where no step has made the message that it is to take, which isn't noted; then the client's own
     /// refusal, as [`ClientActor::act`](fleet_actors::ClientActor::act) gives it, and `JournalFull` where no cell is left. A
     /// client that has no slot is one that no View has reached. `NoMemory`, which isn't noted, where a growth was
-    /// refused.
+    /// refused; then what it was asked is gone, and who would ask again calls [`Fleet::client_step`].
     pub fn client_does<R: Wait>(
         &self,
         rt: &R,
@@ -228,7 +228,7 @@ impl<'a, L: Site> Fleet<'a, L> {
         }
     }
 
-    /// A client does what it is asked to, of which the journal keeps a copy: else as [`Fleet::client_does`].
+    /// A client does what it is asked to, of which a copy goes into the journal: else as [`Fleet::client_does`].
     ///
     /// # Errors
     /// As [`Fleet::client_does`] says.

@@ -144,7 +144,7 @@ impl<'a, L: Site> Fleet<'a, L> {
 
     /// A fleet of a new volume over a plan, with an empty journal over a row of cells that nobody has written, for
     /// clients of the volume epochs up to that of the last slot; and the passes of its callers. There is at least one
-    /// slot: with none a client could be born that has none, and a call for it would try for good.
+    /// slot: with none a client could be born that has none, and a call for it would wait for good.
     ///
     /// # Errors
     /// `NoMemory` where a growth was refused.

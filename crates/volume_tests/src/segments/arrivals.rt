@@ -72,6 +72,25 @@ const A_PAGE: &[Row] = &[
     (ByteOf(0, 2, 0), Err(PointAhead), 1),
 ];
 
+/// What comes after a page, to its block and to another, in any order, is in the next one; a restart and a report leave it there.
+const RECORDS_AFTER_A_PAGE: &[Row] = &[
+    (Write(0, 1, 1, Sent::Byte(1, 0, 0, b'a')), Ok(Acks(1)), 1),
+    (ByteOf(0, 1, 0), Ok(Byte(b'a')), 1),
+    (ByteOf(0, 1, 0), Ok(Byte(b'a')), 1),
+    (Write(0, 1, 1, Sent::Byte(4, 0, 1, b'd')), Ok(Acks(1)), 1),
+    (Write(0, 1, 1, Sent::Byte(3, 0, 0, b'c')), Ok(Acks(1)), 1),
+    (ByteOf(0, 1, 0), Ok(Byte(b'a')), 1),
+    (Write(0, 1, 1, Sent::Byte(2, 1, 0, b'b')), Ok(Acks(4)), 4),
+    (ByteOf(0, 4, 0), Ok(Byte(b'c')), 4),
+    (ByteOf(0, 4, 1), Ok(Byte(b'd')), 4),
+    (ByteOf(0, 2, 0), Ok(Byte(b'a')), 4),
+    (ByteOf(1, 4, 0), Ok(Byte(b'b')), 4),
+    (Restart, Ok(Nothing), 4),
+    (ByteOf(0, 4, 0), Ok(Byte(b'c')), 4),
+    (Fence(0, 2, 1), Ok(Reports(4)), 4),
+    (ByteOf(0, 4, 1), Ok(Byte(b'd')), 4),
+];
+
 /// A member that keeps no whole pages shows none.
 const NO_PAGE: &[Row] = &[(ByteOf(0, 0, 0), Err(TailSegment), 0)];
 
@@ -82,6 +101,7 @@ const TABLES: &[Table] = &[
     ("two with one number", Whole, TWO_WITH_ONE_NUMBER),
     ("a block out of order", Whole, A_BLOCK_OUT_OF_ORDER),
     ("a page", Whole, A_PAGE),
+    ("records after a page", Whole, RECORDS_AFTER_A_PAGE),
     ("no page", Tail, NO_PAGE),
 ];
 

@@ -2,10 +2,10 @@
 
 use super::nodes::At::Holding;
 use super::rows::{Row, Table, are_kept, broken};
-use super::steps::Said::{Acks, Nothing, Reports};
+use super::steps::Said::{Acks, Byte, Nothing, Reports};
 use super::told::Part::{Of, One};
-use super::told::Sent::Ours;
-use super::told::Told::{Fence, InstallPiece, Restart, Step, Write};
+use super::told::Sent::{self, Ours};
+use super::told::Told::{ByteOf, Fence, InstallPiece, Restart, Step, Write};
 use super::told::{FIRST_THIRD, LAST_THIRD, ORDERS, SECOND_THIRD};
 use std::alloc::Global;
 use std::test::*;
@@ -19,6 +19,18 @@ const IN_THREE_PIECES: &[Row] = &[
     (Write(0, 1, 1, Ours(3)), Err(StaleVolume), 2),
     (InstallPiece(2, 1, SECOND_THIRD), Ok(Acks(600)), 600),
     (Write(0, 2, 1, Ours(601)), Ok(Acks(601)), 601),
+];
+
+/// A page shows what was installed since the one before, and what came after that.
+const PAGES_AROUND_AN_INSTALL: &[Row] = &[
+    (ByteOf(0, 2, 0), Ok(Byte(b'a')), 2),
+    (Write(0, 1, 1, Sent::Byte(3, 0, 1, b'x')), Ok(Acks(3)), 3),
+    (ByteOf(0, 3, 1), Ok(Byte(b'x')), 3),
+    (InstallPiece(2, 1, Of(0, 1, 1, 5)), Ok(Acks(5)), 5),
+    (ByteOf(0, 5, 0), Ok(Byte(b'a')), 5),
+    (ByteOf(0, 5, 1), Ok(Byte(0)), 5),
+    (Write(0, 2, 1, Sent::Byte(6, 0, 1, b'f')), Ok(Acks(6)), 6),
+    (ByteOf(0, 6, 1), Ok(Byte(b'f')), 6),
 ];
 
 /// A restart forgets the pieces that were kept, after whichever of them it comes.
@@ -106,6 +118,11 @@ const ONCE_IT_IS_INSTALLED: &[Row] = &[
 
 const TABLES: &[Table] = &[
     ("in three pieces", Holding(2), IN_THREE_PIECES),
+    (
+        "pages around an install",
+        Holding(2),
+        PAGES_AROUND_AN_INSTALL,
+    ),
     ("a restart between", Holding(2), A_RESTART_BETWEEN),
     ("the first of a number", Holding(2), THE_FIRST_OF_A_NUMBER),
     ("of two volume epochs", Holding(2), OF_TWO_VOLUME_EPOCHS),
