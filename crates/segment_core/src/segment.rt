@@ -1,42 +1,29 @@
 //! A segment of a protection group, on one node.
 
-ghost use Rattle.std.specs.Prelude.{◌≡◌, length, IfOk};
-ghost use Rattle.volume_model.specs.Pieces.{pieces_of};
-ghost use Rattle.wire.specs.Contents.{contents_of};
+mod copying;
+mod hydrating;
+mod paging;
+
+ghost use Rattle.std.specs.Prelude.{◌≡◌, IfOk};
 
 use crate::act::NodeAct;
 use crate::assembly::Assembly;
 use crate::prepared::{Effect, Prepared};
 use crate::records::Records;
-use hydration::{Hydration, State};
+use hydration::Hydration;
 use lineage::Lineage;
-use pages::BLOCK;
 use plan::CheckedPlan;
-use quorum_expr::Expr;
 use redo_record::{Packet, RecordSet};
 use std::alloc::{AllocError, Global};
 use std::sync::Arc;
 use volume_model::Fault;
 use wire::{
-    Ack, Carried, Contents, CopyAsk, CopyReport, Fence, Install, Label, MOST_PIECES, Message,
-    Messages, Page, PageAsk, Report, StepTo, Write,
+    Ack, Carried, Contents, CopyAsk, Fence, Install, Label, MOST_PIECES, Message, Messages, Report,
+    StepTo, Write,
 };
 
 /// How many records a segment holds at most.
 const MOST_RECORDS: usize = 1_048_576;
-
-/// How many copies a segment tells at most.
-const MOST_COPIES: u64 = 1 << 62;
-
-/// How many pieces the contents make. More than a message can number are as if memory ran out.
-fn count_of(contents: &Contents) -> Result<u16, AllocError>
-    ensures { IfOk result (λ of. of ≡ pieces_of (length (contents_of contents.now).records)) }
-{
-    match u16::try_from(contents.pieces()) {
-        Ok(of) => Ok(of),
-        Err(_) => Err(AllocError),
-    }
-}
 
 /// A segment of a protection group, on one node.
 #[derive(Drop)]
@@ -62,26 +49,24 @@ pub struct Segment {
 }
 
 impl Segment {
-    ghost use Rattle.std.specs.Prelude.{◌<◌, ◌==◌, ℕ, false, not, List, [], ◌∷◌, Result, Ok, Err, IfErr, MatchResult, ◌≢◌};
+    ghost use Rattle.std.specs.Prelude.{◌==◌, false, not, [], ◌∷◌, Ok, Err, IfErr, MatchResult, ◌≢◌};
     ghost use Rattle.std.specs.Arc.{arc_value};
     ghost use Rattle.volume_model.specs.Answer.{Answers, AnswersAlways, AnswersLate, AnswersNew};
     ghost use Rattle.volume_model.specs.Refusal.{refuse_if};
-    ghost use Rattle.volume_model.specs.declared.fault.Fault.{Fault as FaultName};
     ghost use Rattle.volume_model.specs.declared.fault.Fault.TheVariants.{NoMemory, NotAddressed, NotInstalled};
     ghost use Rattle.volume_model.specs.Redo.{record_at, scl};
-    ghost use Rattle.volume_model.specs.Node.{NodeAnswer, gathered, gossip_of, has_configuration, installed, label_checks, lineage_epoch, most_copies, offered, page_answer, page_checks, restarted, take_record};
-    ghost use Rattle.volume_model.specs.Pieces.{in_pieces, is_bad_piece};
+    ghost use Rattle.volume_model.specs.Node.{NodeAnswer, gossip_of, installed, label_checks, lineage_epoch, offered, restarted, take_record};
+    ghost use Rattle.volume_model.specs.Pieces.{is_bad_piece};
     ghost use Rattle.plan.specs.CheckedModel.{checked_model};
     ghost use Rattle.redo_record.specs.Packet.{packet_redo};
     ghost use Rattle.redo_record.specs.RecordSet.{records_of as set_records};
     ghost use Rattle.volume_model.specs.Message as model;
-    ghost use Rattle.wire.specs.Contents.{piece_in};
+    ghost use Rattle.wire.specs.Contents.{contents_of, piece_in};
     ghost use Rattle.wire.specs.Listed.{listed};
     ghost use Rattle.wire.specs.Message.{label_of, message_of, messages_of};
-    ghost use Rattle.hydration.specs.Hydration.{state_of};
-    ghost use Rattle.segment_core.specs.Acts.{act_late, is_full};
+    ghost use Rattle.segment_core.specs.Acts.{act_late};
     ghost use Rattle.segment_core.specs.Prepared.{answers_of, effected, step_of};
-    ghost use Rattle.segment_core.specs.Segment.{node_of, segment_plan, segment_group, segment_member, act_of, answered, became, born, copied, hydration_of, offered_step, paged, reaction_of, replaced, CanTake, IsReadExpression, IsSegmentOf, IsSameActor, IsReady};
+    ghost use Rattle.segment_core.specs.Segment.{node_of, segment_plan, segment_group, segment_member, act_of, answered, born, offered_step, reaction_of, replaced, CanTake, IsSegmentOf, IsSameActor, IsReady};
 
     /// The segment of a member of a group, as it is born.
     ///
@@ -351,188 +336,6 @@ impl Segment {
         })
     }
 
-    /// What is told of a copy: one message a piece, in growing order.
-    fn copy_reports(
-        &self,
-        alloc: Global,
-        series: u64,
-        contents: &Contents,
-    ) -> Result<Vec<Message>, AllocError>
-        ensures { IfOk result (λ messages. messages_of messages.items ≡ in_pieces (contents_of contents.now) (model.Message.CopyReport (segment_group self.now) (node_of self.now).place.epoch (segment_member self.now) series)) }
-    {
-        let of = count_of(contents)?;
-        let mut messages = Vec::new(alloc);
-        for piece in 0..of {
-            messages.push(Message::CopyReport(CopyReport {
-                group: self.group,
-                from: self.member,
-                piece,
-                of,
-                epoch: self.epoch,
-                series,
-                contents: Box::new(alloc, contents.piece(usize::from(piece))?)?,
-            }))?;
-        }
-        Ok(messages)
-    }
-
-    /// The step that tells what is held.
-    fn copied(&mut self, alloc: Global) -> Result<Prepared, AllocError>
-        requires { (node_of self.old).copied < most_copies }
-        ensures step { IfOk result (λ prepared. step_of prepared (node_of self.old) ≡ copied (segment_group self.old) (segment_member self.old) (node_of self.old)) }
-        ensures ready { IfOk result (λ prepared. CanTake self.new prepared.effect) }
-        ensures node { node_of self.new ≡ node_of self.old }
-        ensures actor { IsSameActor self.old self.new }
-    {
-        let contents = self.contents(alloc)?;
-        let reports = self.copy_reports(alloc, self.copied + 1, &contents)?;
-        Ok(Prepared {
-            answers: Messages::of(reports),
-            effect: Effect::Count,
-        })
-    }
-
-    /// Makes ready to say what it holds to a node that isn't whole.
-    fn prepare_copy(&mut self, alloc: Global, ask: &CopyAsk) -> Result<Prepared, Fault>
-        ensures step { Answers step_of (reaction_of self.old (message_of (Message.CopyAsk ask.now))) (node_of self.old) result (node_of self.old) }
-        ensures ready { IfOk result (λ prepared. CanTake self.new prepared.effect) }
-        ensures node { node_of self.new ≡ node_of self.old }
-        ensures actor { IsSameActor self.old self.new }
-    {
-        if ask.group != self.group {
-            return Err(Fault::NotAddressed);
-        }
-        if ask.epoch < self.epoch {
-            return Err(Fault::StaleMember);
-        }
-        if self.epoch < ask.epoch {
-            return Err(Fault::AheadMember);
-        }
-        if !self.whole {
-            return Err(Fault::NotWhole);
-        }
-        if self.copied >= MOST_COPIES {
-            return Err(Fault::SeriesSpent);
-        }
-        Ok(self.copied(alloc)?)
-    }
-
-    /// Makes ready to keep a piece of what another node holds.
-    fn prepare_copied(&mut self, alloc: Global, report: &CopyReport) -> Result<Prepared, Fault>
-        ensures step { Answers step_of (reaction_of self.old (message_of (Message.CopyReport report.now))) (node_of self.old) result (node_of self.old) }
-        ensures ready { IfOk result (λ prepared. CanTake self.new prepared.effect) }
-        ensures node { node_of self.new ≡ node_of self.old }
-        ensures actor { IsSameActor self.old self.new }
-    {
-        if !report.is_for(self.group) {
-            return Err(Fault::NotAddressed);
-        }
-        if self.whole {
-            return Err(Fault::AlreadyWhole);
-        }
-        if report.epoch < self.epoch {
-            return Err(Fault::StaleMember);
-        }
-        if self.epoch < report.epoch {
-            return Err(Fault::AheadMember);
-        }
-        let keeping = self.copies.prepare(report)?;
-        let kept = Box::new(alloc, keeping)?;
-        Ok(Prepared {
-            answers: Messages::Empty,
-            effect: Effect::Keep(kept),
-        })
-    }
-
-    /// Whether its member is one of the configuration that it took last.
-    fn has_configuration(&self) -> bool
-        ensures { result ≡ has_configuration (segment_plan self.now) (segment_group self.now) (segment_member self.now) (node_of self.now) }
-    {
-        self.epoch > 0
-            && self
-                .plan
-                .has_member(self.group, self.configuration, self.member)
-    }
-
-    /// The tests of a question for a page: `TailSegment` where the member keeps no whole pages, `PointAhead` where the segment isn't
-    /// complete up to the point.
-    #[tactic(auto, unfolding(volume_model::specs::Node::page_checks))]
-    fn check_page(&self, point: u64) -> Result<(), Fault>
-        ensures own { IfErr result (λ fault. fault ≢ NoMemory) }
-        ensures answers { MatchResult result (λ _. (rest : NodeAnswer) → page_checks (segment_plan self.now) (segment_group self.now) (segment_member self.now) (node_of self.now) point rest ≡ rest) (λ fault. (rest : NodeAnswer) → page_checks (segment_plan self.now) (segment_group self.now) (segment_member self.now) (node_of self.now) point rest ≡ Err fault) }
-        ensures pages { MatchResult result (λ _. (rest : Result (List ℕ) FaultName) → page_checks (segment_plan self.now) (segment_group self.now) (segment_member self.now) (node_of self.now) point rest ≡ rest) (λ fault. (rest : Result (List ℕ) FaultName) → page_checks (segment_plan self.now) (segment_group self.now) (segment_member self.now) (node_of self.now) point rest ≡ Err fault) }
-    {
-        if !self.has_configuration()
-            || !self
-                .plan
-                .is_full(self.group, self.configuration, self.member)
-        {
-            return Err(Fault::TailSegment);
-        }
-        if self.records.complete_point() < point {
-            return Err(Fault::PointAhead);
-        }
-        Ok(())
-    }
-
-    /// The page of a block at a point. The first page parts what is held by its blocks.
-    ///
-    /// # Errors
-    /// `NotWhole` before the segment is whole, `TailSegment` where the member keeps no whole pages, `PointAhead` where the segment isn't
-    /// complete up to the point; `NoMemory` where none applies and a growth was refused.
-    pub fn page_at(&mut self, alloc: Global, block: u32, point: u64) -> Result<[u8; BLOCK], Fault>
-        ensures page { AnswersNew (λ page. page) (paged (segment_plan self.old) (segment_group self.old) (segment_member self.old) (node_of self.old) block point) result }
-        ensures node { node_of self.new ≡ node_of self.old }
-        ensures actor { IsSameActor self.old self.new }
-    {
-        if !self.whole {
-            return Err(Fault::NotWhole);
-        }
-        self.check_page(point)?;
-        Ok(self.records.page(alloc, block, point)?)
-    }
-
-    /// The step that answers a question with a page.
-    #[tactic(auto, unfolding(volume_model::specs::Node::page_answer))]
-    fn answer_page(&mut self, alloc: Global, ask: &PageAsk) -> Result<Prepared, Fault>
-        ensures step { Answers step_of (page_answer (segment_plan self.old) (segment_group self.old) (segment_member self.old) (node_of self.old) (label_of ask.now.label) ask.now.block ask.now.point) (node_of self.old) result (node_of self.old) }
-        ensures ready { IfOk result (λ prepared. CanTake self.new prepared.effect) }
-        ensures node { node_of self.new ≡ node_of self.old }
-        ensures actor { IsSameActor self.old self.new }
-    {
-        if self.lineage.last_epoch() != ask.label.volume {
-            return Err(Fault::NotInstalled);
-        }
-        self.check_page(ask.point)?;
-        let bytes = self.records.page(alloc, ask.block, ask.point)?;
-        let page = Page {
-            group: self.group,
-            from: self.member,
-            label: ask.label,
-            block: ask.block,
-            point: ask.point,
-            bytes: Box::new(alloc, bytes)?,
-        };
-        Ok(Prepared {
-            answers: Messages::One(Message::Page(page)),
-            effect: Effect::Nothing,
-        })
-    }
-
-    /// Makes ready to answer with a page.
-    fn prepare_page(&mut self, alloc: Global, ask: &PageAsk) -> Result<Prepared, Fault>
-        ensures step { Answers step_of (reaction_of self.old (message_of (Message.PageAsk ask.now))) (node_of self.old) result (node_of self.old) }
-        ensures ready { IfOk result (λ prepared. CanTake self.new prepared.effect) }
-        ensures node { node_of self.new ≡ node_of self.old }
-        ensures actor { IsSameActor self.old self.new }
-    {
-        if ask.group != self.group {
-            return Err(Fault::NotAddressed);
-        }
-        self.check_label(ask.label)?;
-        self.answer_page(alloc, ask)
-    }
-
     /// A record that it holds, for the other nodes of its group.
     fn gossip(&self, lsn: u64) -> Result<Carried<'_>, Fault>
         ensures own { IfErr result (λ fault. fault ≢ NoMemory) }
@@ -637,56 +440,6 @@ impl Segment {
         ensures actor { IsSameActor self.old self.new }
     {
         self.written(alloc, write)
-    }
-
-    /// The read expression of the configuration that it took last, `None` where its member isn't one of it.
-    fn read_expression(&self) -> Option<&Expr<Global>>
-        ensures { IsReadExpression result (segment_plan self.now) (segment_group self.now) (segment_member self.now) (node_of self.now) }
-    {
-        if !self.has_configuration() {
-            return None;
-        }
-        let configuration = self.plan.configuration(self.group, self.configuration)?;
-        Some(&configuration.read)
-    }
-
-    /// What the copies make of it.
-    #[tactic(auto, unfolding(volume_model::specs::Node::gathered))]
-    fn gathered(&self, alloc: Global) -> Result<State, Fault>
-        ensures { AnswersNew state_of (gathered (segment_plan self.now) (segment_group self.now) (segment_member self.now) (node_of self.now)) result }
-    {
-        let Some(read) = self.read_expression() else {
-            return Err(Fault::NotEnough);
-        };
-        match self.copies.finish(alloc, read) {
-            Ok(Some(state)) => Ok(state),
-            Ok(None) => Err(Fault::NotEnough),
-            Err(_) => Err(Fault::NoMemory),
-        }
-    }
-
-    /// Makes ready to become whole. Refused as [`Segment::hydrate`] says.
-    fn prepare_hydration(&self, alloc: Global) -> Result<Prepared, Fault>
-        ensures silent { IfOk result (λ prepared. answers_of prepared ≡ []) }
-        ensures step { AnswersLate is_full step_of (hydration_of self.now) (node_of self.now) result (node_of self.now) }
-        ensures ready { IfOk result (λ prepared. IsReady self.now prepared) }
-    {
-        if self.whole {
-            return Err(Fault::AlreadyWhole);
-        }
-        let State { volume, contents } = self.gathered(alloc)?;
-        if contents.records.len() > MOST_RECORDS {
-            return Err(Fault::Full);
-        }
-        let records = Records::boxed(alloc, &contents.records)?;
-        Ok(Prepared {
-            answers: Messages::Empty,
-            effect: Effect::Hydrate {
-                volume: self.volume.max(volume),
-                lineage: contents.lineage,
-                records,
-            },
-        })
     }
 
     /// Makes ready to offer a record, as [`Segment::offer`] does.
@@ -795,20 +548,5 @@ impl Segment {
     {
         let prepared = self.prepare(alloc, message)?;
         Ok(self.apply(prepared))
-    }
-
-    /// Becomes whole: takes the newest lineage of its copies and all their records that are live in it.
-    ///
-    /// # Errors
-    /// `AlreadyWhole` where it is whole, `NotEnough` where its member isn't one of the configuration that it took last or the copies aren't
-    /// those of a read set of it, `Full` where more records were found than a segment holds; `NoMemory`, which may come before `Full`.
-    /// Then nothing has changed.
-    pub fn hydrate(&mut self, alloc: Global) -> Result<(), Fault>
-        ensures answers { AnswersLate is_full became (hydration_of self.old) (node_of self.old) result (node_of self.new) }
-        ensures actor { IsSameActor self.old self.new }
-    {
-        let Prepared { effect, .. } = self.prepare_hydration(alloc)?;
-        self.take(effect);
-        Ok(())
     }
 }
