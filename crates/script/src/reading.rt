@@ -117,7 +117,7 @@ fn is_utf8(bytes: &[u8]) -> bool
     str::from_utf8(bytes).is_ok()
 }
 
-/// Adds what a line says.
+/// Adds what a line says: apart from the reading of most lines, which take none of it.
 #[inline(never)]
 fn add_line(
     alloc: Global,

@@ -44,7 +44,7 @@ fn take(
     Ok(enter_answers(messages, made))
 }
 
-/// Lets a segment act, as [`act`] does.
+/// Lets a segment act, as [`act`] does: apart from it, so that the short way's results stay small.
 #[inline(never)]
 fn act_at_large(
     alloc: Global,
