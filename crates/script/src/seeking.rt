@@ -31,7 +31,8 @@ fn count_in_piece(piece: &[u8], byte: u8) -> u8
     count
 }
 
-/// How often a byte stands in a text.
+/// How often a byte stands in a text. Piece by piece, with a count of one byte, many bytes are compared at a time; `memchr_iter` goes from one
+/// place to the next.
 pub fn count_of(text: &[u8], byte: u8) -> usize
     ensures counted { result ≡ count_by (λ b. b == byte) text.now }
     ensures within { result + 1 < 2 ^ 64 }

@@ -17,7 +17,7 @@ use runs::Place;
 use std::alloc::{AllocError, Global};
 
 /// The records that a segment holds, each once, in the order of their bytes, how far they hang together, and, from the first page on, which
-/// are of which block.
+/// are of which block. What is held instead begins without the last.
 #[derive(Drop)]
 pub struct Records {
     ordered: Ordered,

@@ -91,7 +91,8 @@ impl Lasts {
         Ok(())
     }
 
-    /// Takes the record out again that was entered last: what it names stands there as before.
+    /// Takes the record out again that was entered last: what it names stands there as before. It stands apart, since want of memory alone
+    /// comes to it.
     #[inline(never)]
     pub fn leave(&mut self, group: u8, block: u32, prev_group: u64, prev_block: u64)
         requires group { group < 16 }

@@ -50,7 +50,7 @@ impl Segment {
         Ok(())
     }
 
-    /// The page of a block at a point. The first page parts what is held by its blocks.
+    /// The page of a block at a point. The first page since it took up what it holds parts that by its blocks, which takes memory.
     ///
     /// # Errors
     /// `NotWhole` before the segment is whole, `TailSegment` where the member keeps no whole pages, `PointAhead` where the segment isn't
