@@ -40,14 +40,14 @@ entries_in-last chunks rest chunk value items is shared has =
     ap entries_in is ∙ entries_in-push rest chunk ∙ ap (λ l. l ++ entries_in rest) (ap entries_of (sym (has ∙ ap (λ v. v.items) shared)))
 
 -- one entry more, behind recent ones
-pub entries-recent : (chunks copies : List Chunk) (recent copy more : List Entry) (entry : Entry) → entries_in copies ≡ entries_in chunks → copy ≡ recent → more ≡ copy ++ entry ∷ []
+pub entries-recent : (chunks copies : List Chunk) (recent more : List Entry) (entry : Entry) → entries_in copies ≡ entries_in chunks → more ≡ recent ++ entry ∷ []
     → entries_of more ++ entries_in copies ≡ entry_of entry ∷ (entries_of recent ++ entries_in chunks)
-entries-recent chunks copies recent copy more entry shared same is =
-    ap₂ (λ l m. l ++ m) (ap entries_of is ∙ entries_of-push copy entry ∙ ap (λ es. entry_of entry ∷ entries_of es) same) shared
+entries-recent chunks copies recent more entry shared is =
+    ap₂ (λ l m. l ++ m) (ap entries_of is ∙ entries_of-push recent entry) shared
 
 -- one entry more, behind recent ones that become a chunk
-pub entries-chunked : (chunks copies more : List Chunk) (chunk : Chunk) (recent none now : List Entry) (copy : Vec Entry Global) (entry : Entry) → entries_in copies ≡ entries_in chunks → copy.items ≡ recent
-    → arc_value chunk ≡ copy → more ≡ copies ++ chunk ∷ [] → none ≡ [] → now ≡ none ++ entry ∷ [] → entries_of now ++ entries_in more ≡ entry_of entry ∷ (entries_of recent ++ entries_in chunks)
-entries-chunked chunks copies more chunk recent none now copy entry shared same value is empty one =
-    ap₂ (λ l m. l ++ m) (ap entries_of one ∙ entries_of-push none entry ∙ ap (λ es. entry_of entry ∷ entries_of es) empty)
+pub entries-chunked : (chunks copies more : List Chunk) (chunk : Chunk) (recent now : List Entry) (copy : Vec Entry Global) (entry : Entry) → entries_in copies ≡ entries_in chunks → copy.items ≡ recent
+    → arc_value chunk ≡ copy → more ≡ copies ++ chunk ∷ [] → now ≡ entry ∷ [] → entries_of now ++ entries_in more ≡ entry_of entry ∷ (entries_of recent ++ entries_in chunks)
+entries-chunked chunks copies more chunk recent now copy entry shared same value is one =
+    ap₂ (λ l m. l ++ m) (ap entries_of one)
     (ap entries_in is ∙ entries_in-push copies chunk ∙ ap₂ (λ l m. l ++ m) (ap entries_of (ap (λ v. v.items) value ∙ same)) shared)

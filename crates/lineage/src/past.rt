@@ -35,6 +35,16 @@ fn judge(entries: &[Entry], volume_epoch: u32, lsn: u64) -> Option<bool>
     None
 }
 
+/// These entries and one more, in a list with room for no other.
+fn with_last(alloc: Global, entries: &[Entry], last: Entry) -> Result<Vec<Entry>, AllocError>
+    ensures { IfOk result (λ list. list.items ≡ entries.now ++ last ∷ []) }
+{
+    let mut list = Vec::with_capacity(alloc, entries.len().saturating_add(1))?;
+    list.extend_from_slice(entries)?;
+    list.push(last)?;
+    Ok(list)
+}
+
 impl Past {
     /// No entry.
     pub fn empty(alloc: Global) -> Past
@@ -66,12 +76,12 @@ impl Past {
         ensures { IfOk result (λ past. entries_before past ≡ entry_of entry ∷ entries_before self.now) }
     {
         let mut chunks = self.chunks.clone()?;
-        let mut recent = self.recent.clone()?;
-        if recent.len() >= MOST_ENTRIES {
-            chunks.push(Arc::new(alloc, recent)?)?;
-            recent = Vec::new(alloc);
+        if self.recent.len() < MOST_ENTRIES {
+            let recent = with_last(alloc, &self.recent, entry)?;
+            return Ok(Past { chunks, recent });
         }
-        recent.push(entry)?;
+        chunks.push(Arc::new(alloc, self.recent.clone()?)?)?;
+        let recent = with_last(alloc, &[], entry)?;
         Ok(Past { chunks, recent })
     }
 }
