@@ -1,10 +1,9 @@
 -- What is kept of who waits for whom.
-use Rattle.std.specs.Prelude.{ℕ, ◌<◌, List, Option, Some, None, Vec, length, vec_capacity}
+use Rattle.std.specs.Prelude.{ℕ, List}
 use Rattle.std.specs.Ordering.{nat_cmp}
 use Rattle.std.specs.BTreeMap.{get}
-use Rattle.std.specs.Global.{Global}
 use Rattle.volume_model.specs.Lists.{IsIn}
-use Rattle.chains.specs.Listed.{numbers_in}
+use Rattle.chains.specs.Listed.{numbers_in, IsRoomy}
 use Rattle.chains.specs.declared.waits.Waits.{Waits}
 use Rattle.chains.specs.Rising.{AreGrowing}
 use Rattle.chains.specs.Waiting.{IsWoken}
@@ -16,11 +15,6 @@ waiters waits k = numbers_in (get nat_cmp waits.waiting k)
 -- the second number waits for the first
 abbrev pub WaitsIn : Waits → ℕ → ℕ → Type 0
 WaitsIn waits k m = IsIn m (waiters waits k)
-
--- the list has room for one more
-abbrev pub IsRoomy : Option (Vec ℕ Global) → Type 0
-IsRoomy None = ⊥
-IsRoomy (Some list) = length list.items < vec_capacity list
 
 -- there is room for one more that waits for the number
 abbrev pub HasRoomFor : ℕ → Waits → Type 0

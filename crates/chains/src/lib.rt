@@ -3,6 +3,7 @@
 
 mod chains;
 mod numbers;
+mod waiters;
 mod waits;
 
 pub use chains::Chains;

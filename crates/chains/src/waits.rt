@@ -8,13 +8,17 @@ ghost use Rattle.volume_model.specs.Lists.{IsIn};
 ghost use Rattle.chains.specs.Listed.{numbers_in};
 
 use crate::numbers::add;
+use crate::waiters::Waiters;
 use std::alloc::{AllocError, Global};
 use std::collections::BTreeMap;
+
+/// For how many numbers that are woken at once there is room at first.
+const FEW: usize = 8;
 
 /// Under each number, those that wait for it, which are above it.
 #[derive(Drop)]
 pub struct Waits {
-    waiting: BTreeMap<u64, Vec<u64>>,
+    waiting: BTreeMap<u64, Waiters>,
     ghost above: { (k m : ℕ) → IsIn m (numbers_in (get nat_cmp waiting k)) → k < m } by { Prim.hlevel props },
 }
 
@@ -37,7 +41,7 @@ impl Waits {
         ensures { result.now ≡ waiters self.now number }
     {
         match self.waiting.get(&number) {
-            Some(list) => list.as_slice(),
+            Some(waiters) => waiters.as_slice(),
             None => &[],
         }
     }
@@ -51,10 +55,9 @@ impl Waits {
         ensures room { OnOk result (HasRoomFor number self.new) }
     {
         match self.waiting.get_mut(&number) {
-            Some(list) => list.reserve(1),
+            Some(waiters) => waiters.make_room(alloc),
             None => {
-                let list = Vec::with_capacity(alloc, 1)?;
-                self.waiting.insert(number, list)?;
+                self.waiting.insert(number, Waiters::Nobody)?;
                 Ok(())
             }
         }
@@ -66,8 +69,8 @@ impl Waits {
         requires above { number < waiter }
         ensures { (k : ℕ) → waiters self.new k ≡ (if k == number then waiters self.old k ++ waiter ∷ [] else waiters self.old k) }
     {
-        if let Some(list) = self.waiting.get_mut(&number) {
-            list.push_reserved(waiter);
+        if let Some(waiters) = self.waiting.get_mut(&number) {
+            waiters.push(waiter);
         }
     }
 
@@ -87,7 +90,7 @@ impl Waits {
     pub fn woken(&self, alloc: Global, number: u64) -> Result<Vec<u64>, AllocError>
         ensures { IfOk result (λ woken. AreWoken (WaitsIn self.now) number woken.items) }
     {
-        let mut woken = Vec::with_capacity(alloc, 1)?;
+        let mut woken = Vec::with_capacity(alloc, FEW)?;
         woken.push_reserved(number);
         let mut next = 0;
         while next < woken.len() {

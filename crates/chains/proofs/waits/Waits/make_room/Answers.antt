@@ -7,12 +7,7 @@ use Rattle.chains.proofs.waits.Waits.make_room.Goals as goal
 
 pub invariant_of-self : goal.invariant_of-self
 invariant_of-self c =
-    let same : (k : ℕ) → numbers_in (get nat_cmp (c.get_mut.follows.lender c.reserve.new.self) k) ≡ numbers_in (get nat_cmp c.args.self.now.waiting k) = λ k. search rules in
-    record { above = λ k m i. c.args.self.now.above k m (subst (IsIn m) (same k) i) }
-
-pub invariant_of-self-in-Break-1 : goal.invariant_of-self-in-Break-1
-invariant_of-self-in-Break-1 c =
-    let same : (k : ℕ) → numbers_in (get nat_cmp c.get_mut.follows.lender-at-none k) ≡ numbers_in (get nat_cmp c.args.self.now.waiting k) = λ k. search rules in
+    let same : (k : ℕ) → numbers_in (get nat_cmp (c.get_mut.follows.lender c.make_room.new.self) k) ≡ numbers_in (get nat_cmp c.args.self.now.waiting k) = λ k. search rules in
     record { above = λ k m i. c.args.self.now.above k m (subst (IsIn m) (same k) i) }
 
 pub invariant_of-self-in-None : goal.invariant_of-self-in-None

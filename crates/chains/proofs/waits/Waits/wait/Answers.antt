@@ -7,5 +7,5 @@ use Rattle.chains.proofs.waits.Waits.wait.Goals as goal
 
 pub invariant_of-self : goal.invariant_of-self
 invariant_of-self c =
-    let is : (k : ℕ) → numbers_in (get nat_cmp (c.get_mut.follows.lender c.push_reserved.new.self) k) ≡ (if k == c.args.number then numbers_in (get nat_cmp c.args.self.now.waiting k) ++ c.args.waiter ∷ [] else numbers_in (get nat_cmp c.args.self.now.waiting k)) = λ k. search rules in
-    record { above = above_more c.args.number c.args.waiter (λ k. numbers_in (get nat_cmp c.args.self.now.waiting k)) (λ k. numbers_in (get nat_cmp (c.get_mut.follows.lender c.push_reserved.new.self) k)) c.requires.above is c.args.self.now.above }
+    let is : (k : ℕ) → numbers_in (get nat_cmp (c.get_mut.follows.lender c.push.new.self) k) ≡ (if k == c.args.number then numbers_in (get nat_cmp c.args.self.now.waiting k) ++ c.args.waiter ∷ [] else numbers_in (get nat_cmp c.args.self.now.waiting k)) = λ k. search rules in
+    record { above = above_more c.args.number c.args.waiter (λ k. numbers_in (get nat_cmp c.args.self.now.waiting k)) (λ k. numbers_in (get nat_cmp (c.get_mut.follows.lender c.push.new.self) k)) c.requires.above is c.args.self.now.above }
