@@ -1,5 +1,6 @@
 pub mod Ordered
 pub mod BlockList
+pub mod BlockPlaces
 pub mod Blocks
 pub mod PageIndex
 pub mod Link

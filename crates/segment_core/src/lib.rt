@@ -4,6 +4,7 @@
 mod act;
 mod assembly;
 mod block_list;
+mod block_places;
 mod blocks;
 mod entrant;
 mod one_chain;

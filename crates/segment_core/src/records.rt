@@ -28,7 +28,7 @@ pub struct Records {
 }
 
 impl Records {
-    ghost use Rattle.std.specs.Prelude.{◌≡◌, [], length, IfOk, OnOk, MatchOption, option_map};
+    ghost use Rattle.std.specs.Prelude.{◌≡◌, ◌≢◌, [], length, IfOk, OnOk, MatchOption, option_map};
     ghost use Rattle.volume_model.specs.Redo.{record_at, scl, with_record};
     ghost use Rattle.volume_model.specs.Node.{page_of};
     ghost use Rattle.redo_record.specs.Packet.{packet_redo};
@@ -105,18 +105,40 @@ impl Records {
     ///
     /// # Errors
     /// Where a growth was refused.
-    pub fn page(&mut self, alloc: Global, block: u32, point: u64) -> Result<[u8; BLOCK], AllocError>
-        ensures page { IfOk result (λ page. page ≡ page_of (records_of self.new) block point) }
+    pub fn page(
+        &mut self,
+        alloc: Global,
+        block: u32,
+        point: u64,
+    ) -> Result<Box<[u8; BLOCK]>, AllocError>
+        ensures page { IfOk result (λ page. page.value ≡ page_of (records_of self.new) block point) }
         ensures same { records_of self.new ≡ records_of self.old }
     {
         if let Some(blocks) = &self.index.blocks {
-            return Ok(page_of(blocks.of(block), block, point));
+            return Ok(Box::new(alloc, page_of(blocks.of(block), block, point))?);
         }
+        self.first_page(alloc, block, point)
+    }
+
+    /// The same where the records weren't parted by their blocks, which is done first.
+    ///
+    /// # Errors
+    /// Where a growth was refused.
+    #[inline(never)]
+    fn first_page(
+        &mut self,
+        alloc: Global,
+        block: u32,
+        point: u64,
+    ) -> Result<Box<[u8; BLOCK]>, AllocError>
+        ensures page { IfOk result (λ page. page.value ≡ page_of (records_of self.new) block point) }
+        ensures same { records_of self.new ≡ records_of self.old }
+    {
         let set = self.ordered.to_set(alloc)?;
         let blocks = Blocks::from_set(alloc, &set)?;
         let page = page_of(blocks.of(block), block, point);
         self.index.blocks = Some(blocks);
-        Ok(page)
+        Ok(Box::new(alloc, page)?)
     }
 
     /// The record with this number, of several the first in the order of their bytes.
@@ -148,13 +170,24 @@ impl Records {
         self.ordered.place_for(packet)
     }
 
-    /// Whether a chain of the records leads from this number down to 0.
+    /// Whether a chain of the records leads from this number down to 0. From none above the complete point one does.
+    #[inline(always)]
     fn is_reached(&self, number: u64) -> bool
         ensures { result ≡ is_reached (records_of self.now) number }
     {
-        if number == 0 || number == self.chains.point() {
+        let point = self.chains.point();
+        if number == 0 || number == point {
             return true;
         }
+        number < point && self.is_reached_below(number)
+    }
+
+    /// Whether a chain of the records leads from this number, which isn't 0, down to 0: seldom asked below the complete point.
+    #[inline(never)]
+    fn is_reached_below(&self, number: u64) -> bool
+        requires { number ≢ 0 }
+        ensures { result ≡ is_reached (records_of self.now) number }
+    {
         let runs = self.ordered.runs();
         let mut place = runs.first_at_least(number);
         while let Some(packet) = runs.get(place) {

@@ -50,7 +50,8 @@ impl Segment {
         Ok(())
     }
 
-    /// The page of a block at a point. The first page since it took up what it holds parts that by its blocks, which takes memory.
+    /// The page of a block at a point. It takes memory, most the first page since the segment took up what it holds, which parts that by its
+    /// blocks.
     ///
     /// # Errors
     /// `NotWhole` before the segment is whole, `TailSegment` where the member keeps no whole pages, `PointAhead` where the segment isn't
@@ -64,7 +65,8 @@ impl Segment {
             return Err(Fault::NotWhole);
         }
         self.check_page(point)?;
-        Ok(self.records.page(alloc, block, point)?)
+        let page = self.records.page(alloc, block, point)?;
+        Ok(Box::into_inner(page))
     }
 
     /// The step that answers a question with a page.
@@ -79,14 +81,13 @@ impl Segment {
             return Err(Fault::NotInstalled);
         }
         self.check_page(ask.point)?;
-        let bytes = self.records.page(alloc, ask.block, ask.point)?;
         let page = Page {
             group: self.group,
             from: self.member,
             label: ask.label,
             block: ask.block,
             point: ask.point,
-            bytes: Box::new(alloc, bytes)?,
+            bytes: self.records.page(alloc, ask.block, ask.point)?,
         };
         Ok(Prepared {
             answers: Messages::One(Message::Page(page)),
