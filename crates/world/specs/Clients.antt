@@ -3,6 +3,7 @@ use Rattle.std.specs.Prelude.{◌≡◌, ℕ, Option, Some, None}
 use Rattle.std.specs.Arc.{arc_value}
 use Rattle.std.specs.Ordering.{nat_cmp}
 use Rattle.std.specs.BTreeMap.{BTreeMap, get}
+use Rattle.std.specs.Global.{Box}
 use Rattle.volume_model.specs.Plan.{Plan}
 use Rattle.volume_model.specs.Client as model
 use Rattle.volume_model.specs.Client.{unborn}
@@ -53,15 +54,15 @@ pub record IsClientOf (plan : Plan) (volume : ℕ) (client : Client) : Type 0 wh
 abbrev pub IsSameClient : Client → Client → Type 0
 IsSameClient old new = IsClientOf (client_plan old) (client_volume old) new
 
--- a client, or one that no View has reached
-abbrev pub client_or_unborn : Option Client → model.Client
+-- what is behind a pointer, or a client that no View has reached
+abbrev pub client_or_unborn : Option (Box Client) → model.Client
 client_or_unborn None = unborn
-client_or_unborn (Some client) = seen_client client
+client_or_unborn (Some client) = seen_client client.value
 
 -- the client of a volume epoch
-abbrev pub clients_of : BTreeMap ℕ Client → ℕ → model.Client
+abbrev pub clients_of : BTreeMap ℕ (Box Client) → ℕ → model.Client
 clients_of clients volume = client_or_unborn (get nat_cmp clients volume)
 
 -- each client is kept under its volume epoch
-abbrev pub AreClients : Plan → BTreeMap ℕ Client → Type 0
-AreClients plan clients = (volume : ℕ) (client : Client) → get nat_cmp clients volume ≡ Some client → IsClientOf plan volume client
+abbrev pub AreClients : Plan → BTreeMap ℕ (Box Client) → Type 0
+AreClients plan clients = (volume : ℕ) (client : Box Client) → get nat_cmp clients volume ≡ Some client → IsClientOf plan volume client.value

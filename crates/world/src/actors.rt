@@ -10,7 +10,7 @@ use crate::{authority_step, birth, client_step, node_step};
 use epochs::Authority;
 use plan::CheckedPlan;
 use segment_core::{NodeAct, Segment};
-use std::alloc::Global;
+use std::alloc::{AllocError, Global};
 use std::collections::BTreeMap;
 use std::sync::Arc;
 use volume_model::Fault;
@@ -22,7 +22,8 @@ pub struct Actors {
     plan: Arc<CheckedPlan>,
     pub(crate) authority: Authority,
     nodes: Vec<Option<Segment>>,
-    pub(crate) clients: BTreeMap<u32, Client>,
+    /// Each behind a pointer, since a map has room for nearly twice as many as it keeps.
+    pub(crate) clients: BTreeMap<u32, Box<Client>>,
     messages: Vec<Message>,
 }
 
@@ -52,7 +53,7 @@ impl Actors {
     {
         let first = Client::first(alloc, plan.clone()?)?;
         let mut clients = BTreeMap::new(alloc);
-        clients.insert(1, first)?;
+        clients.insert(1, Box::new(alloc, first)?)?;
         Ok(Actors {
             plan: plan.clone()?,
             authority: Authority::new(alloc, plan.clone()?)?,
@@ -133,7 +134,7 @@ impl Actors {
         let mut client = Client::unborn(self.plan.clone()?, volume);
         let made = client.act(alloc, act)?;
         self.messages.reserve(made.len())?;
-        self.clients.insert(volume, client)?;
+        self.clients.insert(volume, Box::new(alloc, client)?)?;
         Ok(enter(&mut self.messages, made))
     }
 
@@ -243,6 +244,18 @@ impl Actors {
                 self.node_step(alloc, *group, *member, NodeOrder::Act(act))
             }
         }
+    }
+
+    /// Makes room for so many more messages.
+    ///
+    /// # Errors
+    /// Where a growth was refused; then nothing has changed.
+    pub(crate) fn reserve(&mut self, messages: usize) -> Result<(), AllocError>
+        ensures world { world_of self.new ≡ world_of self.old }
+        ensures good { AreActors self.old → AreActors self.new }
+        ensures plan { plan_of self.new ≡ plan_of self.old }
+    {
+        self.messages.reserve(messages)
     }
 
     /// How many messages were made so far.

@@ -74,7 +74,7 @@ impl Actors {
         ensures { IfOk result (λ ends. map opened_of ends.items ≡ writers_in (world_of self.now)) }
     {
         let last = self.authority.last_volume();
-        let mut ends = Vec::new(alloc);
+        let mut ends = Vec::with_capacity(alloc, self.clients.len())?;
         for volume in 0..last {
             self.add_writer(volume, &mut ends)?;
         }
@@ -103,7 +103,7 @@ impl Actors {
         ensures { IfOk result (λ ends. map find_of ends.items ≡ finds_in (world_of self.now)) }
     {
         let last = self.authority.last_volume();
-        let mut ends = Vec::new(alloc);
+        let mut ends = Vec::with_capacity(alloc, self.clients.len())?;
         for volume in 0..last {
             self.add_find(volume, &mut ends)?;
         }

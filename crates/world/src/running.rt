@@ -45,13 +45,22 @@ pub fn promised(plan: &CheckedPlan)
     runs_are_orderly();
 }
 
+/// How many changes an event asks for.
+fn changes_in(event: &Event) -> usize {
+    match event {
+        Event::Issue { changes, .. } => changes.len(),
+        _ => 0,
+    }
+}
+
 /// The outcome of events that happen one after the other.
 fn outcome_of(alloc: Global, plan: &Arc<CheckedPlan>, events: &[Event]) -> Result<Outcome, Fault>
     ensures tells { IfOk result (TellsRun (checked_model (arc_value plan.now)) (events_of events.now)) }
     ensures memory { IfErr result (λ e. e ≡ NoMemory) }
 {
     let mut actors = Actors::open(alloc, plan)?;
-    let mut results = Vec::new(alloc);
+    actors.reserve(events.len())?;
+    let mut results = Vec::with_capacity(alloc, events.len())?;
     for event in events {
         let result = told(actors.step(alloc, event))?;
         results.push(result)?;
@@ -66,6 +75,17 @@ fn outcome_of(alloc: Global, plan: &Arc<CheckedPlan>, events: &[Event]) -> Resul
     })
 }
 
+/// How many messages most orders make together: one each, and one a change.
+fn most_messages(orders: &[Order]) -> usize {
+    let mut count = orders.len();
+    for order in orders {
+        if let Order::Event(event) = order {
+            count = count.saturating_add(changes_in(event));
+        }
+    }
+    count
+}
+
 /// The outcome of orders that are followed one after the other, the memory of each of which is given back once it was followed.
 fn outcome_of_orders(
     alloc: Global,
@@ -76,8 +96,9 @@ fn outcome_of_orders(
     ensures memory { IfErr result (λ e. e ≡ NoMemory) }
 {
     let mut actors = Actors::open(alloc, plan)?;
-    let mut firsts = Vec::new(alloc);
-    let mut results = Vec::new(alloc);
+    actors.reserve(most_messages(orders.as_slice()))?;
+    let mut firsts = Vec::with_capacity(alloc, orders.len())?;
+    let mut results = Vec::with_capacity(alloc, orders.len())?;
     for order in orders {
         let made = actors.made();
         let step = follow(

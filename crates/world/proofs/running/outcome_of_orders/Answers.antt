@@ -24,7 +24,7 @@ loop-order-preserved c =
     let left : List Order = into_iter_items c.next.new.self in
     let event : model.Event = ordered results order in
     let later : List model.Event = events_from plan new (results ++ result ∷ []) left in
-    let followed : Steps (event_late event) (model.step (plan_of c.loop-order.actors) old event) old c.follow-step.result new = rw c.as_slice-in-loop-order.ensures.value at c.follow-step.ensures.steps in
+    let followed : Steps (event_late event) (model.step (plan_of c.loop-order.actors) old event) old c.follow-step.result new = rw c.as_slice-in-loop-order-2.ensures.value at c.follow-step.ensures.steps in
     let steps : Steps (event_late event) (model.step plan old event) old result new =
     subst (λ (p : Plan). Steps (event_late event) (model.step p old event) old result new) c.loop-order.invariant.plan_is (rw c.in_ok-result.ensures.same followed) in
     let ne : result ≢ Err NoMemory = c.in_ok-result.ensures.some in

@@ -1,7 +1,8 @@
 use Rattle.std.proofs.Common.{◌≡◌, ◌++◌, ℕ, true, [], List, Result, Ok, Err, refl, sym, ap, ap₂, ◌∙◌, subst, rules}
 use Rattle.std.specs.Arc.{arc_value}
+use Rattle.std.specs.Global.{Box}
 use Rattle.plan.specs.CheckedModel.{checked_model}
-use Rattle.volume_model.specs.Lists.{added}
+use Rattle.volume_model.specs.Lists.{added, put}
 use Rattle.volume_model.specs.Answer.{may_want_memory}
 use Rattle.volume_model.specs.declared.fault.Fault.{Fault}
 use Rattle.volume_model.specs.declared.fault.Fault.TheVariants.{NoMemory}
@@ -30,7 +31,10 @@ returns-clause-steps c =
     let born : Client = c.act.new.self in
     let kept : List Message = self.messages.items in
     let made : List Message = c.in_ok-made.made.items in
-    let is : IsPut self.clients c.args.volume born c.insert.new.self = c.in_ok-insert.ensures.updates.0 in
+    let home : Box Client = c.in_ok-new.field-0 in
+    let inside : home.value ≡ born = c.in_ok-new.ensures.ok in
+    let is : IsPut self.clients c.args.volume home c.insert.new.self = c.in_ok-insert.ensures.updates.0 in
+    let put_is : put (clients_of self.clients) c.args.volume (seen_client born) ≡ clients_of c.insert.new.self = ap (λ (cl : Client). put (clients_of self.clients) c.args.volume (seen_client cl)) (sym inside) ∙ client_put self.clients c.insert.new.self c.args.volume home is in
     let ordered : IsOrderOf (messages_in self) c.args.order c.in_ok-act.act = subst (λ (ms : List Message). IsOrderOf (added (messages_of ms) []) c.args.order c.in_ok-act.act) c.as_slice.ensures.value c.in_ok-act.ensures in
     let defined : ClientAnswer = client_ordered (messages_in self) c.args.order (plan_of self) c.args.volume unborn in
     let new : Client = c.unborn-client.result in
@@ -39,7 +43,7 @@ returns-clause-steps c =
     λ i. client_acted c.in_ok-act.act (sym (c.unborn-client.ensures.own.plan_is ∙ cloned ∙ c.requires.actors.plan) i) (sym c.unborn-client.ensures.own.volume_is i) (sym c.unborn-client.ensures.client i) in
     let steps : defined ≡ Ok (acted c.in_ok-made.made (seen_client born)) = ordered.does (plan_of self) c.args.volume unborn ∙ asked ∙ c.in_ok-made.ensures.answers in
     client_steps (authority_of self.authority) (node_at (plan_of self) (nodes_of self.nodes.items)) (clients_of self.clients) (messages_in self) c.args.volume (order_late c.args.order) defined unborn (seen_client born) (ap client_or_unborn c.requires.absent)
-    (clients_of c.insert.new.self) (client_put self.clients c.insert.new.self c.args.volume born is) (Ok c.enter.result) (added (messages_of c.enter.new.messages.items) [])
+    (clients_of c.insert.new.self) put_is (Ok c.enter.result) (added (messages_of c.enter.new.messages.items) [])
     (told_made (λ (step : ClientStep). step.made) (λ (step : ClientStep). step.client) kept c.enter.new.messages.items made defined (acted c.in_ok-made.made (seen_client born)) (seen_client born) c.enter.result
     steps refl refl c.enter.ensures.count (c.enter.ensures.added ∙ ap (λ (ms : List Message). ms ++ made) c.in_ok-reserve.ensures.items))
 
@@ -48,14 +52,17 @@ returns-clause-good c =
     let self = c.args.self.now in
     let new : Client = c.unborn-client.result in
     let born : Client = c.act.new.self in
-    let is : IsPut self.clients c.args.volume born c.insert.new.self = c.in_ok-insert.ensures.updates.0 in
+    let home : Box Client = c.in_ok-new.field-0 in
+    let inside : home.value ≡ born = c.in_ok-new.ensures.ok in
+    let is : IsPut self.clients c.args.volume home c.insert.new.self = c.in_ok-insert.ensures.updates.0 in
     let cloned : checked_model (arc_value c.in_ok-clone.field-0) ≡ checked_model (arc_value self.plan) = search rules in
     let own : IsClientOf (plan_of self) c.args.volume new = record { plan_is = c.unborn-client.ensures.own.plan_is ∙ cloned ∙ c.requires.actors.plan; volume_is = c.unborn-client.ensures.own.volume_is } in
     record {
       plan = c.requires.actors.plan;
       homes = c.requires.actors.homes;
       low = c.requires.actors.low;
-      clients = clients_on self.clients c.insert.new.self c.args.volume born is (plan_of self) c.requires.actors.clients (same_client (plan_of self) c.args.volume new born own c.act.ensures.same);
+      clients = clients_on self.clients c.insert.new.self c.args.volume home is (plan_of self) c.requires.actors.clients
+          (subst (IsClientOf (plan_of self) c.args.volume) (sym inside) (same_client (plan_of self) c.args.volume new born own c.act.ensures.same));
     }
 
 pub returns-in_err-insert-clause-good : goal.returns-in_err-insert-clause-good

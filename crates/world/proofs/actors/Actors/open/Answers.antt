@@ -1,5 +1,6 @@
 use Rattle.std.proofs.Common.{◌≡◌, ℕ, [], refl, sym, ap, ap₂, ◌∙◌, subst, rules}
 use Rattle.std.specs.Arc.{arc_value}
+use Rattle.std.specs.Global.{Box}
 use Rattle.volume_model.specs.Lists.{added, put}
 use Rattle.volume_model.specs.Plan.{Plan}
 use Rattle.volume_model.specs.Node.{born_node}
@@ -23,29 +24,33 @@ use Rattle.world.proofs.actors.Actors.open.Goals as goal
 pub returns-clause-good : goal.returns-clause-good
 returns-clause-good c =
     let plan : Plan = checked_model (arc_value c.args.plan.now) in
-    let same : authority_plan c.in_ok-new.field-0 ≡ plan = search rules in
+    let same : authority_plan c.in_ok-new-2.field-0 ≡ plan = search rules in
     let first : Client = c.in_ok-first.first in
     let mine : IsClientOf plan 1 first = search rules in
-    let is : IsPut c.new-clients.result 1 first c.insert.new.self = c.in_ok-insert.ensures.updates.0 in
+    let home : Box Client = c.in_ok-new.field-0 in
+    let inside : home.value ≡ first = c.in_ok-new.ensures.ok in
+    let is : IsPut c.new-clients.result 1 home c.insert.new.self = c.in_ok-insert.ensures.updates.0 in
     let cloned : checked_model (arc_value c.in_ok-clone-2.field-0) ≡ plan = search rules in
-    let whole : checked_model (arc_value c.in_ok-clone-2.field-0) ≡ authority_plan c.in_ok-new.field-0 = cloned ∙ sym same in
+    let whole : checked_model (arc_value c.in_ok-clone-2.field-0) ≡ authority_plan c.in_ok-new-2.field-0 = cloned ∙ sym same in
     record {
       plan = whole;
       homes = subst (λ (p : Plan). AreHomes p c.in_ok-all_born.field-0.items) (sym same) c.in_ok-all_born.ensures.homes;
       low = subst LowFor (sym same) (λ group member h. is_low (plan_data (arc_value c.args.plan.now).plan) group member h);
-      clients = subst (λ (p : Plan). AreClients p c.insert.new.self) (sym same) (clients_on c.new-clients.result c.insert.new.self 1 first is plan (none_kept c.new-clients.result c.new-clients.ensures.empty plan) mine);
+      clients = subst (λ (p : Plan). AreClients p c.insert.new.self) (sym same) (clients_on c.new-clients.result c.insert.new.self 1 home is plan (none_kept c.new-clients.result c.new-clients.ensures.empty plan) (subst (IsClientOf plan 1) (sym inside) mine));
     }
 
 pub returns-clause-world : goal.returns-clause-world
 returns-clause-world c =
     let plan : Plan = checked_model (arc_value c.args.plan.now) in
-    let same : authority_plan c.in_ok-new.field-0 ≡ plan = search rules in
+    let same : authority_plan c.in_ok-new-2.field-0 ≡ plan = search rules in
     let first : Client = c.in_ok-first.first in
-    let is : IsPut c.new-clients.result 1 first c.insert.new.self = c.in_ok-insert.ensures.updates.0 in
-    let authority : authority_of c.in_ok-new.field-0 ≡ (opening plan).authority = search rules in
+    let home : Box Client = c.in_ok-new.field-0 in
+    let inside : home.value ≡ first = c.in_ok-new.ensures.ok in
+    let is : IsPut c.new-clients.result 1 home c.insert.new.self = c.in_ok-insert.ensures.updates.0 in
+    let authority : authority_of c.in_ok-new-2.field-0 ≡ (opening plan).authority = search rules in
     let writer : seen_client first ≡ first_writer plan = search rules in
     let clients : clients_of c.insert.new.self ≡ put (λ volume. unborn) 1 (first_writer plan) =
-    sym (client_put c.new-clients.result c.insert.new.self 1 first is) ∙ ap₂ (λ (f : ℕ → model.Client) (one : model.Client). put f 1 one) (none_yet c.new-clients.result c.new-clients.ensures.empty) writer in
-    let nodes : node_at (authority_plan c.in_ok-new.field-0) (nodes_of c.in_ok-all_born.field-0.items) ≡ born_node plan = ap (λ (p : Plan). node_at p (nodes_of c.in_ok-all_born.field-0.items)) same ∙ c.in_ok-all_born.ensures.nodes in
-    let messages : added (messages_of c.new-2.result.items) [] ≡ [] = rw c.new-2.ensures.items refl in
+    sym (client_put c.new-clients.result c.insert.new.self 1 home is) ∙ ap₂ (λ (f : ℕ → model.Client) (one : model.Client). put f 1 one) (none_yet c.new-clients.result c.new-clients.ensures.empty) (ap seen_client inside ∙ writer) in
+    let nodes : node_at (authority_plan c.in_ok-new-2.field-0) (nodes_of c.in_ok-all_born.field-0.items) ≡ born_node plan = ap (λ (p : Plan). node_at p (nodes_of c.in_ok-all_born.field-0.items)) same ∙ c.in_ok-all_born.ensures.nodes in
+    let messages : added (messages_of c.new-3.result.items) [] ≡ [] = rw c.new-3.ensures.items refl in
     λ i. world_with (authority i) (nodes i) (clients i) (messages i)

@@ -2,6 +2,8 @@ use Rattle.std.proofs.Common.{◌≡◌, Some, Ok, Err, IsSome, refl, sym, ap, s
 use Rattle.std.proofs.lemmas.Result.{err_from_is_err_and}
 use Rattle.std.specs.Ordering.{nat_cmp}
 use Rattle.std.specs.BTreeMap.{get}
+use Rattle.std.specs.Box.{with_value}
+use Rattle.std.specs.Global.{Box}
 use Rattle.epochs.specs.Authority.{authority_of}
 use Rattle.volume_model.specs.Answer.{never_late, AnswersLate}
 use Rattle.volume_model.specs.declared.fault.Fault.{Fault}
@@ -11,7 +13,7 @@ use Rattle.writer_core.specs.Writers.{silent}
 use Rattle.world.specs.declared.client.Client.{Client}
 use Rattle.world.specs.Slots.{node_at}
 use Rattle.world.specs.Homes.{nodes_of}
-use Rattle.world.specs.Clients.{client_plan, seen_client, client_or_unborn, clients_of}
+use Rattle.world.specs.Clients.{client_plan, seen_client, client_or_unborn, clients_of, IsClientOf}
 use Rattle.world.specs.Actors.{plan_of, messages_in}
 use Rattle.world.specs.Moves.{told_of}
 use Rattle.world.proofs.ClientMap.{IsPut, client_put, clients_on, same_client}
@@ -22,59 +24,71 @@ use Rattle.world.proofs.actors.Actors.opening_step.Goals as goal
 pub returns-in_err-open-in-Some-clause-steps : goal.returns-in_err-open-in-Some-clause-steps
 returns-in_err-open-in-Some-clause-steps c =
     let self = c.args.self.now in
-    let old : Client = c.in-Some.client.now in
+    let home : Box Client = c.in-Some.client.now in
+    let old : Client = c.deref_mut.result.now in
     let new : Client = c.open.new.self in
+    let later : Box Client = with_value home new in
     let fault : Fault = c.in_err-open-in-Some.field-0.0 in
-    let there : get nat_cmp self.clients c.args.volume ≡ Some old = sym c.in-Some.ensures.value in
-    let is : IsPut self.clients c.args.volume new (c.get_mut.follows.lender new) = ((c.get_mut.follows.holds new).3 (subst IsSome (sym there) refl)).0 in
-    let at : clients_of self.clients c.args.volume ≡ seen_client old = ap client_or_unborn there in
-    let asked : opened (client_plan old) (seen_client old) ≡ opened (plan_of self) (clients_of self.clients c.args.volume) = λ i. opened ((c.requires.clients c.args.volume old there).plan_is i) (sym at i) in
+    let there : get nat_cmp self.clients c.args.volume ≡ Some home = sym c.in-Some.ensures.value in
+    let is : IsPut self.clients c.args.volume later (c.get_mut.follows.lender later) = ((c.get_mut.follows.holds later).3 (subst IsSome (sym there) refl)).0 in
+    let own : IsClientOf (plan_of self) c.args.volume old = subst (IsClientOf (plan_of self) c.args.volume) (sym c.deref_mut.ensures.value) (c.requires.clients c.args.volume home there) in
+    let at : clients_of self.clients c.args.volume ≡ seen_client old = ap client_or_unborn there ∙ ap seen_client (sym c.deref_mut.ensures.value) in
+    let asked : opened (client_plan old) (seen_client old) ≡ opened (plan_of self) (clients_of self.clients c.args.volume) = λ i. opened (own.plan_is i) (sym at i) in
     let answers : AnswersLate never_late silent (opened (plan_of self) (clients_of self.clients c.args.volume)) (seen_client old) (Err fault) (seen_client new) =
     subst (λ (d : ClientAnswer). AnswersLate never_late silent d (seen_client old) (Err fault) (seen_client new)) asked c.in_err-open-in-Some.ensures.answers in
     let p = err_from_is_err_and c.from_residual.result c.from_residual.ensures.1 in
     rw (p.1, p.2) (client_steps (authority_of self.authority) (node_at (plan_of self) (nodes_of self.nodes.items)) (clients_of self.clients) (messages_in self) c.args.volume never_late _ (seen_client old) (seen_client new) at
-    (clients_of (c.get_mut.follows.lender new)) (client_put self.clients (c.get_mut.follows.lender new) c.args.volume new is) (Err fault) (messages_in self)
+    (clients_of (c.get_mut.follows.lender later)) (client_put self.clients (c.get_mut.follows.lender later) c.args.volume later is) (Err fault) (messages_in self)
     (refused_moves (λ (step : ClientStep). step.made) (λ (step : ClientStep). step.client) never_late silent _ (seen_client old) (seen_client new) (messages_in self) fault answers))
 
 pub returns-in_err-open-in-Some-clause-good : goal.returns-in_err-open-in-Some-clause-good
 returns-in_err-open-in-Some-clause-good c =
     let self = c.args.self.now in
-    let old : Client = c.in-Some.client.now in
+    let home : Box Client = c.in-Some.client.now in
+    let old : Client = c.deref_mut.result.now in
     let new : Client = c.open.new.self in
-    let there : get nat_cmp self.clients c.args.volume ≡ Some old = sym c.in-Some.ensures.value in
-    let is : IsPut self.clients c.args.volume new (c.get_mut.follows.lender new) = ((c.get_mut.follows.holds new).3 (subst IsSome (sym there) refl)).0 in
+    let later : Box Client = with_value home new in
+    let there : get nat_cmp self.clients c.args.volume ≡ Some home = sym c.in-Some.ensures.value in
+    let is : IsPut self.clients c.args.volume later (c.get_mut.follows.lender later) = ((c.get_mut.follows.holds later).3 (subst IsSome (sym there) refl)).0 in
+    let own : IsClientOf (plan_of self) c.args.volume old = subst (IsClientOf (plan_of self) c.args.volume) (sym c.deref_mut.ensures.value) (c.requires.clients c.args.volume home there) in
     record {
       plan = c.requires.plan;
       homes = c.requires.homes;
       low = c.requires.low;
-      clients = clients_on self.clients (c.get_mut.follows.lender new) c.args.volume new is (plan_of self) c.requires.clients (same_client (plan_of self) c.args.volume old new (c.requires.clients c.args.volume old there) c.open.ensures.same);
+      clients = clients_on self.clients (c.get_mut.follows.lender later) c.args.volume later is (plan_of self) c.requires.clients (same_client (plan_of self) c.args.volume old new own c.open.ensures.same);
     }
 
 pub returns-in_ok-open-in-Some-clause-good : goal.returns-in_ok-open-in-Some-clause-good
 returns-in_ok-open-in-Some-clause-good c =
     let self = c.args.self.now in
-    let old : Client = c.in-Some.client.now in
+    let home : Box Client = c.in-Some.client.now in
+    let old : Client = c.deref_mut.result.now in
     let new : Client = c.open.new.self in
-    let there : get nat_cmp self.clients c.args.volume ≡ Some old = sym c.in-Some.ensures.value in
-    let is : IsPut self.clients c.args.volume new (c.get_mut.follows.lender new) = ((c.get_mut.follows.holds new).3 (subst IsSome (sym there) refl)).0 in
+    let later : Box Client = with_value home new in
+    let there : get nat_cmp self.clients c.args.volume ≡ Some home = sym c.in-Some.ensures.value in
+    let is : IsPut self.clients c.args.volume later (c.get_mut.follows.lender later) = ((c.get_mut.follows.holds later).3 (subst IsSome (sym there) refl)).0 in
+    let own : IsClientOf (plan_of self) c.args.volume old = subst (IsClientOf (plan_of self) c.args.volume) (sym c.deref_mut.ensures.value) (c.requires.clients c.args.volume home there) in
     record {
       plan = c.requires.plan;
       homes = c.requires.homes;
       low = c.requires.low;
-      clients = clients_on self.clients (c.get_mut.follows.lender new) c.args.volume new is (plan_of self) c.requires.clients (same_client (plan_of self) c.args.volume old new (c.requires.clients c.args.volume old there) c.open.ensures.same);
+      clients = clients_on self.clients (c.get_mut.follows.lender later) c.args.volume later is (plan_of self) c.requires.clients (same_client (plan_of self) c.args.volume old new own c.open.ensures.same);
     }
 
 pub returns-in_ok-open-in-Some-clause-steps : goal.returns-in_ok-open-in-Some-clause-steps
 returns-in_ok-open-in-Some-clause-steps c =
     let self = c.args.self.now in
-    let old : Client = c.in-Some.client.now in
+    let home : Box Client = c.in-Some.client.now in
+    let old : Client = c.deref_mut.result.now in
     let new : Client = c.open.new.self in
-    let there : get nat_cmp self.clients c.args.volume ≡ Some old = sym c.in-Some.ensures.value in
-    let is : IsPut self.clients c.args.volume new (c.get_mut.follows.lender new) = ((c.get_mut.follows.holds new).3 (subst IsSome (sym there) refl)).0 in
-    let at : clients_of self.clients c.args.volume ≡ seen_client old = ap client_or_unborn there in
-    let asked : opened (client_plan old) (seen_client old) ≡ opened (plan_of self) (clients_of self.clients c.args.volume) = λ i. opened ((c.requires.clients c.args.volume old there).plan_is i) (sym at i) in
+    let later : Box Client = with_value home new in
+    let there : get nat_cmp self.clients c.args.volume ≡ Some home = sym c.in-Some.ensures.value in
+    let is : IsPut self.clients c.args.volume later (c.get_mut.follows.lender later) = ((c.get_mut.follows.holds later).3 (subst IsSome (sym there) refl)).0 in
+    let own : IsClientOf (plan_of self) c.args.volume old = subst (IsClientOf (plan_of self) c.args.volume) (sym c.deref_mut.ensures.value) (c.requires.clients c.args.volume home there) in
+    let at : clients_of self.clients c.args.volume ≡ seen_client old = ap client_or_unborn there ∙ ap seen_client (sym c.deref_mut.ensures.value) in
+    let asked : opened (client_plan old) (seen_client old) ≡ opened (plan_of self) (clients_of self.clients c.args.volume) = λ i. opened (own.plan_is i) (sym at i) in
     let step : ClientStep = silent tt (seen_client new) in
     let made : opened (plan_of self) (clients_of self.clients c.args.volume) ≡ Ok step = sym asked ∙ c.in_ok-open-in-Some.ensures.answers in
     client_steps (authority_of self.authority) (node_at (plan_of self) (nodes_of self.nodes.items)) (clients_of self.clients) (messages_in self) c.args.volume never_late _ (seen_client old) (seen_client new) at
-    (clients_of (c.get_mut.follows.lender new)) (client_put self.clients (c.get_mut.follows.lender new) c.args.volume new is) (Ok 0) (messages_in self)
+    (clients_of (c.get_mut.follows.lender later)) (client_put self.clients (c.get_mut.follows.lender later) c.args.volume later is) (Ok 0) (messages_in self)
     (ap (told_of (λ (s : ClientStep). s.made) (λ (s : ClientStep). s.client) (messages_in self)) made)
