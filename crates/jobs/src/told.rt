@@ -22,6 +22,15 @@ use world::{FindEnd, Outcome, WriterEnd};
 /// As many bytes as most lines of steps have.
 const LINE_BYTES: usize = 12;
 
+/// As many bytes as most lines of writers and recoveries have.
+const END_BYTES: usize = 40;
+
+/// For how many bytes room is made for the lines of so many steps, writers and recoveries.
+fn room_for(steps: usize, ends: usize) -> usize {
+    let lines = steps.saturating_mul(LINE_BYTES);
+    lines.saturating_add(ends.saturating_mul(END_BYTES))
+}
+
 /// How many configurations the groups have together.
 fn configurations(plan: &CheckedPlan) -> u64
     ensures counted { result ≡ sum_below (checked_model plan.now).configurations (checked_model plan.now).groups }
@@ -225,7 +234,8 @@ fn add_writers(text: &mut String, writers: &[WriterEnd]) -> Result<(), AllocErro
 pub fn run_lines(alloc: Global, steps: &[Step], outcome: &Outcome) -> Result<Reply, AllocError>
     ensures { IfOk result (λ reply. TellsOf steps.now outcome.now.results.items (map opened_of outcome.now.writers.items) (map find_of outcome.now.finds.items) reply.status (string_bytes reply.text)) }
 {
-    let mut text = String::with_capacity(alloc, steps.len().saturating_mul(LINE_BYTES))?;
+    let ends = outcome.writers.len().saturating_add(outcome.finds.len());
+    let mut text = String::with_capacity(alloc, room_for(steps.len(), ends))?;
     add_steps(&mut text, steps, outcome.results.as_slice())?;
     add_writers(&mut text, outcome.writers.as_slice())?;
     add_finds(&mut text, outcome.finds.as_slice())?;
