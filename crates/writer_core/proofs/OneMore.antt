@@ -7,10 +7,10 @@ use Rattle.volume_model.specs.Lists.{every}
 use Rattle.volume_model.specs.Redo.{last_lsn}
 use Rattle.volume_model.specs.Message as model
 use Rattle.volume_model.specs.Client as client
+use Rattle.volume_model.specs.ClientWriter as model_writer
 use Rattle.volume_model.specs.ClientWriter.{record_of, is_last, issued_log, issued_writes, is_change}
 use Rattle.redo_record.specs.declared.packet.Packet.{Packet}
 use Rattle.redo_record.specs.Packet.{packet_redo}
-use Rattle.redo_record.specs.Payload.{payload_bytes}
 use Rattle.wire.specs.declared.message.Message.{Message}
 use Rattle.wire.specs.Message.{message_of, messages_of}
 use Rattle.writer_core.specs.declared.change.Change.{Change}
@@ -34,20 +34,21 @@ here_is changes i change within is = ap changes_of (drop-cons changes i change w
 
 -- what a good change keeps to
 pub record IsGood (groups : ℕ) (change : Change) : Type 0 where
-  pub group : change.group < groups
-  pub place : change.offset + length (payload_bytes change.bytes) ≤ 512
+  pub group : (change_of change).group < groups
+  pub place : (change_of change).offset + length (change_of change).bytes ≤ 512
 
 -- the change at hand is a good one
 pub good_here : (groups : ℕ) (changes : List Change) (i : ℕ) (change : Change) → i < length changes → change ≡ get_or changes i change → every (is_change groups) (changes_of (drop i changes)) ≡ true → IsGood groups change
 good_here groups changes i change within is h =
+    let it : model_writer.Change = change_of change in
     let good : (is_change groups (change_of change) && every (is_change groups) (changes_of (drop (i + 1) changes))) ≡ true = sym (ap (every (is_change groups)) (here_is changes i change within is)) ∙ h in
     let a = and_parts (is_change groups (change_of change)) (every (is_change groups) (changes_of (drop (i + 1) changes))) good in
-    let b = and_parts (nat_lt change.group groups) (nat_le 1 (length (payload_bytes change.bytes)) && (nat_le (length (payload_bytes change.bytes)) 64 && nat_le (change.offset + length (payload_bytes change.bytes)) 512)) a.0 in
-    let c = and_parts (nat_le 1 (length (payload_bytes change.bytes))) (nat_le (length (payload_bytes change.bytes)) 64 && nat_le (change.offset + length (payload_bytes change.bytes)) 512) b.1 in
-    let d = and_parts (nat_le (length (payload_bytes change.bytes)) 64) (nat_le (change.offset + length (payload_bytes change.bytes)) 512) c.1 in
+    let b = and_parts (nat_lt it.group groups) (nat_le 1 (length it.bytes) && (nat_le (length it.bytes) 64 && nat_le (it.offset + length it.bytes) 512)) a.0 in
+    let c = and_parts (nat_le 1 (length it.bytes)) (nat_le (length it.bytes) 64 && nat_le (it.offset + length it.bytes) 512) b.1 in
+    let d = and_parts (nat_le (length it.bytes) 64) (nat_le (it.offset + length it.bytes) 512) c.1 in
     record {
-      group = ltb-true change.group groups b.0;
-      place = leb-true (change.offset + length (payload_bytes change.bytes)) 512 d.1;
+      group = ltb-true it.group groups b.0;
+      place = leb-true (it.offset + length it.bytes) 512 d.1;
     }
 
 module _ (volume start : ℕ) (places : ℕ → model.Place) (changes : List Change) (i : ℕ) (change : Change) (within : i < length changes) (is : change ≡ get_or changes i change) (records : List Packet) (p : Packet) (made : packet_redo p ≡ record_of volume start (log_of records) (change_of change) (nat_eq (i + 1) (length changes))) where
@@ -63,9 +64,9 @@ module _ (volume start : ℕ) (places : ℕ → model.Place) (changes : List Cha
   pub logged_on : issued_log volume start (changes_of (drop (i + 1) changes)) (log_of (records ++ p ∷ [])) ≡ issued_log volume start (changes_of (drop i changes)) (log_of records)
   logged_on = ap (issued_log volume start (changes_of (drop (i + 1) changes))) log_is ∙ sym (ap (λ cs. issued_log volume start cs (log_of records)) rest_is)
 
-  pub written_on : (m : model.Message) → m ≡ model.Message.Write change.group (client.label_of volume places change.group) (packet_redo p) → m ∷ issued_writes volume places start (changes_of (drop (i + 1) changes)) (log_of (records ++ p ∷ [])) ≡ issued_writes volume places start (changes_of (drop i changes)) (log_of records)
+  pub written_on : (m : model.Message) → m ≡ model.Message.Write (change_of change).group (client.label_of volume places (change_of change).group) (packet_redo p) → m ∷ issued_writes volume places start (changes_of (drop (i + 1) changes)) (log_of (records ++ p ∷ [])) ≡ issued_writes volume places start (changes_of (drop i changes)) (log_of records)
   written_on m e =
-      ap₂ (λ x l. x ∷ issued_writes volume places start (changes_of (drop (i + 1) changes)) l) (e ∙ ap (model.Message.Write change.group (client.label_of volume places change.group)) record_is) log_is
+      ap₂ (λ x l. x ∷ issued_writes volume places start (changes_of (drop (i + 1) changes)) l) (e ∙ ap (model.Message.Write (change_of change).group (client.label_of volume places (change_of change).group)) record_is) log_is
       ∙ sym (ap (λ cs. issued_writes volume places start cs (log_of records)) rest_is)
 
   pub growing_on : is_growing (log_of records) ≡ true → is_growing (log_of (records ++ p ∷ [])) ≡ true

@@ -1,16 +1,165 @@
 //! What a transaction asks for.
 
+use crate::few_bytes::{FewBytes, MOST_FEW};
 use redo_record::Payload;
+use std::alloc::{AllocError, Global};
 
-/// A change of a block that a transaction asks for.
-#[derive(Clone, Copy)]
+/// A change, with few bytes in place or more behind a pointer.
+#[derive(Drop)]
+enum Form {
+    Few {
+        group: u8,
+        offset: u16,
+        block: u32,
+        bytes: FewBytes,
+    },
+    Many {
+        group: u8,
+        offset: u16,
+        block: u32,
+        bytes: Box<Payload>,
+    },
+}
+
+/// A change of a block that a transaction asks for: the bytes, 1 to 64, that stand in a block of a protection group from an offset on. There
+/// may be many.
+#[derive(Drop)]
 pub struct Change {
+    form: Form,
+}
+
+const _: () = prove!(size_of::<Change>() <= 16);
+
+impl Change {
+    ghost use Rattle.std.specs.Prelude.{◌≡◌, IfOk, length};
+    ghost use Rattle.redo_record.specs.Payload.{payload_bytes, HasRoom};
+    ghost use Rattle.writer_core.specs.Changes.{change_of};
+
+    /// A change to these bytes, from the offset on. Fails for want of memory alone.
+    #[inline(always)]
+    pub fn new(
+        alloc: Global,
+        group: u8,
+        block: u32,
+        offset: u16,
+        bytes: &[u8],
+    ) -> Result<Change, AllocError>
+        requires room { HasRoom (length bytes.now) }
+        ensures { IfOk result (λ change. change_of change ≡ record { group = group; block = block; offset = offset; bytes = bytes.now }) }
+    {
+        if bytes.len() <= MOST_FEW {
+            let bytes = FewBytes::new(bytes);
+            return Ok(Change {
+                form: Form::Few {
+                    group,
+                    offset,
+                    block,
+                    bytes,
+                },
+            });
+        }
+        let bytes = match Payload::new(bytes) {
+            Some(payload) => Box::new(alloc, payload)?,
+            None => unreachable!(),
+        };
+        Ok(Change {
+            form: Form::Many {
+                group,
+                offset,
+                block,
+                bytes,
+            },
+        })
+    }
+
     /// The protection group.
-    pub group: u8,
+    #[inline(always)]
+    pub fn group(&self) -> u8
+        ensures { result ≡ (change_of self.now).group }
+    {
+        match &self.form {
+            Form::Few { group, .. } => *group,
+            Form::Many { group, .. } => *group,
+        }
+    }
+
     /// The block of the group.
-    pub block: u32,
+    #[inline(always)]
+    pub fn block(&self) -> u32
+        ensures { result ≡ (change_of self.now).block }
+    {
+        match &self.form {
+            Form::Few { block, .. } => *block,
+            Form::Many { block, .. } => *block,
+        }
+    }
+
     /// The first byte of the block that is changed.
-    pub offset: u16,
+    #[inline(always)]
+    pub fn offset(&self) -> u16
+        ensures { result ≡ (change_of self.now).offset }
+    {
+        match &self.form {
+            Form::Few { offset, .. } => *offset,
+            Form::Many { offset, .. } => *offset,
+        }
+    }
+
     /// The bytes that stand there from then on.
-    pub bytes: Payload,
+    #[inline(always)]
+    pub fn bytes(&self) -> &[u8]
+        ensures value { result.now ≡ (change_of self.now).bytes }
+        ensures room { HasRoom (length result.now) }
+    {
+        match &self.form {
+            Form::Few { bytes, .. } => bytes.as_slice(),
+            Form::Many { bytes, .. } => bytes.as_slice(),
+        }
+    }
+
+    /// The same, as a record has them.
+    #[inline(always)]
+    pub fn payload(&self) -> Payload
+        ensures { payload_bytes result ≡ (change_of self.now).bytes }
+    {
+        match &self.form {
+            Form::Few { bytes, .. } => bytes.payload(),
+            Form::Many { bytes, .. } => **bytes,
+        }
+    }
+}
+
+impl Clone for Change {
+    ghost use Rattle.std.specs.Prelude.{◌≡◌};
+    ghost use Rattle.writer_core.specs.Changes.{change_of};
+
+    ghost is_clone = { λ change copy. change_of copy ≡ change_of change };
+
+    fn clone(&self) -> Result<Change, AllocError> {
+        let form = match &self.form {
+            Form::Few {
+                group,
+                offset,
+                block,
+                bytes,
+            } => Form::Few {
+                group: *group,
+                offset: *offset,
+                block: *block,
+                bytes: *bytes,
+            },
+            Form::Many {
+                group,
+                offset,
+                block,
+                bytes,
+            } => Form::Many {
+                group: *group,
+                offset: *offset,
+                block: *block,
+                bytes: bytes.clone()?,
+            },
+        };
+        Ok(Change { form })
+    }
 }

@@ -7,7 +7,6 @@ ghost use Rattle.volume_model.specs.Client.{place_of};
 ghost use Rattle.volume_model.specs.ClientWriter.{record_of, issued_log, issued_writes, is_change};
 ghost use Rattle.volume_model.specs.Lists.{every};
 ghost use Rattle.redo_record.specs.Packet.{packet_redo};
-ghost use Rattle.redo_record.specs.Payload.{payload_bytes};
 ghost use Rattle.volume_model.specs.Message as model;
 ghost use Rattle.volume_model.specs.Client.{label_of};
 ghost use Rattle.wire.specs.Message.{messages_of};
@@ -47,32 +46,33 @@ fn next_packet(
 ) -> Result<Packet, AllocError>
     requires lasts { AreLastsOfAll lasts.old (packets_in log.now) }
     requires room { max (last_lsn (log_in log.now)) span.start < 2 ^ 62 }
-    requires group { change.now.group < 16 }
-    requires place { change.now.offset + length (payload_bytes change.now.bytes) ≤ 512 }
+    requires group { (change_of change.now).group < 16 }
+    requires place { (change_of change.now).offset + length (change_of change.now).bytes ≤ 512 }
     ensures made { IfOk result (λ packet. packet_redo packet ≡ record_of span.volume span.start (log_in log.now) (change_of change.now) point) }
     ensures entered { IfOk result (λ packet. AreLastsOfAll lasts.new (packets_in log.now ++ packet ∷ [])) }
     ensures err { OnErr result (AreLastsOfAll lasts.new (packets_in log.now)) }
 {
     let last = log.last_lsn();
     let lsn = last.max(span.start) + 1;
-    let prev_group = lasts.of_group(change.group);
-    let prev_block = lasts.enter(change.group, change.block, lsn)?;
+    let (group, block) = (change.group(), change.block());
+    let prev_group = lasts.of_group(group);
+    let prev_block = lasts.enter(group, block, lsn)?;
     let record = Record {
         lsn,
         volume_epoch: span.volume,
         prev_volume: last,
         prev_group,
         prev_block,
-        group: change.group,
-        block: change.block,
-        offset: change.offset,
-        bytes: change.bytes,
+        group,
+        block,
+        offset: change.offset(),
+        bytes: change.payload(),
         point,
     };
     match Packet::pack(alloc, record) {
         Ok(packet) => Ok(packet),
         Err(error) => {
-            lasts.leave(change.group, change.block, prev_group, prev_block);
+            lasts.leave(group, block, prev_group, prev_block);
             Err(error)
         }
     }

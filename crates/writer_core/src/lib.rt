@@ -5,6 +5,7 @@ mod change;
 mod count;
 mod counts;
 mod covered;
+mod few_bytes;
 mod installs;
 mod issuing;
 mod lasts;

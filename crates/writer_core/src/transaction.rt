@@ -18,8 +18,8 @@ const MOST_CHANGES: usize = 32;
 fn is_change(groups: usize, change: &Change) -> bool
     ensures { result ≡ is_change groups (change_of change.now) }
 {
-    usize::from(change.group) < groups
-        && usize::from(change.offset) + change.bytes.as_slice().len() <= BLOCK
+    usize::from(change.group()) < groups
+        && usize::from(change.offset()) + change.bytes().len() <= BLOCK
 }
 
 /// Whether there are 1 to 32 changes, each of them a good one.
@@ -42,7 +42,7 @@ pub fn have_joined(standings: &Standings, changes: &[Change]) -> bool
     ensures { result ≡ have_joined (groups_in standings.now) (changes_of changes.now) }
 {
     for change in changes {
-        if !standings.has_joined(change.group) {
+        if !standings.has_joined(change.group()) {
             return false;
         }
     }

@@ -64,7 +64,7 @@ loop-i-preserved c =
     let message = c.in_ok-message.field-0 in
     let logs : packets_in c.push_reserved.new.self ≡ records ++ p ∷ [] = c.push_reserved.ensures.packets in
     let messages : c.push.new.self.items ≡ c.loop-i.messages.items ++ message ∷ [] = c.in_ok-push.ensures.items in
-    let said : message_of message ≡ model.Message.Write change.group (label_of volume places change.group) (packet_redo p) =
+    let said : message_of message ≡ model.Message.Write (change_of change).group (label_of volume places (change_of change).group) (packet_redo p) =
     c.in_ok-message.ensures ∙ c.carry.ensures ∙ ap (λ (g : ℕ). model.Message.Write g (label_of volume places g) (packet_redo p)) (ap (λ (s : Redo). s.group) made) in
     record {
       lasts = rw logs c.in_ok-packet.ensures.entered;

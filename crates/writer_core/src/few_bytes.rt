@@ -1,0 +1,57 @@
+//! A few bytes.
+
+ghost use Rattle.std.specs.Prelude.{◌≤◌};
+
+use redo_record::Payload;
+
+/// How many bytes are few.
+pub const MOST_FEW: usize = 7;
+
+/// 1 to 7 bytes, in place.
+#[derive(Clone, Copy)]
+pub struct FewBytes {
+    length: u8,
+    place: [u8; MOST_FEW],
+    ghost not_empty: { 1 ≤ length },
+    ghost in_place: { length ≤ 7 },
+}
+
+impl FewBytes {
+    ghost use Rattle.std.specs.Prelude.{◌≡◌, ◌≤◌, length};
+    ghost use Rattle.redo_record.specs.Payload.{payload_bytes, HasRoom};
+    ghost use Rattle.writer_core.specs.Changes.{few_bytes};
+
+    /// These bytes.
+    #[inline(always)]
+    pub fn new(bytes: &[u8]) -> FewBytes
+        requires some { 1 ≤ length bytes.now }
+        requires few { length bytes.now ≤ MOST_FEW }
+        ensures { few_bytes result ≡ bytes.now }
+    {
+        let mut place = [0; MOST_FEW];
+        place[..bytes.len()].copy_from_slice(bytes);
+        FewBytes {
+            length: bytes.len() as u8,
+            place,
+        }
+    }
+
+    /// The bytes.
+    #[inline(always)]
+    pub fn as_slice(&self) -> &[u8]
+        ensures value { result.now ≡ few_bytes self.now }
+        ensures room { HasRoom (length result.now) }
+    {
+        &self.place[..self.length as usize]
+    }
+
+    /// The bytes, as a record has them.
+    pub fn payload(&self) -> Payload
+        ensures { payload_bytes result ≡ few_bytes self.now }
+    {
+        match Payload::new(self.as_slice()) {
+            Some(payload) => payload,
+            None => unreachable!(),
+        }
+    }
+}
