@@ -8,3 +8,4 @@ pub mod Turns
 pub mod Places
 pub mod LastWords
 pub mod NamedLines
+pub mod PlainChanges

@@ -33,18 +33,18 @@ digit_low b e = grind (arith, nat_tests)
 pub digit_high : (b : ℕ) → is_ascii_digit b ≡ true → b < 58
 digit_high b e = grind (arith, nat_tests)
 
-digits_in : (word : List ℕ) → is_numeral word ≡ true → All (λ b. is_ascii_digit b ≡ true) word
+pub digits_in : (word : List ℕ) → is_numeral word ≡ true → All (λ b. is_ascii_digit b ≡ true) word
 digits_in word e = AllPass-from_list_all is_ascii_digit word (and_both (begins word) (list_all is_ascii_digit word) e).1
 
 -- a numeral has neither a space nor a dot
-numeral_visible : (word : List ℕ) → is_numeral word ≡ true → IsVisible word
+pub numeral_visible : (word : List ℕ) → is_numeral word ≡ true → IsVisible word
 numeral_visible word e =
     All-weaker (λ b. is_ascii_digit b ≡ true) (λ b. (32 < b) × (b < 128)) (λ b d. (omega (arith, digit_low b d), omega (arith, digit_high b d))) word (digits_in word e)
 
 no_dot : (word : List ℕ) → is_numeral word ≡ true → All (λ b. eqb b 46 ≡ false) word
 no_dot word e = All-weaker (λ b. is_ascii_digit b ≡ true) (λ b. eqb b 46 ≡ false) (λ b d. ne_eqb b 46 (λ same. absurd (omega (arith, digit_low b d, same)))) word (digits_in word e)
 
-no_space : (word : List ℕ) → IsVisible word → All (λ b. eqb b 32 ≡ false) word
+pub no_space : (word : List ℕ) → IsVisible word → All (λ b. eqb b 32 ≡ false) word
 no_space word visible = All-weaker (λ b. (32 < b) × (b < 128)) (λ b. eqb b 32 ≡ false) (λ b v. ne_eqb b 32 (λ same. absurd (omega (arith, v.0, same)))) word visible
 
 plain_word : (word : List ℕ) → IsVisible word → All IsPlain word
@@ -57,7 +57,7 @@ plain_more word rest visible later = All-append IsPlain word (32 ∷ rest) (plai
 words_more : (word rest : List ℕ) (words : List (List ℕ)) → IsVisible word → words_in rest ≡ words → words_in (word ++ 32 ∷ rest) ≡ word ∷ words
 words_more word rest words visible later = slice_split_at (λ b. eqb b 32) word 32 rest (no_space word visible) refl ∙ ap (λ ws. word ∷ ws) later
 
-joined : (text word rest after more tail : List ℕ) (c : ℕ) → text ≡ word ++ rest → rest ≡ c ∷ after → after ≡ more ++ tail → text ≡ (word ++ c ∷ more) ++ tail
+pub joined : (text word rest after more tail : List ℕ) (c : ℕ) → text ≡ word ++ rest → rest ≡ c ∷ after → after ≡ more ++ tail → text ≡ (word ++ c ∷ more) ++ tail
 joined text word rest after more tail c is begins goes =
     is ∙ (ap (λ r. word ++ r) (begins ∙ ap (λ r. c ∷ r) goes) ∙ sym (append_assoc word (c ∷ more) tail))
 
@@ -104,7 +104,7 @@ one_digit (b ∷ text) rest value digit worth is =
     }
 
 -- a numeral spells its number
-spelled_at : (most n : ℕ) (word : List ℕ) → is_numeral word ≡ true → n ≡ digits_value 10 word → n ≤ most → number_in most word ≡ Some n
+pub spelled_at : (most n : ℕ) (word : List ℕ) → is_numeral word ≡ true → n ≡ digits_value 10 word → n ≤ most → number_in most word ≡ Some n
 spelled_at most n word numeral worth fits =
     let within : leb (digits_value 10 word) most ≡ true = le-leb (digits_value 10 word) most (omega (arith, worth, fits)) in
     rw (numeral, within) (ap Some (sym worth))

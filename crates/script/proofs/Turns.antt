@@ -127,28 +127,36 @@ module _ (group member : ℕ) (words second third : List (List ℕ)) (g : first_
       go (c ∷ []) none a b ea eb = rw (ea, eb, untaken most_numbers c [] none) refl
       go (c ∷ d ∷ more) none a b ea eb = refl
 
--- and of a change, whose bytes have no separator
-no_colon : (word hex : List ℕ) → all_bytes_in word ≡ Some hex → All (λ b. eqb b 58 ≡ false) word
-no_colon [] hex e = All-nil (λ b. eqb b 58 ≡ false)
-no_colon (high ∷ []) hex e = absurd cc
-no_colon (high ∷ low ∷ more) hex e = go (digit_in high) (digit_in low) (all_bytes_in more) refl refl refl (λ later em. no_colon more later em)
+-- what holds of each digit holds of all digits of some bytes
+pub each_digit : (P : ℕ → Type 0) → ((b value : ℕ) → digit_in b ≡ Some value → P b) → (word hex : List ℕ) → all_bytes_in word ≡ Some hex → All P word
+each_digit P holds [] hex e = All-nil P
+each_digit P holds (high ∷ []) hex e = absurd cc
+each_digit P holds (high ∷ low ∷ more) hex e = go (digit_in high) (digit_in low) (all_bytes_in more) refl refl refl (λ later em. each_digit P holds more later em)
   where
-    digit : (b : ℕ) (value : ℕ) → digit_in b ≡ Some value → eqb b 58 ≡ false
-    digit b value is = ne_eqb b 58 (λ same. let bad : None ≡ Some value = sym (ap digit_in same) ∙ is in absurd cc)
-
-    go : (h l : Option ℕ) (later : Option (List ℕ)) → digit_in high ≡ h → digit_in low ≡ l → all_bytes_in more ≡ later → ((found : List ℕ) → all_bytes_in more ≡ Some found → All (λ b. eqb b 58 ≡ false) more)
-        → All (λ b. eqb b 58 ≡ false) (high ∷ low ∷ more)
+    go : (h l : Option ℕ) (later : Option (List ℕ)) → digit_in high ≡ h → digit_in low ≡ l → all_bytes_in more ≡ later → ((found : List ℕ) → all_bytes_in more ≡ Some found → All P more) → All P (high ∷ low ∷ more)
     go None l later eh el em rest = absurd (let none : all_bytes_in (high ∷ low ∷ more) ≡ None = rw eh refl in let bad : None ≡ Some hex = sym none ∙ e in cc)
     go (Some h) None later eh el em rest = absurd (let none : all_bytes_in (high ∷ low ∷ more) ≡ None = rw (eh, el) refl in let bad : None ≡ Some hex = sym none ∙ e in cc)
     go (Some h) (Some l) None eh el em rest = absurd (let none : all_bytes_in (high ∷ low ∷ more) ≡ None = rw (eh, el, em) refl in let bad : None ≡ Some hex = sym none ∙ e in cc)
-    go (Some h) (Some l) (Some later) eh el em rest = All-cons (λ b. eqb b 58 ≡ false) high (low ∷ more) (digit high h eh) (All-cons (λ b. eqb b 58 ≡ false) low more (digit low l el) (rest later em))
+    go (Some h) (Some l) (Some later) eh el em rest = All-cons P high (low ∷ more) (holds high h eh) (All-cons P low more (holds low l el) (rest later em))
 
-alone : (bytes hex : List ℕ) → bytes_in bytes ≡ Some hex → fields_in bytes ≡ bytes ∷ []
-alone bytes hex e = go (leb 1 (length bytes) && leb (length bytes) 128) refl
+-- digits are other bytes than one that is none
+pub other_digits : (c : ℕ) → digit_in c ≡ None → (word hex : List ℕ) → all_bytes_in word ≡ Some hex → All (λ b. eqb b c ≡ false) word
+other_digits c none word hex e = each_digit (λ b. eqb b c ≡ false) other word hex e
   where
-    go : (b : Bool) → (leb 1 (length bytes) && leb (length bytes) 128) ≡ b → fields_in bytes ≡ bytes ∷ []
-    go true sized = slice_split_none (λ b. eqb b 58) bytes (no_colon bytes hex (ap (λ b. if b then all_bytes_in bytes else None) (sym sized) ∙ e))
+    other : (b value : ℕ) → digit_in b ≡ Some value → eqb b c ≡ false
+    other b value is = ne_eqb b c (λ same. let bad : None ≡ Some value = sym none ∙ (sym (ap digit_in same) ∙ is) in absurd cc)
+
+-- what 1 to 64 bytes spell is what all of them spell
+pub all_spelled : (bytes hex : List ℕ) → bytes_in bytes ≡ Some hex → all_bytes_in bytes ≡ Some hex
+all_spelled bytes hex e = go (leb 1 (length bytes) && leb (length bytes) 128) refl
+  where
+    go : (b : Bool) → (leb 1 (length bytes) && leb (length bytes) 128) ≡ b → all_bytes_in bytes ≡ Some hex
+    go true sized = ap (λ b. if b then all_bytes_in bytes else None) (sym sized) ∙ e
     go false sized = absurd (let none : bytes_in bytes ≡ None = rw sized refl in let bad : None ≡ Some hex = sym none ∙ e in cc)
+
+-- and of a change, whose bytes have no separator
+pub alone : (bytes hex : List ℕ) → bytes_in bytes ≡ Some hex → fields_in bytes ≡ bytes ∷ []
+alone bytes hex e = slice_split_none (λ b. eqb b 58) bytes (other_digits 58 refl bytes hex (all_spelled bytes hex e))
 
 module _ (group block offset : ℕ) (bytes : List ℕ) (fields second third : List (List ℕ)) (g : first_number most_ids fields ≡ Some (group, second)) (b : first_number most_blocks second ≡ Some (block, third))
     (o : first_number most_offsets third ≡ Some (offset, fields_in bytes)) where

@@ -6,4 +6,5 @@ pub mod Grammar
 pub mod Seen
 pub mod Script
 pub mod Named
+pub mod Plain
 pub mod Examples

@@ -10,6 +10,7 @@ ghost use Rattle.script.specs.Words.{fields_in};
 
 use crate::parts::Parts;
 use crate::payload::payload_of;
+use crate::plain::plain_changes;
 use std::alloc::Global;
 use volume_model::Fault;
 use world::Event;
@@ -20,6 +21,7 @@ const MOST_CHANGES: usize = 32;
 
 /// `issue V G:B:O:HEX ..`, with at least one change.
 pub fn issue(alloc: Global, mut words: Parts) -> Result<Event, Fault>
+    requires { words.separator ≡ 32 }
     ensures { ReadsBy event_of (issue_in (parts_left words.entry)) result }
 {
     let volume = words.take_block()?;
@@ -31,18 +33,32 @@ pub fn issue(alloc: Global, mut words: Parts) -> Result<Event, Fault>
 }
 
 /// Changes, each a word.
-fn all_changes(alloc: Global, mut words: Parts) -> Result<Vec<Change>, Fault>
+fn all_changes(alloc: Global, words: Parts) -> Result<Vec<Change>, Fault>
+    requires { words.separator ≡ 32 }
     ensures { ReadsBy (λ v. changes_of v.items) (changes_in (parts_left words.entry)) result }
 {
-    let mut changes = Vec::with_capacity(alloc, words.len().min(MOST_CHANGES))?;
+    if let Some(text) = words.rest() {
+        let room = words.len().min(MOST_CHANGES);
+        if let Some(changes) = plain_changes(alloc, text, room)? {
+            return Ok(changes);
+        }
+    }
+    each_change(alloc, words)
+}
+
+/// The same, word by word.
+fn each_change(alloc: Global, mut words: Parts) -> Result<Vec<Change>, Fault>
+    ensures { ReadsBy (λ v. changes_of v.items) (changes_in (parts_left words.entry)) result }
+{
+    let mut changes = Vec::new(alloc);
     while let Some(word) = words.take_first() {
-        changes.push(change(word)?)?;
+        changes.push(change(alloc, word)?)?;
     }
     Ok(changes)
 }
 
 /// `G:B:O:HEX`
-fn change(word: &[u8]) -> Result<Change, Fault>
+fn change(alloc: Global, word: &[u8]) -> Result<Change, Fault>
     ensures { ReadsBy change_of (change_by (fields_in word.now)) result }
 {
     let mut fields = Parts::new(word, b':');
@@ -53,10 +69,5 @@ fn change(word: &[u8]) -> Result<Change, Fault>
         return Err(Fault::Malformed);
     };
     let bytes = payload_of(bytes)?;
-    Ok(Change {
-        group,
-        block,
-        offset,
-        bytes,
-    })
+    Ok(Change::new(alloc, group, block, offset, bytes.as_slice())?)
 }

@@ -11,6 +11,7 @@ mod numeral;
 mod parts;
 mod payload;
 mod pieces;
+mod plain;
 mod reading;
 mod seeking;
 

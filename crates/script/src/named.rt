@@ -31,7 +31,7 @@ fn digits(text: &[u8]) -> (u32, &[u8])
 
 /// The number at the head of a text, and what comes after it.
 #[inline(always)]
-fn number(text: &[u8]) -> Option<(u32, &[u8])>
+pub fn number(text: &[u8]) -> Option<(u32, &[u8])>
     ensures { IfSome result (λ found. IsNumberAt text.now found.0 found.1.now) }
 {
     match text {
@@ -55,7 +55,7 @@ fn id(text: &[u8]) -> Option<(u8, &[u8])>
 
 /// What comes after a byte, where a text begins with it.
 #[inline(always)]
-fn after(text: &[u8], byte: u8) -> Option<&[u8]>
+pub fn after(text: &[u8], byte: u8) -> Option<&[u8]>
     ensures { IfSome result (λ rest. text.now ≡ byte ∷ rest.now) }
 {
     match text {

@@ -9,15 +9,17 @@ use redo_record::Payload;
 use volume_model::Fault;
 
 /// The most bytes of a change.
-const MOST_BYTES: usize = 64;
+pub const MOST_BYTES: usize = 64;
 
 /// The value of a hexadecimal digit in lower case.
 #[inline(always)]
 fn digit(byte: u8) -> Result<u8, Fault>
     ensures { Reads (digit_in byte) result }
 {
+    if byte.is_ascii_digit() {
+        return Ok(byte - b'0');
+    }
     match byte {
-        b'0'..=b'9' => Ok(byte - b'0'),
         b'a'..=b'f' => Ok(byte - b'a' + 10),
         _ => Err(Fault::Malformed),
     }
@@ -25,7 +27,7 @@ fn digit(byte: u8) -> Result<u8, Fault>
 
 /// The byte of two hexadecimal digits.
 #[inline(always)]
-fn byte_of(high: u8, low: u8) -> Result<u8, Fault>
+pub fn byte_of(high: u8, low: u8) -> Result<u8, Fault>
     ensures { Reads (byte_in high low) result }
 {
     Ok(digit(high)? * 16 + digit(low)?)

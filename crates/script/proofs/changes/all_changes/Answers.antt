@@ -1,9 +1,13 @@
+use Rattle.std.proofs.Common.{◌≡◌, ◌∙◌, ap, eqb, subst, sym, ℕ, Some}
+use Rattle.std.specs.List.{slice_split}
+use Rattle.writer_core.specs.Changes.{changes_of}
 use Rattle.script.specs.Grammar.{changes_in}
 use Rattle.script.specs.Parts.{parts_left}
-use Rattle.script.proofs.Parsing.{changes_more}
+use Rattle.script.specs.Words.{words_in}
 use Rattle.script.proofs.changes.all_changes.Goals as goal
 
-pub loop-word-preserved : goal.loop-word-preserved
-loop-word-preserved c =
-    changes_more (changes_in (parts_left c.args.words)) (parts_left c.loop-word.words) (parts_left c.take_first.new.self) c.in-Some.word.now c.loop-word.changes.items c.push.new.self.items c.in_ok-change.field-0
-    c.loop-word.invariant c.in-Some.ensures.part c.in_ok-change.ensures c.in_ok-push.ensures.items
+pub returns-in-Some-2 : goal.returns-in-Some-2
+returns-in-Some-2 c =
+    let words = subst (λ (s : ℕ). slice_split (λ b. eqb b s) c.in-Some.text.now ≡ parts_left c.args.words) c.requires c.in-Some.ensures in
+    let found : changes_in (words_in c.in-Some.text.now) ≡ Some (changes_of c.in-Some-2.changes.items) = rw c.in-Some-2.is at c.in_ok-changes.ensures in
+    ap changes_in (sym words) ∙ found

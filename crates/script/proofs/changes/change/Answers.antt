@@ -30,5 +30,5 @@ returns c =
     let last : fields_in bytes ≡ parts_left left = subst (λ (s : ℕ). slice_split (λ b. eqb b s) bytes ≡ parts_left left) colon c.in-Some.ensures in
     let offset : first_number most_offsets (parts_left c.take_block.new.self) ≡ Some (c.in_ok-offset.offset, fields_in bytes) = c.in_ok-offset.ensures.number ∙ ap (λ ps. Some (c.in_ok-offset.offset, ps)) (sym last) in
     let is = change_is c.in_ok-group.group c.in_ok-block.block c.in_ok-offset.offset bytes fields (parts_left c.take_id.new.self) (parts_left c.take_block.new.self)
-    c.in_ok-group.ensures.number c.in_ok-block.ensures.number offset (payload_bytes c.in_ok-bytes.bytes) c.in_ok-bytes.ensures in
-    rw c.new-fields.ensures.parts at is
+    c.in_ok-group.ensures.number c.in_ok-block.ensures.number offset c.as_slice.result.now (c.in_ok-bytes.ensures ∙ ap Some (sym c.as_slice.ensures.value)) in
+    rw c.new-fields.ensures.parts at (is ∙ ap Some (sym c.in_ok-new.ensures))

@@ -2,7 +2,7 @@ use Rattle.std.proofs.Common.{◌≡◌, ◌++◌, length, option_map}
 use Rattle.writer_core.specs.Changes.{changes_of}
 use Rattle.script.specs.Grammar.{changes_in}
 use Rattle.script.specs.Parts.{parts_left}
-use Rattle.script.proofs.changes.all_changes.Given as goal
+use Rattle.script.proofs.changes.each_change.Given as goal
 
 abbrev pub invariant-loop-word : goal.invariant-loop-word
 invariant-loop-word l = changes_in (parts_left l.fn.words) ≡ option_map (λ more. changes_of l.changes.items ++ more) (changes_in (parts_left l.words))
