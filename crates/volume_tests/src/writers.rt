@@ -3,7 +3,6 @@
 use super::said::Said::{self, Count, Install, Point, Record, Yes};
 use super::said::said_by;
 use super::texts::{GROWING, SIX, checked};
-use redo_record::Payload;
 use std::alloc::Global;
 use std::test::*;
 use volume_model::Fault::{
@@ -151,12 +150,7 @@ const CHILD: Place = Place {
 pub fn changes(alloc: Global, groups: &[u8]) -> Result<Vec<Change>, Fault> {
     let mut changes = Vec::new(alloc);
     for group in groups {
-        changes.push(Change {
-            group: *group,
-            block: 0,
-            offset: 0,
-            bytes: Payload::new(b"a").ok_or(Fault::Malformed)?,
-        })?;
+        changes.push(Change::new(alloc, *group, 0, 0, b"a")?)?;
     }
     Ok(changes)
 }
