@@ -4,7 +4,6 @@ use super::looks::Look;
 use fleet_actors::{ClientDeed, NodeDeed};
 use journal::{Pass, Receipt, Site};
 use node_fleet::Fleet;
-use redo_record::Payload;
 use std::alloc::{AllocError, Global};
 use std::sync::Wait;
 use volume_model::Fault;
@@ -42,12 +41,8 @@ pub type Step = (Call, Told);
 fn changes(alloc: Global, bytes: &str) -> Result<Vec<Change>, AllocError> {
     let mut changes = Vec::new(alloc);
     for (offset, byte) in bytes.bytes().enumerate() {
-        changes.push(Change {
-            group: 0,
-            block: 0,
-            offset: u16::try_from(offset).unwrap_or(0),
-            bytes: Payload::new(&[byte]).ok_or(AllocError)?,
-        })?;
+        let offset = u16::try_from(offset).unwrap_or(0);
+        changes.push(Change::new(alloc, 0, 0, offset, &[byte])?)?;
     }
     Ok(changes)
 }
