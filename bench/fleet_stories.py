@@ -14,7 +14,6 @@ use fleet_actors::{ClientDeed, NodeDeed, StepGate};
 use journal::{Pass, Receipt, Row, Site};
 use node_fleet::{Base, Fleet, Journal};
 use plan::{CheckedPlan, check_plan, read_plan};
-use redo_record::Payload;
 use std::alloc::{AllocError, Global};
 use std::marker::Brand;
 use std::sync::{Arc, Wait};
@@ -114,12 +113,8 @@ fn deed(alloc: Global, call: Call) -> Result<ClientDeed, Fault> {
         Call::Issue(bytes) => {
             let mut changes = Vec::with_capacity(alloc, bytes.len())?;
             for (offset, byte) in bytes.bytes().enumerate() {
-                changes.push(Change {
-                    group: 0,
-                    block: 0,
-                    offset: u16::try_from(offset).unwrap_or(0),
-                    bytes: Payload::new(&[byte]).ok_or(AllocError)?,
-                })?;
+                let offset = u16::try_from(offset).unwrap_or(0);
+                changes.push(Change::new(alloc, 0, 0, offset, &[byte])?)?;
             }
             Ok(ClientDeed::Issue(changes))
         }

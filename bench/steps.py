@@ -35,7 +35,6 @@ use fleet_actors::{ClientDeed, NodeDeed, StepGate};
 use journal::{Pass, Row, Site};
 use node_fleet::{Base, Fleet};
 use plan::{CheckedPlan, check_plan, read_plan};
-use redo_record::Payload;
 use std::alloc::{AllocError, Global};
 use std::marker::Brand;
 use std::process::ExitCode;
@@ -140,12 +139,8 @@ struct Made {
 fn transaction(alloc: Global, first: u32, changes: u32) -> Result<ClientDeed, AllocError> {
     let mut all = Vec::with_capacity(alloc, changes as usize)?;
     for change in 0..changes {
-        all.push(Change {
-            group: 0,
-            block: first.wrapping_add(change) % BLOCKS,
-            offset: 0,
-            bytes: Payload::new(&[5; 8]).ok_or(AllocError)?,
-        })?;
+        let block = first.wrapping_add(change) % BLOCKS;
+        all.push(Change::new(alloc, 0, block, 0, &[5; 8])?)?;
     }
     Ok(ClientDeed::Issue(all))
 }
