@@ -63,7 +63,7 @@ impl Standings {
         ensures groups { IfOk result (λ s. groups_in s ≡ map newly_at (map place_of places.now)) }
         ensures plan { IfOk result (λ s. standings_plan s ≡ checked_model (arc_value plan)) }
     {
-        let mut list = Vec::new(alloc);
+        let mut list = Vec::with_capacity(alloc, places.len())?;
         for place in places {
             list.push(Standing::at(alloc, *place))?;
         }
