@@ -45,11 +45,14 @@ pub fn promised(plan: &CheckedPlan)
     runs_are_orderly();
 }
 
-/// How many changes an event asks for.
-fn changes_in(event: &Event) -> usize {
+/// The most changes of a transaction that isn't refused.
+const MOST_CHANGES: usize = 32;
+
+/// How many messages an event mostly makes.
+fn usual_messages(event: &Event) -> usize {
     match event {
-        Event::Issue { changes, .. } => changes.len(),
-        _ => 0,
+        Event::Issue { changes, .. } if changes.len() <= MOST_CHANGES => changes.len(),
+        _ => 1,
     }
 }
 
@@ -75,13 +78,15 @@ fn outcome_of(alloc: Global, plan: &Arc<CheckedPlan>, events: &[Event]) -> Resul
     })
 }
 
-/// How many messages most orders make together: one each, and one a change.
-fn most_messages(orders: &[Order]) -> usize {
-    let mut count = orders.len();
+/// How many messages orders mostly make together.
+fn usual_messages_of(orders: &[Order]) -> usize {
+    let mut count = 0usize;
     for order in orders {
-        if let Order::Event(event) = order {
-            count = count.saturating_add(changes_in(event));
-        }
+        let made = match order {
+            Order::Event(event) => usual_messages(event),
+            _ => 1,
+        };
+        count = count.saturating_add(made);
     }
     count
 }
@@ -96,7 +101,7 @@ fn outcome_of_orders(
     ensures memory { IfErr result (λ e. e ≡ NoMemory) }
 {
     let mut actors = Actors::open(alloc, plan)?;
-    actors.reserve(most_messages(orders.as_slice()))?;
+    actors.reserve(usual_messages_of(orders.as_slice()))?;
     let mut firsts = Vec::with_capacity(alloc, orders.len())?;
     let mut results = Vec::with_capacity(alloc, orders.len())?;
     for order in orders {
