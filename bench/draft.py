@@ -24,6 +24,7 @@ import time
 TOP = pathlib.Path(__file__).resolve().parent.parent
 KIT = pathlib.Path(shutil.which("rt")).resolve().parent.parent
 CLANG = KIT / "toolchain" / "bin" / "clang"
+METHODS = re.compile(r"impl(?:<.*?>)? (\w+)(?:<.*>)? \{")
 FUNCTION = re.compile(r"(?:pub(?:\([^)]*\))? )?(?:const )?(?:unsafe )?fn (\w+)")
 UNUSED = [' sanitize_address "frame-pointer"="all"', ' "probe-stack"="inline-asm" "stack-probe-size"="3072"']
 
@@ -35,18 +36,21 @@ def sources(crates):
 
 
 def marks(crates):
-    """Which functions the sources mark, by crate, module and name."""
+    """Which functions the sources mark, by crate and name: each with its module and, where it is a method, its type."""
     found = {}
     for crate, folder in sources(crates):
         for file in folder.rglob("*.rt"):
             module = "::".join(file.relative_to(folder).with_suffix("").parts).removesuffix("::mod")
-            mark = None
-            for line in map(str.strip, file.read_text(errors="replace").splitlines()):
+            mark = owner = None
+            for line in file.read_text(errors="replace").splitlines():
+                of = METHODS.match(line)
+                owner = of[1] if of else None if line[:1].isalpha() else owner
+                line = line.strip()
                 if line in ("#[inline(always)]", "#[inline(never)]"):
                     mark = "alwaysinline" if "always" in line else "noinline"
                 named = FUNCTION.match(line)
                 if named and mark:
-                    found.setdefault((crate, named[1]), []).append(("" if module in ("lib", "main") else module, mark))
+                    found.setdefault((crate, named[1]), []).append(("" if module in ("lib", "main") else module, owner, mark))
                 if named:
                     mark = None
     return found
@@ -59,7 +63,9 @@ def mark_of(name, found, inline):
     crate, within = (above or [""])[0], "::".join(above[1:])
     if name in inline:
         return "alwaysinline"
-    return next((mark for module, mark in found.get((crate, last), []) if within == module or within.startswith(f"{module}::") or not module), None)
+    here = found.get((crate, last), [])
+    methods = (mark for _, owner, mark in here if owner and owner == above[-1])
+    return next(methods, None) or next((mark for module, _, mark in here if within == module or within.startswith(f"{module}::") or not module), None)
 
 
 def marked(line, found, inline):
