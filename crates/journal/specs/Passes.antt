@@ -65,10 +65,6 @@ module _ {X : Type 0} {s : SiteGhosts X} {l : LedgerGhosts X} where
   abbrev pub world_of : Log X s l → World
   world_of log = world_at s.plan (journal_of log)
 
-  -- it has room for one entry more
-  abbrev pub HasRoom : Log X s l → Type 0
-  HasRoom log = (vec_len log.entries < vec_capacity log.entries) × (vec_len log.firsts < vec_capacity log.firsts)
-
   -- it keeps a last number of the actor
   abbrev pub HasPlace : Log X s l → Actor → Type 0
   HasPlace log actor = IsSome (last_in log.lasts actor)

@@ -1,10 +1,7 @@
 //! The journal, as it lies under its lock.
 
-ghost use Rattle.std.specs.Prelude.{◌≡◌, ◌+◌, ◌<◌, ◌≤◌, ℕ, length, map, Some, vec_len};
+ghost use Rattle.std.specs.Prelude.{◌≡◌, ◌+◌, ◌<◌, ◌≤◌, ℕ, length, map, Some, vec_capacity, vec_len};
 ghost use Rattle.std.proofs.Props.{props};
-ghost use Rattle.std.specs.Coded.{Coded-set};
-ghost use Rattle.height.specs.Seats.{top_table, height_of};
-ghost use Rattle.atomic_table.specs.Seated.{table_id_coded};
 ghost use Rattle.volume_model.specs.Actor.{Actor};
 ghost use Rattle.volume_model.specs.World.{groups_joined};
 ghost use Rattle.volume_model.specs.Journal.{world_at, last_of, IsRun};
@@ -23,7 +20,6 @@ use crate::mark::Mark;
 use crate::pass::{Held, Pass};
 use crate::row::{Row, Site};
 use crate::who::Who;
-use height::{Height, Top};
 use std::alloc::{AllocError, Global};
 use std::marker::PhantomData;
 use std::mem;
@@ -34,7 +30,7 @@ use wire::Messages;
 use world::Event;
 
 /// The cells that aren't written, the entries so far, how many messages were made before each, the last entry of each actor, and how many
-/// groups have joined.
+/// groups have joined. The lists have room for all cells from the start.
 #[derive(Drop)]
 pub struct Log<'a, L: Site> {
     rest: &'a mut [Option<Entry>],
@@ -44,12 +40,10 @@ pub struct Log<'a, L: Site> {
     lasts: Lasts,
     joined: u64,
     book: Book<L>,
-    top: Top,
     history: History<L>,
     ghost same: { shown entries.items ≡ log_of history.opened } by { Prim.hlevel props },
-    ghost table: { top_table top ≡ L.table } by { Coded-set table_id_coded (top_table top) L.table },
-    ghost risen: { height_of top ≡ vec_len entries },
     ghost cells: { vec_len entries + length rest.now ≡ length L.cells },
+    ghost wide: { (length L.cells ≤ vec_capacity entries) × (length L.cells ≤ vec_capacity firsts) },
     ghost run: { IsRun L.plan (entries_of (shown entries.items)) } by { Prim.hlevel props },
     ghost firsts_are: { firsts.items ≡ map (λ e. e.first) (shown entries.items) },
     ghost messages_are: { messages ≡ length (world_at L.plan (entries_of (shown entries.items))).messages },
@@ -115,7 +109,6 @@ fn probe(low: usize, high: usize, step: usize, ahead: bool) -> usize
 
 impl<'a, L: Site> Log<'a, L> {
     ghost use Rattle.std.specs.Prelude.{◌++◌, [], ◌∷◌, ◌^◌, slice_get, None, All, IsSome, IfSome, IfNone, IfOk, MatchBool, sum_by, take};
-    ghost use Rattle.height.specs.Seats.{table_of};
     ghost use Rattle.volume_model.specs.Lists.{numbered};
     ghost use Rattle.volume_model.specs.World.{after, opening, step};
     ghost use Rattle.volume_model.specs.Actor.{actor_of, Agree};
@@ -130,7 +123,7 @@ impl<'a, L: Site> Log<'a, L> {
     ghost use Rattle.journal.specs.Entries.{entry_of};
     ghost use Rattle.wire.specs.Listed.{listed};
     ghost use Rattle.journal.specs.Standing.{durable_in, made, IsElse, NamesEarlier, Stands};
-    ghost use Rattle.journal.specs.Passes.{journal_of, kept_in, letter_message, letter_number, letter_step, mark_number, marked, notes_of, seat_of, seen_at, steps_of, world_of, AddsRefusal, AddsStep, HasNoteRoom, HasPlace, HasRoom, HasStepRoom, SeesAll};
+    ghost use Rattle.journal.specs.Passes.{journal_of, kept_in, letter_message, letter_number, letter_step, mark_number, marked, notes_of, seat_of, seen_at, steps_of, world_of, AddsRefusal, AddsStep, HasNoteRoom, HasPlace, HasStepRoom, SeesAll};
 
     /// An empty journal over a row of cells that nobody has written, for the clients of the volume epochs up to that of
     /// the last slot and the nodes of so many groups, of which so many are there when the volume is born.
@@ -144,11 +137,9 @@ impl<'a, L: Site> Log<'a, L> {
         groups: u8,
         born: u64,
         book: Book<L>,
-        top: Top,
         history: History<L>,
     ) -> Result<Log<'a, L>, AllocError>
         requires cells { ids_of row.old ≡ L.cells }
-        requires top { (top_table top ≡ L.table) × (height_of top ≡ 0) }
         requires history { log_of history.opened ≡ [] }
         requires book { book.total ≡ 0 }
         requires born { born ≡ L.plan.born }
@@ -165,7 +156,6 @@ impl<'a, L: Site> Log<'a, L> {
             lasts,
             joined: born,
             book,
-            top,
             history,
         })
     }
@@ -197,28 +187,13 @@ impl<'a, L: Site> Log<'a, L> {
 
     /// Shows that the journal has come past all that the pass has seen. From then on the pass has seen the whole of it.
     #[inline(always)]
-    pub fn settle(&mut self, height: &Height, pass: &mut Pass<'a, L>)
-        requires { table_of height.now ≡ L.table }
+    pub fn settle(&mut self, pass: &mut Pass<'a, L>)
         ensures log { (self.new.entries ≡ self.old.entries) × (self.new.firsts ≡ self.old.firsts) × (self.new.lasts ≡ self.old.lasts) }
         ensures seen { SeesAll pass.new self.new }
         ensures pass { (pass.new.steps ≡ pass.old.steps) × (pass.new.notes ≡ pass.old.notes) × (seat_of pass.new ≡ seat_of pass.old) }
     {
-        height.meet(&mut self.top, &mut pass.floor);
         let Log { history, .. } = self;
         history.opened.meet(&mut pass.seen);
-    }
-
-    /// Makes room for a step.
-    ///
-    /// # Errors
-    /// Where a growth was refused; the journal is what it was.
-    #[inline(always)]
-    pub fn reserve(&mut self) -> Result<(), AllocError>
-        ensures same { (kept_in self.new ≡ kept_in self.old) × (self.new.lasts ≡ self.old.lasts) }
-        ensures room { IfOk result (λ _. HasRoom self.new) }
-    {
-        self.entries.reserve(1)?;
-        self.firsts.reserve(1)
     }
 
     /// Whether every cell of the row is written.
@@ -244,14 +219,7 @@ impl<'a, L: Site> Log<'a, L> {
 
     // Enters an entry, and answers what was seen then.
     #[inline(always)]
-    fn append<R: Wait>(
-        &mut self,
-        rt: &R,
-        height: &Height,
-        entry: Entry,
-        pass: &mut Pass<'a, L>,
-    ) -> Front
-        requires height { table_of height.now ≡ L.table }
+    fn append<R: Wait>(&mut self, rt: &R, entry: Entry, pass: &mut Pass<'a, L>) -> Front
         requires cell { 0 < length self.old.rest.now }
         requires settled { SeesAll pass.old self.old }
         requires who { IsSome (last_in self.old.lasts (actor_of (event_of entry.event))) }
@@ -259,7 +227,7 @@ impl<'a, L: Site> Log<'a, L> {
         requires first { entry.first ≡ self.old.messages }
         requires place { entry.cell ≡ vec_len self.old.entries }
         requires durable { entry.durable ≡ durable_in (after L.plan (world_of self.old) (event_of entry.event)) (event_of entry.event) }
-        requires room { HasRoom self.old × HasStepRoom pass.old }
+        requires room { HasStepRoom pass.old }
         ensures entries { kept_in self.new ≡ kept_in self.old ++ entry ∷ [] }
         ensures seen { SeesAll pass.new self.new }
         ensures steps { steps_of pass.new ≡ steps_of pass.old ++ made (length (kept_in self.old)) (entry_of entry) entry.durable ∷ [] }
@@ -274,7 +242,6 @@ impl<'a, L: Site> Log<'a, L> {
             lasts,
             joined,
             book,
-            top,
             history,
         } = self;
         let Pass {
@@ -282,7 +249,6 @@ impl<'a, L: Site> Log<'a, L> {
             steps,
             notes: _,
             near: _,
-            floor,
             seen,
             seat: _,
         } = pass;
@@ -292,8 +258,6 @@ impl<'a, L: Site> Log<'a, L> {
         let count = entry.made.len();
         let entry = write(rest, entry);
         history.opened.add(entry);
-        height.rise(top);
-        *floor = height.floor(top);
         *seen = history.opened.front();
         let whole = history.opened.front();
         book.add(share, 1);
@@ -314,21 +278,19 @@ impl<'a, L: Site> Log<'a, L> {
     pub fn enter<R: Wait>(
         &mut self,
         rt: &R,
-        height: &Height,
         mark: &mut Mark<L>,
         pass: &mut Pass<'a, L>,
         event: Event,
         made: Messages,
         durable: u64,
     ) -> Receipt
-        requires height { table_of height.now ≡ L.table }
         requires settled { SeesAll pass.old self.old }
         requires who { actor_of (event_of event) ≡ marked mark.old }
         requires there { HasPlace self.old (marked mark.old) }
         requires goes { makes (step L.plan (world_of self.old) (event_of event)) ≡ Some (messages_of (listed made)) }
         requires durable { durable ≡ durable_in (after L.plan (world_of self.old) (event_of event)) (event_of event) }
         requires cell { length (journal_of self.old) < length L.cells }
-        requires room { HasRoom self.old × HasStepRoom pass.old }
+        requires room { HasStepRoom pass.old }
         ensures step { AddsStep (event_of event) result (steps_of pass.old) (steps_of pass.new) }
         ensures notes { (notes_of pass.new ≡ notes_of pass.old) × (seat_of pass.new ≡ seat_of pass.old) }
         ensures receipt { (result.number ≡ length (journal_of self.new)) × (result.durable ≡ durable) }
@@ -347,7 +309,7 @@ impl<'a, L: Site> Log<'a, L> {
             cell,
             durable,
         };
-        let seen = self.append(rt, height, entry, pass);
+        let seen = self.append(rt, entry, pass);
         mark.advance(seen, self.entries.len());
         Receipt {
             number: cell + 1,
@@ -402,6 +364,25 @@ impl<'a, L: Site> Log<'a, L> {
         low
     }
 
+    // Two places between which the step stands that made a message: the first one is this place, or the next one where the step stands
+    // behind that.
+    #[inline(always)]
+    fn behind(&self, near: usize, end: usize, number: u64) -> (usize, usize)
+        requires within { (near < end) × (end ≤ vec_len self.now.entries) }
+        requires made { (before L.plan (journal_of self.now) near < number) × (number ≤ before L.plan (journal_of self.now) end) }
+        ensures within { (result.0 < result.1) × (result.1 ≤ vec_len self.now.entries) }
+        ensures made { (before L.plan (journal_of self.now) result.0 < number) × (number ≤ before L.plan (journal_of self.now) result.1) }
+    {
+        let next = near + 1;
+        if next >= end {
+            return (near, end);
+        }
+        if self.firsts[next] < number {
+            return (next, end);
+        }
+        (near, next)
+    }
+
     // The place of the step that made a message: looked for behind this place where it stands there, else from the end on.
     #[inline(always)]
     fn maker(&self, near: usize, number: u64) -> usize
@@ -411,7 +392,8 @@ impl<'a, L: Site> Log<'a, L> {
         let end = self.firsts.len();
         if near < end {
             if self.firsts[near] < number {
-                return self.between(near, end, true, number);
+                let (first, last) = self.behind(near, end, number);
+                return self.between(first, last, true, number);
             }
         }
         self.between(0, end, false, number)
@@ -457,13 +439,7 @@ impl<'a, L: Site> Log<'a, L> {
     /// Looks a message up for a pass, which from then on has seen the whole journal. None where no step has made it; then
     /// no step of the pass did.
     #[inline(always)]
-    pub fn seek(
-        &mut self,
-        height: &Height,
-        pass: &mut Pass<'a, L>,
-        number: u64,
-    ) -> Option<Letter<'a, L>>
-        requires { table_of height.now ≡ L.table }
+    pub fn seek(&mut self, pass: &mut Pass<'a, L>, number: u64) -> Option<Letter<'a, L>>
         ensures log { (self.new.entries ≡ self.old.entries) × (self.new.firsts ≡ self.old.firsts) × (self.new.lasts ≡ self.old.lasts) }
         ensures seen { SeesAll pass.new self.new }
         ensures pass { (pass.new.steps ≡ pass.old.steps) × (pass.new.notes ≡ pass.old.notes) × (seat_of pass.new ≡ seat_of pass.old) }
@@ -472,7 +448,7 @@ impl<'a, L: Site> Log<'a, L> {
         ensures none { IfNone result (numbered (world_of self.old).messages number ≡ None) }
         ensures own { IfNone result (All (IsElse number) (steps_of pass.old)) }
     {
-        self.settle(height, pass);
+        self.settle(pass);
         let found = self.find_near(pass.near, number);
         let near = found
             .as_ref()
@@ -494,20 +470,19 @@ impl<'a, L: Site> Log<'a, L> {
     }
 
     // Each step and each note of the pass is told by the journal.
-    fn check(&mut self, height: &Height, pass: &mut Pass<'a, L>)
-        requires { table_of height.now ≡ L.table }
+    fn check(&mut self, pass: &mut Pass<'a, L>)
         ensures log { self.new.entries ≡ self.old.entries }
         ensures stands { All (Stands L.plan (journal_of self.old)) (steps_of pass.old) }
         ensures refused { All (IsRefused L.plan L.slots (length L.cells) (journal_of self.old)) (notes_of pass.old) }
         ensures count { length (steps_of pass.old) ≡ pass.new.share.amount }
         ensures part { pass.new.share.parts ≡ 1 }
     {
-        self.settle(height, pass);
+        self.settle(pass);
     }
 
     /// Shows that each step and each note of each pass is told by the journal, which has no other steps.
-    pub fn audit(&mut self, height: &Height, mut passes: Vec<Pass<'a, L>>)
-        requires { (table_of height.now ≡ L.table) × (vec_len passes ≡ L.parts) × (0 < vec_len passes) }
+    pub fn audit(&mut self, mut passes: Vec<Pass<'a, L>>)
+        requires { (vec_len passes ≡ L.parts) × (0 < vec_len passes) }
         ensures log { self.new.entries ≡ self.old.entries }
         ensures stands { All (λ p. All (Stands L.plan (journal_of self.old)) (steps_of p)) passes.entry.items }
         ensures refused { All (λ p. All (IsRefused L.plan L.slots (length L.cells) (journal_of self.old)) (notes_of p)) passes.entry.items }
@@ -516,13 +491,13 @@ impl<'a, L: Site> Log<'a, L> {
         let Some(mut last) = passes.pop() else {
             unreachable!()
         };
-        self.check(height, &mut last);
+        self.check(&mut last);
         let Pass {
             share: mut whole,
             ..
         } = last;
         while let Some(mut pass) = passes.pop() {
-            self.check(height, &mut pass);
+            self.check(&mut pass);
             let Pass { share, .. } = pass;
             whole.merge(share);
         }

@@ -2,7 +2,6 @@
 
 ghost use Rattle.std.specs.Prelude.{◌≡◌, ◌<◌, ◌≤◌, ℕ, length, All, vec_len, []};
 ghost use Rattle.std.proofs.Props.{props};
-ghost use Rattle.height.specs.Seats.{floor_table, floor_of};
 ghost use Rattle.atomic_table.specs.Seated.{table_id_coded};
 ghost use Rattle.std.specs.Coded.{Coded-set};
 ghost use Rattle.journal.specs.Fronts.{front_book, front_log, log_of};
@@ -15,7 +14,6 @@ use crate::entry::{Entry, Note};
 use crate::history::{Front, History};
 use crate::row::Site;
 use board::{Board, BoardSeat, BoardStep};
-use height::Floor;
 use std::alloc::{AllocError, Global};
 use std::marker::PhantomData;
 use std::sync::ledger::Share;
@@ -29,7 +27,7 @@ pub struct Held<'a, L: Site> {
     pub(crate) site: PhantomData<L>,
 }
 
-/// What one caller did, and was refused. All of it is told by a beginning of the history, as long as the floor is high.
+/// What one caller did, and was refused. All of it is told by a beginning of the history.
 #[derive(Drop)]
 pub struct Pass<'a, L: Site> {
     pub(crate) share: Share<L>,
@@ -37,14 +35,11 @@ pub struct Pass<'a, L: Site> {
     pub(crate) notes: Vec<Note>,
     /// Where the step stands that made the message which was found last.
     pub(crate) near: usize,
-    pub(crate) floor: Floor,
     pub(crate) seen: Front,
     pub(crate) seat: BoardSeat,
-    ghost table: { floor_table floor ≡ L.table } by { Coded-set table_id_coded (floor_table floor) L.table },
     ghost board: { seat_table seat ≡ L.board } by { Coded-set table_id_coded (seat_table seat) L.board },
     ghost no_slot: { seat.seat.me.1 ≡ [] },
     ghost history: { front_book seen ≡ L.history } by { Coded-set table_id_coded (front_book seen) L.history },
-    ghost long: { length (front_log seen) ≡ floor_of floor },
     ghost room: { length (front_log seen) ≤ length L.cells },
     ghost stand: { All (λ h. Stands L.plan (entries_of (front_log seen)) (made h.entry.now.cell (entry_of h.entry.now) h.entry.now.durable)) steps.items } by { Prim.hlevel props },
     ghost refused: { All (λ n. IsRefused L.plan L.slots (length L.cells) (entries_of (front_log seen)) (note_of n)) notes.items } by { Prim.hlevel props },
@@ -64,12 +59,10 @@ impl<'a, L: Site> Pass<'a, L> {
     pub fn new(
         alloc: Global,
         share: Share<L>,
-        floor: Floor,
         history: &mut History<L>,
         seat: BoardSeat,
     ) -> Pass<'a, L>
         requires share { (share.parts ≡ 1) × (share.amount ≡ 0) }
-        requires floor { (floor_table floor ≡ L.table) × (floor_of floor ≡ 0) }
         requires history { log_of history.old.opened ≡ [] }
         requires seat { IsSeatIn L.board seat }
         ensures history { log_of history.new.opened ≡ [] }
@@ -81,7 +74,6 @@ impl<'a, L: Site> Pass<'a, L> {
             steps: Vec::new(alloc),
             notes: Vec::new(alloc),
             near: usize::MAX,
-            floor,
             seen: history.opened.front(),
             seat,
         }
@@ -93,6 +85,18 @@ impl<'a, L: Site> Pass<'a, L> {
     /// Where a growth was refused; what the pass did and was refused is what it was.
     #[inline(always)]
     pub fn reserve(&mut self) -> Result<(), AllocError>
+        ensures same { (steps_of self.new ≡ steps_of self.old) × (notes_of self.new ≡ notes_of self.old) × (seat_of self.new ≡ seat_of self.old) × (front_log self.new.seen ≡ front_log self.old.seen) }
+        ensures room { IfOk result (λ _. HasStepRoom self.new × HasNoteRoom self.new) }
+    {
+        if self.steps.len() < self.steps.capacity() && self.notes.len() < self.notes.capacity() {
+            return Ok(());
+        }
+        self.grow()
+    }
+
+    // Makes room where one of the lists has none: apart, since mostly both have.
+    #[inline(never)]
+    fn grow(&mut self) -> Result<(), AllocError>
         ensures same { (steps_of self.new ≡ steps_of self.old) × (notes_of self.new ≡ notes_of self.old) × (seat_of self.new ≡ seat_of self.old) × (front_log self.new.seen ≡ front_log self.old.seen) }
         ensures room { IfOk result (λ _. HasStepRoom self.new × HasNoteRoom self.new) }
     {

@@ -18,9 +18,6 @@ pub trait Site: Ledger {
     // The row's cells.
     ghost cells: { List ℕ };
 
-    // The table of the journal's height.
-    ghost table: { TableId };
-
     // The table of the board.
     ghost board: { TableId };
 
@@ -38,8 +35,6 @@ impl Site for Brand {
     ghost plan = { no_plan };
 
     ghost cells = { [] };
-
-    ghost table = { no_table };
 
     ghost board = { no_table };
 

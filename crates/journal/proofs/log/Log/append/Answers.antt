@@ -1,9 +1,7 @@
-use Rattle.std.proofs.Common.{◌≡◌, ◌+◌, ◌≤◌, List, length, length-append, vec_len, map, All, [], ◌∷◌, ◌++◌, Some, Bool, true, false, MatchBool, refl, sym, ap, ◌∙◌, subst, arith, rules, get_or}
-use Rattle.std.specs.Prelude.{slice_get}
+use Rattle.std.proofs.Common.{◌≡◌, ◌+◌, ◌≤◌, List, length, length-append, vec_len, map, All, [], ◌∷◌, ◌++◌, Bool, true, false, MatchBool, refl, sym, ap, ◌∙◌, subst, arith, rules, get_or}
 use mathlib.Core.List.{IsPrefix}
-use Rattle.volume_model.specs.Actor.{actor_of, same_actor}
+use Rattle.volume_model.specs.Actor.{same_actor}
 use Rattle.volume_model.specs.Journal.{Goes, world_at}
-use Rattle.volume_model.proofs.ListFacts.{get_within}
 use Rattle.volume_model.proofs.Judges.{refused_longer}
 use Rattle.journal.specs.declared.entry.Entry.{Entry}
 use Rattle.journal.specs.declared.pass.Held.{Held}
@@ -18,6 +16,7 @@ use Rattle.world.specs.Events.{event_of}
 use Rattle.volume_model.specs.World.{World, groups_joined}
 use Rattle.journal.specs.Joined.{joined_after}
 use Rattle.journal.proofs.Joining.{joined_step}
+use Rattle.journal.proofs.Maps.{map-length}
 use Rattle.journal.proofs.Entered.{entries_begin, entries_messages, entries_world, entries_push, entries_run, firsts_push, length-entries}
 use Rattle.journal.proofs.Each.{all_push}
 use Rattle.journal.proofs.Steps.{stands_longer, stands_new, newest_push}
@@ -30,6 +29,21 @@ length_more es now x e = omega (arith, ap length e, length-append es (x ∷ []))
 on_both : (b : Bool) {P Q R S : Type 0} → (P → R) → (Q → S) → MatchBool b P Q → MatchBool b R S
 on_both true f g h = f h
 on_both false f g h = g h
+
+-- the lists have room for all cells
+pub push_reserved-requires-2 : goal.push_reserved-requires-2
+push_reserved-requires-2 g c =
+    let log = c.args.self.now in
+    let es = shown log.entries.items in
+    let kept : length log.firsts.items ≡ length es = ap length log.firsts_are ∙ map-length (λ (e : Entry). e.first) es in
+    let firsts : length log.firsts.items ≡ vec_len log.firsts = search rules in
+    let long : length es ≡ vec_len log.entries = length-shown log.entries.items ∙ search rules in
+    omega (arith, log.wide, log.cells, c.requires.cell, kept, firsts, long)
+
+pub push_reserved-requires-3 : goal.push_reserved-requires-3
+push_reserved-requires-3 g c =
+    let log = c.args.self.now in
+    omega (arith, log.wide, log.cells, c.requires.cell)
 
 pub invariant_of-pass : goal.invariant_of-pass
 invariant_of-pass g c =
@@ -52,11 +66,9 @@ invariant_of-pass g c =
     let here = stands_new plan (entries_of es) (entries_of now) (entry_of x) (entry_of c.write-entry.result.now) c.write-entry.result.now.cell c.write-entry.result.now.durable (entries_push es now x longer) place (ap entry_of c.write-entry.ensures.value) shows in
     let told = λ (h : Held g.row.L.Denot). Stands plan (entries_of now) (made h.entry.now.cell (entry_of h.entry.now) h.entry.now.durable) in
     record {
-      table = c.floor.ensures.floor.0 ∙ c.requires.height;
       board = pass.board;
       no_slot = pass.no_slot;
       history = c.front.ensures.front.1 ∙ c.add.ensures.1 ∙ log.history.history;
-      long = omega (arith, count, c.floor.ensures.floor.1, c.rise.ensures.1, log.risen);
       room = room;
       stand = subst (All told) (sym c.push_reserved.ensures.items)
           (all_push told pass.steps.items _ (λ k d lt. let h = get_or pass.steps.items k d in stands_longer plan (entries_of (front_log pass.seen)) (entries_of now) (made h.entry.now.cell (entry_of h.entry.now) h.entry.now.durable) begin (pass.stand k d lt)) here);
@@ -84,9 +96,8 @@ invariant_of-self g c =
     let more : c.len-count.result ≡ length (listed x.made) = c.len-count.ensures in
     record {
       same = longer ∙ sym (c.front-whole.ensures.same.0 ∙ c.front.ensures.same.0 ∙ c.add.ensures.0 ∙ (λ i. old i ++ c.write-entry.ensures.value i ∷ []));
-      table = c.floor.ensures.same.0 ∙ c.rise.ensures.0 ∙ log.table;
-      risen = omega (arith, c.floor.ensures.same.1, c.rise.ensures.1, log.risen, n);
       cells = omega (arith, log.cells, c.write-entry.ensures.rest, n);
+      wide = (omega (arith, log.wide, c.push_reserved-3.ensures.capacity), omega (arith, log.wide, c.push_reserved-2.ensures.capacity));
       run = entries_run plan es (shown ts) x longer log.run goes;
       firsts_are = c.push_reserved-2.ensures.items ∙ (λ i. log.firsts_are i ++ sym c.requires.first i ∷ []) ∙ sym (firsts_push es x) ∙ ap (map (λ (y : Entry). y.first)) (sym longer);
       messages_are = omega (arith, c.total.ensures, c.requires.first, more, entries_messages plan es (shown ts) x longer goes);

@@ -9,8 +9,8 @@ use Rattle.journal.proofs.Entered.{before_at, length-entries}
 use Rattle.journal.proofs.Maps.{map-length}
 use Rattle.journal.proofs.log.Log.maker.Goals as goal
 
-pub between-requires-clause-made : goal.between-requires-clause-made
-between-requires-clause-made g c =
+pub behind-first-requires-clause-made : goal.behind-first-requires-clause-made
+behind-first-requires-clause-made g c =
     let log = c.args.self.now in
     let es = shown log.entries.items in
     let kept : length log.firsts.items ≡ length es = ap length log.firsts_are ∙ map-length (λ (e : Entry). e.first) es in
