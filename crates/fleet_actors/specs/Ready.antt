@@ -7,7 +7,7 @@ use Rattle.journal.specs.declared.row.Site.{Ghosts as SiteGhosts}
 use Rattle.journal.specs.declared.log.Log.{Log}
 use Rattle.journal.specs.declared.mark.Mark.{Mark}
 use Rattle.journal.specs.declared.pass.Pass.{Pass}
-use Rattle.journal.specs.Passes.{journal_of, mark_number, marked, seen_at, world_of, HasNoteRoom, HasPlace, HasRoom, HasStepRoom, SeesAll}
+use Rattle.journal.specs.Passes.{journal_of, mark_number, marked, seen_at, world_of, HasNoteRoom, HasPlace, HasStepRoom, SeesAll}
 use Rattle.fleet_actors.specs.declared.halt.Halt.{Halt}
 use Rattle.fleet_actors.specs.declared.halt.Halt.TheVariants.{Again, Refused}
 use Rattle.volume_model.specs.declared.fault.Fault.TheVariants.{NoMemory}
@@ -18,7 +18,6 @@ pub record IsPoised {X : Type 0} {s : SiteGhosts X} {l : LedgerGhosts X} (mark :
   pub last : mark_number mark ≡ last_of (marked mark) (journal_of log)
   pub place : HasPlace log (marked mark)
   pub settled : SeesAll pass log
-  pub room : HasRoom log
   pub step : HasStepRoom pass
   pub note : HasNoteRoom pass
 

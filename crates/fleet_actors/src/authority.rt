@@ -12,7 +12,6 @@ use crate::authority_tried::{event, tried};
 use crate::halt::Halt;
 use crate::step::{conclude, ready};
 use epochs::Authority;
-use height::Height;
 use journal::{Log, Mark, Pass, Receipt, Site};
 use std::alloc::Global;
 use std::sync::Wait;
@@ -30,7 +29,6 @@ pub struct AuthorityActor<L: Site> {
 
 impl<L: Site> AuthorityActor<L> {
     ghost use Rattle.std.specs.Prelude.{◌≢◌, Err, length, OnErr, OnOk};
-    ghost use Rattle.height.specs.Seats.{table_of};
     ghost use Rattle.volume_model.specs.declared.fault.Fault.TheVariants.{JournalFull, NoMessage, NoSlot};
     ghost use Rattle.journal.specs.Passes.{journal_of, notes_of, seat_of, steps_of, world_of};
     ghost use Rattle.fleet_actors.specs.declared.halt.Halt.TheVariants.{Again, Refused};
@@ -61,13 +59,11 @@ impl<L: Site> AuthorityActor<L> {
         &mut self,
         rt: &R,
         alloc: Global,
-        height: &Height,
         log: &mut Log<'a, L>,
         pass: &mut Pass<'a, L>,
         act: AuthorityAct,
         slots: u32,
     ) -> Result<Receipt, Halt>
-        requires height { table_of height.now ≡ L.table }
         requires slots { slots ≡ L.slots }
         ensures told { Halts (event_by act) result (steps_of pass.old) (steps_of pass.new) (notes_of pass.old) (notes_of pass.new) }
         ensures exact { IsExact L.plan L.slots (length L.cells) (journal_of log.old) (event_by act) result }
@@ -82,10 +78,10 @@ impl<L: Site> AuthorityActor<L> {
         ensures still { OnErr result (actor_authority self.new ≡ actor_authority self.old) }
     {
         let AuthorityActor { mark, authority } = self;
-        if let Err(halt) = ready(height, log, pass, mark) {
+        if let Err(halt) = ready(log, pass, mark) {
             return Err(halt);
         }
         let done = tried(alloc, authority, log.is_full(), act, slots);
-        conclude(rt, height, log, mark, pass, event(act), done, 0)
+        conclude(rt, log, mark, pass, event(act), done, 0)
     }
 }

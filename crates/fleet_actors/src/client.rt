@@ -12,7 +12,6 @@ use crate::client_deed::ClientDeed;
 use crate::client_tried::{durable_point, shown, took, tried};
 use crate::halt::Halt;
 use crate::step::{conclude, poised};
-use height::Height;
 use journal::{Log, Mark, Pass, Receipt, Site};
 use std::alloc::Global;
 use std::sync::Wait;
@@ -33,7 +32,6 @@ pub struct ClientActor<L: Site> {
 impl<L: Site> ClientActor<L> {
     ghost use Rattle.std.specs.Prelude.{◌≢◌, Err, length, OnErr, OnOk, option_map};
     ghost use Rattle.std.specs.Option.{option_copied};
-    ghost use Rattle.height.specs.Seats.{table_of};
     ghost use Rattle.volume_model.specs.declared.fault.Fault.TheVariants.{NoMessage};
     ghost use Rattle.wire.specs.Message.{message_of};
     ghost use Rattle.volume_model.specs.World.Event.{Take};
@@ -67,13 +65,11 @@ impl<L: Site> ClientActor<L> {
         &mut self,
         rt: &R,
         alloc: Global,
-        height: &Height,
         log: &mut Log<'a, L>,
         pass: &mut Pass<'a, L>,
         deed: ClientDeed,
         found: Option<&Message>,
     ) -> Result<Receipt, Halt>
-        requires height { table_of height.now ≡ L.table }
         requires settled { SeesAll pass.old log.old }
         requires found { IsFound (world_of log.old).messages deed (option_map message_of (option_copied found)) }
         ensures told { Halts (event_by (client_volume self.old.client) deed) result (steps_of pass.old) (steps_of pass.new) (notes_of pass.old) (notes_of pass.new) }
@@ -93,16 +89,7 @@ impl<L: Site> ClientActor<L> {
         let volume = client.volume();
         let done = tried(alloc, client, log.is_full(), &deed, found);
         let durable = shown(client, &deed);
-        conclude(
-            rt,
-            height,
-            log,
-            mark,
-            pass,
-            deed.event(volume),
-            done,
-            durable,
-        )
+        conclude(rt, log, mark, pass, deed.event(volume), done, durable)
     }
 
     /// Takes the message with this number, and enters the step. Its caller holds the client's lock and the journal's.
@@ -114,12 +101,10 @@ impl<L: Site> ClientActor<L> {
         &mut self,
         rt: &R,
         alloc: Global,
-        height: &Height,
         log: &mut Log<'a, L>,
         pass: &mut Pass<'a, L>,
         message: u64,
     ) -> Result<Receipt, Halt>
-        requires height { table_of height.now ≡ L.table }
         ensures told { Halts (Take (actor_volume self.old) message) result (steps_of pass.old) (steps_of pass.new) (notes_of pass.old) (notes_of pass.new) }
         ensures exact { IsExact L.plan L.slots (length L.cells) (journal_of log.old) (Take (actor_volume self.old) message) result }
         ensures entered { Enters (Take (actor_volume self.old) message) (journal_of log.old) (journal_of log.new) result }
@@ -130,7 +115,7 @@ impl<L: Site> ClientActor<L> {
         ensures moved { OnOk result (actor_client self.new ≡ (world_of log.new).clients (actor_volume self.old)) }
         ensures still { OnErr result (actor_client self.new ≡ actor_client self.old) }
     {
-        let Some(letter) = log.seek(height, pass, message) else {
+        let Some(letter) = log.seek(pass, message) else {
             return Err(Halt::Refused(Fault::NoMessage));
         };
         let ClientActor { mark, client } = self;
@@ -141,7 +126,7 @@ impl<L: Site> ClientActor<L> {
         let done = took(alloc, client, log.is_full(), letter.message());
         let durable = durable_point(client);
         let event = Event::Take { volume, message };
-        conclude(rt, height, log, mark, pass, event, done, durable)
+        conclude(rt, log, mark, pass, event, done, durable)
     }
 
     /// Does what it is asked to, and enters the step. Its caller holds the client's lock and the journal's.
@@ -159,12 +144,10 @@ impl<L: Site> ClientActor<L> {
         &mut self,
         rt: &R,
         alloc: Global,
-        height: &Height,
         log: &mut Log<'a, L>,
         pass: &mut Pass<'a, L>,
         deed: ClientDeed,
     ) -> Result<Receipt, Halt>
-        requires height { table_of height.now ≡ L.table }
         ensures told { Halts (event_by (actor_volume self.old) deed) result (steps_of pass.old) (steps_of pass.new) (notes_of pass.old) (notes_of pass.new) }
         ensures exact { IsExact L.plan L.slots (length L.cells) (journal_of log.old) (event_by (actor_volume self.old) deed) result }
         ensures entered { Enters (event_by (actor_volume self.old) deed) (journal_of log.old) (journal_of log.new) result }
@@ -176,10 +159,10 @@ impl<L: Site> ClientActor<L> {
         ensures still { OnErr result (actor_client self.new ≡ actor_client self.old) }
     {
         match deed {
-            ClientDeed::Take { message } => self.take(rt, alloc, height, log, pass, message),
+            ClientDeed::Take { message } => self.take(rt, alloc, log, pass, message),
             other => {
-                log.settle(height, pass);
-                self.step(rt, alloc, height, log, pass, other, None)
+                log.settle(pass);
+                self.step(rt, alloc, log, pass, other, None)
             }
         }
     }

@@ -4,6 +4,7 @@ ghost use Rattle.std.specs.Prelude.{◌≡◌, false, Ok, Some, IfErr, IfOk, OnE
 ghost use Rattle.std.specs.Option.{option_copied};
 ghost use Rattle.volume_model.specs.Answer.{refusal_of, AnswersLate};
 ghost use Rattle.volume_model.specs.World.{take};
+ghost use Rattle.wire.specs.Listed.{listed};
 ghost use Rattle.wire.specs.Message.{message_of};
 ghost use Rattle.writer_core.specs.Writers.{acted};
 ghost use Rattle.recovery.specs.Recoveries.{admitted};
@@ -113,6 +114,17 @@ pub fn tried(
     }
 }
 
+/// The messages of a list, of which most takings make none.
+#[inline(always)]
+fn all_of(made: Vec<Message>) -> Messages
+    ensures { listed result ≡ made.items }
+{
+    if made.is_empty() {
+        return Messages::Empty;
+    }
+    Messages::of(made)
+}
+
 /// Tries what a client does with a message, where the journal is full or not: else as [`tried`] says.
 #[inline(always)]
 pub(crate) fn took(
@@ -134,7 +146,7 @@ pub(crate) fn took(
         return Err(Fault::JournalFull);
     }
     match client.act(alloc, ClientAct::Take(message)) {
-        Ok(made) => Ok(Messages::of(made)),
+        Ok(made) => Ok(all_of(made)),
         Err(fault) => Err(fault),
     }
 }

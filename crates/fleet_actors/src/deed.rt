@@ -5,7 +5,6 @@ ghost use Rattle.std.specs.Prelude.{◌≡◌, ℕ};
 use crate::halt::Halt;
 use crate::node::NodeActor;
 use crate::step::{ready, refused};
-use height::Height;
 use journal::{Log, Pass, Receipt, Site};
 use segment_core::NodeAct;
 use std::alloc::Global;
@@ -56,7 +55,6 @@ impl NodeDeed {
 
 impl<L: Site> NodeActor<L> {
     ghost use Rattle.std.specs.Prelude.{◌≢◌, Err, IfErr, OnErr, OnOk, length};
-    ghost use Rattle.height.specs.Seats.{table_of};
     ghost use Rattle.volume_model.specs.declared.fault.Fault.TheVariants.{NoMessage};
     ghost use Rattle.journal.specs.Passes.{journal_of, notes_of, seat_of, steps_of, world_of};
     ghost use Rattle.fleet_actors.specs.declared.halt.Halt.TheVariants.{Again, Refused};
@@ -76,12 +74,10 @@ impl<L: Site> NodeActor<L> {
         &mut self,
         rt: &R,
         alloc: Global,
-        height: &Height,
         log: &mut Log<'a, L>,
         pass: &mut Pass<'a, L>,
         deed: NodeDeed,
     ) -> Result<Receipt, Halt>
-        requires height { table_of height.now ≡ L.table }
         ensures told { Halts (event_by (actor_group self.old) (actor_member self.old) deed) result (steps_of pass.old) (steps_of pass.new) (notes_of pass.old) (notes_of pass.new) }
         ensures exact { IsExact L.plan L.slots (length L.cells) (journal_of log.old) (event_by (actor_group self.old) (actor_member self.old) deed) result }
         ensures entered { Enters (event_by (actor_group self.old) (actor_member self.old) deed) (journal_of log.old) (journal_of log.new) result }
@@ -98,7 +94,7 @@ impl<L: Site> NodeActor<L> {
             group,
             member,
         } = self;
-        ready(height, log, pass, mark)?;
+        ready(log, pass, mark)?;
         let event = deed.event(*group, *member);
         if u64::from(*group) >= log.joined() {
             return Err(refused(log, pass, event, Fault::NoActor));
@@ -111,6 +107,6 @@ impl<L: Site> NodeActor<L> {
             return Err(refused(log, pass, event, Fault::JournalFull));
         }
         let made = segment.apply(prepared);
-        Ok(log.enter(rt, height, mark, pass, event, made, 0))
+        Ok(log.enter(rt, mark, pass, event, made, 0))
     }
 }

@@ -7,20 +7,20 @@ use crate::halt::Halt;
 use crate::locking::taken;
 use crate::node::NodeActor;
 use crate::step::{ready, refused};
-use height::Height;
 use journal::{Letter, Log, Pass, Receipt, Site};
 use segment_core::Prepared;
 use std::alloc::Global;
 use std::sync::{Mutex, Wait};
 use volume_model::Fault;
+use wire::{Message, Write};
 use world::Event;
 
 impl<L: Site> NodeActor<L> {
-    ghost use Rattle.std.specs.Prelude.{◌≢◌, Ok, IfErr, IfOk, OnErr, length};
-    ghost use Rattle.height.specs.Seats.{table_of};
+    ghost use Rattle.std.specs.Prelude.{◌≢◌, Ok, Some, IfErr, IfOk, OnErr, length};
     ghost use Rattle.volume_model.specs.declared.fault.Fault.TheVariants.{NoMessage};
     ghost use Rattle.volume_model.specs.Answer.{Fails};
     ghost use Rattle.volume_model.specs.World.Event.{Deliver};
+    ghost use Rattle.wire.specs.Message.{message_of};
     ghost use Rattle.segment_core.specs.Prepared.{step_of};
     ghost use Rattle.segment_core.specs.Segment.{node_of, IsReady};
     ghost use Rattle.journal.specs.Passes.{journal_of, letter_message, letter_number, notes_of, seat_of, steps_of};
@@ -39,18 +39,28 @@ impl<L: Site> NodeActor<L> {
         self.segment.prepare(alloc, letter.message())
     }
 
+    /// Makes ready to take a record that a client writes, as [`prepare`](NodeActor::prepare) does its letter.
+    #[inline(always)]
+    fn prepare_write(&mut self, alloc: Global, write: &Write) -> Result<Prepared, Fault>
+        ensures ready { IfOk result (λ prepared. IsReady self.new.segment prepared) }
+        ensures step { IfOk result (λ prepared. delivery_of self.new (Some (message_of (Message.Write write.now))) ≡ Ok (step_of prepared (node_of self.new.segment))) }
+        ensures fails { IfErr result (λ fault. Fails fault (delivery_of self.new (Some (message_of (Message.Write write.now))))) }
+        ensures same { (self.new.group ≡ self.old.group) × (self.new.member ≡ self.old.member) × (actor_node self.new ≡ actor_node self.old) }
+    {
+        self.segment.prepare_write(alloc, write)
+    }
+
     /// Takes a letter that the node was made ready for, and enters the step. Its caller holds the node's lock and the
     /// journal's.
+    #[inline(always)]
     fn receive<'a, R: Wait>(
         &mut self,
         rt: &R,
-        height: &Height,
         log: &mut Log<'a, L>,
         pass: &mut Pass<'a, L>,
         letter: &mut Letter<'a, L>,
         prepared: Prepared,
     ) -> Result<Receipt, Halt>
-        requires height { table_of height.now ≡ L.table }
         requires ready { IsReady self.old.segment prepared }
         requires step { delivery_of self.old (letter_message letter.old) ≡ Ok (step_of prepared (node_of self.old.segment)) }
         ensures told { Halts (Deliver self.old.group self.old.member (letter_number letter.old)) result (steps_of pass.old) (steps_of pass.new) (notes_of pass.old) (notes_of pass.new) }
@@ -68,7 +78,7 @@ impl<L: Site> NodeActor<L> {
             member,
         } = self;
         log.has(letter);
-        ready(height, log, pass, mark)?;
+        ready(log, pass, mark)?;
         let event = Event::Deliver {
             group: *group,
             member: *member,
@@ -81,19 +91,17 @@ impl<L: Site> NodeActor<L> {
             return Err(refused(log, pass, event, Fault::JournalFull));
         }
         let made = segment.apply(prepared);
-        Ok(log.enter(rt, height, mark, pass, event, made, 0))
+        Ok(log.enter(rt, mark, pass, event, made, 0))
     }
 
     /// Notes that the node refuses a letter. Its caller holds the node's lock and the journal's.
     fn decline<'a>(
         &mut self,
-        height: &Height,
         log: &mut Log<'a, L>,
         pass: &mut Pass<'a, L>,
         letter: &mut Letter<'a, L>,
         fault: Fault,
     ) -> Result<Receipt, Halt>
-        requires height { table_of height.now ≡ L.table }
         requires fails { Fails fault (delivery_of self.old (letter_message letter.old)) }
         ensures told { Halts (Deliver self.old.group self.old.member (letter_number letter.old)) result (steps_of pass.old) (steps_of pass.new) (notes_of pass.old) (notes_of pass.new) }
         ensures exact { IsExact L.plan L.slots (length L.cells) (journal_of log.old) (Deliver self.old.group self.old.member (letter_number letter.old)) result }
@@ -104,7 +112,7 @@ impl<L: Site> NodeActor<L> {
         ensures still { actor_node self.new ≡ actor_node self.old }
     {
         log.has(letter);
-        ready(height, log, pass, &mut self.mark)?;
+        ready(log, pass, &mut self.mark)?;
         let event = Event::Deliver {
             group: self.group,
             member: self.member,
@@ -114,6 +122,74 @@ impl<L: Site> NodeActor<L> {
             return Err(refused(log, pass, event, Fault::NoActor));
         }
         Err(refused(log, pass, event, fault))
+    }
+
+    /// Takes the journal's lock and then a letter that the node was made ready for, whose answers it lends to the gate before.
+    #[inline(always)]
+    fn accept<'a, R: Wait, G: StepGate>(
+        &mut self,
+        rt: &R,
+        journal: &Mutex<Log<'a, L>>,
+        pass: &mut Pass<'a, L>,
+        letter: &mut Letter<'a, L>,
+        gate: &G,
+        prepared: Prepared,
+    ) -> Result<Receipt, Halt>
+        requires ready { IsReady self.old.segment prepared }
+        requires step { delivery_of self.old (letter_message letter.old) ≡ Ok (step_of prepared (node_of self.old.segment)) }
+        ensures told { Halts (Deliver (actor_group self.old) (actor_member self.old) (letter_number letter.old)) result (steps_of pass.old) (steps_of pass.new) (notes_of pass.old) (notes_of pass.new) }
+        ensures seat { seat_of pass.new ≡ seat_of pass.old }
+        ensures found { IfErr result (λ halt. halt ≢ Refused NoMessage) }
+        ensures same { (actor_group self.new ≡ actor_group self.old) × (actor_member self.new ≡ actor_member self.old) }
+        ensures still { OnErr result (actor_node self.new ≡ actor_node self.old) }
+    {
+        gate.prepared(prepared.answers());
+        let mut log = taken(rt, journal);
+        self.receive(rt, &mut log, pass, letter, prepared)
+    }
+
+    /// Takes the journal's lock and notes that the node refuses a letter.
+    #[inline(never)]
+    fn reject<'a, R: Wait>(
+        &mut self,
+        rt: &R,
+        journal: &Mutex<Log<'a, L>>,
+        pass: &mut Pass<'a, L>,
+        letter: &mut Letter<'a, L>,
+        fault: Fault,
+    ) -> Result<Receipt, Halt>
+        requires fails { Fails fault (delivery_of self.old (letter_message letter.old)) }
+        ensures told { Halts (Deliver (actor_group self.old) (actor_member self.old) (letter_number letter.old)) result (steps_of pass.old) (steps_of pass.new) (notes_of pass.old) (notes_of pass.new) }
+        ensures seat { seat_of pass.new ≡ seat_of pass.old }
+        ensures found { IfErr result (λ halt. halt ≢ Refused NoMessage) }
+        ensures same { (actor_group self.new ≡ actor_group self.old) × (actor_member self.new ≡ actor_member self.old) }
+        ensures still { OnErr result (actor_node self.new ≡ actor_node self.old) }
+    {
+        let mut log = taken(rt, journal);
+        self.decline(&mut log, pass, letter, fault)
+    }
+
+    /// Delivers a letter, as [`react`](NodeActor::react) does: apart from it, so that the short way's results stay small.
+    #[inline(never)]
+    fn react_at_large<'a, R: Wait, G: StepGate>(
+        &mut self,
+        rt: &R,
+        alloc: Global,
+        journal: &Mutex<Log<'a, L>>,
+        pass: &mut Pass<'a, L>,
+        letter: &mut Letter<'a, L>,
+        gate: &G,
+    ) -> Result<Receipt, Halt>
+        ensures told { Halts (Deliver (actor_group self.old) (actor_member self.old) (letter_number letter.old)) result (steps_of pass.old) (steps_of pass.new) (notes_of pass.old) (notes_of pass.new) }
+        ensures seat { seat_of pass.new ≡ seat_of pass.old }
+        ensures found { IfErr result (λ halt. halt ≢ Refused NoMessage) }
+        ensures same { (actor_group self.new ≡ actor_group self.old) × (actor_member self.new ≡ actor_member self.old) }
+        ensures still { OnErr result (actor_node self.new ≡ actor_node self.old) }
+    {
+        match self.prepare(alloc, letter) {
+            Ok(prepared) => self.accept(rt, journal, pass, letter, gate, prepared),
+            Err(fault) => self.reject(rt, journal, pass, letter, fault),
+        }
     }
 
     /// Delivers a letter to the node, whose lock the caller holds: makes ready, lends the answers to the gate while the
@@ -135,28 +211,23 @@ impl<L: Site> NodeActor<L> {
         rt: &R,
         alloc: Global,
         journal: &Mutex<Log<'a, L>>,
-        height: &Height,
         pass: &mut Pass<'a, L>,
         letter: &mut Letter<'a, L>,
         gate: &G,
     ) -> Result<Receipt, Halt>
-        requires height { table_of height.now ≡ L.table }
         ensures told { Halts (Deliver (actor_group self.old) (actor_member self.old) (letter_number letter.old)) result (steps_of pass.old) (steps_of pass.new) (notes_of pass.old) (notes_of pass.new) }
         ensures seat { seat_of pass.new ≡ seat_of pass.old }
         ensures found { IfErr result (λ halt. halt ≢ Refused NoMessage) }
         ensures same { (actor_group self.new ≡ actor_group self.old) × (actor_member self.new ≡ actor_member self.old) }
         ensures still { OnErr result (actor_node self.new ≡ actor_node self.old) }
     {
-        match self.prepare(alloc, letter) {
-            Ok(prepared) => {
-                gate.prepared(prepared.answers());
-                let mut log = taken(rt, journal);
-                self.receive(rt, height, &mut log, pass, letter, prepared)
-            }
-            Err(fault) => {
-                let mut log = taken(rt, journal);
-                self.decline(height, &mut log, pass, letter, fault)
-            }
+        // Most letters are records that a client writes, so these have a short way of their own.
+        if let Message::Write(write) = letter.message() {
+            return match self.prepare_write(alloc, write) {
+                Ok(prepared) => self.accept(rt, journal, pass, letter, gate, prepared),
+                Err(fault) => self.reject(rt, journal, pass, letter, fault),
+            };
         }
+        self.react_at_large(rt, alloc, journal, pass, letter, gate)
     }
 }

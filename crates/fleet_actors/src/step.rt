@@ -1,7 +1,6 @@
 //! What every step under both locks shares.
 
 ghost use Rattle.std.specs.Prelude.{◌≡◌, ◌<◌, false, Err, Some, is_err, IfErr, IfOk, MatchResult, OnOk, length};
-ghost use Rattle.height.specs.Seats.{table_of};
 ghost use Rattle.volume_model.specs.World.{after, step};
 ghost use Rattle.volume_model.specs.Told.{makes};
 ghost use Rattle.volume_model.specs.Actor.{actor_of, Agree};
@@ -17,14 +16,13 @@ ghost use Rattle.fleet_actors.specs.Halts.{AddsNote, Enters, Halts, IsExact};
 ghost use Rattle.fleet_actors.specs.Ready.{IsEarly, IsPoised, IsStale};
 
 use crate::halt::Halt;
-use height::Height;
 use journal::{Log, Mark, Pass, Receipt, Site};
 use std::sync::Wait;
 use volume_model::Fault;
 use wire::Messages;
 use world::Event;
 
-/// Compares an actor with the journal, which the pass has seen, and makes room for a step and a note.
+/// Compares an actor with the journal, which the pass has seen, and makes room for a step and a note of the pass.
 #[inline(always)]
 pub(crate) fn poised<'a, L: Site>(
     log: &mut Log<'a, L>,
@@ -45,7 +43,6 @@ pub(crate) fn poised<'a, L: Site>(
     if !log.compare(mark) {
         return Err(Halt::Again);
     }
-    log.reserve()?;
     pass.reserve()?;
     Ok(())
 }
@@ -53,12 +50,10 @@ pub(crate) fn poised<'a, L: Site>(
 /// The same, once the pass was shown the journal.
 #[inline(always)]
 pub(crate) fn ready<'a, L: Site>(
-    height: &Height,
     log: &mut Log<'a, L>,
     pass: &mut Pass<'a, L>,
     mark: &mut Mark<L>,
 ) -> Result<(), Halt>
-    requires { table_of height.now ≡ L.table }
     ensures log { journal_of log.new ≡ journal_of log.old }
     ensures steps { steps_of pass.new ≡ steps_of pass.old }
     ensures notes { notes_of pass.new ≡ notes_of pass.old }
@@ -69,11 +64,12 @@ pub(crate) fn ready<'a, L: Site>(
     ensures early { IfErr result (λ halt. IsEarly halt) }
     ensures stale { result ≡ Err Again → IsStale mark.old log.old }
 {
-    log.settle(height, pass);
+    log.settle(pass);
     poised(log, pass, mark)
 }
 
 /// Notes a refusal, unless it is want of memory or of a message.
+#[inline(never)]
 pub fn refused<'a, L: Site>(
     log: &Log<'a, L>,
     pass: &mut Pass<'a, L>,
@@ -99,7 +95,6 @@ pub fn refused<'a, L: Site>(
 #[inline(always)]
 pub(crate) fn conclude<'a, L: Site, R: Wait>(
     rt: &R,
-    height: &Height,
     log: &mut Log<'a, L>,
     mark: &mut Mark<L>,
     pass: &mut Pass<'a, L>,
@@ -107,7 +102,6 @@ pub(crate) fn conclude<'a, L: Site, R: Wait>(
     tried: Result<Messages, Fault>,
     durable: u64,
 ) -> Result<Receipt, Halt>
-    requires height { table_of height.now ≡ L.table }
     requires who { actor_of (event_of event) ≡ marked mark.old }
     requires ready { IsPoised mark.old log.old pass.old }
     requires goes { IfOk tried (λ made. makes (step L.plan (world_of log.old) (event_of event)) ≡ Some (messages_of (listed made))) }
@@ -124,7 +118,7 @@ pub(crate) fn conclude<'a, L: Site, R: Wait>(
     ensures halt { MatchResult tried (λ _. is_err result ≡ false) (λ fault. result ≡ Err (Refused fault)) }
 {
     match tried {
-        Ok(made) => Ok(log.enter(rt, height, mark, pass, event, made, durable)),
+        Ok(made) => Ok(log.enter(rt, mark, pass, event, made, durable)),
         Err(fault) => Err(refused(log, pass, event, fault)),
     }
 }

@@ -33,4 +33,4 @@ returns-in-Err-act-clause-still c =
 pub returns-in-Ok-clause-done : goal.returns-in-Ok-clause-done
 returns-in-Ok-clause-done c =
     let new = seen_client c.act.new.self in
-    c.in-Ok.ensures.answers ∙ ap (λ (ms : List Message). Ok (record { made = messages_of ms; client = new })) (sym c.of.ensures)
+    c.in-Ok.ensures.answers ∙ ap (λ (ms : List Message). Ok (record { made = messages_of ms; client = new })) (sym c.all_of.ensures)
