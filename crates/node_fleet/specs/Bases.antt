@@ -1,7 +1,6 @@
 -- What contracts see of the base of a fleet.
 use Rattle.std.specs.Prelude.{◌≡◌, ℕ, vec_len}
 use Rattle.atomic_table.specs.Seated.{TableId}
-use Rattle.height.specs.Seats.{table_of}
 use Rattle.board.specs.Seats.{board_table}
 use Rattle.journal.specs.Fronts.{book_of}
 use Rattle.node_fleet.specs.declared.base.Base.{Base}
@@ -10,9 +9,8 @@ use Rattle.node_fleet.specs.declared.base.Base.{Base}
 abbrev pub passes_of : Base → ℕ
 passes_of base = vec_len base.seats
 
--- the height and the board of the base have these tables, and its history and the ledger of its steps these names
-pub record IsBaseOf (table board history : TableId) (name parts : ℕ) (base : Base) : Type 0 where
-  pub table_is : table_of base.height ≡ table
+-- the board of the base has this table, and its history and the ledger of its steps these names
+pub record IsBaseOf (board history : TableId) (name parts : ℕ) (base : Base) : Type 0 where
   pub board_is : board_table base.board ≡ board
   pub history_is : book_of base.opened ≡ history
   pub name_is : base.blank.name ≡ name

@@ -31,15 +31,7 @@ impl<'a, L: Site> Fleet<'a, L> {
     {
         let mut actor = taken(rt, &self.authority);
         let mut log = taken(rt, &self.journal);
-        actor.act(
-            rt,
-            self.alloc,
-            &self.height,
-            &mut log,
-            pass,
-            act,
-            self.slots,
-        )
+        actor.act(rt, self.alloc, &mut log, pass, act, self.slots)
     }
 
     /// The authority assigns a volume epoch, leads a group to a child of its configuration, or tells a client where the

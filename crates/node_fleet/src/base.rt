@@ -2,28 +2,22 @@
 
 ghost use Rattle.std.specs.Prelude.{◌≡◌, ◌<◌, All, length, vec_len};
 ghost use Rattle.std.proofs.Props.{props};
-ghost use Rattle.height.specs.Seats.{table_of, top_table, height_of};
 ghost use Rattle.board.specs.Seats.{IsSeatOf};
 ghost use Rattle.journal.specs.Fronts.{log_of};
 
 use board::{Board, BoardSeat};
-use height::{Height, Top};
 use journal::Opened;
 use std::alloc::{AllocError, Global};
 use std::sync::ledger::Blank;
 
-/// The height and the board of a fleet that isn't there yet, its empty history, and the ledger of its steps, with a
-/// part and a seat for each of its passes.
+/// The board of a fleet that isn't there yet, its empty history, and the ledger of its steps, with a part and a seat
+/// for each of its passes.
 #[derive(Drop)]
 pub struct Base {
-    pub(crate) height: Height,
-    pub(crate) top: Top,
     pub(crate) board: Board,
     pub(crate) seats: Vec<BoardSeat>,
     pub(crate) opened: Opened,
     pub(crate) blank: Blank,
-    ghost one_table: { top_table top ≡ table_of height },
-    ghost low: { height_of top ≡ 0 },
     ghost seats_of: { All (λ s. IsSeatOf board s) seats.items } by { Prim.hlevel props },
     ghost empty: { length (log_of opened) ≡ 0 },
     ghost parts: { blank.parts ≡ vec_len seats },
@@ -41,11 +35,8 @@ impl Base {
         requires { 0 < passes }
         ensures { IfOk result (λ base. passes_of base ≡ passes) }
     {
-        let (height, top) = Height::new(alloc)?;
         let (board, seats) = Board::new(alloc, passes)?;
         Ok(Base {
-            height,
-            top,
             board,
             seats,
             opened: Opened::new(alloc)?,

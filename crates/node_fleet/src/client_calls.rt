@@ -87,7 +87,7 @@ impl<'a, L: Site> Fleet<'a, L> {
             return Halt::Again;
         }
         match deed {
-            ClientDeed::Take { message } => match log.seek(&self.height, pass, message) {
+            ClientDeed::Take { message } => match log.seek(pass, message) {
                 None => Halt::Refused(Fault::NoMessage),
                 Some(letter) => {
                     let found = letter.message();
@@ -95,7 +95,7 @@ impl<'a, L: Site> Fleet<'a, L> {
                 }
             },
             other => {
-                log.settle(&self.height, pass);
+                log.settle(pass);
                 self.refuse_unborn(&log, pass, volume, other, None)
             }
         }
@@ -125,7 +125,7 @@ impl<'a, L: Site> Fleet<'a, L> {
         let raises = moves(&deed);
         let receipt = {
             let mut log = taken(rt, &self.journal);
-            actor.act(rt, self.alloc, &self.height, &mut log, pass, deed)?
+            actor.act(rt, self.alloc, &mut log, pass, deed)?
         };
         if raises {
             pass.raise(&self.board, receipt.durable);
@@ -177,13 +177,14 @@ impl<'a, L: Site> Fleet<'a, L> {
         }
         let receipt = {
             let mut log = taken(rt, &self.journal);
-            actor.take(rt, self.alloc, &self.height, &mut log, pass, message)?
+            actor.take(rt, self.alloc, &mut log, pass, message)?
         };
         pass.raise(&self.board, receipt.durable);
         Ok(receipt)
     }
 
     // A client takes the message with this number, in one try.
+    #[inline(always)]
     fn take<R: Wait>(
         &self,
         rt: &R,
@@ -228,6 +229,24 @@ impl<'a, L: Site> Fleet<'a, L> {
         }
     }
 
+    // A copy of what it is asked to do goes to a client: apart from a taking, which copies nothing.
+    #[inline(never)]
+    fn copied_step<R: Wait>(
+        &self,
+        rt: &R,
+        pass: &mut Pass<'a, L>,
+        volume: u32,
+        deed: &ClientDeed,
+    ) -> Result<Receipt, Fault>
+        ensures told { Tells (event_by volume deed.now) result (steps_of pass.old) (steps_of pass.new) (notes_of pass.old) (notes_of pass.new) }
+        ensures raised { IfOk result (λ r. RaisesBy (event_by volume deed.now) r.durable (seat_of pass.old) (seat_of pass.new)) }
+        ensures still { OnErr result (seat_of pass.new ≡ seat_of pass.old) }
+        ensures unmade { IfErr result (λ fault. fault ≡ NoMessage → NamesElse (event_by volume deed.now) (steps_of pass.old)) }
+    {
+        let asked = deed.clone()?;
+        self.client_does(rt, pass, volume, asked)
+    }
+
     /// A client does what it is asked to, of which a copy goes into the journal: else as [`Fleet::client_does`].
     ///
     /// # Errors
@@ -247,7 +266,6 @@ impl<'a, L: Site> Fleet<'a, L> {
         if let ClientDeed::Take { message } = deed {
             return self.take(rt, pass, volume, *message);
         }
-        let asked = deed.clone()?;
-        self.client_does(rt, pass, volume, asked)
+        self.copied_step(rt, pass, volume, deed)
     }
 }

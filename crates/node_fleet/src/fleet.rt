@@ -4,7 +4,6 @@ ghost use Rattle.std.specs.Prelude.{◌≡◌};
 ghost use Rattle.std.specs.Arc.{arc_value};
 ghost use Rattle.std.specs.Coded.{Coded-set};
 ghost use Rattle.atomic_table.specs.Seated.{table_id_coded};
-ghost use Rattle.height.specs.Seats.{table_of};
 ghost use Rattle.board.specs.Seats.{board_table};
 ghost use Rattle.plan.specs.CheckedModel.{checked_model};
 ghost use Rattle.journal.proofs.Plans.{Plan-set};
@@ -14,7 +13,6 @@ ghost use Rattle.node_fleet.specs.Places.{HasEach};
 use crate::closed::Journal;
 use board::Board;
 use fleet_actors::{AuthorityActor, ClientActor, NodeActor};
-use height::Height;
 use journal::{Log, Pass, Site};
 use plan::CheckedPlan;
 use std::alloc::Global;
@@ -27,7 +25,6 @@ use world::promised;
 pub struct Fleet<'a, L: Site> {
     pub(crate) alloc: Global,
     pub(crate) plan: Arc<CheckedPlan>,
-    pub(crate) height: Height,
     pub(crate) board: Board,
     pub(crate) authority: Mutex<AuthorityActor<L>>,
     /// Those of the volume epochs from 0 on; nobody is born with 0.
@@ -37,7 +34,6 @@ pub struct Fleet<'a, L: Site> {
     pub(crate) journal: Mutex<Log<'a, L>>,
     pub(crate) slots: u32,
     ghost plan_is: { checked_model (arc_value plan) ≡ L.plan } by { Prim.hlevel Plan-set },
-    ghost table: { table_of height ≡ L.table } by { Coded-set table_id_coded (table_of height) L.table },
     ghost board_table: { board_table board ≡ L.board } by { Coded-set table_id_coded (board_table board) L.board },
     ghost slots_are: { slots ≡ L.slots },
     ghost each: { HasEach L.plan nodes.items } by { Prim.hlevel props },
@@ -76,14 +72,9 @@ impl<'a, L: Site> Fleet<'a, L> {
         ensures refused { All (λ p. All (IsRefused L.plan L.slots (length L.cells) (entries_in result)) (notes_of p)) passes.entry.items }
         ensures count { sum_by (λ p. length (steps_of p)) passes.entry.items ≡ length (entries_in result) }
     {
-        let Fleet {
-            plan,
-            height,
-            journal,
-            ..
-        } = self;
+        let Fleet { plan, journal, .. } = self;
         let mut log = journal.into_inner();
-        log.audit(&height, passes);
+        log.audit(passes);
         log.replays();
         promised(&plan);
         Journal::of(log)

@@ -45,7 +45,7 @@ impl<'a, L: Site> Fleet<'a, L> {
         if pass.reserve().is_err() {
             return Fault::NoMemory;
         }
-        log.settle(&self.height, pass);
+        log.settle(pass);
         log.refuse(pass, event, Fault::NoActor);
         Fault::NoActor
     }
@@ -87,7 +87,7 @@ impl<'a, L: Site> Fleet<'a, L> {
             };
             return Err(self.refuse_missing(&mut log, pass, event));
         }
-        match log.seek(&self.height, pass, message) {
+        match log.seek(pass, message) {
             Some(letter) => Ok(letter),
             None => Err(Fault::NoMessage),
         }
@@ -112,15 +112,7 @@ impl<'a, L: Site> Fleet<'a, L> {
         if actor.group() != group || actor.member() != member {
             return Err(Halt::Again);
         }
-        actor.react(
-            rt,
-            self.alloc,
-            &self.journal,
-            &self.height,
-            pass,
-            letter,
-            gate,
-        )
+        actor.react(rt, self.alloc, &self.journal, pass, letter, gate)
     }
 
     /// Delivers a message to a node: looks it up, makes the node ready under its own lock, lends what it answers to the
@@ -180,7 +172,7 @@ impl<'a, L: Site> Fleet<'a, L> {
             return Err(Halt::Again);
         }
         let mut log = taken(rt, &self.journal);
-        actor.act(rt, self.alloc, &self.height, &mut log, pass, deed)
+        actor.act(rt, self.alloc, &mut log, pass, deed)
     }
 
     /// A node does what it does of itself.

@@ -2,7 +2,6 @@
 
 ghost use Rattle.std.specs.Prelude.{◌≡◌, ◌≤◌, ◌+◌, All, [], IfErr, IfOk, is_some, vec_len};
 ghost use Rattle.std.specs.Arc.{arc_value};
-ghost use Rattle.height.specs.Seats.{table_of, top_table, height_of};
 ghost use Rattle.board.specs.Seats.{IsSeatIn};
 ghost use Rattle.volume_model.specs.declared.fault.Fault.TheVariants.{NoMemory};
 ghost use Rattle.volume_model.specs.Plan.{is_named};
@@ -17,7 +16,6 @@ use crate::fleet::Fleet;
 use board::BoardSeat;
 use epochs::Authority;
 use fleet_actors::{AuthorityActor, ClientActor, NodeActor};
-use height::{Height, Top};
 use journal::{History, Log, Mark, Pass, Row, Site, Who};
 use plan::CheckedPlan;
 use std::alloc::{AllocError, Global};
@@ -32,26 +30,21 @@ const MEMBERS: usize = 64;
 // Passes that have made no step, one for each seat of the board, with a part of the ledger each.
 fn passes<'a, L: Site>(
     alloc: Global,
-    height: &Height,
-    top: &mut Top,
     mut rest: Share<L>,
     history: &mut History<L>,
     mut seats: Vec<BoardSeat>,
 ) -> Result<Vec<Pass<'a, L>>, AllocError>
-    requires table { (table_of height.now ≡ L.table) × (top_table top.old ≡ L.table) × (height_of top.old ≡ 0) }
     requires parts { (rest.parts ≡ vec_len seats) × (rest.amount ≡ 0) }
     requires history { log_of history.old.opened ≡ [] }
     requires seats { All (λ s. IsSeatIn L.board s) seats.items }
     ensures history { log_of history.new.opened ≡ [] }
-    ensures top { (top_table top.new ≡ top_table top.old) × (height_of top.new ≡ height_of top.old) }
     ensures count { IfOk result (λ made. vec_len made ≡ vec_len seats) }
     ensures fresh { IfOk result (λ made. All (λ p. (steps_of p ≡ []) × (notes_of p ≡ [])) made.items) }
 {
     let mut made = Vec::with_capacity(alloc, seats.len())?;
     while let Some(seat) = seats.pop() {
         let share = rest.split_off(1, 0);
-        let floor = height.floor(top);
-        made.push(Pass::new(alloc, share, floor, history, seat))?;
+        made.push(Pass::new(alloc, share, history, seat))?;
     }
     Ok(made)
 }
@@ -159,14 +152,12 @@ impl<'a, L: Site> Fleet<'a, L> {
         requires cells { ids_of row.old ≡ L.cells }
         requires slots { slots ≡ L.slots }
         requires first { 1 ≤ slots }
-        requires base { IsBaseOf L.table L.board L.history L.name L.parts base }
+        requires base { IsBaseOf L.board L.history L.name L.parts base }
         ensures count { IfOk result (λ f. vec_len f.1 ≡ passes_of base) }
         ensures fresh { IfOk result (λ f. All (λ p. (steps_of p ≡ []) × (notes_of p ≡ [])) f.1.items) }
         ensures memory { IfErr result (λ fault. fault ≡ NoMemory) }
     {
         let Base {
-            height,
-            mut top,
             board,
             seats,
             opened,
@@ -174,17 +165,16 @@ impl<'a, L: Site> Fleet<'a, L> {
         } = base;
         let (book, rest) = blank.open::<L>();
         let mut history = opened.named::<L>();
-        let made = passes(alloc, &height, &mut top, rest, &mut history, seats)?;
+        let made = passes(alloc, rest, &mut history, seats)?;
         let nodes = nodes(alloc, &plan, &mut history)?;
         let clients = clients(alloc, &plan, slots, &mut history)?;
         let authority = Authority::new(alloc, plan.clone()?)?;
         let authority = AuthorityActor::new(Mark::new(Who::TheAuthority, &mut history), authority);
         let born = u64::from(plan.born());
-        let log = Log::new(alloc, row, slots, plan.groups(), born, book, top, history)?;
+        let log = Log::new(alloc, row, slots, plan.groups(), born, book, history)?;
         let fleet = Fleet {
             alloc,
             plan,
-            height,
             board,
             authority: Mutex::new(authority),
             clients,

@@ -1,5 +1,4 @@
 use Rattle.std.proofs.Common.{◌≡◌, ◌+◌, [], All, vec_len}
-use Rattle.height.specs.Seats.{top_table, height_of}
 use Rattle.journal.specs.Fronts.{log_of}
 use Rattle.board.specs.Seats.{IsSeatIn}
 use Rattle.journal.specs.Passes.{steps_of, notes_of}
@@ -7,7 +6,6 @@ use Rattle.node_fleet.proofs.opening.passes.Given as goal
 
 abbrev pub invariant-loop-seat : goal.invariant-loop-seat
 invariant-loop-seat g l = record {
-  top : (top_table l.top ≡ top_table l.initial.top) × (height_of l.top ≡ height_of l.initial.top);
   parts : (l.rest.parts ≡ vec_len l.seats) × (l.rest.amount ≡ 0);
   seats : All (λ s. IsSeatIn g.L.Site.board s) l.seats.items;
   history : log_of l.history.opened ≡ [];

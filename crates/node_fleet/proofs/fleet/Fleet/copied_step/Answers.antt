@@ -3,7 +3,7 @@ use Rattle.volume_model.specs.World.{Event}
 use Rattle.volume_model.specs.declared.fault.Fault.TheVariants.{NoMessage}
 use Rattle.journal.specs.Passes.{notes_of, seat_of, steps_of}
 use Rattle.node_fleet.specs.Calls.{NamesElse, RaisesBy, Tells}
-use Rattle.node_fleet.proofs.fleet.Fleet.client_step.Goals as goal
+use Rattle.node_fleet.proofs.fleet.Fleet.copied_step.Goals as goal
 
 pub returns-clause-told : goal.returns-clause-told
 returns-clause-told g c =
