@@ -25,7 +25,6 @@ use Rattle.recovery.specs.contracts.recovery.Recovery as Recovery
 use Rattle.world.specs.contracts.client.Client as Client
 use denote.Ref.{NamedLft}
 use Rattle.std.specs.declared.sync.ledger.Ledger as ledger
-use Rattle.height.proofs.Height.TheSendSync as height
 use Rattle.board.proofs.Board.TheSendSync as board
 use Rattle.journal.specs.declared.row.Site as site
 use Rattle.journal.proofs.mark.Mark.TheSendSync as mark
@@ -97,13 +96,10 @@ module _ (T : RattleType) (g : site.Ghosts T.Denot) (l : ledger.Ghosts T.Denot) 
         (
           search (sendable, crosses, plan_send, plan_sync) depth 20,
           (
-            height.the_field_sync,
+            board.the_field_sync,
             (
-              board.the_field_sync,
-              (
-                search (crosses, authority_actor) depth 20,
-                (search (sendable, crosses, client_actor) depth 20, (search (sendable, crosses, node_actor) depth 20, (search (crosses, log.the_send a T g l) depth 20, (search sendable, tt)))),
-              ),
+              search (crosses, authority_actor) depth 20,
+              (search (sendable, crosses, client_actor) depth 20, (search (sendable, crosses, node_actor) depth 20, (search (crosses, log.the_send a T g l) depth 20, (search sendable, tt)))),
             ),
           ),
         ),

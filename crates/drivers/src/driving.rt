@@ -212,7 +212,7 @@ fn drive_fleet<L: Site + Send + Sync, R: Threads + Wait + Sync>(
     requires plan { checked_model (arc_value plan.now) ≡ L.plan }
     requires cells { ids_of row.old ≡ L.cells }
     requires slots { L.slots ≡ 64 }
-    requires base { IsBaseOf L.table L.board L.history L.name L.parts base }
+    requires base { IsBaseOf L.board L.history L.name L.parts base }
     requires passes { 0 < passes_of base }
     ensures driven { IfOk result (IsDriven (checked_model (arc_value plan.now)) (vec_len script.now.orders)) }
     ensures memory { IfErr result (λ fault. fault ≡ NoMemory) }
