@@ -97,7 +97,7 @@ fn drive<L: Site, R: Wait>(
     requires cells { ids_of row.old ≡ L.cells }
     requires slots { slots ≡ L.slots }
     requires first { 1 ≤ slots }
-    requires base { IsBaseOf L.table L.board L.history L.name L.parts base }
+    requires base { IsBaseOf L.board L.history L.name L.parts base }
     requires passes { 0 < passes_of base }
 {
     let copy = plan.clone()?;

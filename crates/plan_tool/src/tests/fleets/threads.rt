@@ -187,7 +187,7 @@ fn work_over<L: Site + Send + Sync, R: Threads + Wait + Sync>(
     requires plan { checked_model (arc_value plan) ≡ L.plan }
     requires cells { ids_of row.old ≡ L.cells }
     requires slots { L.slots ≡ 1 }
-    requires base { IsBaseOf L.table L.board L.history L.name L.parts base }
+    requires base { IsBaseOf L.board L.history L.name L.parts base }
     requires passes { 0 < passes_of base }
 {
     let copy = plan.clone()?;
