@@ -10,8 +10,6 @@ mod boards;
 #[cfg(test)]
 mod clients;
 #[cfg(test)]
-mod heights;
-#[cfg(test)]
 mod hydrations;
 #[cfg(test)]
 mod letters;
