@@ -241,7 +241,7 @@ fn drive<L: Site, R: Wait>(
     requires plan { checked_model (arc_value plan) ≡ L.plan }
     requires cells { ids_of row.old ≡ L.cells }
     requires slots { L.slots ≡ 2 }
-    requires base { IsBaseOf L.table L.board L.history L.name L.parts base }
+    requires base { IsBaseOf L.board L.history L.name L.parts base }
     requires passes { 0 < passes_of base }
 {
     let copy = plan.clone()?;
@@ -298,7 +298,6 @@ pub fn told<R: Wait>(rt: &R, alloc: Global, name: &str) -> Told {
 
 SITE = """-- The fleet's site is what the arguments of the call are.
 use Rattle.std.specs.Arc.{arc_value}
-use Rattle.height.specs.Seats.{table_of}
 use Rattle.board.specs.Seats.{board_table}
 use Rattle.plan.specs.CheckedModel.{checked_model}
 use Rattle.journal.specs.Fronts.{book_of}
@@ -310,5 +309,5 @@ abbrev pub ghosts-drive-L-Ledger : goal.ghosts-drive-L-Ledger
 ghosts-drive-L-Ledger g a = record { name = a.base.blank.name; parts = passes_of a.base }
 
 abbrev pub ghosts-drive-L-Site : goal.ghosts-drive-L-Site
-ghosts-drive-L-Site g a = record { plan = checked_model (arc_value a.plan); cells = ids_of a.row.now; table = table_of a.base.height; board = board_table a.base.board; history = book_of a.base.opened; slots = 2 }
+ghosts-drive-L-Site g a = record { plan = checked_model (arc_value a.plan); cells = ids_of a.row.now; board = board_table a.base.board; history = book_of a.base.opened; slots = 2 }
 """

@@ -322,7 +322,7 @@ fn on_fleet<L: Site, R: Wait + Clock>(
     requires plan { checked_model (arc_value plan) ≡ L.plan }
     requires cells { ids_of row.old ≡ L.cells }
     requires slots { L.slots ≡ 64 }
-    requires base { IsBaseOf L.table L.board L.history L.name L.parts base }
+    requires base { IsBaseOf L.board L.history L.name L.parts base }
 {
     let (fleet, passes) = Fleet::<L>::new(alloc, row, base, plan, 64).ok()?;
     rounds(rt, alloc, &fleet, passes, changes, count)
@@ -381,7 +381,6 @@ fn main(rt: HostRuntime) -> ExitCode {
 
 SITE = """-- The fleet's site is what the arguments of the call are.
 use Rattle.std.specs.Arc.{arc_value}
-use Rattle.height.specs.Seats.{table_of}
 use Rattle.board.specs.Seats.{board_table}
 use Rattle.plan.specs.CheckedModel.{checked_model}
 use Rattle.journal.specs.Fronts.{book_of}
@@ -393,10 +392,10 @@ abbrev pub ghosts-on_fleet-L-Ledger : goal.ghosts-on_fleet-L-Ledger
 ghosts-on_fleet-L-Ledger g a = record { name = a.base.blank.name; parts = passes_of a.base }
 
 abbrev pub ghosts-on_fleet-L-Site : goal.ghosts-on_fleet-L-Site
-ghosts-on_fleet-L-Site g a = record { plan = checked_model (arc_value a.plan); cells = ids_of a.row.now; table = table_of a.base.height; board = board_table a.base.board; history = book_of a.base.opened; slots = 64 }
+ghosts-on_fleet-L-Site g a = record { plan = checked_model (arc_value a.plan); cells = ids_of a.row.now; board = board_table a.base.board; history = book_of a.base.opened; slots = 64 }
 """
 
-CRATES = ["volume_model", "plan", "redo_record", "wire", "epochs", "writer_core", "world", "height", "board", "journal", "fleet_actors", "node_fleet"]
+CRATES = ["volume_model", "plan", "redo_record", "wire", "epochs", "writer_core", "world", "board", "journal", "fleet_actors", "node_fleet"]
 
 # Changes a transaction, passes, rounds.
 JOBS = [(1, 1, 200), (1, 4, 200), (8, 1, 30), (8, 4, 30)]
