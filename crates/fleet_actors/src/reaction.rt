@@ -124,7 +124,7 @@ impl<L: Site> NodeActor<L> {
         Err(refused(log, pass, event, fault))
     }
 
-    /// Takes the journal's lock and then a letter that the node was made ready for, whose answers it lends to the gate before.
+    /// Lends the answers of what was made ready to the gate, then takes the journal's lock and the letter.
     #[inline(always)]
     fn accept<'a, R: Wait, G: StepGate>(
         &mut self,
@@ -148,7 +148,7 @@ impl<L: Site> NodeActor<L> {
         self.receive(rt, &mut log, pass, letter, prepared)
     }
 
-    /// Takes the journal's lock and notes that the node refuses a letter.
+    /// Takes the journal's lock and notes that the node refuses a letter: apart, since few are refused.
     #[inline(never)]
     fn reject<'a, R: Wait>(
         &mut self,

@@ -68,7 +68,7 @@ pub(crate) fn ready<'a, L: Site>(
     poised(log, pass, mark)
 }
 
-/// Notes a refusal, unless it is want of memory or of a message.
+/// Notes a refusal, unless it is want of memory or of a message: apart, since few steps are refused.
 #[inline(never)]
 pub fn refused<'a, L: Site>(
     log: &Log<'a, L>,
