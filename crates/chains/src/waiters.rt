@@ -12,7 +12,7 @@ pub enum Waiters {
     Nobody,
     /// This one alone.
     One(u64),
-    /// Some of which each comes by a record of its own.
+    /// These, in the order in which they came.
     Many(Vec<u64>),
 }
 
@@ -30,7 +30,7 @@ impl Waiters {
         }
     }
 
-    /// A list of one, with room for one more. Fails for want of memory alone.
+    /// A list of one, with room for one more: apart, since two seldom wait for one number. Fails for want of memory alone.
     #[inline(never)]
     fn listed(alloc: Global, waiter: u64) -> Result<Waiters, AllocError>
         ensures same { IfOk result (λ waiters. numbers_of waiters ≡ waiter ∷ []) }

@@ -35,7 +35,7 @@ fn judge(entries: &[Entry], volume_epoch: u32, lsn: u64) -> Option<bool>
     None
 }
 
-/// These entries and one more, in a list with room for no other.
+/// These entries and one more, in a list with room for no more.
 fn with_last(alloc: Global, entries: &[Entry], last: Entry) -> Result<Vec<Entry>, AllocError>
     ensures { IfOk result (λ list. list.items ≡ entries.now ++ last ∷ []) }
 {

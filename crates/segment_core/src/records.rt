@@ -17,7 +17,7 @@ use runs::Place;
 use std::alloc::{AllocError, Global};
 
 /// The records that a segment holds, each once, in the order of their bytes, how far they hang together, and, from the first page on, which
-/// are of which block. What is held instead begins without the last.
+/// are of which block. What is held in their place later begins without that.
 #[derive(Drop)]
 pub struct Records {
     ordered: Ordered,
@@ -120,7 +120,7 @@ impl Records {
         self.first_page(alloc, block, point)
     }
 
-    /// The same where the records weren't parted by their blocks, which is done first.
+    /// The same where the records weren't parted by their blocks, which is done first: apart, since it is done once.
     ///
     /// # Errors
     /// Where a growth was refused.
@@ -170,7 +170,7 @@ impl Records {
         self.ordered.place_for(packet)
     }
 
-    /// Whether a chain of the records leads from this number down to 0. From none above the complete point one does.
+    /// Whether a chain of the records leads from this number down to 0: never from one above the complete point.
     #[inline(always)]
     fn is_reached(&self, number: u64) -> bool
         ensures { result ≡ is_reached (records_of self.now) number }
@@ -182,7 +182,7 @@ impl Records {
         number < point && self.is_reached_below(number)
     }
 
-    /// Whether a chain of the records leads from this number, which isn't 0, down to 0: seldom asked below the complete point.
+    /// The same of a number that isn't 0, by a look at the records: apart, since it is seldom asked of one below the complete point.
     #[inline(never)]
     fn is_reached_below(&self, number: u64) -> bool
         requires { number ≢ 0 }

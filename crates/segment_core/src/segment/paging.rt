@@ -50,8 +50,8 @@ impl Segment {
         Ok(())
     }
 
-    /// The page of a block at a point. It takes memory, most the first page since the segment took up what it holds, which parts that by its
-    /// blocks.
+    /// The page of a block at a point. It takes memory: most for the first page since the segment took up what it holds, which is then parted by
+    /// its blocks.
     ///
     /// # Errors
     /// `NotWhole` before the segment is whole, `TailSegment` where the member keeps no whole pages, `PointAhead` where the segment isn't
