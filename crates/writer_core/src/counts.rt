@@ -27,10 +27,16 @@ pub fn reaching(counts: &[Count], limit: u64) -> MemberSet
 pub fn best_from(write: &Expr<Global>, counts: &[Count], least: u64) -> u64
     ensures { result ≡ max least (best (formula_of write.now) (counts_of counts.now) (counts_of counts.now)) }
 {
-    let mut best = least;
+    let (mut best, mut most) = (least, u64::MAX);
     for count in counts {
-        if count.reached > best && holds(write, reaching(counts, count.reached)) {
-            best = count.reached;
+        let reached = count.reached;
+        if best < reached && reached <= most {
+            if holds(write, reaching(counts, reached)) {
+                best = reached;
+            } else {
+                // The members that have reached more are some of these.
+                most = reached - 1;
+            }
         }
     }
     best
