@@ -29,7 +29,11 @@ impl FewBytes {
         ensures { few_bytes result ≡ bytes.now }
     {
         let mut place = [0; MOST_FEW];
-        place[..bytes.len()].copy_from_slice(bytes);
+        for at in 0..MOST_FEW {
+            if at < bytes.len() {
+                place[at] = bytes[at];
+            }
+        }
         FewBytes {
             length: bytes.len() as u8,
             place,
