@@ -11,6 +11,8 @@ use Rattle.volume_model.specs.Client.Stage.{Installing, Writing}
 use Rattle.lineage.specs.Lineage.{lineage_of}
 use Rattle.wire.specs.declared.carried.Carried.{Carried}
 use Rattle.wire.specs.declared.message.Message.{Message}
+use Rattle.wire.specs.declared.messages.Messages.{Messages}
+use Rattle.wire.specs.Listed.{listed}
 use Rattle.wire.specs.Message.{message_of, messages_of}
 use Rattle.writer_core.specs.Carried.{carried_write}
 use Rattle.writer_core.specs.Logs.{log_of_set}
@@ -42,6 +44,10 @@ pub record CanIssue (plan : Plan) (client : Client) (changes : List Change) : Ty
 -- the step of a client that makes these messages and becomes this
 abbrev pub acted : Vec Message Global → Client → ClientStep
 acted messages client = record { made = messages_of messages.items; client = client }
+
+-- the same, of messages that may be no list
+abbrev pub answered : Messages → Client → ClientStep
+answered messages client = record { made = messages_of (listed messages); client = client }
 
 -- the step of a client that makes no message and becomes this
 abbrev pub silent : Unit {0} → Client → ClientStep

@@ -9,6 +9,7 @@ ghost use Rattle.volume_model.specs.Lists.{every};
 ghost use Rattle.redo_record.specs.Packet.{packet_redo};
 ghost use Rattle.volume_model.specs.Message as model;
 ghost use Rattle.volume_model.specs.Client.{label_of};
+ghost use Rattle.wire.specs.Listed.{listed};
 ghost use Rattle.wire.specs.Message.{messages_of};
 ghost use Rattle.writer_core.specs.Log.{found_of, log_in, packets_in};
 ghost use Rattle.writer_core.specs.Lasts.{AreLastsOfAll, AreLastsOfFront, AreLinkedFrom};
@@ -22,8 +23,9 @@ use crate::log::Log;
 use crate::standings::Standings;
 use redo_record::{Packet, Record};
 use std::alloc::{AllocError, Global};
+use std::mem;
 use volume_model::Fault;
-use wire::{Carried, Message};
+use wire::{Carried, Message, Messages};
 
 /// The volume epoch of a writer, and the LSN after which its own records begin.
 #[derive(Clone, Copy)]
@@ -90,6 +92,35 @@ pub fn carry<'a>(volume: u32, standings: &Standings, packet: &'a Packet) -> Carr
     }
 }
 
+/// No message yet, but room for so many. One takes no memory.
+#[inline(always)]
+pub fn room_for(alloc: Global, messages: usize) -> Result<Messages, AllocError>
+    ensures { IfOk result (λ made. listed made ≡ []) }
+{
+    if messages <= 1 {
+        return Ok(Messages::Empty);
+    }
+    Ok(Messages::Many(Vec::with_capacity(alloc, messages)?))
+}
+
+/// Adds a message to others. The first takes no memory.
+#[inline(always)]
+fn add(alloc: Global, messages: &mut Messages, message: Message) -> Result<(), AllocError>
+    ensures { OnOk result (listed messages.new ≡ listed messages.old ++ message ∷ []) }
+{
+    match messages {
+        Messages::Empty => *messages = Messages::One(message),
+        Messages::One(_) => {
+            let mut list = Vec::with_capacity(alloc, 2)?;
+            mem::replace(messages, Messages::Empty).append_to(&mut list);
+            list.push(message)?;
+            *messages = Messages::Many(list);
+        }
+        Messages::Many(list) => list.push(message)?,
+    }
+    Ok(())
+}
+
 /// Adds the records of a transaction's changes to a log, and their messages to others. The last LSNs of the log follow it. Where
 /// memory runs out the log has only grown, by records that name the last LSNs before them.
 pub fn append(
@@ -99,14 +130,14 @@ pub fn append(
     log: &mut Log,
     lasts: &mut Lasts,
     changes: &[Change],
-    messages: &mut Vec<Message>,
+    messages: &mut Messages,
 ) -> Result<(), Fault>
     requires front { AreLastsOfFront lasts.old (packets_in log.old) }
     requires room { max (last_lsn (log_in log.old)) span.start + length changes.now ≤ 2 ^ 62 }
     requires few { length (groups_in standings.now) ≤ 16 }
     requires good { every (is_change (length (groups_in standings.now))) (changes_of changes.now) ≡ true }
     ensures logged { OnOk result (log_in log.new ≡ issued_log span.volume span.start (changes_of changes.now) (log_in log.old)) }
-    ensures written { OnOk result (messages_of messages.new.items ≡ messages_of messages.old.items ++ issued_writes span.volume (place_of (groups_in standings.now)) span.start (changes_of changes.now) (log_in log.old)) }
+    ensures written { OnOk result (messages_of (listed messages.new) ≡ messages_of (listed messages.old) ++ issued_writes span.volume (place_of (groups_in standings.now)) span.start (changes_of changes.now) (log_in log.old)) }
     ensures lasts { AreLastsOfFront lasts.new (packets_in log.new) }
     ensures memory { IfErr result (λ e. e ≡ NoMemory) }
     ensures front { take (length (packets_in log.old)) (packets_in log.new) ≡ packets_in log.old }
@@ -119,7 +150,7 @@ pub fn append(
         let packet = next_packet(alloc, span, log, lasts, change, i + 1 == changes.len())?;
         let message = carry(span.volume, standings, &packet).write();
         log.push_reserved(packet);
-        messages.push(message?)?;
+        add(alloc, messages, message?)?;
     }
     Ok(())
 }

@@ -12,7 +12,7 @@ ghost use Rattle.volume_model.specs.Client.{group_point_of};
 use crate::change::Change;
 use crate::covered::Covered;
 use crate::installs::unjoined_installs;
-use crate::issuing::{Span, append, carry};
+use crate::issuing::{Span, append, carry, room_for};
 use crate::lasts::Lasts;
 use crate::log::Log;
 use crate::standings::Standings;
@@ -23,7 +23,7 @@ use redo_record::RecordSet;
 use std::alloc::Global;
 use std::sync::Arc;
 use volume_model::Fault;
-use wire::{Ack, Carried, Message, PageAsk, View};
+use wire::{Ack, Carried, Message, Messages, PageAsk, View};
 
 /// The greatest log sequence number.
 const LAST_LSN: u64 = 1 << 62;
@@ -60,7 +60,7 @@ impl Writer {
     ghost use Rattle.wire.specs.Message.{message_of, place_of};
     ghost use Rattle.volume_model.specs.Lineage.{last_start};
     ghost use Rattle.writer_core.specs.Changes.{changes_of};
-    ghost use Rattle.writer_core.specs.Writers.{client_of, writer_plan, writer_volume, installing, CanIssue, acted, silent, asked, sent};
+    ghost use Rattle.writer_core.specs.Writers.{client_of, writer_plan, writer_volume, installing, CanIssue, acted, answered, silent, asked, sent};
     ghost use Rattle.lineage.specs.Lineage.{lineage_of};
 
     /// The writer that a volume is born with: volume epoch 1, each group that is there at its root, no record. Fails for want of memory alone.
@@ -323,8 +323,8 @@ impl Writer {
     /// Gives a transaction's changes their records, all or none, and makes the Writes that carry them, in order. The last is
     /// a consistency point. Refused as [`Writer::admits`] says. Where memory runs out the log is what it was, and nothing of
     /// it is read anew.
-    pub fn issue(&mut self, alloc: Global, changes: &[Change]) -> Result<Vec<Message>, Fault>
-        ensures answers { Answers acted (issued (writer_plan self.old) (writer_volume self.old) (client_of self.old) (changes_of changes.now)) (client_of self.old) result (client_of self.new) }
+    pub fn issue(&mut self, alloc: Global, changes: &[Change]) -> Result<Messages, Fault>
+        ensures answers { Answers answered (issued (writer_plan self.old) (writer_volume self.old) (client_of self.old) (changes_of changes.now)) (client_of self.old) result (client_of self.new) }
         ensures plan { writer_plan self.new ≡ writer_plan self.old }
         ensures volume { writer_volume self.new ≡ writer_volume self.old }
     {
@@ -333,7 +333,7 @@ impl Writer {
             volume: self.volume,
             start: self.lineage.last_start(),
         };
-        let mut messages = Vec::with_capacity(alloc, changes.len())?;
+        let mut messages = room_for(alloc, changes.len())?;
         let length = self.log.len();
         match append(
             alloc,

@@ -3,6 +3,7 @@ use Rattle.volume_model.specs.Redo.{Redo}
 use Rattle.volume_model.specs.Message as model
 use Rattle.volume_model.specs.Client.{place_of, label_of}
 use Rattle.volume_model.specs.ClientWriter.{record_of}
+use Rattle.wire.specs.Listed.{listed}
 use Rattle.wire.specs.Message.{message_of}
 use Rattle.redo_record.specs.Packet.{packet_redo}
 use Rattle.writer_core.specs.Logs.{log_of}
@@ -38,11 +39,11 @@ returns-in_err-message-clause-linked c =
     let linked : AreLinkedFrom (length (packets_in c.args.log.now)) records = subst (λ n. AreLinkedFrom n records) (ap length c.reserve.ensures.packets) c.loop-i.invariant.linked in
     rw c.push_reserved.ensures.packets (linked-pushed (length (packets_in c.args.log.now)) records p (subst (λ s. IsLinked s (log_of records)) (sym c.in_ok-packet.ensures.made) (record { group = refl; block = refl })) linked)
 
-pub returns-in_err-push-clause-lasts : goal.returns-in_err-push-clause-lasts
-returns-in_err-push-clause-lasts c = rw c.push_reserved.ensures.packets (all-front c.next_packet.new.lasts _ c.in_ok-packet.ensures.entered)
+pub returns-in_err-add-clause-lasts : goal.returns-in_err-add-clause-lasts
+returns-in_err-add-clause-lasts c = rw c.push_reserved.ensures.packets (all-front c.next_packet.new.lasts _ c.in_ok-packet.ensures.entered)
 
-pub returns-in_err-push-clause-linked : goal.returns-in_err-push-clause-linked
-returns-in_err-push-clause-linked c =
+pub returns-in_err-add-clause-linked : goal.returns-in_err-add-clause-linked
+returns-in_err-add-clause-linked c =
     let records = packets_in c.loop-i.log in
     let p = c.in_ok-packet.packet in
     let linked : AreLinkedFrom (length (packets_in c.args.log.now)) records = subst (λ n. AreLinkedFrom n records) (ap length c.reserve.ensures.packets) c.loop-i.invariant.linked in
@@ -63,7 +64,7 @@ loop-i-preserved c =
     let made : packet_redo p ≡ record_of volume start (log_of records) (change_of change) (nat_eq (i + 1) (length changes)) = c.in_ok-packet.ensures.made in
     let message = c.in_ok-message.field-0 in
     let logs : packets_in c.push_reserved.new.self ≡ records ++ p ∷ [] = c.push_reserved.ensures.packets in
-    let messages : c.push.new.self.items ≡ c.loop-i.messages.items ++ message ∷ [] = c.in_ok-push.ensures.items in
+    let messages : listed c.add.new.messages ≡ listed c.loop-i.messages ++ message ∷ [] = c.in_ok-add.ensures in
     let said : message_of message ≡ model.Message.Write (change_of change).group (label_of volume places (change_of change).group) (packet_redo p) =
     c.in_ok-message.ensures ∙ c.carry.ensures ∙ ap (λ (g : ℕ). model.Message.Write g (label_of volume places g) (packet_redo p)) (ap (λ (s : Redo). s.group) made) in
     record {
@@ -72,7 +73,7 @@ loop-i-preserved c =
       room = rw logs (room_on volume start places changes i change within is records p made c.loop-i.invariant.room);
       good = (good_on volume start places changes i change within is records p made (length (groups_in c.args.standings.now)) c.loop-i.invariant.good).1;
       logged = rw logs (logged_on volume start places changes i change within is records p made ∙ c.loop-i.invariant.logged);
-      written = rw (logs, messages) (messages_on c.loop-i.messages.items message _ _ (written_on volume start places changes i change within is records p made _ said) ∙ c.loop-i.invariant.written);
+      written = rw (logs, messages) (messages_on (listed c.loop-i.messages) message _ _ (written_on volume start places changes i change within is records p made _ said) ∙ c.loop-i.invariant.written);
       front = rw logs (front_on records p _ c.loop-i.invariant.front);
       found = c.push_reserved.ensures.found ∙ c.loop-i.invariant.found;
       linked = rw logs (linked-pushed _ records p (subst (λ s. IsLinked s (log_of records)) (sym made) (record { group = refl; block = refl })) c.loop-i.invariant.linked);

@@ -3,6 +3,7 @@ use Rattle.volume_model.specs.Lists.{every}
 use Rattle.volume_model.specs.Redo.{last_lsn}
 use Rattle.volume_model.specs.Client.{place_of}
 use Rattle.volume_model.specs.ClientWriter.{is_change, issued_log, issued_writes}
+use Rattle.wire.specs.Listed.{listed}
 use Rattle.wire.specs.Message.{messages_of}
 use Rattle.writer_core.specs.Log.{found_of, log_in, packets_in, room_in}
 use Rattle.writer_core.specs.Lasts.{AreLastsOfAll, AreLinkedFrom}
@@ -17,8 +18,8 @@ invariant-loop-i l = record {
   room : max (last_lsn (log_in l.log)) l.span.start + length (drop l.i l.changes) ≤ 2 ^ 62;
   good : every (is_change (length (groups_in l.standings))) (changes_of (drop l.i l.changes)) ≡ true;
   logged : issued_log l.span.volume l.span.start (changes_of (drop l.i l.changes)) (log_in l.log) ≡ issued_log l.span.volume l.span.start (changes_of l.changes) (log_in l.initial.log);
-  written : messages_of l.messages.items ++ issued_writes l.span.volume (place_of (groups_in l.standings)) l.span.start (changes_of (drop l.i l.changes)) (log_in l.log)
-      ≡ messages_of l.initial.messages.items ++ issued_writes l.span.volume (place_of (groups_in l.standings)) l.span.start (changes_of l.changes) (log_in l.initial.log);
+  written : messages_of (listed l.messages) ++ issued_writes l.span.volume (place_of (groups_in l.standings)) l.span.start (changes_of (drop l.i l.changes)) (log_in l.log)
+      ≡ messages_of (listed l.initial.messages) ++ issued_writes l.span.volume (place_of (groups_in l.standings)) l.span.start (changes_of l.changes) (log_in l.initial.log);
   front : take (length (packets_in l.initial.log)) (packets_in l.log) ≡ packets_in l.initial.log;
   found : found_of l.log ≡ found_of l.initial.log;
   linked : AreLinkedFrom (length (packets_in l.initial.log)) (packets_in l.log);

@@ -1,9 +1,7 @@
 use Rattle.std.proofs.Common.{◌≡◌, ℕ, length, take, List, Result, Err, sym, ap, ◌∙◌, subst}
-use Rattle.std.specs.Prelude.{Vec}
-use Rattle.std.specs.Global.{Global}
 use Rattle.std.proofs.lemmas.Result.{err_from_is_err_and}
 use Rattle.redo_record.specs.declared.packet.Packet.{Packet}
-use Rattle.wire.specs.declared.message.Message.{Message}
+use Rattle.wire.specs.declared.messages.Messages.{Messages}
 use Rattle.volume_model.specs.Answer.{Answers, never_late}
 use Rattle.volume_model.specs.Client.{Client, ClientAnswer, group_point_of}
 use Rattle.volume_model.specs.ClientWriter.{issued}
@@ -12,7 +10,7 @@ use Rattle.writer_core.specs.Changes.{changes_of}
 use Rattle.writer_core.specs.Covered.{CoversLog}
 use Rattle.writer_core.specs.Groups.{groups_in}
 use Rattle.writer_core.specs.Log.{packets_in}
-use Rattle.writer_core.specs.Writers.{acted, client_of, writer_plan, writer_volume}
+use Rattle.writer_core.specs.Writers.{answered, client_of, writer_plan, writer_volume}
 use Rattle.writer_core.proofs.Answering.{judged, refused}
 use Rattle.writer_core.proofs.writer.Writer.issue.Goals as goal
 
@@ -24,7 +22,7 @@ returns-in_err-admits-clause-answers c =
     let fault : Fault = c.in_err-admits.field-0.0 in
     let p = err_from_is_err_and c.from_residual.result c.from_residual.ensures.1 in
     let same : c.from_residual.result ≡ Err fault = p.1 ∙ ap Err p.2 in
-    subst (λ (r : Result (Vec Message Global) Fault). Answers acted defined client r client) (sym same) (refused never_late acted fault defined client c.in_err-admits.ensures.own (judged fault defined c.in_err-admits.ensures.refusal))
+    subst (λ (r : Result Messages Fault). Answers answered defined client r client) (sym same) (refused never_late answered fault defined client c.in_err-admits.ensures.own (judged fault defined c.in_err-admits.ensures.refusal))
 
 pub invariant_of-self-in-Err-clause-covers : goal.invariant_of-self-in-Err-clause-covers
 invariant_of-self-in-Err-clause-covers c =
