@@ -8,7 +8,7 @@ use std::alloc::Global;
 use std::mem;
 use std::sync::Arc;
 use volume_model::{Fault, steps_are_few};
-use wire::Message;
+use wire::Messages;
 use writer_core::Writer;
 
 /// How many records a piece of an Install has at most.
@@ -45,7 +45,7 @@ impl Client {
     ghost use Rattle.volume_model.specs.Few.{Few};
     ghost use Rattle.volume_model.specs.Message as model;
     ghost use Rattle.plan.specs.CheckedModel.{checked_model};
-    ghost use Rattle.writer_core.specs.Writers.{acted, silent};
+    ghost use Rattle.writer_core.specs.Writers.{answered, silent};
     ghost use Rattle.recovery.specs.Recoveries.{admitted};
     ghost use Rattle.world.specs.Acts.{client_acted, client_late, ButForCut};
     ghost use Rattle.world.specs.Clients.{client_plan, client_volume, seen_client, seen_state, IsClientOf, IsSameClient};
@@ -158,8 +158,9 @@ impl Client {
     ///
     /// # Errors
     /// As [`Client::admits`] says, and `NoMemory` where a growth was refused.
-    pub fn act(&mut self, alloc: Global, act: ClientAct<'_>) -> Result<Vec<Message>, Fault>
-        ensures answers { AnswersLate (client_late act.entry) acted (client_acted act.entry (client_plan self.old) (client_volume self.old) (seen_client self.old)) (seen_client self.old) result (seen_client self.new) }
+    #[inline(always)]
+    pub fn act(&mut self, alloc: Global, act: ClientAct<'_>) -> Result<Messages, Fault>
+        ensures answers { AnswersLate (client_late act.entry) answered (client_acted act.entry (client_plan self.old) (client_volume self.old) (seen_client self.old)) (seen_client self.old) result (seen_client self.new) }
         ensures same { IsSameClient self.old self.new }
     {
         if let ClientState::Writer(writer) = &mut self.state {
@@ -170,19 +171,22 @@ impl Client {
 
     /// The same, apart from it, as what leads to a writer takes much more of the stack than what a writer does.
     #[inline(never)]
-    fn act_early(&mut self, alloc: Global, act: ClientAct<'_>) -> Result<Vec<Message>, Fault>
-        ensures answers { AnswersLate (client_late act.entry) acted (client_acted act.entry (client_plan self.old) (client_volume self.old) (seen_client self.old)) (seen_client self.old) result (seen_client self.new) }
+    fn act_early(&mut self, alloc: Global, act: ClientAct<'_>) -> Result<Messages, Fault>
+        ensures answers { AnswersLate (client_late act.entry) answered (client_acted act.entry (client_plan self.old) (client_volume self.old) (seen_client self.old)) (seen_client self.old) result (seen_client self.new) }
         ensures same { IsSameClient self.old self.new }
     {
         match &mut self.state {
             ClientState::Unborn => match birth::act(alloc, &self.plan, self.volume, act) {
                 Ok((recovery, made)) => {
                     self.state = ClientState::Recovery(recovery);
-                    Ok(made)
+                    Ok(Messages::of(made))
                 }
                 Err(fault) => Err(fault),
             },
-            ClientState::Recovery(recovery) => recovering::act(alloc, recovery, act),
+            ClientState::Recovery(recovery) => match recovering::act(alloc, recovery, act) {
+                Ok(made) => Ok(Messages::of(made)),
+                Err(fault) => Err(fault),
+            },
             ClientState::Writer(writer) => writing::act(alloc, writer, act),
         }
     }

@@ -11,7 +11,7 @@ ghost use Rattle.world.specs.Acts.{node_late, node_ordered, IsNodeOrderOf, IsRef
 ghost use Rattle.world.specs.Moves.{NodeMoves};
 
 use crate::acts::NodeOrder;
-use crate::numbering::{enter_answers, named};
+use crate::numbering::{enter, named};
 use segment_core::{NodeAct, Prepared, Segment};
 use std::alloc::Global;
 use volume_model::Fault;
@@ -41,7 +41,7 @@ fn take(
 {
     messages.reserve(prepared.answers().len())?;
     let made = segment.apply(prepared);
-    Ok(enter_answers(messages, made))
+    Ok(enter(messages, made))
 }
 
 /// Lets a segment act, as [`act`] does: apart from it, so that the short way's results stay small.

@@ -33,25 +33,13 @@ pub fn named(messages: &[Message], number: u64) -> Result<&Message, Fault>
 }
 
 /// Adds the messages that a step made to the others, among which there is room for them, and answers how many they are.
-pub fn enter(messages: &mut Vec<Message>, made: Vec<Message>) -> u64
-    requires { vec_len messages.old + vec_len made ≤ vec_capacity messages.old }
-    ensures added { messages.new.items ≡ messages.old.items ++ made.items }
-    ensures count { result ≡ length made.items }
-{
-    let mut made = made;
-    let count = made.len() as u64;
-    messages.append(&mut made).unwrap();
-    count
-}
-
-/// Adds what a node answers to the other messages, as [`enter`] does.
 #[inline(always)]
-pub fn enter_answers(messages: &mut Vec<Message>, answers: Messages) -> u64
-    requires { vec_len messages.old + length (listed answers) ≤ vec_capacity messages.old }
-    ensures added { messages.new.items ≡ messages.old.items ++ listed answers }
-    ensures count { result ≡ length (listed answers) }
+pub fn enter(messages: &mut Vec<Message>, made: Messages) -> u64
+    requires { vec_len messages.old + length (listed made) ≤ vec_capacity messages.old }
+    ensures added { messages.new.items ≡ messages.old.items ++ listed made }
+    ensures count { result ≡ length (listed made) }
 {
-    let count = answers.len() as u64;
-    answers.append_to(messages);
+    let count = made.len() as u64;
+    made.append_to(messages);
     count
 }

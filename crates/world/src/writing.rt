@@ -4,7 +4,7 @@ ghost use Rattle.std.specs.Prelude.{◌≡◌};
 ghost use Rattle.volume_model.specs.Answer.{refusal_of, Answers, AnswersLate};
 ghost use Rattle.volume_model.specs.ClientMessages.{taken};
 ghost use Rattle.wire.specs.Message.{message_of};
-ghost use Rattle.writer_core.specs.Writers.{acted, client_of, writer_plan, writer_volume};
+ghost use Rattle.writer_core.specs.Writers.{answered, client_of, writer_plan, writer_volume};
 ghost use Rattle.recovery.specs.Recoveries.{admitted};
 ghost use Rattle.world.specs.Acts.{client_acted, client_late, ButForCut};
 
@@ -12,7 +12,7 @@ use crate::acts::ClientAct;
 use crate::addressed::addressed;
 use std::alloc::Global;
 use volume_model::Fault;
-use wire::{Message, only};
+use wire::{Message, Messages};
 use writer_core::Writer;
 
 /// Whether a writer would take a message. `NotAddressed` where it isn't for it, `NotInPlan` for a View of other places.
@@ -46,22 +46,27 @@ pub fn admits(writer: &Writer, act: ClientAct<'_>) -> Result<(), Fault>
 }
 
 /// A writer takes a message, and answers those that it makes.
-fn take(alloc: Global, writer: &mut Writer, message: &Message) -> Result<Vec<Message>, Fault>
-    ensures answers { Answers acted (taken (writer_plan writer.old) (writer_volume writer.old) (client_of writer.old) (message_of message.now)) (client_of writer.old) result (client_of writer.new) }
+fn take(alloc: Global, writer: &mut Writer, message: &Message) -> Result<Messages, Fault>
+    ensures answers { Answers answered (taken (writer_plan writer.old) (writer_volume writer.old) (client_of writer.old) (message_of message.now)) (client_of writer.old) result (client_of writer.new) }
     ensures plan { writer_plan writer.new ≡ writer_plan writer.old }
     ensures volume { writer_volume writer.new ≡ writer_volume writer.old }
 {
     match message {
-        Message::View(view) => return writer.view(alloc, view),
+        Message::View(view) => {
+            return match writer.view(alloc, view) {
+                Ok(made) => Ok(Messages::of(made)),
+                Err(fault) => Err(fault),
+            };
+        }
         Message::Ack(ack) => writer.take_ack(ack)?,
         _ => addressed(writer.volume(), writer.groups(), message)?,
     }
-    Ok(Vec::new(alloc))
+    Ok(Messages::Empty)
 }
 
 /// A writer acts. `AlreadyDone` where it is to cut.
-pub fn act(alloc: Global, writer: &mut Writer, act: ClientAct<'_>) -> Result<Vec<Message>, Fault>
-    ensures answers { AnswersLate (client_late act.entry) acted (client_acted act.entry (writer_plan writer.old) (writer_volume writer.old) (client_of writer.old)) (client_of writer.old) result (client_of writer.new) }
+pub fn act(alloc: Global, writer: &mut Writer, act: ClientAct<'_>) -> Result<Messages, Fault>
+    ensures answers { AnswersLate (client_late act.entry) answered (client_acted act.entry (writer_plan writer.old) (writer_volume writer.old) (client_of writer.old)) (client_of writer.old) result (client_of writer.new) }
     ensures plan { writer_plan writer.new ≡ writer_plan writer.old }
     ensures volume { writer_volume writer.new ≡ writer_volume writer.old }
 {
@@ -69,7 +74,7 @@ pub fn act(alloc: Global, writer: &mut Writer, act: ClientAct<'_>) -> Result<Vec
         ClientAct::Issue(changes) => writer.issue(alloc, changes),
         ClientAct::Take(message) => take(alloc, writer, message),
         ClientAct::Cut => Err(Fault::AlreadyDone),
-        ClientAct::Resend { lsn } => Ok(only(alloc, writer.resend(lsn)?.write()?)?),
-        ClientAct::Read { group, block } => Ok(only(alloc, writer.read(group, block)?)?),
+        ClientAct::Resend { lsn } => Ok(Messages::One(writer.resend(lsn)?.write()?)),
+        ClientAct::Read { group, block } => Ok(Messages::One(writer.read(group, block)?)),
     }
 }

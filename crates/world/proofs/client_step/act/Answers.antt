@@ -1,4 +1,4 @@
-use Rattle.std.proofs.Common.{◌≡◌, ℕ, ◌+◌, ◌≤◌, ◌++◌, Bool, List, [], Err, length, refl, sym, ap, ◌∙◌, subst, arith, rules, vec_len}
+use Rattle.std.proofs.Common.{◌≡◌, ℕ, ◌+◌, ◌≤◌, ◌++◌, Bool, List, [], Err, length, refl, sym, ap, ◌∙◌, subst, arith, vec_len}
 use Rattle.std.specs.Prelude.{vec_capacity}
 use Rattle.std.proofs.lemmas.List.{length-map}
 use Rattle.std.proofs.lemmas.Result.{err_from_is_err_and}
@@ -9,9 +9,10 @@ use Rattle.volume_model.specs.Lists.{added}
 use Rattle.volume_model.specs.Plan.{Plan}
 use Rattle.volume_model.specs.Client.{Client, ClientAnswer, ClientStep}
 use Rattle.wire.specs.declared.message.Message.{Message}
+use Rattle.wire.specs.Listed.{listed}
 use Rattle.wire.specs.Message.{message_of, messages_of}
 use Rattle.recovery.specs.Recoveries.{admitted}
-use Rattle.writer_core.specs.Writers.{acted}
+use Rattle.writer_core.specs.Writers.{answered}
 use Rattle.world.specs.Acts.{client_acted, client_ordered, client_late, order_late, IsOrderOf}
 use Rattle.world.specs.Clients.{client_plan, client_volume, seen_client}
 use Rattle.world.proofs.Moving.{judged_moves, of_success, told_made}
@@ -21,7 +22,7 @@ pub enter-requires : goal.enter-requires
 enter-requires c =
     let plan : Plan = client_plan c.args.client.now in
     let volume : ℕ = client_volume c.args.client.now in
-    let made : List Message = c.in_ok-made.made.items in
+    let made : List Message = listed c.in_ok-made.made in
     let kept : List Message = c.args.messages.now.items in
     let old : Client = seen_client c.args.client.now in
     let most : ℕ = c.most_made.result in
@@ -29,7 +30,6 @@ enter-requires c =
     let few : Few most (client_ordered (added (messages_of kept) []) c.args.order plan volume old) = c.most_made.ensures (added (messages_of kept) []) in
     let short : length (messages_of made) ≤ most = subst (Few most) (ordered.does plan volume old ∙ c.in_ok-made.ensures.answers) few in
     let many : length (messages_of made) ≡ length made = length-map made message_of in
-    let long : length made ≡ vec_len c.in_ok-made.made = search rules in
     let room : vec_len c.reserve-room.new.self + most ≤ vec_capacity c.reserve-room.new.self = of_success c.reserve-room.result (vec_len c.reserve-room.new.self + most ≤ vec_capacity c.reserve-room.new.self) (sym c.is_err.ensures.value ∙ c.if-is_err.false) c.reserve-room.ensures.ok in
     omega arith
 
@@ -37,12 +37,12 @@ pub returns-clause-moves : goal.returns-clause-moves
 returns-clause-moves c =
     let plan : Plan = client_plan c.args.client.now in
     let volume : ℕ = client_volume c.args.client.now in
-    let made : List Message = c.in_ok-made.made.items in
+    let made : List Message = listed c.in_ok-made.made in
     let kept : List Message = c.args.messages.now.items in
     let old : Client = seen_client c.args.client.now in
     let new : Client = seen_client c.act.new.self in
     let ordered : IsOrderOf (added (messages_of kept) []) c.args.order c.in-Ok.act = subst (λ (ms : List Message). IsOrderOf (added (messages_of ms) []) c.args.order c.in-Ok.act) (c.as_slice.ensures.value ∙ c.reserve-room.ensures.items) c.in-Ok.ensures in
-    told_made (λ (step : ClientStep). step.made) (λ (step : ClientStep). step.client) kept c.enter.new.messages.items made (client_ordered (added (messages_of kept) []) c.args.order plan volume old) (acted c.in_ok-made.made new) new c.enter.result
+    told_made (λ (step : ClientStep). step.made) (λ (step : ClientStep). step.client) kept c.enter.new.messages.items made (client_ordered (added (messages_of kept) []) c.args.order plan volume old) (answered c.in_ok-made.made new) new c.enter.result
     (ordered.does plan volume old ∙ c.in_ok-made.ensures.answers) refl refl c.enter.ensures.count
     (c.enter.ensures.added ∙ ap (λ (ms : List Message). ms ++ made) c.reserve-room.ensures.items)
 

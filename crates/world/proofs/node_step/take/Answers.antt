@@ -15,9 +15,9 @@ returns-clause-moves c late =
     let kept : List Message = c.args.messages.now.items in
     let prepared : Prepared = c.args.prepared in
     let answers : List Message = listed prepared.answers in
-    told_made (λ (step : NodeStep). step.made) (λ (step : NodeStep). step.node) kept c.enter_answers.new.messages.items answers (Ok (step_of prepared node)) (step_of prepared node) (node_of c.apply-made.new.self) c.enter_answers.result
+    told_made (λ (step : NodeStep). step.made) (λ (step : NodeStep). step.node) kept c.enter.new.messages.items answers (Ok (step_of prepared node)) (step_of prepared node) (node_of c.apply-made.new.self) c.enter.result
     refl
     refl
     (sym c.apply-made.ensures.node)
-    (c.enter_answers.ensures.count ∙ ap length c.apply-made.ensures.answers)
-    (c.enter_answers.ensures.added ∙ ap₂ (λ (xs ys : List Message). xs ++ ys) c.in_ok-reserve.ensures.items c.apply-made.ensures.answers)
+    (c.enter.ensures.count ∙ ap length c.apply-made.ensures.answers)
+    (c.enter.ensures.added ∙ ap₂ (λ (xs ys : List Message). xs ++ ys) c.in_ok-reserve.ensures.items c.apply-made.ensures.answers)

@@ -10,9 +10,10 @@ use Rattle.volume_model.specs.Client as model
 use Rattle.volume_model.specs.Client.{ClientAnswer, ClientStep, unborn}
 use Rattle.volume_model.specs.World.{of_client}
 use Rattle.wire.specs.declared.message.Message.{Message}
+use Rattle.wire.specs.Listed.{listed}
 use Rattle.wire.specs.Message.{messages_of}
 use Rattle.epochs.specs.Authority.{authority_of}
-use Rattle.writer_core.specs.Writers.{acted}
+use Rattle.writer_core.specs.Writers.{answered}
 use Rattle.world.specs.declared.client.Client.{Client}
 use Rattle.world.specs.Slots.{node_at}
 use Rattle.world.specs.Homes.{nodes_of}
@@ -30,7 +31,7 @@ returns-clause-steps c =
     let self = c.args.self.now in
     let born : Client = c.act.new.self in
     let kept : List Message = self.messages.items in
-    let made : List Message = c.in_ok-made.made.items in
+    let made : List Message = listed c.in_ok-made.made in
     let home : Box Client = c.in_ok-new.field-0 in
     let inside : home.value ≡ born = c.in_ok-new.ensures.ok in
     let is : IsPut self.clients c.args.volume home c.insert.new.self = c.in_ok-insert.ensures.updates.0 in
@@ -41,10 +42,10 @@ returns-clause-steps c =
     let cloned : checked_model (arc_value c.in_ok-clone.field-0) ≡ checked_model (arc_value self.plan) = search rules in
     let asked : client_acted c.in_ok-act.act (plan_of self) c.args.volume unborn ≡ client_acted c.in_ok-act.act (client_plan new) (client_volume new) (seen_client new) =
     λ i. client_acted c.in_ok-act.act (sym (c.unborn-client.ensures.own.plan_is ∙ cloned ∙ c.requires.actors.plan) i) (sym c.unborn-client.ensures.own.volume_is i) (sym c.unborn-client.ensures.client i) in
-    let steps : defined ≡ Ok (acted c.in_ok-made.made (seen_client born)) = ordered.does (plan_of self) c.args.volume unborn ∙ asked ∙ c.in_ok-made.ensures.answers in
+    let steps : defined ≡ Ok (answered c.in_ok-made.made (seen_client born)) = ordered.does (plan_of self) c.args.volume unborn ∙ asked ∙ c.in_ok-made.ensures.answers in
     client_steps (authority_of self.authority) (node_at (plan_of self) (nodes_of self.nodes.items)) (clients_of self.clients) (messages_in self) c.args.volume (order_late c.args.order) defined unborn (seen_client born) (ap client_or_unborn c.requires.absent)
     (clients_of c.insert.new.self) put_is (Ok c.enter.result) (added (messages_of c.enter.new.messages.items) [])
-    (told_made (λ (step : ClientStep). step.made) (λ (step : ClientStep). step.client) kept c.enter.new.messages.items made defined (acted c.in_ok-made.made (seen_client born)) (seen_client born) c.enter.result
+    (told_made (λ (step : ClientStep). step.made) (λ (step : ClientStep). step.client) kept c.enter.new.messages.items made defined (answered c.in_ok-made.made (seen_client born)) (seen_client born) c.enter.result
     steps refl refl c.enter.ensures.count (c.enter.ensures.added ∙ ap (λ (ms : List Message). ms ++ made) c.in_ok-reserve.ensures.items))
 
 pub returns-clause-good : goal.returns-clause-good
@@ -85,7 +86,7 @@ returns-in_err-insert-clause-steps c =
     let cloned : checked_model (arc_value c.in_ok-clone.field-0) ≡ checked_model (arc_value self.plan) = search rules in
     let asked : client_acted c.in_ok-act.act (plan_of self) c.args.volume unborn ≡ client_acted c.in_ok-act.act (client_plan new) (client_volume new) (seen_client new) =
     λ i. client_acted c.in_ok-act.act (sym (c.unborn-client.ensures.own.plan_is ∙ cloned ∙ c.requires.actors.plan) i) (sym c.unborn-client.ensures.own.volume_is i) (sym c.unborn-client.ensures.client i) in
-    let steps : defined ≡ Ok (acted c.in_ok-made.made (seen_client born)) = ordered.does (plan_of self) c.args.volume unborn ∙ asked ∙ c.in_ok-made.ensures.answers in
+    let steps : defined ≡ Ok (answered c.in_ok-made.made (seen_client born)) = ordered.does (plan_of self) c.args.volume unborn ∙ asked ∙ c.in_ok-made.ensures.answers in
     let late = order_late c.args.order in
     let wants : may_want_memory late (moved_of (of_client (world_of self) c.args.volume defined)) ≡ true = ap (λ (a : ClientAnswer). may_want_memory late (moved_of (of_client (world_of self) c.args.volume a))) steps in
     let failed : c.from_residual-in_err-insert.result ≡ Err NoMemory = search rules in
