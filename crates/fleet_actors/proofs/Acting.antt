@@ -13,10 +13,10 @@ use Rattle.volume_model.specs.Journal.{Entry, world_at}
 use Rattle.wire.specs.declared.messages.Messages.{Messages}
 use Rattle.wire.specs.Listed.{listed}
 use Rattle.wire.specs.Message.{messages_of}
+use Rattle.writer_core.specs.Writers.{answered}
 use Rattle.fleet_actors.specs.declared.client_deed.ClientDeed.{ClientDeed}
 use Rattle.fleet_actors.specs.declared.client_deed.ClientDeed.TheVariants as deed
 use Rattle.fleet_actors.specs.Deeds.{deed_acted, event_by, HasFound, IsFound}
-use Rattle.fleet_actors.specs.Tried.{made_by}
 
 -- the refusal of a client's step is the client's
 of_client-refusal : (w : World) (volume : ℕ) (answer : ClientAnswer) → refusal (of_client w volume answer) ≡ refusal answer
@@ -69,8 +69,8 @@ module _ (plan own : Plan) (of : own ≡ plan) (w : World) (volume : ℕ) (asked
   pub refuses_alike : refusal (step plan w event) ≡ refusal answer
   refuses_alike = ap refusal whole ∙ of_client-refusal w volume answer
 
-  module _ (made : Messages) (done : answer ≡ Ok (made_by made new)) where
-    stepped : step plan w event ≡ of_client w volume (Ok (made_by made new))
+  module _ (made : Messages) (done : answer ≡ Ok (answered made new)) where
+    stepped : step plan w event ≡ of_client w volume (Ok (answered made new))
     stepped = whole ∙ ap (of_client w volume) done
 
     client_makes : makes (step plan w event) ≡ Some (messages_of (listed made))
@@ -79,12 +79,12 @@ module _ (plan own : Plan) (of : own ≡ plan) (w : World) (volume : ℕ) (asked
     client_after : (after plan w event).clients volume ≡ new
     client_after = ap (λ (s : Result Step Fault). (after_step w s).clients volume) stepped ∙ put-here w.clients volume new
 
-  pub tried_makes : (tried : Result Messages Fault) → IfOk tried (λ made. answer ≡ Ok (made_by made new)) → IfOk tried (λ made. makes (step plan w event) ≡ Some (messages_of (listed made)))
+  pub tried_makes : (tried : Result Messages Fault) → IfOk tried (λ made. answer ≡ Ok (answered made new)) → IfOk tried (λ made. makes (step plan w event) ≡ Some (messages_of (listed made)))
   tried_makes (Ok made) done = client_makes made done
   tried_makes (Err fault) done = tt
 
   -- what the actor's mark has seen then has the client as it is
-  pub tried_state : (tried : Result Messages Fault) → IfOk tried (λ made. answer ≡ Ok (made_by made new)) → OnErr tried (new ≡ old) → (seen now : List Entry) → old ≡ (world_at plan seen).clients volume
+  pub tried_state : (tried : Result Messages Fault) → IfOk tried (λ made. answer ≡ Ok (answered made new)) → OnErr tried (new ≡ old) → (seen now : List Entry) → old ≡ (world_at plan seen).clients volume
       → MatchResult tried (λ made. world_at plan now ≡ after plan w event) (λ fault. now ≡ seen) → new ≡ (world_at plan now).clients volume
   tried_state (Ok made) done still seen now was stands = sym (ap (λ (v : World). v.clients volume) stands ∙ client_after made done)
   tried_state (Err fault) done still seen now was stands = still ∙ was ∙ ap (λ (es : List Entry). (world_at plan es).clients volume) (sym stands)

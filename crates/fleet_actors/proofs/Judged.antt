@@ -1,5 +1,5 @@
 -- What a refusal of a try shows.
-use Rattle.std.proofs.Common.{◌≡◌, ℕ, Bool, Option, Some, None, Result, Ok, Err, ap, subst}
+use Rattle.std.proofs.Common.{◌≡◌, ℕ, Bool, Option, Some, None, Result, Ok, Err, IfOk, IfErr, OnErr, ap, subst}
 use Rattle.volume_model.specs.declared.fault.Fault.{Fault}
 use Rattle.volume_model.specs.declared.fault.Fault.TheVariants.{NoMemory, NoMessage, NoSlot, JournalFull}
 use Rattle.volume_model.specs.Answer.{refusal_of, AnswersLate}
@@ -45,6 +45,19 @@ module _ {T : Type 0} (full : Bool) (defined : Result T Fault) (own : Refuses Is
 pub still_act : {R S T : Type 0} (late : Fault → Bool) (step : R → S → T) (defined : Result T Fault) (old new : S) (fault : Fault) → AnswersLate late step defined old (Err fault) new → new ≡ old
 still_act late step defined old new NoMemory h = h.1
 still_act late step defined old new fault h = h.1
+
+-- what an act answered, refused or not
+pub done_answer : {R S T : Type 0} (late : Fault → Bool) (step : R → S → T) (defined : Result T Fault) (old new : S) (result : Result R Fault) → AnswersLate late step defined old result new → IfOk result (λ made. defined ≡ Ok (step made new))
+done_answer late step defined old new (Ok made) h = h
+done_answer late step defined old new (Err fault) h = tt
+
+pub judged_answer : {R S T : Type 0} (full : Bool) (defined : Result T Fault) → Refuses IsOwnOfClient defined → (late : Fault → Bool) (step : R → S → T) (old new : S) (result : Result R Fault) → AnswersLate late step defined old result new → IfErr result (λ fault. JudgedOf full defined fault)
+judged_answer full defined own late step old new (Ok made) h = tt
+judged_answer full defined own late step old new (Err fault) h = judged_act full defined own late step old new fault h
+
+pub still_answer : {R S T : Type 0} (late : Fault → Bool) (step : R → S → T) (defined : Result T Fault) (old new : S) (result : Result R Fault) → AnswersLate late step defined old result new → OnErr result (new ≡ old)
+still_answer late step defined old new (Ok made) h = tt
+still_answer late step defined old new (Err fault) h = still_act late step defined old new fault h
 
 -- what is refused by a test is what is defined
 refused_is : {T : Type 0} (defined : Result T Fault) (fault : Fault) → refusal_of defined ≡ Err fault → defined ≡ Err fault

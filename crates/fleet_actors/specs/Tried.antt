@@ -3,12 +3,8 @@ use Rattle.std.specs.Prelude.{◌≡◌, Bool, true, List, Result, Ok, Err}
 use Rattle.volume_model.specs.declared.fault.Fault.{Fault}
 use Rattle.volume_model.specs.declared.fault.Fault.TheVariants.{NoMemory, NoMessage, NoSlot, JournalFull}
 use Rattle.volume_model.specs.Answer.{refusal_of}
-use Rattle.volume_model.specs.Client.{Client, ClientStep}
 use Rattle.volume_model.specs.Message.{Message}
 use Rattle.volume_model.specs.World.{Authority, AuthorityStep}
-use Rattle.wire.specs.declared.messages.Messages.{Messages}
-use Rattle.wire.specs.Listed.{listed}
-use Rattle.wire.specs.Message.{messages_of}
 
 -- What a refusal shows of what is defined: that it is refused so. But that the slots are spent means this, no cell is left
 -- where nothing else is refused, and want of memory says nothing.
@@ -29,7 +25,3 @@ pub record IsDone (defined : Result AuthorityStep Fault) (made : List Message) (
   pub is : defined ≡ Ok step
   pub makes : made ≡ step.made
   pub leaves : now ≡ step.authority
-
--- the step of a client that makes these messages and becomes this
-abbrev pub made_by : Messages → Client → ClientStep
-made_by messages client = record { made = messages_of (listed messages); client = client }

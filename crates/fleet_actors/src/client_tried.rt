@@ -4,14 +4,13 @@ ghost use Rattle.std.specs.Prelude.{◌≡◌, false, Ok, Some, IfErr, IfOk, OnE
 ghost use Rattle.std.specs.Option.{option_copied};
 ghost use Rattle.volume_model.specs.Answer.{refusal_of, AnswersLate};
 ghost use Rattle.volume_model.specs.World.{take};
-ghost use Rattle.wire.specs.Listed.{listed};
 ghost use Rattle.wire.specs.Message.{message_of};
-ghost use Rattle.writer_core.specs.Writers.{acted};
+ghost use Rattle.writer_core.specs.Writers.{answered};
 ghost use Rattle.recovery.specs.Recoveries.{admitted};
 ghost use Rattle.world.specs.Clients.{client_plan, client_volume, seen_client, IsSameClient};
 ghost use Rattle.journal.specs.Standing.{durable_of};
 ghost use Rattle.fleet_actors.specs.Deeds.{deed_acted, deed_durable, deed_late, HasFound};
-ghost use Rattle.fleet_actors.specs.Tried.{made_by, JudgedOf};
+ghost use Rattle.fleet_actors.specs.Tried.{JudgedOf};
 
 use crate::client_deed::ClientDeed;
 use std::alloc::Global;
@@ -56,8 +55,8 @@ fn act(
     client: &mut Client,
     deed: &ClientDeed,
     found: Option<&Message>,
-) -> Result<Vec<Message>, Fault>
-    ensures answers { AnswersLate (deed_late deed.now) acted (deed_acted (option_map message_of (option_copied found.entry)) deed.now (client_plan client.old) (client_volume client.old) (seen_client client.old)) (seen_client client.old) result (seen_client client.new) }
+) -> Result<Messages, Fault>
+    ensures answers { AnswersLate (deed_late deed.now) answered (deed_acted (option_map message_of (option_copied found.entry)) deed.now (client_plan client.old) (client_volume client.old) (seen_client client.old)) (seen_client client.old) result (seen_client client.new) }
     ensures same { IsSameClient client.old client.new }
 {
     match deed {
@@ -68,7 +67,7 @@ fn act(
         },
         ClientDeed::Cut => client.act(alloc, ClientAct::Cut),
         ClientDeed::Open => match client.open() {
-            Ok(()) => Ok(Vec::new(alloc)),
+            Ok(()) => Ok(Messages::Empty),
             Err(fault) => Err(fault),
         },
         ClientDeed::Resend { lsn } => client.act(alloc, ClientAct::Resend { lsn: *lsn }),
@@ -96,7 +95,7 @@ pub fn tried(
     found: Option<&Message>,
 ) -> Result<Messages, Fault>
     requires found { HasFound deed.now (option_map message_of (option_copied found)) }
-    ensures done { IfOk result (λ made. deed_acted (option_map message_of (option_copied found.entry)) deed.now (client_plan client.old) (client_volume client.old) (seen_client client.old) ≡ Ok (made_by made (seen_client client.new))) }
+    ensures done { IfOk result (λ made. deed_acted (option_map message_of (option_copied found.entry)) deed.now (client_plan client.old) (client_volume client.old) (seen_client client.old) ≡ Ok (answered made (seen_client client.new))) }
     ensures room { OnOk result (full ≡ false) }
     ensures refused { IfErr result (λ fault. JudgedOf full (deed_acted (option_map message_of (option_copied found.entry)) deed.now (client_plan client.old) (client_volume client.old) (seen_client client.old)) fault) }
     ensures still { OnErr result (seen_client client.new ≡ seen_client client.old) }
@@ -108,21 +107,7 @@ pub fn tried(
         }
         return Err(Fault::JournalFull);
     }
-    match act(alloc, client, deed, found) {
-        Ok(made) => Ok(Messages::of(made)),
-        Err(fault) => Err(fault),
-    }
-}
-
-/// The messages of a list, of which most takings make none.
-#[inline(always)]
-fn all_of(made: Vec<Message>) -> Messages
-    ensures { listed result ≡ made.items }
-{
-    if made.is_empty() {
-        return Messages::Empty;
-    }
-    Messages::of(made)
+    act(alloc, client, deed, found)
 }
 
 /// Tries what a client does with a message, where the journal is full or not: else as [`tried`] says.
@@ -133,7 +118,7 @@ pub(crate) fn took(
     is_full: bool,
     message: &Message,
 ) -> Result<Messages, Fault>
-    ensures done { IfOk result (λ made. take (client_plan client.old) (client_volume client.old) (seen_client client.old) (Some (message_of message.now)) ≡ Ok (made_by made (seen_client client.new))) }
+    ensures done { IfOk result (λ made. take (client_plan client.old) (client_volume client.old) (seen_client client.old) (Some (message_of message.now)) ≡ Ok (answered made (seen_client client.new))) }
     ensures room { OnOk result (is_full ≡ false) }
     ensures refused { IfErr result (λ fault. JudgedOf is_full (take (client_plan client.old) (client_volume client.old) (seen_client client.old) (Some (message_of message.now))) fault) }
     ensures still { OnErr result (seen_client client.new ≡ seen_client client.old) }
@@ -145,10 +130,7 @@ pub(crate) fn took(
         }
         return Err(Fault::JournalFull);
     }
-    match client.act(alloc, ClientAct::Take(message)) {
-        Ok(made) => Ok(all_of(made)),
-        Err(fault) => Err(fault),
-    }
+    client.act(alloc, ClientAct::Take(message))
 }
 
 /// The durable point of a client, 0 before its opening.

@@ -1,13 +1,12 @@
-use Rattle.std.proofs.Common.{List, Ok, Some, sym, ap, ◌∙◌}
+use Rattle.std.proofs.Common.{Some}
 use Rattle.volume_model.specs.Answer.{never_late}
 use Rattle.volume_model.specs.Client.{ClientAnswer}
 use Rattle.volume_model.specs.World.{take}
 use Rattle.volume_model.proofs.Own.{taken_own}
-use Rattle.wire.specs.declared.message.Message.{Message}
-use Rattle.wire.specs.Message.{message_of, messages_of}
-use Rattle.writer_core.specs.Writers.{acted}
+use Rattle.wire.specs.Message.{message_of}
+use Rattle.writer_core.specs.Writers.{answered}
 use Rattle.world.specs.Clients.{client_plan, client_volume, seen_client}
-use Rattle.fleet_actors.proofs.Judged.{judged_act, judged_test, still_act}
+use Rattle.fleet_actors.proofs.Judged.{done_answer, judged_answer, judged_test, still_answer}
 use Rattle.fleet_actors.proofs.client_tried.took.Goals as goal
 
 pub returns-in-Err-clause-refused : goal.returns-in-Err-clause-refused
@@ -17,20 +16,21 @@ returns-in-Err-clause-refused c =
     let defined : ClientAnswer = take (client_plan old) (client_volume old) (seen_client old) (Some m) in
     judged_test c.args.is_full defined (taken_own (client_plan old) (client_volume old) (seen_client old) m) never_late c.in-Err.fault c.in-Err.ensures.answers
 
-pub returns-in-Err-act-clause-refused : goal.returns-in-Err-act-clause-refused
-returns-in-Err-act-clause-refused c =
+pub returns-clause-done : goal.returns-clause-done
+returns-clause-done c =
+    let old = c.args.client.now in
+    let defined : ClientAnswer = take (client_plan old) (client_volume old) (seen_client old) (Some (message_of c.args.message.now)) in
+    done_answer never_late answered defined (seen_client old) (seen_client c.act.new.self) c.act.result c.act.ensures.answers
+
+pub returns-clause-refused : goal.returns-clause-refused
+returns-clause-refused c =
     let old = c.args.client.now in
     let m = message_of c.args.message.now in
     let defined : ClientAnswer = take (client_plan old) (client_volume old) (seen_client old) (Some m) in
-    judged_act c.args.is_full defined (taken_own (client_plan old) (client_volume old) (seen_client old) m) never_late acted (seen_client old) (seen_client c.act.new.self) c.in-Err-act.fault c.in-Err-act.ensures.answers
+    judged_answer c.args.is_full defined (taken_own (client_plan old) (client_volume old) (seen_client old) m) never_late answered (seen_client old) (seen_client c.act.new.self) c.act.result c.act.ensures.answers
 
-pub returns-in-Err-act-clause-still : goal.returns-in-Err-act-clause-still
-returns-in-Err-act-clause-still c =
+pub returns-clause-still : goal.returns-clause-still
+returns-clause-still c =
     let old = c.args.client.now in
     let defined : ClientAnswer = take (client_plan old) (client_volume old) (seen_client old) (Some (message_of c.args.message.now)) in
-    still_act never_late acted defined (seen_client old) (seen_client c.act.new.self) c.in-Err-act.fault c.in-Err-act.ensures.answers
-
-pub returns-in-Ok-clause-done : goal.returns-in-Ok-clause-done
-returns-in-Ok-clause-done c =
-    let new = seen_client c.act.new.self in
-    c.in-Ok.ensures.answers ∙ ap (λ (ms : List Message). Ok (record { made = messages_of ms; client = new })) (sym c.all_of.ensures)
+    still_answer never_late answered defined (seen_client old) (seen_client c.act.new.self) c.act.result c.act.ensures.answers
