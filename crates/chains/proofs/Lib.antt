@@ -5,3 +5,4 @@ pub mod Woken
 pub mod Chained
 pub mod Telling
 pub mod OneChains
+pub mod Latest

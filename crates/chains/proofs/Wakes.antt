@@ -1,5 +1,5 @@
 -- What is left of who waits, once some are woken.
-use Rattle.std.proofs.Common.{◌≡◌, ℕ, ◌==◌, cond, List, [], ◌∷◌, if◌then◌else◌, None, refl, ap, ◌∙◌, inl, inr, arith, ◌<◌, ◌++◌, ◌⊎◌, subst, true, false}
+use Rattle.std.proofs.Common.{◌≡◌, ℕ, Bool, ◌==◌, cond, List, [], ◌∷◌, if◌then◌else◌, None, refl, ap, ◌∙◌, inl, inr, arith, ◌<◌, ◌++◌, ◌⊎◌, subst, true, false}
 use Rattle.std.proofs.lemmas.Bool.{cases_Bool, eqb-true}
 use Rattle.std.proofs.lemmas.Bool.Decides.{nat_tests}
 use Rattle.std.specs.Ordering.{nat_cmp}
@@ -49,15 +49,20 @@ above_more n m old new l is above k j i =
     left e = rw e refl
 
 -- or where some wait no more
-pub above_fewer : (x : ℕ) (old new : ℕ → List ℕ) → ((k : ℕ) → new k ≡ (if x == k then [] else old k)) → ((k j : ℕ) → IsIn j (old k) → k < j) → (k j : ℕ) → IsIn j (new k) → k < j
-above_fewer x old new is above k j i =
-    elim (cases_Bool (x == k)) [
+pub above_fewer : (test : ℕ → Bool) (old new : ℕ → List ℕ) → ((k : ℕ) → new k ≡ (if test k then [] else old k)) → ((k j : ℕ) → IsIn j (old k) → k < j) → (k j : ℕ) → IsIn j (new k) → k < j
+above_fewer test old new is above k j i =
+    elim (cases_Bool (test k)) [
       | inl e ↦ absurd (subst (IsIn j) (is k ∙ gone e) i)
       | inr e ↦ above k j (subst (IsIn j) (is k ∙ left e) i)
     ]
   where
-    gone : (x == k) ≡ true → (if x == k then [] else old k) ≡ []
+    gone : test k ≡ true → (if test k then [] else old k) ≡ []
     gone e = rw e refl
 
-    left : (x == k) ≡ false → (if x == k then [] else old k) ≡ old k
+    left : test k ≡ false → (if test k then [] else old k) ≡ old k
     left e = rw e refl
+
+-- those that are left of two lists are left of both in a row
+pub both_left : (b : Bool) (xs ys zs ws : List ℕ) → xs ≡ (if b then [] else zs) → ys ≡ (if b then [] else ws) → xs ++ ys ≡ (if b then [] else zs ++ ws)
+both_left true xs ys zs ws e f = ap (λ (l : List ℕ). l ++ ys) e ∙ f
+both_left false xs ys zs ws e f = ap (λ (l : List ℕ). l ++ ys) e ∙ ap (λ (l : List ℕ). zs ++ l) f

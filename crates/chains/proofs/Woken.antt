@@ -1,8 +1,8 @@
 -- How the numbers that one wakes are gathered.
-use Rattle.std.proofs.Common.{◌≡◌, ℕ, suc, ◌<◌, ◌≤◌, ◌+◌, ◌⊎◌, List, [], ◌∷◌, length, get_or, refl, sym, ap, ◌∙◌, subst, inl, inr, arith}
+use Rattle.std.proofs.Common.{◌≡◌, ℕ, suc, ◌<◌, ◌≤◌, ◌+◌, ◌⊎◌, List, [], ◌∷◌, length, get_or, refl, sym, ap, ◌∙◌, subst, inl, inr, arith, le_refl}
 use Rattle.std.proofs.lemmas.Bool.{cases_lt}
 use Rattle.volume_model.specs.Lists.{IsIn}
-use Rattle.chains.specs.Rising.{AreGrowing, with_number}
+use Rattle.chains.specs.Rising.{AreGrowing, with_number, with_numbers}
 use Rattle.chains.specs.Waiting.{IsWoken}
 use Rattle.chains.specs.Waiting.IsWoken.{itself, next}
 use Rattle.chains.proofs.Rise.{is_in, with_number-keeps, with_number-from, with_number-growing, with_number-longer, with_number-front}
@@ -61,6 +61,18 @@ longer_by xs ys k m d more growing b = record {
   front = λ i e l. with_number-front m ys k d growing more.longer b i e l ∙ more.front i e l;
   keeps = λ y i. with_number-keeps m ys y (more.keeps y i);
 }
+
+-- those that wait for the number at a place are added
+pub many_more : (waits : ℕ → ℕ → Type 0) (n : ℕ) (ms xs ys : List ℕ) (k x : ℕ) → AreSome waits n ys → AreMore xs ys k → get_or ys k x ≡ x → ((m : ℕ) → IsIn m ms → waits x m × (x < m)) → AreSome waits n (with_numbers ms ys) × AreMore xs (with_numbers ms ys) k
+many_more waits n [] xs ys k x some more at wait = (some, more)
+many_more waits n (m ∷ ms) xs ys k x some more at wait =
+    let (w, l) = wait m (inl refl) in
+    let b : get_or ys k x < m = omega (arith, at, l) in
+    many_more waits n ms xs (with_number m ys) k x
+    (one_more waits n ys k m x some more.longer (subst (λ z. waits z m) (sym at) w))
+    (longer_by xs ys k m x more some.growing b)
+    (with_number-front m ys k x some.growing more.longer b k x (le_refl k) ∙ at)
+    (λ y i. wait y (inr i))
 
 -- numbers after those that were closed
 pub closed_more : (waits : ℕ → ℕ → Type 0) (xs ys : List ℕ) (k : ℕ) → AreClosed waits xs k → AreMore xs ys k → ((d m : ℕ) → waits (get_or xs k d) m → IsIn m ys) → AreClosed waits ys (k + 1)

@@ -53,7 +53,7 @@ impl Chains {
     pub fn is_waited_for(&self, number: u64) -> bool
         ensures { (records : List Redo) → AreChainsOf records self.now → MatchBool result ((m : ℕ) × IsWaiting records number m) ((m : ℕ) → IsWaiting records number m → ⊥) }
     {
-        !self.waits.of(number).is_empty()
+        self.waits.is_awaited(number)
     }
 
     /// Makes room for one more that waits for a number.

@@ -2,7 +2,10 @@
 #![tactic(auto)]
 
 mod chains;
+mod earlier;
 mod numbers;
+mod recent;
+mod wait;
 mod waiters;
 mod waits;
 

@@ -1,29 +1,34 @@
 //! Which numbers wait for which.
 
-ghost use Rattle.std.specs.Prelude.{ℕ, ◌<◌};
+ghost use Rattle.std.specs.Prelude.{ℕ, ◌<◌, ◌++◌};
 ghost use Rattle.std.proofs.Props.{props};
-ghost use Rattle.std.specs.Ordering.{nat_cmp};
-ghost use Rattle.std.specs.BTreeMap.{get};
 ghost use Rattle.volume_model.specs.Lists.{IsIn};
-ghost use Rattle.chains.specs.Listed.{numbers_in};
+ghost use Rattle.chains.specs.Earlier.{earlier_waiters};
+ghost use Rattle.chains.specs.Recent.{recent_waiters};
 
-use crate::numbers::add;
-use crate::waiters::Waiters;
+use crate::earlier::Earlier;
+use crate::numbers::add_all;
+use crate::recent::{add_waiters, is_awaited, wake};
+use crate::wait::Wait;
 use std::alloc::{AllocError, Global};
-use std::collections::BTreeMap;
 
 /// For how many numbers that are woken at once there is room at first.
 const FEW: usize = 8;
 
-/// Under each number, those that wait for it, which are above it.
+/// How many of the latest waits stand in a list.
+const RECENT: usize = 16;
+
+/// Under each number, those that wait for it, which are above it: those that came of late in a list that is short enough to
+/// be looked through, since mostly no more wait at once, and the earlier ones where each is found by its number.
 #[derive(Drop)]
 pub struct Waits {
-    waiting: BTreeMap<u64, Waiters>,
-    ghost above: { (k m : ℕ) → IsIn m (numbers_in (get nat_cmp waiting k)) → k < m } by { Prim.hlevel props },
+    earlier: Earlier,
+    recent: Vec<Wait>,
+    ghost above: { (k m : ℕ) → IsIn m (earlier_waiters earlier k ++ recent_waiters recent.items k) → k < m } by { Prim.hlevel props },
 }
 
 impl Waits {
-    ghost use Rattle.std.specs.Prelude.{ℕ, ◌≡◌, ◌<◌, [], ◌∷◌, ◌++◌, if◌then◌else◌, ◌==◌, IfOk, OnOk};
+    ghost use Rattle.std.specs.Prelude.{ℕ, ◌≡◌, ◌<◌, [], ◌∷◌, ◌++◌, if◌then◌else◌, ◌==◌, length, vec_capacity, IfOk, OnOk, MatchBool};
     ghost use Rattle.volume_model.specs.Lists.{any};
     ghost use Rattle.chains.specs.Waits.{waiters, HasRoomFor, WaitsIn, AreWoken};
 
@@ -32,55 +37,73 @@ impl Waits {
         ensures { (k : ℕ) → waiters result k ≡ [] }
     {
         Waits {
-            waiting: BTreeMap::new(alloc),
+            earlier: Earlier::new(alloc),
+            recent: Vec::new(alloc),
         }
     }
 
-    /// Who waits for a number.
-    pub fn of(&self, number: u64) -> &[u64]
-        ensures { result.now ≡ waiters self.now number }
+    /// Whether somebody waits for a number.
+    #[inline(always)]
+    pub fn is_awaited(&self, number: u64) -> bool
+        ensures { MatchBool result ((m : ℕ) × WaitsIn self.now number m) ((m : ℕ) → WaitsIn self.now number m → ⊥) }
     {
-        match self.waiting.get(&number) {
-            Some(waiters) => waiters.as_slice(),
-            None => &[],
-        }
+        is_awaited(self.recent.as_slice(), number) || !self.earlier.of(number).is_empty()
     }
 
     /// Makes room for one more that waits for a number.
     ///
     /// # Errors
-    /// Where a growth was refused; then nothing has changed.
+    /// Where a growth was refused; then as many wait for each number as before, in the same order.
+    #[inline(always)]
     pub fn make_room(&mut self, alloc: Global, number: u64) -> Result<(), AllocError>
         ensures same { (k : ℕ) → waiters self.new k ≡ waiters self.old k }
         ensures room { OnOk result (HasRoomFor number self.new) }
     {
-        match self.waiting.get_mut(&number) {
-            Some(waiters) => waiters.make_room(alloc),
-            None => {
-                self.waiting.insert(number, Waiters::Nobody)?;
-                Ok(())
-            }
+        if self.recent.len() < self.recent.capacity() {
+            Ok(())
+        } else {
+            self.settle(alloc)
         }
     }
 
+    /// Moves the latest waits to the earlier ones: apart, since mostly there is room for one more beside them.
+    ///
+    /// # Errors
+    /// Where a growth was refused; then some may have been moved.
+    #[inline(never)]
+    fn settle(&mut self, alloc: Global) -> Result<(), AllocError>
+        ensures same { (k : ℕ) → waiters self.new k ≡ waiters self.old k }
+        ensures room { OnOk result (length self.new.recent.items < vec_capacity self.new.recent) }
+    {
+        while !self.recent.is_empty() {
+            let Wait { before, number } = self.recent[0];
+            self.earlier.make_room(alloc, before)?;
+            self.earlier.wait(before, number);
+            self.recent.remove(0);
+        }
+        self.recent.reserve_exact(RECENT)
+    }
+
     /// One more waits for a number.
+    #[inline(always)]
     pub fn wait(&mut self, number: u64, waiter: u64)
         requires room { HasRoomFor number self.old }
         requires above { number < waiter }
         ensures { (k : ℕ) → waiters self.new k ≡ (if k == number then waiters self.old k ++ waiter ∷ [] else waiters self.old k) }
     {
-        if let Some(waiters) = self.waiting.get_mut(&number) {
-            waiters.push(waiter);
-        }
+        self.recent.push_reserved(Wait {
+            before: number,
+            number: waiter,
+        });
     }
 
     /// Nobody waits for these any more.
+    #[inline(always)]
     pub fn wake(&mut self, woken: &[u64])
         ensures { (k : ℕ) → waiters self.new k ≡ (if any (λ n. n == k) woken.now then [] else waiters self.old k) }
     {
-        for number in woken {
-            self.waiting.remove(number);
-        }
+        wake(&mut self.recent, woken);
+        self.earlier.wake(woken);
     }
 
     /// A number and all that it wakes, in growing order: those that wait for it, those that wait for them, and so on.
@@ -94,9 +117,9 @@ impl Waits {
         woken.push_reserved(number);
         let mut next = 0;
         while next < woken.len() {
-            for waiter in self.of(woken[next]) {
-                add(&mut woken, *waiter)?;
-            }
+            let number = woken[next];
+            add_all(&mut woken, self.earlier.of(number))?;
+            add_waiters(self.recent.as_slice(), number, &mut woken)?;
             next += 1;
         }
         Ok(woken)

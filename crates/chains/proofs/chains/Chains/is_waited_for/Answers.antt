@@ -1,20 +1,10 @@
-use Rattle.std.proofs.Common.{rules, ◌≡◌, ℕ, false, not, length, ◌==◌, MatchBool, List, [], ◌∷◌, subst, sym, inl, refl, arith}
-use Rattle.std.proofs.lemmas.Bool.Decides.{nat_tests}
-use Rattle.volume_model.specs.Lists.{IsIn}
-use Rattle.volume_model.specs.Redo.{Redo}
-use Rattle.chains.specs.declared.chains.Chains.{Chains}
-use Rattle.chains.specs.Chains.{AreChainsOf}
-use Rattle.chains.specs.Waiting.{IsWaiting}
-use Rattle.chains.specs.Waits.{waiters}
+use Rattle.std.proofs.Common.{Bool, true, false, MatchBool}
 use Rattle.chains.proofs.chains.Chains.is_waited_for.Goals as goal
 
-told : (records : List Redo) (chains : Chains) (number : ℕ) (xs : List ℕ) → xs ≡ waiters chains.waits number → AreChainsOf records chains → MatchBool (not (length xs == 0)) ((m : ℕ) × IsWaiting records number m) ((m : ℕ) → IsWaiting records number m → ⊥)
-told records chains number [] e are = λ m w. subst (IsIn m) (sym e) (are.kept number m w)
-told records chains number (x ∷ xs) e are =
-    let some : (length (x ∷ xs) == 0) ≡ false = grind (arith, nat_tests) in
-    rw some (x, are.wait number x (subst (IsIn x) e (inl refl)))
+-- what one case gives another one has
+each_case : {A B C D : Type 0} (b : Bool) → (A → C) → (B → D) → MatchBool b A B → MatchBool b C D
+each_case true f g m = f m
+each_case false f g m = g m
 
 pub returns : goal.returns
-returns c records chains =
-    let e : c.is_empty.result ≡ (length c.of.result.now == 0) = search rules in
-    subst (λ b. MatchBool (not b) ((m : ℕ) × IsWaiting records c.args.number m) ((m : ℕ) → IsWaiting records c.args.number m → ⊥)) (sym e) (told records c.args.self.now c.args.number c.of.result.now c.of.ensures chains)
+returns c records chains = each_case c.is_awaited.result (λ p. let (m, w) = p in (m, chains.wait c.args.number m w)) (λ none m w. none m (chains.kept c.args.number m w)) c.is_awaited.ensures

@@ -1,25 +1,16 @@
-use Rattle.std.proofs.Common.{◌≡◌, ℕ, ◌+◌, ◌∷◌, [], if◌then◌else◌, ◌==◌, sym, ap, ◌∙◌, drop, get_or, List, suc, arith}
-use Rattle.std.proofs.Math.Seq.{drop-cons}
-use Rattle.std.specs.Ordering.{nat_cmp}
-use Rattle.std.specs.BTreeMap.{get}
+use Rattle.std.proofs.Common.{◌≡◌, ◌==◌, ◌++◌, ℕ, [], if◌then◌else◌}
 use Rattle.volume_model.specs.Lists.{any}
-use Rattle.chains.specs.Listed.{numbers_in}
-use Rattle.chains.proofs.Wakes.{above_fewer, one_and_others, taken_out}
+use Rattle.chains.specs.Earlier.{earlier_waiters}
+use Rattle.chains.specs.Recent.{recent_waiters}
 use Rattle.chains.specs.Waits.{waiters}
+use Rattle.chains.proofs.Wakes.{above_fewer, both_left}
 use Rattle.chains.proofs.waits.Waits.wake.Goals as goal
 
 pub invariant_of-self : goal.invariant_of-self
 invariant_of-self c =
-    let x : ℕ = get_or c.args.woken.now c.loop-number.number-index 0 in
-    record { above = above_fewer x (waiters c.loop-number.self) (λ k. numbers_in (get nat_cmp c.remove.new.self k)) (taken_out c.loop-number.self.waiting c.remove.new.self x c.remove.ensures.updates.0) c.loop-number.self.above }
+    let is : (k : ℕ) → earlier_waiters c.wake-2.new.self k ++ recent_waiters c.wake.new.waits.items k ≡ (if any (λ n. n == k) c.args.woken.now then [] else waiters c.args.self.now k) = λ k.
+    both_left (any (λ n. n == k) c.args.woken.now) _ _ _ _ (c.wake-2.ensures k) (c.wake.ensures k) in
+    record { above = above_fewer (λ k. any (λ n. n == k) c.args.woken.now) (waiters c.args.self.now) (λ k. earlier_waiters c.wake-2.new.self k ++ recent_waiters c.wake.new.waits.items k) is c.args.self.now.above }
 
-pub loop-number-preserved : goal.loop-number-preserved
-loop-number-preserved c k =
-    let i : ℕ = c.loop-number.number-index in
-    let all : List ℕ = c.args.woken.now in
-    let x : ℕ = get_or all i 0 in
-    let next : i + 1 ≡ suc i = omega arith in
-    one_and_others x (drop (i + 1) all) (waiters c.loop-number.self) (λ k. numbers_in (get nat_cmp c.remove.new.self k)) (taken_out c.loop-number.self.waiting c.remove.new.self x c.remove.ensures.updates.0) k
-    ∙ ap (λ j. if any (λ n. n == k) (x ∷ drop j all) then [] else waiters c.loop-number.self k) next
-    ∙ ap (λ rest. if any (λ n. n == k) rest then [] else waiters c.loop-number.self k) (sym (drop-cons all i 0 c.loop-number-test.true))
-    ∙ c.loop-number.invariant k
+pub returns : goal.returns
+returns c k = both_left (any (λ n. n == k) c.args.woken.now) _ _ _ _ (c.wake-2.ensures k) (c.wake.ensures k)

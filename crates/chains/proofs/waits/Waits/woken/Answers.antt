@@ -1,12 +1,34 @@
-use Rattle.std.proofs.Common.{rules, ◌≡◌, ℕ, ◌<◌, ◌+◌, ◌-◌, ◌^◌, ◌∙◌, List, [], ◌∷◌, length, get_or, sym, subst, inl, inr, arith, le_refl}
-use Rattle.std.proofs.lemmas.Bool.{cases_lt}
+use Rattle.std.proofs.Common.{rules, ◌≡◌, ℕ, ◌<◌, ◌+◌, ◌-◌, ◌^◌, ◌∙◌, List, [], ◌∷◌, length, get_or, sym, ap, subst, arith, le_refl}
 use Rattle.std.proofs.lemmas.List.{get_or_default}
 use Rattle.volume_model.specs.Lists.{IsIn}
-use Rattle.chains.specs.Rising.{with_number}
+use Rattle.chains.specs.Earlier.{earlier_waiters}
+use Rattle.chains.specs.Recent.{recent_waiters}
+use Rattle.chains.specs.Rising.{AreGrowing, with_numbers}
 use Rattle.chains.specs.Waits.{waiters, WaitsIn}
-use Rattle.chains.proofs.Rise.{falls, is_in, with_number-has, with_number-keeps}
-use Rattle.chains.proofs.Woken.{AreSome, AreMore, all_there, closed_more, longer_by, one, one_more, place_of}
+use Rattle.chains.proofs.Rise.{falls, with_numbers-growing, with_numbers-has, with_numbers-append}
+use Rattle.chains.proofs.Woken.{AreSome, AreMore, all_there, closed_more, many_more, one, same_so_far}
 use Rattle.chains.proofs.waits.Waits.woken.Goals as goal
+
+-- all that wait for the number are added
+added : (c : goal.In_ok-add_waiters) → c.add_waiters.new.numbers.items ≡ with_numbers (waiters c.args.self.now c.index-number.result.now) c.loop-next.woken.items
+added c =
+    let x : ℕ = c.index-number.result.now in
+    let ys : List ℕ = c.loop-next.woken.items in
+    c.in_ok-add_waiters.ensures.added
+    ∙ ap (λ ws. with_numbers (recent_waiters ws x) c.add_all.new.numbers.items) c.as_slice.ensures.value
+    ∙ ap (λ zs. with_numbers (recent_waiters c.args.self.now.recent.items x) zs) (c.in_ok-add_all.ensures.added ∙ ap (λ ms. with_numbers ms ys) c.of.ensures)
+    ∙ sym (with_numbers-append (earlier_waiters c.args.self.now.earlier x) (recent_waiters c.args.self.now.recent.items x) ys)
+
+-- they are woken, and stand behind the number
+more : (c : goal.In_ok-add_waiters) → AreSome (WaitsIn c.args.self.now) c.args.number c.add_waiters.new.numbers.items × AreMore c.loop-next.woken.items c.add_waiters.new.numbers.items c.loop-next.next
+more c =
+    let W = WaitsIn c.args.self.now in
+    let x : ℕ = c.index-number.result.now in
+    let ys : List ℕ = c.loop-next.woken.items in
+    let k : ℕ = c.loop-next.next in
+    let lt : k < length ys = search rules in
+    subst (λ zs. AreSome W c.args.number zs × AreMore ys zs k) (sym (added c))
+    (many_more W c.args.number (waiters c.args.self.now x) ys ys k x c.loop-next.invariant.some (same_so_far ys k lt) (sym c.index-number.ensures) (λ m i. (i, c.args.self.now.above x m i)))
 
 pub loop-next-init : goal.loop-next-init
 loop-next-init c =
@@ -17,56 +39,34 @@ loop-next-init c =
       closed = λ i d m l w. absurd (omega arith);
     }
 
-pub loop-waiter-preserved : goal.loop-waiter-preserved
-loop-waiter-preserved c =
-    let inv = c.loop-waiter.invariant in
-    let W = WaitsIn c.args.self.now in
-    let ys : List ℕ = c.loop-waiter.woken.items in
-    let zs : List ℕ = c.loop-next.woken.items in
-    let k : ℕ = c.loop-next.next in
-    let items : List ℕ = c.of-waiter-items.result.now in
-    let x : ℕ = c.index.result.now in
-    let j : ℕ = c.loop-waiter.waiter-index in
-    let m : ℕ = get_or items j 0 in
-    let at : get_or ys k x ≡ x = inv.more.front k x (le_refl k) ∙ sym c.index.ensures in
-    let w : IsIn m (waiters c.args.self.now x) = subst (λ l. IsIn m l) c.of-waiter-items.ensures (is_in items j 0 c.loop-waiter-test.true) in
-    let e : c.add.new.numbers.items ≡ with_number m ys = c.in_ok-add.ensures.added in
-    record {
-      some = subst (AreSome W c.args.number) (sym e) (one_more W c.args.number ys k m x inv.some inv.more.longer (subst (λ n. W n m) (sym at) w));
-      more = subst (λ l. AreMore zs l k) (sym e) (longer_by zs ys k m x inv.more inv.some.growing (subst (λ n. n < m) (sym at) (c.args.self.now.above x m w)));
-      added = λ i l. subst (IsIn (get_or items i 0)) (sym e) (elim (cases_lt i j) [
-        | inl a ↦ with_number-keeps m ys (get_or items i 0) (inv.added i a)
-        | inr a ↦ (let s : i ≡ j = omega arith in subst (λ n. IsIn (get_or items n 0) (with_number m ys)) (sym s) (with_number-has m ys))
-      ]);
-    }
+pub add_waiters-requires : goal.add_waiters-requires
+add_waiters-requires c = record { growing = subst AreGrowing (sym c.in_ok-add_all.ensures.added) (with_numbers-growing c.of.result.now c.loop-next.woken.items c.loop-next.invariant.some.growing) }
 
 pub loop-next-smaller : goal.loop-next-smaller
 loop-next-smaller c =
-    let inv = c.loop-waiter.invariant in
-    let ys : List ℕ = c.loop-waiter.woken.items in
-    let zs : List ℕ = c.loop-next.woken.items in
+    let (some, longer) = more c in
+    let ys : List ℕ = c.loop-next.woken.items in
+    let zs : List ℕ = c.add_waiters.new.numbers.items in
     let k : ℕ = c.loop-next.next in
-    let x : ℕ = c.index.result.now in
-    let lt : k < length zs = search rules in
-    let at : get_or ys k x ≡ x = inv.more.front k x (le_refl k) ∙ sym c.index.ensures in
-    let here : get_or zs k (2 ^ 64) ≡ x = get_or_default zs k (2 ^ 64) x lt ∙ sym c.index.ensures in
-    subst (λ n. 2 ^ 64 - get_or ys (k + 1) (2 ^ 64) < 2 ^ 64 - n) (sym here) (falls (2 ^ 64) ys k x inv.some.growing inv.more.longer at (search rules))
+    let x : ℕ = c.index-number.result.now in
+    let lt : k < length ys = search rules in
+    let at : get_or zs k x ≡ x = longer.front k x (le_refl k) ∙ sym c.index-number.ensures in
+    let here : get_or ys k (2 ^ 64) ≡ x = get_or_default ys k (2 ^ 64) x lt ∙ sym c.index-number.ensures in
+    subst (λ n. 2 ^ 64 - get_or zs (k + 1) (2 ^ 64) < 2 ^ 64 - n) (sym here) (falls (2 ^ 64) zs k x some.growing longer.longer at (search rules))
 
 pub loop-next-preserved : goal.loop-next-preserved
 loop-next-preserved c =
-    let inv = c.loop-waiter.invariant in
+    let (some, longer) = more c in
     let W = WaitsIn c.args.self.now in
-    let ys : List ℕ = c.loop-waiter.woken.items in
-    let zs : List ℕ = c.loop-next.woken.items in
+    let ys : List ℕ = c.loop-next.woken.items in
+    let zs : List ℕ = c.add_waiters.new.numbers.items in
     let k : ℕ = c.loop-next.next in
-    let items : List ℕ = c.of-waiter-items.result.now in
-    let x : ℕ = c.index.result.now in
-    let lt : k < length zs = search rules in
-    let this : (d m : ℕ) → W (get_or zs k d) m → IsIn m ys = λ d m w.
-    (let at : get_or zs k d ≡ x = get_or_default zs k d x lt ∙ sym c.index.ensures in
-    let (i, l, e) = place_of items m (subst (λ l. IsIn m l) (sym c.of-waiter-items.ensures) (subst (λ n. W n m) at w)) in
-    subst (λ n. IsIn n ys) e (inv.added i (omega (arith, l, c.loop-waiter-test.false)))) in
-    record { some = inv.some; within = omega (arith, inv.more.longer); closed = closed_more W zs ys k c.loop-next.invariant.closed inv.more this }
+    let x : ℕ = c.index-number.result.now in
+    let lt : k < length ys = search rules in
+    let this : (d m : ℕ) → W (get_or ys k d) m → IsIn m zs = λ d m w.
+    (let at : get_or ys k d ≡ x = get_or_default ys k d x lt ∙ sym c.index-number.ensures in
+    subst (IsIn m) (sym (added c)) (with_numbers-has (waiters c.args.self.now x) ys m (subst (λ n. W n m) at w))) in
+    record { some = some; within = omega (arith, longer.longer); closed = closed_more W ys zs k c.loop-next.invariant.closed longer this }
 
 pub returns : goal.returns
 returns c =

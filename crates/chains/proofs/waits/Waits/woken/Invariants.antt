@@ -1,16 +1,7 @@
-use Rattle.std.proofs.Common.{ℕ, ◌<◌, ◌≤◌, ◌-◌, ◌^◌, length, get_or}
-use Rattle.volume_model.specs.Lists.{IsIn}
+use Rattle.std.proofs.Common.{◌≤◌, ◌-◌, ◌^◌, length, get_or}
 use Rattle.chains.specs.Waits.{WaitsIn}
-use Rattle.chains.proofs.Woken.{AreSome, AreClosed, AreMore}
+use Rattle.chains.proofs.Woken.{AreSome, AreClosed}
 use Rattle.chains.proofs.waits.Waits.woken.Given as goal
-
--- those that wait for the number at this place are added one by one
-abbrev pub invariant-loop-waiter : goal.invariant-loop-waiter
-invariant-loop-waiter l = record {
-  some : AreSome (WaitsIn l.self) l.number l.woken.items;
-  more : AreMore l.initial.woken.items l.woken.items l.next;
-  added : (j : ℕ) → j < l.waiter-index → IsIn (get_or l.waiter-items j 0) l.woken.items;
-}
 
 abbrev pub invariant-loop-next : goal.invariant-loop-next
 invariant-loop-next l = record {

@@ -1,0 +1,44 @@
+//! Who has come to wait of late: a few, in the order in which they came.
+
+ghost use Rattle.std.specs.List.{list_any};
+ghost use Rattle.std.specs.Prelude.{ℕ, ◌≡◌, ◌==◌, [], if◌then◌else◌, OnOk};
+ghost use Rattle.volume_model.specs.Lists.{any};
+ghost use Rattle.chains.specs.Recent.{recent_waiters};
+ghost use Rattle.chains.specs.Rising.{AreGrowing, with_numbers};
+
+use crate::numbers::add;
+use crate::wait::Wait;
+use std::alloc::AllocError;
+
+/// Whether somebody waits for a number.
+#[inline(always)]
+pub fn is_awaited(waits: &[Wait], before: u64) -> bool
+    ensures { result ≡ list_any (λ wait. wait.before == before) waits.now }
+{
+    waits.iter().any(|wait| wait.before == before)
+}
+
+/// Adds those that wait for a number to others, where they aren't there.
+///
+/// # Errors
+/// Where a growth was refused.
+#[inline(always)]
+pub fn add_waiters(waits: &[Wait], before: u64, numbers: &mut Vec<u64>) -> Result<(), AllocError>
+    requires growing { AreGrowing numbers.old.items }
+    ensures added { OnOk result (numbers.new.items ≡ with_numbers (recent_waiters waits.now before) numbers.old.items) }
+{
+    for wait in waits {
+        if wait.before == before {
+            add(numbers, wait.number)?;
+        }
+    }
+    Ok(())
+}
+
+/// Takes out those that wait for one of these numbers.
+#[inline(always)]
+pub fn wake(waits: &mut Vec<Wait>, woken: &[u64])
+    ensures { (k : ℕ) → recent_waiters waits.new.items k ≡ (if any (λ n. n == k) woken.now then [] else recent_waiters waits.old.items k) }
+{
+    waits.retain(|wait| !woken.contains(&wait.before));
+}
