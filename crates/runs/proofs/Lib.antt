@@ -1,5 +1,7 @@
 pub mod Flat
+pub mod Cut
 pub mod Parted
+pub mod Latest
 pub mod Finding
 pub mod Edits
 pub mod Halves
