@@ -1,1 +1,1 @@
-pub mod Applied
+pub mod Parted

@@ -2,7 +2,7 @@
 #![tactic(auto)]
 
 ghost use Rattle.std.specs.Prelude.{◌≡◌, ◌+◌, ◌≤◌, ◌++◌, nat_le, if◌then◌else◌, length, map, take, drop, All};
-ghost use Rattle.volume_model.specs.Node.{written, page_of};
+ghost use Rattle.volume_model.specs.Node.{written, page_from, page_of};
 ghost use Rattle.redo_record.specs.Record.{redo_of};
 ghost use Rattle.redo_record.specs.Packet.{packet_redo};
 
@@ -10,6 +10,10 @@ use redo_record::{Packet, Record};
 
 /// The bytes of a block.
 pub const BLOCK: usize = 512;
+
+/// How many packets are looked at before the first of them is written.
+/// Each lies in memory of its own: a loop that only looks at them waits for all of that memory at once, one that writes too waits for each.
+const AHEAD: usize = 16;
 
 /// Writes bytes into a page.
 fn write_at(page: &mut [u8], offset: usize, bytes: &[u8])
@@ -20,21 +24,72 @@ fn write_at(page: &mut [u8], offset: usize, bytes: &[u8])
     page[offset..end].copy_from_slice(bytes);
 }
 
-/// Applies a record that isn't past the point.
-fn apply(page: &mut [u8], entry: &Record, point: u64)
+/// Applies a record.
+fn apply(page: &mut [u8], entry: &Record)
     requires { length page.old ≡ 512 }
-    ensures { page.new ≡ (if nat_le entry.now.lsn point then written (redo_of entry.now) page.old else page.old) }
+    ensures { page.new ≡ written (redo_of entry.now) page.old }
 {
-    if entry.lsn <= point {
-        write_at(page, usize::from(entry.offset), entry.bytes.as_slice());
-    }
+    write_at(page, usize::from(entry.offset), entry.bytes.as_slice());
+}
+
+/// Applies a packet's record.
+fn write_packet(page: &mut [u8; BLOCK], packet: &Packet)
+    ensures { page.new ≡ written (packet_redo packet.now) page.old }
+{
+    apply(page, packet.record());
 }
 
 /// Applies a packet's record that isn't past the point.
-fn write_packet(page: &mut [u8; BLOCK], packet: &Packet, point: u64)
+fn write_packet_up_to(page: &mut [u8; BLOCK], packet: &Packet, point: u64)
     ensures { page.new ≡ (if nat_le (packet_redo packet.now).lsn point then written (packet_redo packet.now) page.old else page.old) }
 {
-    apply(page, packet.record(), point);
+    if packet.lsn() <= point {
+        write_packet(page, packet);
+    }
+}
+
+/// Applies the packets' records that aren't past the point, testing each.
+fn write_up_to(page: &mut [u8; BLOCK], packets: &[Packet], block: u32, point: u64)
+    requires { All (λ packet. (packet_redo packet).block ≡ block) packets.now }
+    ensures { page.new ≡ page_from page.old block point (map packet_redo packets.now) }
+{
+    for packet in packets {
+        write_packet_up_to(page, packet, point);
+    }
+}
+
+/// Applies the packets' records, none of which is past the point.
+fn write_all(page: &mut [u8; BLOCK], packets: &[Packet], block: u32, point: u64)
+    requires own { All (λ packet. (packet_redo packet).block ≡ block) packets.now }
+    requires up_to { All (λ packet. (packet_redo packet).lsn ≤ point) packets.now }
+    ensures { page.new ≡ page_from page.old block point (map packet_redo packets.now) }
+{
+    for packet in packets {
+        write_packet(page, packet);
+    }
+}
+
+/// A number that none of the packets' LSNs is above. Never branches on what is loaded.
+fn greatest_of(packets: &[Packet]) -> u64
+    ensures { All (λ packet. (packet_redo packet).lsn ≤ result) packets.now }
+{
+    let mut greatest = 0;
+    for packet in packets {
+        greatest = greatest.max(packet.lsn());
+    }
+    greatest
+}
+
+/// Applies the packets' records that aren't past the point, having looked at all of them first.
+fn write_ahead(page: &mut [u8; BLOCK], packets: &[Packet], block: u32, point: u64)
+    requires { All (λ packet. (packet_redo packet).block ≡ block) packets.now }
+    ensures { page.new ≡ page_from page.old block point (map packet_redo packets.now) }
+{
+    if greatest_of(packets) <= point {
+        write_all(page, packets, block, point);
+    } else {
+        write_up_to(page, packets, block, point);
+    }
 }
 
 /// The bytes of a block at a point: the writes of its records up to the point, in the order of the packets, over zeros.
@@ -44,8 +99,12 @@ pub fn page_of(packets: &[Packet], block: u32, point: u64) -> [u8; BLOCK]
     ensures { result ≡ page_of (map packet_redo packets.now) block point }
 {
     let mut page = [0; BLOCK];
-    for packet in packets {
-        write_packet(&mut page, packet, point);
+    let mut rest = packets;
+    while rest.len() >= AHEAD {
+        let (some, more) = rest.split_at(AHEAD);
+        write_ahead(&mut page, some, block, point);
+        rest = more;
     }
+    write_up_to(&mut page, rest, block, point);
     page
 }

@@ -1,7 +1,12 @@
-use Rattle.std.proofs.Common.{◌≡◌, drop, map}
+use Rattle.std.proofs.Common.{◌≡◌, length, map, All}
 use Rattle.volume_model.specs.Node.{page_from, page_of}
 use Rattle.redo_record.specs.Packet.{packet_redo}
 use Rattle.pages.proofs.page_of.Given as goal
 
-abbrev pub invariant-loop-packet : goal.invariant-loop-packet
-invariant-loop-packet l = page_from l.page l.block l.point (map packet_redo (drop l.packet-index l.packets)) ≡ page_of (map packet_redo l.packets) l.block l.point
+abbrev pub invariant-loop-rest : goal.invariant-loop-rest
+invariant-loop-rest l =
+    (All (λ packet. (packet_redo packet).block ≡ l.block) l.rest)
+    × (page_from l.page l.block l.point (map packet_redo l.rest) ≡ page_of (map packet_redo l.packets) l.block l.point)
+
+abbrev pub decreases-loop-rest : goal.decreases-loop-rest
+decreases-loop-rest l = length l.rest
