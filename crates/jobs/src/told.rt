@@ -71,7 +71,7 @@ fn counts_line(
 }
 
 /// Whether an event was refused.
-fn has_refusal(results: &[Result<u64, Fault>]) -> bool
+fn has_refusal(results: &[Result<u32, Fault>]) -> bool
     ensures { result ≡ list_any (λ told. is_err told) results.now }
 {
     results.iter().any(|told| told.is_err())
@@ -80,8 +80,8 @@ fn has_refusal(results: &[Result<u64, Fault>]) -> bool
 /// What is told of a step's event, if it has one, and what is told of the later ones.
 fn first_told(
     has_event: bool,
-    results: &[Result<u64, Fault>],
-) -> (Option<&Result<u64, Fault>>, &[Result<u64, Fault>])
+    results: &[Result<u32, Fault>],
+) -> (Option<&Result<u32, Fault>>, &[Result<u32, Fault>])
     ensures first { option_copied result.0 ≡ first_if has_event results.now }
     ensures rest { result.1.now ≡ rest_if has_event results.now }
 {
@@ -142,11 +142,11 @@ fn add_wait(text: &mut String, line: u32) -> Result<(), AllocError>
 }
 
 /// Adds what is told of a step's event.
-fn add_told(text: &mut String, line: u32, told: &Result<u64, Fault>) -> Result<(), AllocError>
+fn add_told(text: &mut String, line: u32, told: &Result<u32, Fault>) -> Result<(), AllocError>
     ensures { OnOk result (AppendsLine line (Some told.now) (string_bytes text.old) (string_bytes text.new)) }
 {
     match told {
-        Ok(made) => add_made(text, line, *made),
+        Ok(made) => add_made(text, line, u64::from(*made)),
         Err(fault) => add_refusal(text, line, *fault),
     }
 }
@@ -155,7 +155,7 @@ fn add_told(text: &mut String, line: u32, told: &Result<u64, Fault>) -> Result<(
 fn add_step(
     text: &mut String,
     line: u32,
-    told: Option<&Result<u64, Fault>>,
+    told: Option<&Result<u32, Fault>>,
 ) -> Result<(), AllocError>
     ensures { OnOk result (AppendsLine line (option_copied told.entry) (string_bytes text.old) (string_bytes text.new)) }
 {
@@ -169,7 +169,7 @@ fn add_step(
 fn add_steps(
     text: &mut String,
     steps: &[Step],
-    results: &[Result<u64, Fault>],
+    results: &[Result<u32, Fault>],
 ) -> Result<(), AllocError>
     ensures { OnOk result (AppendsLines steps.now results.now (string_bytes text.old) (string_bytes text.new)) }
 {

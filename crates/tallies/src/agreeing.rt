@@ -7,7 +7,7 @@ use volume_model::Fault;
 use world::{Event, Outcome};
 
 /// Whether some event was refused.
-fn refuses(results: &[Result<u64, Fault>]) -> bool
+fn refuses(results: &[Result<u32, Fault>]) -> bool
     ensures { result ≡ list_any (λ told. is_err told) results.now }
 {
     results.iter().any(|told| told.is_err())

@@ -21,11 +21,6 @@ number_past first [] i place h = refl
 number_past first (r ∷ later) zero place h = absurd (omega arith)
 number_past first (r ∷ later) (suc i) place h = number_past (first + made_by r) later i place (omega arith)
 
-pub within_total : (first : ℕ) (results : List (Result ℕ Fault)) (i : ℕ) (d : Result ℕ Fault) → i < length results → get_or (firsts_of first results) i 0 + made_by (get_or results i d) ≤ first + total_made results
-within_total first [] i d h = absurd (omega arith)
-within_total first (r ∷ later) zero d h = omega arith
-within_total first (r ∷ later) (suc i) d h = let inner = within_total (first + made_by r) later i d (omega arith) in omega (arith, inner)
-
 pub length-firsts_of : (first : ℕ) (results : List (Result ℕ Fault)) → length (firsts_of first results) ≡ length results
 length-firsts_of first [] = refl
 length-firsts_of first (r ∷ later) = ap suc (length-firsts_of (first + made_by r) later)
@@ -83,9 +78,3 @@ number_none results i place made d within reads why =
     test : (place ≡ 0) ⊎ (made < place) → (nat_le 1 place && nat_le place (made_by (get_or results i d))) ≡ false
     test (inl e) = grind (arith, nat_tests)
     test (inr h) = let low : made_by (get_or results i d) < place = omega arith in grind (arith, nat_tests)
-
-pub number_fits : (results : List (Result ℕ Fault)) (firsts : List ℕ) (i place made bound : ℕ) (d : Result ℕ Fault) → firsts ≡ firsts_of 0 results → i < length results → made ≡ made_by (get_or results i d) → place ≤ made → total_made results < bound → get_or firsts i 0 + place < bound
-number_fits results firsts i place made bound d is within reads most total =
-    let e : get_or firsts i 0 ≡ get_or (firsts_of 0 results) i 0 = ap (λ (ns : List ℕ). get_or ns i 0) is in
-    let all = within_total 0 results i d within in
-    omega (arith, all)

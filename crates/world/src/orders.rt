@@ -1,9 +1,9 @@
 //! Events whose messages are named by the events that made them.
 
-ghost use Rattle.std.specs.Prelude.{◌≡◌, ◌^◌, ◌<◌};
+ghost use Rattle.std.specs.Prelude.{◌≡◌};
 ghost use Rattle.volume_model.specs.World.{step};
 ghost use Rattle.world.specs.Actors.{event_late, plan_of, world_of, AreActors, Steps};
-ghost use Rattle.world.specs.Events.{made_by, firsts_of, total_made, number_from, ordered};
+ghost use Rattle.world.specs.Events.{made_by, firsts_of, number_from, ordered};
 
 use crate::actors::Actors;
 use crate::event::Order;
@@ -11,7 +11,7 @@ use std::alloc::Global;
 use volume_model::Fault;
 
 /// How many messages an event made of which this is told.
-fn made_by(told: &Result<u64, Fault>) -> u64
+fn made_by(told: &Result<u32, Fault>) -> u32
     ensures { result ≡ made_by told.now }
 {
     match told {
@@ -22,19 +22,18 @@ fn made_by(told: &Result<u64, Fault>) -> u64
 
 /// The number of the message that was made as the `place`-th, from 1, by the event with an index; 0, which no message has, where
 /// it made fewer. `firsts` has how many messages were made before each event.
-fn number_of(firsts: &[u64], results: &[Result<u64, Fault>], event: usize, place: u64) -> u64
-    requires firsts { firsts.now ≡ firsts_of 0 results.now }
-    requires total { total_made results.now < 2 ^ 64 }
+fn number_of(firsts: &[u32], results: &[Result<u32, Fault>], event: usize, place: u64) -> u64
+    requires { firsts.now ≡ firsts_of 0 results.now }
     ensures { result ≡ number_from 0 results.now event place }
 {
     if event >= results.len() {
         return 0;
     }
-    let made = made_by(&results[event]);
+    let made = u64::from(made_by(&results[event]));
     if place == 0 || place > made {
         return 0;
     }
-    firsts[event] + place
+    u64::from(firsts[event]) + place
 }
 
 /// Makes the event happen that an order is after these results. The memory of the order is given back then.
@@ -42,12 +41,11 @@ pub fn follow(
     alloc: Global,
     actors: &mut Actors,
     order: Order,
-    firsts: &[u64],
-    results: &[Result<u64, Fault>],
+    firsts: &[u32],
+    results: &[Result<u32, Fault>],
 ) -> Result<u64, Fault>
     requires actors { AreActors actors.old }
     requires firsts { firsts.now ≡ firsts_of 0 results.now }
-    requires total { total_made results.now < 2 ^ 64 }
     ensures steps { Steps (event_late (ordered results.now order)) (step (plan_of actors.old) (world_of actors.old) (ordered results.now order)) (world_of actors.old) result (world_of actors.new) }
     ensures good { AreActors actors.new }
     ensures plan { plan_of actors.new ≡ plan_of actors.old }

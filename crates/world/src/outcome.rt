@@ -27,11 +27,13 @@ pub struct FindEnd {
     pub found: Found,
 }
 
+const _: () = prove!(size_of::<Result<u32, Fault>>() <= 8);
+
 /// What is told of a run.
 #[derive(Drop)]
 pub struct Outcome {
-    /// For each event the number of messages that it made, or why it was refused.
-    pub results: Vec<Result<u64, Fault>>,
+    /// For each event the number of messages that it made, or why it was refused. There may be many.
+    pub results: Vec<Result<u32, Fault>>,
     /// The opened writers, in growing volume epoch.
     pub writers: Vec<WriterEnd>,
     /// The recoveries that have cut, in growing volume epoch. One that has become a writer is both.

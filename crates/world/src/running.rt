@@ -19,15 +19,27 @@ use volume_model::{
     pages_are_true, runs_are_orderly, volume_keeps_commits,
 };
 
+/// A number of messages. More than one can tell are as if memory ran out, as these would take more of it than is there.
+fn count_of(messages: u64) -> Result<u32, Fault>
+    ensures same { IfOk result (λ count. count ≡ messages) }
+    ensures memory { IfErr result (λ e. e ≡ NoMemory) }
+{
+    if messages > u64::from(u32::MAX) {
+        return Err(Fault::NoMemory);
+    }
+    Ok(messages as u32)
+}
+
 /// What is told of an event; want of memory ends the run.
-fn told(step: Result<u64, Fault>) -> Result<Result<u64, Fault>, Fault>
+fn told(step: Result<u64, Fault>) -> Result<Result<u32, Fault>, Fault>
     ensures same { IfOk result (λ told. told ≡ step) }
     ensures some { IfOk result (λ told. told ≢ Err NoMemory) }
     ensures memory { IfErr result (λ e. e ≡ NoMemory) }
 {
     match step {
+        Ok(made) => Ok(Ok(count_of(made)?)),
         Err(Fault::NoMemory) => Err(Fault::NoMemory),
-        told => Ok(told),
+        Err(fault) => Ok(Err(fault)),
     }
 }
 
@@ -105,7 +117,7 @@ fn outcome_of_orders(
     let mut firsts = Vec::with_capacity(alloc, orders.len())?;
     let mut results = Vec::with_capacity(alloc, orders.len())?;
     for order in orders {
-        let made = actors.made();
+        let made = count_of(actors.made())?;
         let step = follow(
             alloc,
             &mut actors,

@@ -31,8 +31,8 @@ loop-order-preserved c =
     let rest : events_from plan old results (into_iter_items c.loop-order.order-iterator) ≡ event ∷ later =
     order_rest (event_late event) plan old new results (into_iter_items c.loop-order.order-iterator) left order c.in-Some.ensures.steps.0 result ne steps in
     let items : c.push-in-loop-order.new.self.items ≡ results ++ result ∷ [] = c.in_ok-push-2.ensures.items in
-    let firsts : c.push.new.self.items ≡ c.loop-order.firsts.items ++ c.made-made.result ∷ [] = c.in_ok-push.ensures.items in
-    let made : c.made-made.result ≡ 0 + total_made results = omega (arith, c.made-made.ensures, c.loop-order.invariant.total) in
+    let firsts : c.push.new.self.items ≡ c.loop-order.firsts.items ++ c.in_ok-made.made ∷ [] = c.in_ok-push.ensures.items in
+    let made : c.in_ok-made.made ≡ 0 + total_made results = omega (arith, c.in_ok-made.ensures.same, c.made.ensures, c.loop-order.invariant.total) in
     record {
       good = c.follow-step.ensures.good;
       plan_is = c.follow-step.ensures.plan ∙ c.loop-order.invariant.plan_is;
