@@ -1,5 +1,5 @@
 pub mod OneNode
-pub mod ClientMap
+pub mod ClientTable
 pub mod Messages
 pub mod Low
 pub mod Steps

@@ -29,14 +29,14 @@ messages_in a = added (messages_of a.messages.items) []
 
 -- the world that they are
 abbrev pub world_of : Actors → World
-world_of a = world_with (authority_of a.authority) (node_at (plan_of a) (nodes_of a.nodes.items)) (clients_of a.clients) (messages_in a)
+world_of a = world_with (authority_of a.authority) (node_at (plan_of a) (nodes_of a.nodes.items)) (clients_of a.clients.items) (messages_in a)
 
 -- The actors are those of their plan. No member has a number that isn't below 64.
 pub record AreActors (a : Actors) : Type 0 where
   pub plan : checked_model (arc_value a.plan) ≡ plan_of a
   pub homes : AreHomes (plan_of a) a.nodes.items
   pub low : (group member : ℕ) → members ≤ member → is_named (plan_of a) group member ≡ false
-  pub clients : AreClients (plan_of a) a.clients
+  pub clients : AreClients (plan_of a) a.clients.items
 
 -- what is told of a step of the world, and the world after it
 pub record Moved : Type 0 where

@@ -1,8 +1,6 @@
 -- The clients of a program, by their volume epochs.
-use Rattle.std.specs.Prelude.{◌≡◌, ℕ, Option, Some, None}
+use Rattle.std.specs.Prelude.{◌≡◌, ℕ, ◌==◌, if◌then◌else◌, List, Option, Some, None, slice_index_or}
 use Rattle.std.specs.Arc.{arc_value}
-use Rattle.std.specs.Ordering.{nat_cmp}
-use Rattle.std.specs.BTreeMap.{BTreeMap, get}
 use Rattle.std.specs.Global.{Box}
 use Rattle.volume_model.specs.Plan.{Plan}
 use Rattle.volume_model.specs.Client as model
@@ -59,10 +57,22 @@ abbrev pub client_or_unborn : Option (Box Client) → model.Client
 client_or_unborn None = unborn
 client_or_unborn (Some client) = seen_client client.value
 
--- the client of a volume epoch
-abbrev pub clients_of : BTreeMap ℕ (Box Client) → ℕ → model.Client
-clients_of clients volume = client_or_unborn (get nat_cmp clients volume)
+-- what stands at the place of a volume epoch in a table, and nothing behind its end
+abbrev pub client_in : List (Option (Box Client)) → ℕ → Option (Box Client)
+client_in clients volume = slice_index_or clients volume None
 
--- each client is kept under its volume epoch
-abbrev pub AreClients : Plan → BTreeMap ℕ (Box Client) → Type 0
-AreClients plan clients = (volume : ℕ) (client : Box Client) → get nat_cmp clients volume ≡ Some client → IsClientOf plan volume client.value
+-- the client of a volume epoch
+abbrev pub clients_of : List (Option (Box Client)) → ℕ → model.Client
+clients_of clients volume = client_or_unborn (client_in clients volume)
+
+-- each client is kept at the place of its volume epoch
+abbrev pub AreClients : Plan → List (Option (Box Client)) → Type 0
+AreClients plan clients = (volume : ℕ) (client : Box Client) → client_in clients volume ≡ Some client → IsClientOf plan volume client.value
+
+-- the one table has the clients of the other
+abbrev pub HasSameClients : List (Option (Box Client)) → List (Option (Box Client)) → Type 0
+HasSameClients old new = (volume : ℕ) → client_in new volume ≡ client_in old volume
+
+-- the one table has the clients of the other, but this one at the place of this volume epoch
+abbrev pub IsPut : List (Option (Box Client)) → ℕ → Box Client → List (Option (Box Client)) → Type 0
+IsPut old volume client new = (other : ℕ) → client_in new other ≡ (if other == volume then Some client else client_in old other)

@@ -3,6 +3,7 @@
 use crate::acts::{AuthorityAct, ClientAct, ClientOrder, NodeOrder};
 use crate::client::Client;
 use crate::client_step::act_of;
+use crate::clients::keep;
 use crate::event::Event;
 use crate::nodes::{all_born, slot};
 use crate::numbering::enter;
@@ -11,7 +12,6 @@ use epochs::Authority;
 use plan::CheckedPlan;
 use segment_core::{NodeAct, Segment};
 use std::alloc::{AllocError, Global};
-use std::collections::BTreeMap;
 use std::sync::Arc;
 use volume_model::Fault;
 use wire::Message;
@@ -22,8 +22,9 @@ pub struct Actors {
     plan: Arc<CheckedPlan>,
     pub(crate) authority: Authority,
     nodes: Vec<Option<Segment>>,
-    /// Each behind a pointer, since a map has room for nearly twice as many as it keeps.
-    pub(crate) clients: BTreeMap<u32, Box<Client>>,
+    /// The client of each volume epoch at its place, and none where no View has reached it. The authority assigns volume epochs one after the
+    /// other, from 1 on, and a client is born only of a View of its own, so the table has at most one place an event beside its first two.
+    pub(crate) clients: Vec<Option<Box<Client>>>,
     messages: Vec<Message>,
 }
 
@@ -32,8 +33,6 @@ impl Actors {
     ghost use Rattle.std.specs.Arc.{arc_value};
     ghost use Rattle.volume_model.specs.declared.fault.Fault.TheVariants.{NoMemory};
     ghost use Rattle.std.specs.Prelude.{None};
-    ghost use Rattle.std.specs.Ordering.{nat_cmp};
-    ghost use Rattle.std.specs.BTreeMap.{get};
     ghost use Rattle.volume_model.specs.Client.{unborn};
     ghost use Rattle.volume_model.specs.ClientRecovery.{opened};
     ghost use Rattle.volume_model.specs.World as model;
@@ -42,6 +41,7 @@ impl Actors {
     ghost use Rattle.volume_model.specs.Answer.{never_late};
     ghost use Rattle.world.specs.Actors.{event_late, plan_of, world_of, messages_in, AreActors, Steps};
     ghost use Rattle.world.specs.Acts.{authority_acted, client_ordered, node_late, node_ordered, order_late};
+    ghost use Rattle.world.specs.Clients.{client_in};
     ghost use Rattle.world.specs.Events.{event_of};
 
     /// All actors before any event.
@@ -52,8 +52,8 @@ impl Actors {
         ensures memory { IfErr result (λ e. e ≡ NoMemory) }
     {
         let first = Client::first(alloc, plan.clone()?)?;
-        let mut clients = BTreeMap::new(alloc);
-        clients.insert(1, Box::new(alloc, first)?)?;
+        let mut clients = Vec::new(alloc);
+        keep(&mut clients, 1, Box::new(alloc, first)?)?;
         Ok(Actors {
             plan: plan.clone()?,
             authority: Authority::new(alloc, plan.clone()?)?,
@@ -110,7 +110,11 @@ impl Actors {
         ensures good { AreActors self.new }
         ensures plan { plan_of self.new ≡ plan_of self.old }
     {
-        match self.clients.get_mut(&volume) {
+        let place = volume as usize;
+        if place >= self.clients.len() {
+            return self.absent_step(alloc, volume, order);
+        }
+        match &mut self.clients[place] {
             None => self.absent_step(alloc, volume, order),
             Some(client) => client_step::act(alloc, client, &mut self.messages, order),
         }
@@ -124,7 +128,7 @@ impl Actors {
         order: ClientOrder<'_>,
     ) -> Result<u64, Fault>
         requires actors { AreActors self.old }
-        requires absent { get nat_cmp self.old.clients volume ≡ None }
+        requires absent { client_in self.old.clients.items volume ≡ None }
         ensures steps { Steps (order_late order.entry) (of_client (world_of self.old) volume (client_ordered (messages_in self.old) order.entry (plan_of self.old) volume unborn)) (world_of self.old) result (world_of self.new) }
         ensures good { AreActors self.new }
         ensures plan { plan_of self.new ≡ plan_of self.old }
@@ -134,7 +138,7 @@ impl Actors {
         let mut client = Client::unborn(self.plan.clone()?, volume);
         let made = client.act(alloc, act)?;
         self.messages.reserve(made.len())?;
-        self.clients.insert(volume, Box::new(alloc, client)?)?;
+        keep(&mut self.clients, volume, Box::new(alloc, client)?)?;
         Ok(enter(&mut self.messages, made))
     }
 
@@ -145,7 +149,11 @@ impl Actors {
         ensures good { AreActors self.new }
         ensures plan { plan_of self.new ≡ plan_of self.old }
     {
-        match self.clients.get_mut(&volume) {
+        let place = volume as usize;
+        if place >= self.clients.len() {
+            return Err(Fault::NoActor);
+        }
+        match &mut self.clients[place] {
             None => Err(Fault::NoActor),
             Some(client) => {
                 client.open()?;

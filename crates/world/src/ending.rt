@@ -9,6 +9,7 @@ ghost use Rattle.world.specs.Outcomes.{find_of, opened_of};
 
 use crate::actors::Actors;
 use crate::client::{Client, ClientState};
+use crate::clients::{client_at, count};
 use crate::outcome::{FindEnd, WriterEnd};
 use recovery::Found;
 use std::alloc::{AllocError, Global};
@@ -58,9 +59,9 @@ impl Actors {
 
     /// Adds what is told of the writer of a volume epoch, where there is one.
     fn add_writer(&self, volume: u32, ends: &mut Vec<WriterEnd>) -> Result<(), AllocError>
-        ensures { IfOk result (λ _. map opened_of ends.new.items ≡ map opened_of ends.old.items ++ (if is_open (clients_of self.now.clients volume).stage then opened_client volume (clients_of self.now.clients volume) ∷ [] else [])) }
+        ensures { IfOk result (λ _. map opened_of ends.new.items ≡ map opened_of ends.old.items ++ (if is_open (clients_of self.now.clients.items volume).stage then opened_client volume (clients_of self.now.clients.items volume) ∷ [] else [])) }
     {
-        let Some(client) = self.clients.get(&volume) else {
+        let Some(client) = client_at(self.clients.as_slice(), volume) else {
             return Ok(());
         };
         if let Some(end) = opened_by(volume, client)? {
@@ -74,7 +75,7 @@ impl Actors {
         ensures { IfOk result (λ ends. map opened_of ends.items ≡ writers_in (world_of self.now)) }
     {
         let last = self.authority.last_volume();
-        let mut ends = Vec::with_capacity(alloc, self.clients.len())?;
+        let mut ends = Vec::with_capacity(alloc, count(self.clients.as_slice()))?;
         for volume in 0..last {
             self.add_writer(volume, &mut ends)?;
         }
@@ -84,12 +85,12 @@ impl Actors {
 
     /// Adds what is told of the client of a volume epoch as a recovery, where it is one that has cut. Writer 1 was none.
     fn add_find(&self, volume: u32, ends: &mut Vec<FindEnd>) -> Result<(), AllocError>
-        ensures { IfOk result (λ _. map find_of ends.new.items ≡ map find_of ends.old.items ++ (if nat_lt 1 volume && has_cut (clients_of self.now.clients volume).stage then found_client volume (clients_of self.now.clients volume) ∷ [] else [])) }
+        ensures { IfOk result (λ _. map find_of ends.new.items ≡ map find_of ends.old.items ++ (if nat_lt 1 volume && has_cut (clients_of self.now.clients.items volume).stage then found_client volume (clients_of self.now.clients.items volume) ∷ [] else [])) }
     {
         if volume <= 1 {
             return Ok(());
         }
-        let Some(client) = self.clients.get(&volume) else {
+        let Some(client) = client_at(self.clients.as_slice(), volume) else {
             return Ok(());
         };
         if let Some(end) = found_by(volume, client)? {
@@ -103,7 +104,7 @@ impl Actors {
         ensures { IfOk result (λ ends. map find_of ends.items ≡ finds_in (world_of self.now)) }
     {
         let last = self.authority.last_volume();
-        let mut ends = Vec::with_capacity(alloc, self.clients.len())?;
+        let mut ends = Vec::with_capacity(alloc, count(self.clients.as_slice()))?;
         for volume in 0..last {
             self.add_find(volume, &mut ends)?;
         }

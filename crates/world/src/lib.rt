@@ -8,6 +8,7 @@ mod authority_step;
 mod birth;
 mod client;
 mod client_step;
+mod clients;
 mod ending;
 mod event;
 mod node_step;

@@ -17,11 +17,11 @@ use Rattle.writer_core.specs.Writers.{answered}
 use Rattle.world.specs.declared.client.Client.{Client}
 use Rattle.world.specs.Slots.{node_at}
 use Rattle.world.specs.Homes.{nodes_of}
-use Rattle.world.specs.Clients.{client_plan, client_volume, seen_client, client_or_unborn, clients_of, IsClientOf}
+use Rattle.world.specs.Clients.{client_plan, client_volume, seen_client, client_or_unborn, clients_of, IsClientOf, IsPut}
 use Rattle.world.specs.Acts.{client_acted, client_ordered, order_late, IsOrderOf}
 use Rattle.world.specs.Actors.{moved_of, plan_of, messages_in, world_of, Steps}
 use Rattle.world.specs.Worlds.{world_with}
-use Rattle.world.proofs.ClientMap.{IsPut, client_put, clients_on, kept_clients, same_client, same_clients}
+use Rattle.world.proofs.ClientTable.{client_put, clients_on, kept_clients, same_client, same_clients}
 use Rattle.world.proofs.Moving.{told_made}
 use Rattle.world.proofs.Steps.{client_steps}
 use Rattle.world.proofs.actors.Actors.absent_step.Goals as goal
@@ -34,8 +34,8 @@ returns-clause-steps c =
     let made : List Message = listed c.in_ok-made.made in
     let home : Box Client = c.in_ok-new.field-0 in
     let inside : home.value ≡ born = c.in_ok-new.ensures.ok in
-    let is : IsPut self.clients c.args.volume home c.insert.new.self = c.in_ok-insert.ensures.updates.0 in
-    let put_is : put (clients_of self.clients) c.args.volume (seen_client born) ≡ clients_of c.insert.new.self = ap (λ (cl : Client). put (clients_of self.clients) c.args.volume (seen_client cl)) (sym inside) ∙ client_put self.clients c.insert.new.self c.args.volume home is in
+    let is : IsPut self.clients.items c.args.volume home c.keep.new.clients.items = c.in_ok-keep.ensures.kept in
+    let put_is : put (clients_of self.clients.items) c.args.volume (seen_client born) ≡ clients_of c.keep.new.clients.items = ap (λ (cl : Client). put (clients_of self.clients.items) c.args.volume (seen_client cl)) (sym inside) ∙ client_put self.clients.items c.keep.new.clients.items c.args.volume home is in
     let ordered : IsOrderOf (messages_in self) c.args.order c.in_ok-act.act = subst (λ (ms : List Message). IsOrderOf (added (messages_of ms) []) c.args.order c.in_ok-act.act) c.as_slice.ensures.value c.in_ok-act.ensures in
     let defined : ClientAnswer = client_ordered (messages_in self) c.args.order (plan_of self) c.args.volume unborn in
     let new : Client = c.unborn-client.result in
@@ -43,8 +43,8 @@ returns-clause-steps c =
     let asked : client_acted c.in_ok-act.act (plan_of self) c.args.volume unborn ≡ client_acted c.in_ok-act.act (client_plan new) (client_volume new) (seen_client new) =
     λ i. client_acted c.in_ok-act.act (sym (c.unborn-client.ensures.own.plan_is ∙ cloned ∙ c.requires.actors.plan) i) (sym c.unborn-client.ensures.own.volume_is i) (sym c.unborn-client.ensures.client i) in
     let steps : defined ≡ Ok (answered c.in_ok-made.made (seen_client born)) = ordered.does (plan_of self) c.args.volume unborn ∙ asked ∙ c.in_ok-made.ensures.answers in
-    client_steps (authority_of self.authority) (node_at (plan_of self) (nodes_of self.nodes.items)) (clients_of self.clients) (messages_in self) c.args.volume (order_late c.args.order) defined unborn (seen_client born) (ap client_or_unborn c.requires.absent)
-    (clients_of c.insert.new.self) put_is (Ok c.enter.result) (added (messages_of c.enter.new.messages.items) [])
+    client_steps (authority_of self.authority) (node_at (plan_of self) (nodes_of self.nodes.items)) (clients_of self.clients.items) (messages_in self) c.args.volume (order_late c.args.order) defined unborn (seen_client born) (ap client_or_unborn c.requires.absent)
+    (clients_of c.keep.new.clients.items) put_is (Ok c.enter.result) (added (messages_of c.enter.new.messages.items) [])
     (told_made (λ (step : ClientStep). step.made) (λ (step : ClientStep). step.client) kept c.enter.new.messages.items made defined (answered c.in_ok-made.made (seen_client born)) (seen_client born) c.enter.result
     steps refl refl c.enter.ensures.count (c.enter.ensures.added ∙ ap (λ (ms : List Message). ms ++ made) c.in_ok-reserve.ensures.items))
 
@@ -55,29 +55,29 @@ returns-clause-good c =
     let born : Client = c.act.new.self in
     let home : Box Client = c.in_ok-new.field-0 in
     let inside : home.value ≡ born = c.in_ok-new.ensures.ok in
-    let is : IsPut self.clients c.args.volume home c.insert.new.self = c.in_ok-insert.ensures.updates.0 in
+    let is : IsPut self.clients.items c.args.volume home c.keep.new.clients.items = c.in_ok-keep.ensures.kept in
     let cloned : checked_model (arc_value c.in_ok-clone.field-0) ≡ checked_model (arc_value self.plan) = search rules in
     let own : IsClientOf (plan_of self) c.args.volume new = record { plan_is = c.unborn-client.ensures.own.plan_is ∙ cloned ∙ c.requires.actors.plan; volume_is = c.unborn-client.ensures.own.volume_is } in
     record {
       plan = c.requires.actors.plan;
       homes = c.requires.actors.homes;
       low = c.requires.actors.low;
-      clients = clients_on self.clients c.insert.new.self c.args.volume home is (plan_of self) c.requires.actors.clients
+      clients = clients_on self.clients.items c.keep.new.clients.items c.args.volume home is (plan_of self) c.requires.actors.clients
           (subst (IsClientOf (plan_of self) c.args.volume) (sym inside) (same_client (plan_of self) c.args.volume new born own c.act.ensures.same));
     }
 
-pub returns-in_err-insert-clause-good : goal.returns-in_err-insert-clause-good
-returns-in_err-insert-clause-good c =
+pub returns-in_err-keep-clause-good : goal.returns-in_err-keep-clause-good
+returns-in_err-keep-clause-good c =
     let self = c.args.self.now in
     record {
       plan = c.requires.actors.plan;
       homes = c.requires.actors.homes;
       low = c.requires.actors.low;
-      clients = same_clients (plan_of self) self.clients c.insert.new.self (search rules) c.requires.actors.clients;
+      clients = same_clients (plan_of self) self.clients.items c.keep.new.clients.items c.in_err-keep.ensures.same c.requires.actors.clients;
     }
 
-pub returns-in_err-insert-clause-steps : goal.returns-in_err-insert-clause-steps
-returns-in_err-insert-clause-steps c =
+pub returns-in_err-keep-clause-steps : goal.returns-in_err-keep-clause-steps
+returns-in_err-keep-clause-steps c =
     let self = c.args.self.now in
     let born : Client = c.act.new.self in
     let ordered : IsOrderOf (messages_in self) c.args.order c.in_ok-act.act = subst (λ (ms : List Message). IsOrderOf (added (messages_of ms) []) c.args.order c.in_ok-act.act) c.as_slice.ensures.value c.in_ok-act.ensures in
@@ -89,8 +89,8 @@ returns-in_err-insert-clause-steps c =
     let steps : defined ≡ Ok (answered c.in_ok-made.made (seen_client born)) = ordered.does (plan_of self) c.args.volume unborn ∙ asked ∙ c.in_ok-made.ensures.answers in
     let late = order_late c.args.order in
     let wants : may_want_memory late (moved_of (of_client (world_of self) c.args.volume defined)) ≡ true = ap (λ (a : ClientAnswer). may_want_memory late (moved_of (of_client (world_of self) c.args.volume a))) steps in
-    let failed : c.from_residual-in_err-insert.result ≡ Err NoMemory = search rules in
-    let clients : clients_of c.insert.new.self ≡ clients_of self.clients = kept_clients self.clients c.insert.new.self (search rules) in
+    let failed : c.from_residual-in_err-keep.result ≡ Err NoMemory = search rules in
+    let clients : clients_of c.keep.new.clients.items ≡ clients_of self.clients.items = kept_clients self.clients.items c.keep.new.clients.items c.in_err-keep.ensures.same in
     let messages : c.reserve.new.self.items ≡ self.messages.items = c.in_ok-reserve.ensures.items in
-    subst (λ (r : Result ℕ Fault). Steps late (of_client (world_of self) c.args.volume defined) (world_of self) r (world_with (authority_of self.authority) (node_at (plan_of self) (nodes_of self.nodes.items)) (clients_of c.insert.new.self) (added (messages_of c.reserve.new.self.items) []))) (sym failed)
+    subst (λ (r : Result ℕ Fault). Steps late (of_client (world_of self) c.args.volume defined) (world_of self) r (world_with (authority_of self.authority) (node_at (plan_of self) (nodes_of self.nodes.items)) (clients_of c.keep.new.clients.items) (added (messages_of c.reserve.new.self.items) []))) (sym failed)
     (wants, ap₂ (λ (cl : ℕ → model.Client) (ms : List Message). world_with (authority_of self.authority) (node_at (plan_of self) (nodes_of self.nodes.items)) cl (added (messages_of ms) [])) clients messages)

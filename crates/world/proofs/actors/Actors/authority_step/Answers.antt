@@ -16,10 +16,10 @@ returns-clause-good c =
       plan = c.requires.plan ∙ sym c.act.ensures.plan;
       homes = subst (λ (p : Plan). AreHomes p self.nodes.items) (sym c.act.ensures.plan) c.requires.homes;
       low = subst LowFor (sym c.act.ensures.plan) c.requires.low;
-      clients = subst (λ (p : Plan). AreClients p self.clients) (sym c.act.ensures.plan) c.requires.clients;
+      clients = subst (λ (p : Plan). AreClients p self.clients.items) (sym c.act.ensures.plan) c.requires.clients;
     }
 
 pub returns-clause-steps : goal.returns-clause-steps
 returns-clause-steps c =
     let self = c.args.self.now in
-    rw c.act.ensures.plan (authority_steps (authority_of self.authority) (node_at (plan_of self) (nodes_of self.nodes.items)) (clients_of self.clients) (messages_in self) (authority_acted (plan_of self) (authority_of self.authority) c.args.act) _ c.act.result _ c.act.ensures.moves)
+    rw c.act.ensures.plan (authority_steps (authority_of self.authority) (node_at (plan_of self) (nodes_of self.nodes.items)) (clients_of self.clients.items) (messages_in self) (authority_acted (plan_of self) (authority_of self.authority) c.args.act) _ c.act.result _ c.act.ensures.moves)

@@ -7,4 +7,4 @@ use Rattle.world.specs.Clients.{clients_of}
 use Rattle.world.proofs.actors.Actors.finds.Given as goal
 
 abbrev pub invariant-loop-volume : goal.invariant-loop-volume
-invariant-loop-volume l = map find_of l.ends.items ≡ each_below l.volume (λ v. nat_lt 1 v && has_cut (clients_of l.self.clients v).stage) (λ v. found_client v (clients_of l.self.clients v))
+invariant-loop-volume l = map find_of l.ends.items ≡ each_below l.volume (λ v. nat_lt 1 v && has_cut (clients_of l.self.clients.items v).stage) (λ v. found_client v (clients_of l.self.clients.items v))

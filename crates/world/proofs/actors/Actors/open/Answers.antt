@@ -15,8 +15,8 @@ use Rattle.world.specs.declared.client.Client.{Client}
 use Rattle.world.specs.Slots.{node_at}
 use Rattle.world.specs.Homes.{nodes_of, AreHomes}
 use Rattle.world.specs.Worlds.{world_with}
-use Rattle.world.specs.Clients.{clients_of, seen_client, AreClients, IsClientOf}
-use Rattle.world.proofs.ClientMap.{IsPut, client_put, clients_on, none_yet, none_kept}
+use Rattle.world.specs.Clients.{clients_of, seen_client, AreClients, IsClientOf, IsPut}
+use Rattle.world.proofs.ClientTable.{client_put, clients_on, none_yet, none_kept}
 use Rattle.world.proofs.Low.{is_low}
 use Rattle.world.proofs.Steps.{LowFor}
 use Rattle.world.proofs.actors.Actors.open.Goals as goal
@@ -29,14 +29,14 @@ returns-clause-good c =
     let mine : IsClientOf plan 1 first = search rules in
     let home : Box Client = c.in_ok-new.field-0 in
     let inside : home.value ≡ first = c.in_ok-new.ensures.ok in
-    let is : IsPut c.new-clients.result 1 home c.insert.new.self = c.in_ok-insert.ensures.updates.0 in
+    let is : IsPut c.new-clients.result.items 1 home c.keep.new.clients.items = c.in_ok-keep.ensures.kept in
     let cloned : checked_model (arc_value c.in_ok-clone-2.field-0) ≡ plan = search rules in
     let whole : checked_model (arc_value c.in_ok-clone-2.field-0) ≡ authority_plan c.in_ok-new-2.field-0 = cloned ∙ sym same in
     record {
       plan = whole;
       homes = subst (λ (p : Plan). AreHomes p c.in_ok-all_born.field-0.items) (sym same) c.in_ok-all_born.ensures.homes;
       low = subst LowFor (sym same) (λ group member h. is_low (plan_data (arc_value c.args.plan.now).plan) group member h);
-      clients = subst (λ (p : Plan). AreClients p c.insert.new.self) (sym same) (clients_on c.new-clients.result c.insert.new.self 1 home is plan (none_kept c.new-clients.result c.new-clients.ensures.empty plan) (subst (IsClientOf plan 1) (sym inside) mine));
+      clients = subst (λ (p : Plan). AreClients p c.keep.new.clients.items) (sym same) (clients_on c.new-clients.result.items c.keep.new.clients.items 1 home is plan (none_kept c.new-clients.result.items c.new-clients.ensures.items plan) (subst (IsClientOf plan 1) (sym inside) mine));
     }
 
 pub returns-clause-world : goal.returns-clause-world
@@ -46,11 +46,11 @@ returns-clause-world c =
     let first : Client = c.in_ok-first.first in
     let home : Box Client = c.in_ok-new.field-0 in
     let inside : home.value ≡ first = c.in_ok-new.ensures.ok in
-    let is : IsPut c.new-clients.result 1 home c.insert.new.self = c.in_ok-insert.ensures.updates.0 in
+    let is : IsPut c.new-clients.result.items 1 home c.keep.new.clients.items = c.in_ok-keep.ensures.kept in
     let authority : authority_of c.in_ok-new-2.field-0 ≡ (opening plan).authority = search rules in
     let writer : seen_client first ≡ first_writer plan = search rules in
-    let clients : clients_of c.insert.new.self ≡ put (λ volume. unborn) 1 (first_writer plan) =
-    sym (client_put c.new-clients.result c.insert.new.self 1 home is) ∙ ap₂ (λ (f : ℕ → model.Client) (one : model.Client). put f 1 one) (none_yet c.new-clients.result c.new-clients.ensures.empty) (ap seen_client inside ∙ writer) in
+    let clients : clients_of c.keep.new.clients.items ≡ put (λ volume. unborn) 1 (first_writer plan) =
+    sym (client_put c.new-clients.result.items c.keep.new.clients.items 1 home is) ∙ ap₂ (λ (f : ℕ → model.Client) (one : model.Client). put f 1 one) (none_yet c.new-clients.result.items c.new-clients.ensures.items) (ap seen_client inside ∙ writer) in
     let nodes : node_at (authority_plan c.in_ok-new-2.field-0) (nodes_of c.in_ok-all_born.field-0.items) ≡ born_node plan = ap (λ (p : Plan). node_at p (nodes_of c.in_ok-all_born.field-0.items)) same ∙ c.in_ok-all_born.ensures.nodes in
     let messages : added (messages_of c.new-3.result.items) [] ≡ [] = rw c.new-3.ensures.items refl in
     λ i. world_with (authority i) (nodes i) (clients i) (messages i)

@@ -7,4 +7,4 @@ use Rattle.world.specs.Clients.{clients_of}
 use Rattle.world.proofs.actors.Actors.writers.Given as goal
 
 abbrev pub invariant-loop-volume : goal.invariant-loop-volume
-invariant-loop-volume l = map opened_of l.ends.items ≡ each_below l.volume (λ v. is_open (clients_of l.self.clients v).stage) (λ v. opened_client v (clients_of l.self.clients v))
+invariant-loop-volume l = map opened_of l.ends.items ≡ each_below l.volume (λ v. is_open (clients_of l.self.clients.items v).stage) (λ v. opened_client v (clients_of l.self.clients.items v))

@@ -1,0 +1,60 @@
+//! The clients of a world, each at the place of its volume epoch.
+
+ghost use Rattle.std.specs.Prelude.{◌≡◌, ◌<◌, length, IfErr, IfOk, MatchOption};
+ghost use Rattle.volume_model.specs.Client.{unborn};
+ghost use Rattle.world.specs.Clients.{clients_of, seen_client, HasSameClients, IsPut};
+
+use crate::client::Client;
+use std::alloc::AllocError;
+
+/// The client of a volume epoch, where it is there.
+pub fn client_at(clients: &[Option<Box<Client>>], volume: u32) -> Option<&Client>
+    ensures { MatchOption result (clients_of clients.now volume ≡ unborn) (λ client. clients_of clients.now volume ≡ seen_client client.now) }
+{
+    let place = volume as usize;
+    if place >= clients.len() {
+        return None;
+    }
+    match &clients[place] {
+        None => None,
+        Some(client) => Some(client),
+    }
+}
+
+/// How many clients there are.
+pub fn count(clients: &[Option<Box<Client>>]) -> usize {
+    clients.iter().filter(|client| client.is_some()).count()
+}
+
+/// Fills a table up to the place of a volume epoch. The clients stay, also where a growth was refused.
+fn fill_up(clients: &mut Vec<Option<Box<Client>>>, volume: u32) -> Result<(), AllocError>
+    ensures same { HasSameClients clients.old.items clients.new.items }
+    ensures room { IfOk result (λ _. volume < length clients.new.items) }
+{
+    let place = volume as usize;
+    if place < clients.len() {
+        return Ok(());
+    }
+    clients.reserve(place + 1 - clients.len())?;
+    while clients.len() <= place {
+        clients.push(None)?;
+    }
+    Ok(())
+}
+
+/// Keeps a client at the place of its volume epoch.
+///
+/// # Errors
+/// Where a growth was refused; then the clients are what they were.
+pub fn keep(
+    clients: &mut Vec<Option<Box<Client>>>,
+    volume: u32,
+    client: Box<Client>,
+) -> Result<(), AllocError>
+    ensures kept { IfOk result (λ _. IsPut clients.old.items volume client clients.new.items) }
+    ensures same { IfErr result (λ _. HasSameClients clients.old.items clients.new.items) }
+{
+    fill_up(clients, volume)?;
+    clients[volume as usize] = Some(client);
+    Ok(())
+}
