@@ -46,8 +46,13 @@ entries-recent chunks copies recent more entry shared is =
     ap₂ (λ l m. l ++ m) (ap entries_of is ∙ entries_of-push recent entry) shared
 
 -- one entry more, behind recent ones that become a chunk
-pub entries-chunked : (chunks copies more : List Chunk) (chunk : Chunk) (recent now : List Entry) (copy : Vec Entry Global) (entry : Entry) → entries_in copies ≡ entries_in chunks → copy.items ≡ recent
-    → arc_value chunk ≡ copy → more ≡ copies ++ chunk ∷ [] → now ≡ entry ∷ [] → entries_of now ++ entries_in more ≡ entry_of entry ∷ (entries_of recent ++ entries_in chunks)
-entries-chunked chunks copies more chunk recent now copy entry shared same value is one =
-    ap₂ (λ l m. l ++ m) (ap entries_of one)
-    (ap entries_in is ∙ entries_in-push copies chunk ∙ ap₂ (λ l m. l ++ m) (ap entries_of (ap (λ v. v.items) value ∙ same)) shared)
+pub entries-chunked : (chunks more : List Chunk) (recent now copy : List Entry) (entry : Entry) → copy ≡ recent → entries_in more ≡ entries_of copy ++ entries_in chunks → now ≡ entry ∷ []
+    → entries_of now ++ entries_in more ≡ entry_of entry ∷ (entries_of recent ++ entries_in chunks)
+entries-chunked chunks more recent now copy entry same has one =
+    ap₂ (λ l m. l ++ m) (ap entries_of one) (has ∙ ap (λ l. entries_of l ++ entries_in chunks) same)
+
+-- clones of chunks with one chunk more
+pub entries-with : (chunks copies more : List Chunk) (chunk : Chunk) (value : Vec Entry Global) → entries_in copies ≡ entries_in chunks → arc_value chunk ≡ value → more ≡ copies ++ chunk ∷ []
+    → entries_in more ≡ entries_of value.items ++ entries_in chunks
+entries-with chunks copies more chunk value shared is has =
+    ap entries_in has ∙ entries_in-push copies chunk ∙ ap₂ (λ l m. l ++ m) (ap entries_of (ap (λ v. v.items) is)) shared

@@ -6,17 +6,17 @@ ghost use Rattle.volume_model.specs.Lineage.{is_live};
 ghost use Rattle.lineage.specs.Entries.{entry_of, entries_of, entries_before};
 
 use crate::entry::Entry;
+use crate::shared_chunks::SharedChunks;
 use std::alloc::{AllocError, Global};
-use std::sync::Arc;
 
 /// How many entries a chunk has at most.
-const MOST_ENTRIES: usize = 64;
+const MOST_ENTRIES: usize = 16;
 
 /// The entries before the last, oldest first.
 #[derive(Drop)]
 pub struct Past {
     /// All but the recent ones, in chunks that are shared.
-    chunks: Vec<Arc<Vec<Entry>>>,
+    chunks: SharedChunks,
     recent: Vec<Entry>,
 }
 
@@ -51,7 +51,7 @@ impl Past {
         ensures { entries_before result ≡ [] }
     {
         Past {
-            chunks: Vec::new(alloc),
+            chunks: SharedChunks::none(),
             recent: Vec::new(alloc),
         }
     }
@@ -63,7 +63,7 @@ impl Past {
         if let Some(live) = judge(&self.recent, volume_epoch, lsn) {
             return live;
         }
-        for chunk in self.chunks.iter().rev() {
+        for chunk in self.chunks.as_slice().iter().rev() {
             if let Some(live) = judge(chunk, volume_epoch, lsn) {
                 return live;
             }
@@ -75,12 +75,12 @@ impl Past {
     pub fn with(&self, alloc: Global, entry: Entry) -> Result<Past, AllocError>
         ensures { IfOk result (λ past. entries_before past ≡ entry_of entry ∷ entries_before self.now) }
     {
-        let mut chunks = self.chunks.clone()?;
         if self.recent.len() < MOST_ENTRIES {
+            let chunks = self.chunks.clone()?;
             let recent = with_last(alloc, &self.recent, entry)?;
             return Ok(Past { chunks, recent });
         }
-        chunks.push(Arc::new(alloc, self.recent.clone()?)?)?;
+        let chunks = self.chunks.with(alloc, self.recent.clone()?)?;
         let recent = with_last(alloc, &[], entry)?;
         Ok(Past { chunks, recent })
     }
