@@ -114,7 +114,7 @@ impl Authority {
         if self.last_volume == u32::MAX {
             return Err(Fault::EpochsSpent);
         }
-        let places = self.places(alloc)?;
+        let places = Box::new(alloc, self.places(alloc)?)?;
         self.last_volume += 1;
         Ok(Message::View(View {
             volume: self.last_volume,
@@ -200,7 +200,7 @@ impl Authority {
         }
         Ok(Message::View(View {
             volume,
-            places: self.places(alloc)?,
+            places: Box::new(alloc, self.places(alloc)?)?,
         }))
     }
 

@@ -16,15 +16,15 @@ use Rattle.hydration.proofs.Gathering.{collected-at, place-inside, place-with}
 
 -- by the change the piece is kept at the place of its sender
 pub changed-place : {E : Type 0} (copies : List Collected) (report : CopyReport) (p : ℕ) (copy : Collected) (r : Result Change E) → place_of (all_collected copies) report.from ≡ Some p → copy ≡ get_or copies p copy
-    → IfOk r (λ change. changed change (seen_pieces copy.pieces) ≡ with_series (seen_pieces copy.pieces) report.series (piece_in report.piece report.of) (contents_of report.contents.value))
+    → IfOk r (λ change. changed change (seen_pieces copy.pieces) ≡ with_series (seen_pieces copy.pieces) report.part.value.series (piece_in report.piece report.of) (contents_of report.part.value.contents))
     → IfOk r (kept_at p report (all_collected copies))
 changed-place copies report p copy (Err e) h is made = tt
 changed-place copies report p copy (Ok change) h is made =
     let piece = piece_in report.piece report.of in
-    let c = contents_of report.contents.value in
+    let c = contents_of report.part.value.contents in
     let there : get_or (all_collected copies) p (collected_of copy) ≡ collected_of copy = collected-at copies p copy (place-inside copies report.from p h) ∙ ap collected_of (sym is) in
-    place-with (all_collected copies) report.from p report.series piece c change (collected_of copy) h
-    (subst (λ (x : Copy). changed change x.pieces ≡ with_series x.pieces report.series piece c) (sym there) made)
+    place-with (all_collected copies) report.from p report.part.value.series piece c change (collected_of copy) h
+    (subst (λ (x : Copy). changed change x.pieces ≡ with_series x.pieces report.part.value.series piece c) (sym there) made)
 
 -- the copy at the place can be changed so
 pub ready-place : {E : Type 0} (h : Hydration) (copies : List Collected) (p : ℕ) (new : Collected) (r : Result Change E) → h.copies.items ≡ set copies p new → p < length copies → IfOk r (CanChange new.pieces) → IfOk r (CanChangeAt h p)

@@ -1,11 +1,12 @@
 use Rattle.std.specs.Prelude.{List, map}
+use Rattle.std.specs.Arc.{arc_value}
 use Rattle.volume_model.specs.Node.{From}
 use Rattle.wire.specs.Contents.{contents_of}
 use Rattle.hydration.specs.declared.copied.Copied.{Copied}
 
 -- the copy of the model that a copy is
 abbrev pub copy_of : Copied → From
-copy_of copied = record { sender = copied.from; contents = contents_of copied.contents }
+copy_of copied = record { sender = copied.from; contents = contents_of (arc_value copied.contents) }
 
 -- the copies, in the order in which they came
 abbrev pub copies_in : List Copied → List From

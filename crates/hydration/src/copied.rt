@@ -2,6 +2,7 @@
 
 ghost use Rattle.std.specs.Prelude.{◌<◌};
 
+use std::sync::Arc;
 use wire::Contents;
 
 /// What a member holds, as it said.
@@ -9,8 +10,8 @@ use wire::Contents;
 pub struct Copied {
     /// The member.
     pub from: u8,
-    /// What it holds.
-    pub contents: Contents,
+    /// What it holds, shared with the report that told it.
+    pub contents: Arc<Contents>,
     pub ghost member: { from < 64 },
 }
 

@@ -76,10 +76,10 @@ impl Hydration {
         self.copies.reserve(1)?;
         let pieces = Pieces::first(
             self.alloc,
-            report.series,
+            report.part.series,
             report.piece,
             report.of,
-            &report.contents,
+            &report.part.contents,
         )?;
         Ok(Collected {
             from: report.from,
@@ -99,10 +99,10 @@ impl Hydration {
         let pieces = &mut self.copies[place].pieces;
         pieces.prepare_series(
             alloc,
-            report.series,
+            report.part.series,
             report.piece,
             report.of,
-            &report.contents,
+            &report.part.contents,
         )
     }
 
@@ -122,10 +122,10 @@ impl Hydration {
         let kept = self.pieces_from(report.from);
         if Pieces::is_bad(
             kept,
-            report.series,
+            report.part.series,
             report.piece,
             report.of,
-            &report.contents,
+            &report.part.contents,
         ) {
             return Err(Fault::BadPiece);
         }

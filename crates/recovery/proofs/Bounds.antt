@@ -1,5 +1,6 @@
 -- How many records a cut finds at most.
 use Rattle.std.proofs.Common.{◌≡◌, ℕ, zero, suc, ◌+◌, ◌-◌, ◌^◌, ◌<◌, ◌≤◌, min, ◌==◌, List, [], ◌∷◌, ◌++◌, Option, Some, None, option_map, length, map, get_or, take, drop, refl, sym, ap, ◌∙◌, subst, inl, inr, arith}
+use Rattle.std.specs.Arc.{arc_value}
 use Rattle.std.proofs.lemmas.List.{take_all}
 use Rattle.std.proofs.lemmas.Bool.{cases_Bool}
 use Rattle.volume_model.specs.Lists.{IsIn, added}
@@ -35,12 +36,12 @@ use Rattle.recovery.proofs.Leaves.{all-reports}
 
 -- the copy at the front, and the others
 pub copies-first : (copies : List Copied) (c : Copied) → 0 < length copies → c ≡ get_or copies 0 c
-    → contents_of (copies_in copies) ≡ wire.contents_of c.contents ∷ contents_of (copies_in (take (length copies - 1) (drop 1 copies)))
+    → contents_of (copies_in copies) ≡ wire.contents_of (arc_value c.contents) ∷ contents_of (copies_in (take (length copies - 1) (drop 1 copies)))
 copies-first [] c within is = absurd (omega arith)
 copies-first (x ∷ rest) c within is =
     let many : length (x ∷ rest) - 1 ≡ length rest = omega arith in
-    ap (λ (y : Copied). wire.contents_of y.contents ∷ contents_of (copies_in rest)) (sym is)
-    ∙ ap (λ l. wire.contents_of c.contents ∷ contents_of (copies_in l)) (sym (ap (λ n. take n rest) many ∙ take_all (length rest) rest (omega arith)))
+    ap (λ (y : Copied). wire.contents_of (arc_value y.contents) ∷ contents_of (copies_in rest)) (sym is)
+    ∙ ap (λ l. wire.contents_of (arc_value c.contents) ∷ contents_of (copies_in l)) (sym (ap (λ n. take n rest) many ∙ take_all (length rest) rest (omega arith)))
 
 pub records_in-append : (xs ys : List Contents) → records_in (xs ++ ys) ≡ records_in xs + records_in ys
 records_in-append [] ys = omega arith
@@ -80,7 +81,7 @@ set-range set = ranged-take set.packets.len _ (ranged-drop set.packets.from _ (r
 
 copies-range : (copies : List Copied) (c : Contents) → IsIn c (contents_of (copies_in copies)) → (r : Redo) → IsIn r c.records → HasRanges r
 copies-range [] c i r j = absurd i
-copies-range (x ∷ rest) c (inl e) r j = set-range x.contents.records r (subst (λ (q : Contents). IsIn r q.records) e j)
+copies-range (x ∷ rest) c (inl e) r j = set-range (arc_value x.contents).records r (subst (λ (q : Contents). IsIn r q.records) e j)
 copies-range (x ∷ rest) c (inr i) r j = copies-range rest c i r j
 
 reports-range : (standings : List Standing) (c : Contents) → IsIn c (reports_in (groups_of standings)) → (r : Redo) → IsIn r c.records → HasRanges r

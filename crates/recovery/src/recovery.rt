@@ -44,7 +44,7 @@ impl Recovery {
     fn first_view<'a>(plan: &CheckedPlan, message: &'a Message) -> Result<&'a View, Fault>
         ensures refusal { refusal_of result ≡ refusal_of (birth_of (checked_model plan.now) (message_of message.now)) }
         ensures view { IfOk result (λ view. message.now ≡ Message.View view.now) }
-        ensures places { IfOk result (λ view. are_places (checked_model plan.now) (map place_of view.now.places.items) ≡ true) }
+        ensures places { IfOk result (λ view. are_places (checked_model plan.now) (map place_of view.now.places.value.items) ≡ true) }
         ensures own { IfErr result (λ fault. fault ≢ NoMemory) }
     {
         let Message::View(view) = message else {
@@ -121,7 +121,7 @@ impl Recovery {
     pub fn admits_view(&self, view: &View) -> Result<(), Fault>
         ensures refusal { result ≡ refusal_of (taken (recovery_plan self.now) (recovery_volume self.now) (client_of self.now) (message_of (Message.View view.now))) }
         ensures epoch { OnOk result (view.now.volume ≡ recovery_volume self.now) }
-        ensures places { OnOk result (are_places (recovery_plan self.now) (map place_of view.now.places.items) ≡ true) }
+        ensures places { OnOk result (are_places (recovery_plan self.now) (map place_of view.now.places.value.items) ≡ true) }
         ensures own { IfErr result (λ fault. fault ≢ NoMemory) }
     {
         if view.volume != self.volume {

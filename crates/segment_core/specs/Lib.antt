@@ -10,3 +10,4 @@ pub mod Prepared
 pub mod Acts
 pub mod Segment
 pub mod Told
+pub mod Held

@@ -7,6 +7,7 @@ mod block_list;
 mod block_places;
 mod blocks;
 mod entrant;
+mod held;
 mod one_chain;
 mod ordered;
 mod page_index;

@@ -8,6 +8,7 @@ ghost use Rattle.std.specs.Prelude.{◌≡◌, IfOk};
 
 use crate::act::NodeAct;
 use crate::assembly::Assembly;
+use crate::held::Held;
 use crate::prepared::{Effect, Prepared};
 use crate::records::Records;
 use hydration::Hydration;
@@ -18,8 +19,8 @@ use std::alloc::{AllocError, Global};
 use std::sync::Arc;
 use volume_model::Fault;
 use wire::{
-    Ack, Carried, Contents, CopyAsk, Fence, Install, Label, MOST_PIECES, Message, Messages, Report,
-    StepTo, Write,
+    Ack, Carried, CopyAsk, Fence, Install, Label, MOST_PIECES, Message, Messages, Report, StepTo,
+    Write,
 };
 
 /// How many records a segment holds at most.
@@ -38,8 +39,7 @@ pub struct Segment {
     /// The membership epoch of that configuration, 0 before it was told any.
     epoch: u32,
     whole: bool,
-    lineage: Lineage,
-    records: Records,
+    held: Held,
     /// What it was sent while it wasn't whole, of each sender the pieces of one copy.
     copies: Hydration,
     /// The pieces that it has of an install that isn't complete.
@@ -94,8 +94,7 @@ impl Segment {
                 configuration: 0,
                 epoch: 1,
                 whole: true,
-                lineage,
-                records: Records::new(alloc),
+                held: Held::new(lineage, Records::new(alloc)),
                 copies: Hydration::new(alloc),
                 assembly: Assembly::new(),
                 copied: 0,
@@ -109,8 +108,7 @@ impl Segment {
                 configuration: 0,
                 epoch: 0,
                 whole: false,
-                lineage: Lineage::empty(alloc),
-                records: Records::new(alloc),
+                held: Held::new(Lineage::empty(alloc), Records::new(alloc)),
                 copies: Hydration::new(alloc),
                 assembly: Assembly::new(),
                 copied: 0,
@@ -122,7 +120,7 @@ impl Segment {
     pub fn scl(&self) -> u64
         ensures { result ≡ scl (node_of self.now).contents.records }
     {
-        self.records.complete_point()
+        self.held.records.complete_point()
     }
 
     /// Starts anew with what it keeps: all but the pieces of copies and of an install.
@@ -132,18 +130,6 @@ impl Segment {
     {
         self.copies.clear();
         self.assembly = Assembly::new();
-    }
-
-    /// What it holds, for another.
-    fn contents(&mut self, alloc: Global) -> Result<Contents, AllocError>
-        ensures contents { IfOk result (λ contents. contents_of contents ≡ (node_of self.new).contents) }
-        ensures node { node_of self.new ≡ node_of self.old }
-        ensures actor { IsSameActor self.old self.new }
-    {
-        Ok(Contents {
-            lineage: self.lineage.clone()?,
-            records: self.records.to_set(alloc)?,
-        })
     }
 
     /// The tests of a message's label.
@@ -186,7 +172,8 @@ impl Segment {
     }
 
     /// Makes ready to promise a recovery its volume epoch.
-    fn prepare_fence(&mut self, alloc: Global, fence: &Fence) -> Result<Prepared, Fault>
+    #[inline(always)]
+    fn fenced(&mut self, alloc: Global, fence: &Fence) -> Result<Prepared, Fault>
         ensures step { Answers step_of (reaction_of self.old (message_of (Message.Fence fence.now))) (node_of self.old) result (node_of self.old) }
         ensures ready { IfOk result (λ prepared. CanTake self.new prepared.effect) }
         ensures node { node_of self.new ≡ node_of self.old }
@@ -200,7 +187,7 @@ impl Segment {
             group: self.group,
             label: fence.label,
             from: self.member,
-            contents: Box::new(alloc, self.contents(alloc)?)?,
+            contents: self.held.contents(alloc)?,
         };
         Ok(Prepared {
             answers: Messages::One(Message::Report(report)),
@@ -238,9 +225,13 @@ impl Segment {
         ensures actor { IsSameActor self.old self.new }
     {
         let volume = install.label.volume;
-        if self.lineage.last_epoch() == volume {
-            let scl = self.records.complete_point();
+        if self.held.lineage.last_epoch() == volume {
+            let scl = self.held.records.complete_point();
             return Ok(self.acknowledged(install.label, scl, Effect::Promise(volume)));
+        }
+        // Most installs are of one piece, which needn't be kept.
+        if install.of == 1 && self.assembly.has_none_of(volume) {
+            return self.replaced(alloc, install, &install.contents.records);
         }
         let change = self.assembly.prepare(alloc, install)?;
         match self.assembly.whole_with(alloc, &change)? {
@@ -256,7 +247,8 @@ impl Segment {
     }
 
     /// Makes ready to hold what a recovery found, of which this is a piece.
-    fn prepare_install(&mut self, alloc: Global, install: &Install) -> Result<Prepared, Fault>
+    #[inline(always)]
+    fn installed(&mut self, alloc: Global, install: &Install) -> Result<Prepared, Fault>
         ensures step { Answers step_of (reaction_of self.old (message_of (Message.Install install.now))) (node_of self.old) result (node_of self.old) }
         ensures ready { IfOk result (λ prepared. CanTake self.new prepared.effect) }
         ensures node { node_of self.new ≡ node_of self.old }
@@ -289,18 +281,18 @@ impl Segment {
         ensures actor { IsSameActor self.old self.new }
     {
         self.check_label(label)?;
-        if self.lineage.last_epoch() != label.volume {
+        if self.held.lineage.last_epoch() != label.volume {
             return Err(Fault::NotInstalled);
         }
-        let Some(place) = self.records.place_for(packet) else {
-            let scl = self.records.complete_point();
+        let Some(place) = self.held.records.place_for(packet) else {
+            let scl = self.held.records.complete_point();
             return Ok(self.acknowledged(label, scl, Effect::Nothing));
         };
-        if self.records.len() >= MOST_RECORDS {
+        if self.held.records.len() >= MOST_RECORDS {
             return Err(Fault::Full);
         }
-        let entrant = self.records.prepare(alloc, place, packet)?;
-        let scl = self.records.point_with(&entrant);
+        let entrant = self.held.prepare(alloc, place, packet)?;
+        let scl = self.held.records.point_with(&entrant);
         Ok(self.acknowledged(label, scl, Effect::Enter(entrant)))
     }
 
@@ -341,10 +333,10 @@ impl Segment {
         ensures own { IfErr result (λ fault. fault ≢ NoMemory) }
         ensures answers { AnswersAlways offered_step (refuse_if (not ((node_of self.now).volume == lineage_epoch (node_of self.now))) NotInstalled (gossip_of (segment_group self.now) (node_of self.now) (record_at (node_of self.now).contents.records lsn))) (node_of self.now) result (node_of self.now) }
     {
-        if self.volume != self.lineage.last_epoch() {
+        if self.volume != self.held.lineage.last_epoch() {
             return Err(Fault::NotInstalled);
         }
-        let Some(packet) = self.records.record_at(lsn) else {
+        let Some(packet) = self.held.records.record_at(lsn) else {
             return Err(Fault::NoRecord);
         };
         let label = Label {
@@ -398,8 +390,8 @@ impl Segment {
         ensures actor { IsSameActor self.old self.new }
     {
         match message {
-            Message::Fence(fence) => self.prepare_fence(alloc, fence),
-            Message::Install(install) => self.prepare_install(alloc, install),
+            Message::Fence(fence) => self.fenced(alloc, fence),
+            Message::Install(install) => self.installed(alloc, install),
             Message::Write(write) => self.written(alloc, write),
             Message::Gossip(gossip) if gossip.is_for(self.group) => {
                 self.prepare_record(alloc, gossip.label, &gossip.packet)
@@ -440,6 +432,34 @@ impl Segment {
         ensures actor { IsSameActor self.old self.new }
     {
         self.written(alloc, write)
+    }
+
+    /// Makes ready to promise a recovery its volume epoch, as [`Segment::prepare`] does for its message.
+    ///
+    /// # Errors
+    /// As [`Segment::prepare`].
+    #[inline(always)]
+    pub fn prepare_fence(&mut self, alloc: Global, fence: &Fence) -> Result<Prepared, Fault>
+        ensures step { Answers step_of (reaction_of self.old (message_of (Message.Fence fence.now))) (node_of self.old) result (node_of self.old) }
+        ensures ready { IfOk result (λ prepared. IsReady self.new prepared) }
+        ensures node { node_of self.new ≡ node_of self.old }
+        ensures actor { IsSameActor self.old self.new }
+    {
+        self.fenced(alloc, fence)
+    }
+
+    /// Makes ready to take a piece of what a recovery found, as [`Segment::prepare`] does for its message.
+    ///
+    /// # Errors
+    /// As [`Segment::prepare`].
+    #[inline(always)]
+    pub fn prepare_install(&mut self, alloc: Global, install: &Install) -> Result<Prepared, Fault>
+        ensures step { Answers step_of (reaction_of self.old (message_of (Message.Install install.now))) (node_of self.old) result (node_of self.old) }
+        ensures ready { IfOk result (λ prepared. IsReady self.new prepared) }
+        ensures node { node_of self.new ≡ node_of self.old }
+        ensures actor { IsSameActor self.old self.new }
+    {
+        self.installed(alloc, install)
     }
 
     /// Makes ready to offer a record, as [`Segment::offer`] does.
@@ -487,7 +507,7 @@ impl Segment {
     {
         match effect {
             Effect::Nothing => {}
-            Effect::Enter(entrant) => self.records.enter(entrant),
+            Effect::Enter(entrant) => self.held.enter(entrant),
             Effect::Promise(volume) => self.volume = volume,
             Effect::Move(place) => {
                 self.configuration = place.configuration;
@@ -506,8 +526,7 @@ impl Segment {
                 records,
             } => {
                 self.volume = volume;
-                self.lineage = lineage;
-                self.records = Box::into_inner(records);
+                self.held = Held::new(lineage, Box::into_inner(records));
                 self.assembly.clear();
             }
             Effect::Keep(keeping) => self.copies.keep(Box::into_inner(keeping)),
@@ -518,8 +537,7 @@ impl Segment {
                 records,
             } => {
                 self.volume = volume;
-                self.lineage = lineage;
-                self.records = Box::into_inner(records);
+                self.held = Held::new(lineage, Box::into_inner(records));
                 self.whole = true;
             }
         }

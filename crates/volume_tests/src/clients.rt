@@ -1,6 +1,6 @@
 //! A client from before its first View on: none yet, a recovery, and the writer that it becomes.
 
-use super::packets::contents;
+use super::packets::shared;
 use super::said::Said::{self, Count, Recovers, Writes, Yes};
 use super::texts::{SIX, checked};
 use super::writers::changes;
@@ -62,13 +62,13 @@ fn message(alloc: Global, told: Told) -> Result<Message, Fault> {
     Ok(match told {
         Told::View => Message::View(View {
             volume: 2,
-            places: vec![in alloc; root]?,
+            places: Box::new(alloc, vec![in alloc; root]?)?,
         }),
         Told::Report(from) => Message::Report(Report {
             group: 0,
             label: LABEL,
             from,
-            contents: contents(alloc, Lineage::birth(alloc)?, RecordSet::new(alloc))?,
+            contents: shared(alloc, Lineage::birth(alloc)?, RecordSet::new(alloc))?,
         }),
         Told::Ack(from) => Message::Ack(Ack {
             group: 0,

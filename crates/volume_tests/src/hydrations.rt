@@ -1,14 +1,15 @@
 //! Copies that members send to one that isn't whole, in pieces, and what they hold together.
 
-use super::packets::{chain, contents, recovered};
+use super::packets::{chain, recovered};
 use hydration::{Change, Copied, Hydration, Keeping, newest_with, senders, with_found};
 use lineage::Lineage;
 use quorum_expr::Expr;
 use redo_record::RecordSet;
 use std::alloc::Global;
+use std::sync::Arc;
 use std::test::*;
 use volume_model::Fault;
-use wire::CopyReport;
+use wire::{Contents, CopyPart, CopyReport};
 
 /// A piece of a copy: its number, of how many it is, and its records, those above a number up to another.
 type Part = (u16, u16, u64, u64);
@@ -47,10 +48,15 @@ fn report(alloc: Global, sent: Sent) -> Result<CopyReport, Fault> {
         group: 0,
         epoch: 2,
         from,
-        series,
         piece,
         of,
-        contents: contents(alloc, lineage, records)?,
+        part: Box::new(
+            alloc,
+            CopyPart {
+                series,
+                contents: Contents { lineage, records },
+            },
+        )?,
     })
 }
 
@@ -162,9 +168,10 @@ fn copied(alloc: Global, from: u8, past: Past, last: u64) -> Result<Copied, Faul
         return Err(Fault::NotAddressed);
     }
     let report = report(alloc, Sent::Copy(from, past, last))?;
+    let CopyPart { contents, .. } = Box::into_inner(report.part);
     Ok(Copied {
         from,
-        contents: Box::into_inner(report.contents),
+        contents: Arc::new(alloc, contents)?,
     })
 }
 

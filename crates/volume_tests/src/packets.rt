@@ -3,6 +3,7 @@
 use lineage::Lineage;
 use redo_record::{Packet, Payload, Record, RecordSet};
 use std::alloc::Global;
+use std::sync::Arc;
 use volume_model::Fault;
 use wire::Contents;
 
@@ -96,11 +97,7 @@ pub fn recovered(alloc: Global, volume_epoch: u32, cut: u64) -> Result<Lineage, 
     birth.extend(volume_epoch, cut, 10)
 }
 
-/// What a segment holds, in a box.
-pub fn contents(
-    alloc: Global,
-    lineage: Lineage,
-    records: RecordSet,
-) -> Result<Box<Contents>, Fault> {
-    Ok(Box::new(alloc, Contents { lineage, records })?)
+/// What a segment holds, as its reports share it.
+pub fn shared(alloc: Global, lineage: Lineage, records: RecordSet) -> Result<Arc<Contents>, Fault> {
+    Ok(Arc::new(alloc, Contents { lineage, records })?)
 }

@@ -1,6 +1,6 @@
 //! What a recovery reads, cuts, installs and becomes.
 
-use super::packets::{Line, chained, contents, packet};
+use super::packets::{Line, chained, packet, shared};
 use super::said::Said::{self, Count, Found, Record, Yes};
 use super::texts::{SIX, checked};
 use super::writers;
@@ -130,7 +130,7 @@ fn view(alloc: Global, places: &[Place]) -> Result<View, Fault> {
     copies.extend_from_slice(places)?;
     Ok(View {
         volume: 2,
-        places: copies,
+        places: Box::new(alloc, copies)?,
     })
 }
 
@@ -140,7 +140,7 @@ fn report(alloc: Global, group: u8, from: u8, records: RecordSet) -> Result<Repo
         group,
         label: LABEL,
         from,
-        contents: contents(alloc, Lineage::birth(alloc)?, records)?,
+        contents: shared(alloc, Lineage::birth(alloc)?, records)?,
     })
 }
 

@@ -171,7 +171,7 @@ fn view(alloc: Global, volume: u32, places: &[Place]) -> Result<View, Fault> {
     copies.extend_from_slice(places)?;
     Ok(View {
         volume: volume.max(1),
-        places: copies,
+        places: Box::new(alloc, copies)?,
     })
 }
 

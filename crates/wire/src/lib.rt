@@ -14,7 +14,8 @@ pub use contents::{Contents, MOST_PIECES};
 pub use label::{Label, Place};
 pub use list::only;
 pub use message::{
-    Ack, CopyAsk, CopyReport, Fence, Gossip, Install, Message, Page, PageAsk, Report, StepTo, Write,
+    Ack, CopyAsk, CopyPart, CopyReport, Fence, Gossip, Image, Install, Message, Page, PageAsk,
+    Report, StepTo, Write,
 };
 pub use messages::Messages;
 pub use view::View;

@@ -7,6 +7,7 @@ use crate::contents::Contents;
 use crate::label::{Label, Place};
 use crate::view::View;
 use redo_record::Packet;
+use std::sync::Arc;
 
 /// Where a group now stands, for its nodes.
 #[derive(Clone, Copy, Debug, PartialEq, Eq)]
@@ -35,8 +36,8 @@ pub struct Report {
     pub label: Label,
     /// The member that holds the segment.
     pub from: u8,
-    /// What it holds.
-    pub contents: Box<Contents>,
+    /// What it holds, shared with what is told later until that changes.
+    pub contents: Arc<Contents>,
 }
 
 /// A piece of what the nodes of a group are to hold.
@@ -111,10 +112,17 @@ pub struct CopyReport {
     pub of: u16,
     /// The membership epoch of both.
     pub epoch: u32,
+    /// Of which copy it is a piece, and what it has.
+    pub part: Box<CopyPart>,
+}
+
+/// Of which copy a piece is, and what it has.
+#[derive(Drop)]
+pub struct CopyPart {
     /// How many copies the member has told, with this one.
     pub series: u64,
     /// What the piece has of what it holds.
-    pub contents: Box<Contents>,
+    pub contents: Contents,
 }
 
 /// A writer asks for a block's bytes.
@@ -139,12 +147,19 @@ pub struct Page {
     pub from: u8,
     /// The label of the question.
     pub label: Label,
+    /// The block at a point.
+    pub image: Box<Image>,
+}
+
+/// A block at a point.
+#[derive(Clone, Copy)]
+pub struct Image {
     /// The block.
     pub block: u32,
     /// The LSN up to which its records count.
     pub point: u64,
     /// The bytes.
-    pub bytes: Box<[u8; 512]>,
+    pub bytes: [u8; 512],
 }
 
 /// What an actor says to another. All messages that were ever made are kept, so what is large lies behind a pointer.
@@ -176,7 +191,7 @@ pub enum Message {
     Page(Page),
 }
 
-const _: () = prove!(size_of::<Message>() <= 40);
+const _: () = prove!(size_of::<Message>() <= 32);
 
 impl Write {
     /// Whether it is for the nodes of the group: it speaks of the group, and its record is one of the group.
@@ -216,9 +231,9 @@ impl CopyReport {
     /// Whether it is for the nodes of the group: it speaks of the group, the records of the piece are those of the group, and its sender
     /// is a member.
     pub fn is_for(&self, group: u8) -> bool
-        ensures { result ≡ (self.now.group == group && in_group group (contents_of self.now.contents.value) && nat_lt self.now.from 64) }
+        ensures { result ≡ (self.now.group == group && in_group group (contents_of self.now.part.value.contents) && nat_lt self.now.from 64) }
     {
-        self.group == group && self.contents.is_of(group) && self.from < 64
+        self.group == group && self.part.contents.is_of(group) && self.from < 64
     }
 }
 

@@ -9,7 +9,7 @@ use crate::label::Place;
 pub struct View {
     /// The volume epoch, from 1 on.
     pub volume: u32,
-    /// The place of each group, in their order.
-    pub places: Vec<Place>,
+    /// The place of each group, in their order: behind a pointer, so that no message is larger for them.
+    pub places: Box<Vec<Place>>,
     pub ghost assigned: { 1 ≤ volume },
 }

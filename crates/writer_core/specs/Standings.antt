@@ -1,5 +1,6 @@
 -- What a client keeps of its groups, as the model's client keeps it.
 use Rattle.std.specs.Prelude.{ℕ, ◌<◌, List, length, map, slice_set}
+use Rattle.std.specs.Arc.{arc_value}
 use Rattle.volume_model.specs.Plan.{Plan}
 use Rattle.volume_model.specs.Node.{From, with_first}
 use Rattle.volume_model.specs.Client as model
@@ -30,7 +31,7 @@ counted_group group sender reached = record group { counts = with_count sender r
 
 -- what is kept of a report: what its sender holds
 abbrev pub report_of : Report → From
-report_of report = record { sender = report.from; contents = contents_of report.contents.value }
+report_of report = record { sender = report.from; contents = contents_of (arc_value report.contents) }
 
 -- a group with a report kept, the first of each sender
 abbrev pub reported_group : ClientGroup → From → ClientGroup

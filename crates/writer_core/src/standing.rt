@@ -6,7 +6,7 @@ use hydration::{Copied, senders};
 use plan::CheckedPlan;
 use quorum_expr::holds;
 use std::alloc::{AllocError, AllocFailed, Global};
-use wire::{Contents, Place, Report};
+use wire::{Place, Report};
 
 /// What a client keeps of a group.
 #[derive(Drop)]
@@ -93,7 +93,7 @@ impl Standing {
         if senders(self.copies.as_slice()).contains(report.from) {
             return Ok(());
         }
-        let contents = Contents::clone(&report.contents)?;
+        let contents = report.contents.clone()?;
         self.copies.push(Copied {
             from: report.from,
             contents,

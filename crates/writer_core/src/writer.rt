@@ -203,7 +203,7 @@ impl Writer {
     pub fn admits_view(&self, view: &View) -> Result<(), Fault>
         ensures refusal { result ≡ refusal_of (taken (writer_plan self.now) (writer_volume self.now) (client_of self.now) (message_of (Message.View view.now))) }
         ensures epoch { OnOk result (view.now.volume ≡ writer_volume self.now) }
-        ensures places { OnOk result (are_places (writer_plan self.now) (map place_of view.now.places.items) ≡ true) }
+        ensures places { OnOk result (are_places (writer_plan self.now) (map place_of view.now.places.value.items) ≡ true) }
         ensures own { IfErr result (λ fault. fault ≢ NoMemory) }
     {
         if view.volume != self.volume {

@@ -149,9 +149,9 @@ fn is_piece(message: &Message, series: u64, part: Part) -> bool {
     let (Message::CopyReport(copy), Of(piece, of, first, last)) = (message, part) else {
         return false;
     };
-    let records = copy.contents.records.as_slice();
+    let records = copy.part.contents.records.as_slice();
     copy.group == 0
-        && (copy.epoch, copy.from, copy.series) == (2, 0, series)
+        && (copy.epoch, copy.from, copy.part.series) == (2, 0, series)
         && (copy.piece, copy.of) == (piece, of)
         && records.iter().map(|packet| packet.lsn()).eq(first..=last)
 }

@@ -1,20 +1,28 @@
 //! The messages that nodes are told.
 
 use super::told::{Held, Part, Sent, Told};
-use crate::packets::{Line, chain, chained, contents, packet, recovered};
+use crate::packets::{Line, chain, chained, packet, recovered};
 use lineage::Lineage;
 use redo_record::{Packet, RecordSet};
 use std::alloc::Global;
+use std::sync::Arc;
 use volume_model::Fault;
 use wire::{
-    Ack, Contents, CopyAsk, CopyReport, Fence, Gossip, Install, Label, Message, Page, PageAsk,
-    Place, Report, StepTo, View, Write,
+    Ack, Contents, CopyAsk, CopyPart, CopyReport, Fence, Gossip, Image, Install, Label, Message,
+    Page, PageAsk, Place, Report, StepTo, View, Write,
 };
 
 /// The label of volume epoch 1 at membership epoch 1.
 const LABEL: Label = Label {
     volume: 1,
     member: 1,
+};
+
+/// Block 0 before any record.
+const NO_IMAGE: Image = Image {
+    block: 0,
+    point: 0,
+    bytes: [0; 512],
 };
 
 /// The record that is sent.
@@ -47,10 +55,11 @@ fn sent(alloc: Global, sent: Sent) -> Result<Packet, Fault> {
 }
 
 /// What is installed or copied in one piece.
-fn held(alloc: Global, held: Held) -> Result<Box<Contents>, Fault> {
+fn held(alloc: Global, held: Held) -> Result<Contents, Fault> {
     let mut records = RecordSet::new(alloc);
     let Held::First(group) = held else {
-        return contents(alloc, Lineage::empty(alloc), records);
+        let lineage = Lineage::empty(alloc);
+        return Ok(Contents { lineage, records });
     };
     records.insert(packet(
         alloc,
@@ -59,18 +68,27 @@ fn held(alloc: Global, held: Held) -> Result<Box<Contents>, Fault> {
             ..chained(1)
         },
     )?)?;
-    contents(alloc, Lineage::birth(alloc)?, records)
+    let lineage = Lineage::birth(alloc)?;
+    Ok(Contents { lineage, records })
+}
+
+/// What a member's first copy has in one piece.
+fn first_copy(alloc: Global, whole: Held) -> Result<CopyPart, Fault> {
+    Ok(CopyPart {
+        series: 1,
+        contents: held(alloc, whole)?,
+    })
 }
 
 /// A piece's number, of how many it is, and what it has under the lineage of the recovery of a volume epoch that cut at 600.
-fn part(alloc: Global, volume: u32, part: Part) -> Result<(u16, u16, Box<Contents>), Fault> {
+fn part(alloc: Global, volume: u32, part: Part) -> Result<(u16, u16, Contents), Fault> {
     let (piece, of, first, last) = match part {
         Part::Of(piece, of, first, last) => (piece, of, first, last),
         Part::One(piece, of) => (piece, of, u64::from(piece) + 1, u64::from(piece) + 1),
     };
     let records = chain(alloc, first, last)?;
-    let contents = contents(alloc, recovered(alloc, volume, 600)?, records)?;
-    Ok((piece, of, contents))
+    let lineage = recovered(alloc, volume, 600)?;
+    Ok((piece, of, Contents { lineage, records }))
 }
 
 /// The message of an install's piece.
@@ -81,7 +99,7 @@ fn install_piece(alloc: Global, label: Label, told: Part) -> Result<Message, Fau
         label,
         piece,
         of,
-        contents,
+        contents: Box::new(alloc, contents)?,
     }))
 }
 
@@ -98,10 +116,9 @@ fn copy_piece(
         group: 0,
         epoch,
         from,
-        series,
         piece,
         of,
-        contents,
+        part: Box::new(alloc, CopyPart { series, contents })?,
     }))
 }
 
@@ -110,13 +127,13 @@ fn for_clients(alloc: Global, told: Told) -> Result<Message, Fault> {
     Ok(match told {
         Told::View => Message::View(View {
             volume: 1,
-            places: Vec::new(alloc),
+            places: Box::new(alloc, Vec::new(alloc))?,
         }),
         Told::Report => Message::Report(Report {
             group: 0,
             label: LABEL,
             from: 1,
-            contents: held(alloc, Held::First(0))?,
+            contents: Arc::new(alloc, held(alloc, Held::First(0))?)?,
         }),
         Told::Ack => Message::Ack(Ack {
             group: 0,
@@ -128,9 +145,7 @@ fn for_clients(alloc: Global, told: Told) -> Result<Message, Fault> {
             group: 0,
             label: LABEL,
             from: 1,
-            block: 0,
-            point: 0,
-            bytes: Box::new(alloc, [0; 512])?,
+            image: Box::new(alloc, NO_IMAGE)?,
         }),
         _ => return Err(Fault::NoMessage),
     })
@@ -169,7 +184,7 @@ pub fn message(alloc: Global, told: Told) -> Result<Message, Fault> {
             label: Label { volume, member },
             piece: 0,
             of: 1,
-            contents: held(alloc, whole)?,
+            contents: Box::new(alloc, held(alloc, whole)?)?,
         }),
         Told::InstallPiece(volume, member, part) => {
             return install_piece(alloc, Label { volume, member }, part);
@@ -188,10 +203,9 @@ pub fn message(alloc: Global, told: Told) -> Result<Message, Fault> {
             group,
             epoch,
             from,
-            series: 1,
             piece: 0,
             of: 1,
-            contents: held(alloc, whole)?,
+            part: Box::new(alloc, first_copy(alloc, whole)?)?,
         }),
         Told::CopyPiece(epoch, from, series, part) => {
             return copy_piece(alloc, epoch, from, series, part);

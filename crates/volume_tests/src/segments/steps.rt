@@ -46,9 +46,9 @@ fn said_in(message: &Message) -> Said {
     match message {
         Message::Ack(ack) => Said::Acks(ack.scl),
         Message::Report(report) => Said::Reports(last_of(report.contents.records.as_slice())),
-        Message::CopyReport(copy) => Said::Copies(last_of(copy.contents.records.as_slice())),
+        Message::CopyReport(copy) => Said::Copies(last_of(copy.part.contents.records.as_slice())),
         Message::CopyAsk(ask) => Said::Asks(ask.epoch),
-        Message::Page(page) => Said::Byte(page.bytes[0]),
+        Message::Page(page) => Said::Byte(page.image.bytes[0]),
         Message::Gossip(gossip) => {
             let label = gossip.label;
             Said::Offers(label.volume, label.member, gossip.packet.lsn())

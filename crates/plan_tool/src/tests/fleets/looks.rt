@@ -29,7 +29,7 @@ impl StepGate for Look {
         let Messages::One(Message::Page(page)) = answers else {
             return;
         };
-        let bytes = page.bytes.as_slice();
+        let bytes = page.image.bytes.as_slice();
         if bytes.starts_with(b"abc") && bytes.iter().skip(3).all(|byte| *byte == 0) {
             self.seen.store(true, Ordering::SeqCst);
         }

@@ -1,4 +1,6 @@
-use Rattle.std.proofs.Common.{◌≡◌, ◌+◌, ◌-◌, ◌^◌, List, length, take, drop, ap}
+use Rattle.std.proofs.Common.{◌≡◌, ◌+◌, ◌-◌, ◌^◌, List, length, take, drop, ap, ◌∙◌}
+use Rattle.std.specs.Arc.{arc_value}
+use Rattle.wire.specs.declared.contents.Contents.{Contents}
 use Rattle.volume_model.specs.Few.{records_in}
 use Rattle.volume_model.specs.Node.{contents_of}
 use Rattle.redo_record.specs.RecordSet.{records_of}
@@ -12,6 +14,6 @@ returns-in-len1-up t c =
     let copies : List Copied = c.args.copies.now in
     let first = c.first-item.result in
     let rest : List Copied = take (length copies - 1) (drop 1 copies) in
-    let all : records_in (contents_of (copies_in copies)) ≡ length (records_of first.contents.records) + records_in (contents_of (copies_in rest)) = ap records_in (copies-first copies first c.in-len1-up.len_at_least c.first-item.is) in
-    counted-own (2 ^ 64 - 1) (records_in (contents_of (copies_in copies))) (length (records_of first.contents.records)) (records_in (contents_of (copies_in rest))) c.records_in.result c.len.result c.saturating_add.result
-    all c.records_in.ensures c.len.ensures c.saturating_add.ensures
+    let all : records_in (contents_of (copies_in copies)) ≡ length (records_of (arc_value first.contents).records) + records_in (contents_of (copies_in rest)) = ap records_in (copies-first copies first c.in-len1-up.len_at_least c.first-item.is) in
+    counted-own (2 ^ 64 - 1) (records_in (contents_of (copies_in copies))) (length (records_of (arc_value first.contents).records)) (records_in (contents_of (copies_in rest))) c.records_in.result c.len.result c.saturating_add.result
+    all c.records_in.ensures (c.len.ensures ∙ ap (λ (k : Contents). length (records_of k.records)) c.deref.ensures) c.saturating_add.ensures

@@ -11,7 +11,7 @@ returns-in_ok-prepare_new-in-None-clause-copy c =
     let report = c.args.report.now in
     let copies = copies_of c.args.self.now in
     let fair : is_bad report copies ≡ false =
-    ap (λ kept. is_bad_piece kept report.series (piece_in report.piece report.of) (contents_of report.contents.value)) (sym c.pieces_from-kept.ensures) ∙ sym (rw c.deref.ensures at c.is_bad.ensures) ∙ c.if-is_bad.false in
+    ap (λ kept. is_bad_piece kept report.part.value.series (piece_in report.piece report.of) (contents_of report.part.value.contents)) (sym c.pieces_from-kept.ensures) ∙ sym (rw (c.deref.ensures, c.deref-2.ensures) at c.is_bad.ensures) ∙ c.if-is_bad.false in
     kept-good report copies c.if-report-ge-MEMBERS.false fair
-    ∙ ap Ok (none-with copies report.from report.series (piece_in report.piece report.of) (contents_of report.contents.value) (sym c.place.ensures ∙ c.in-None.is)
+    ∙ ap Ok (none-with copies report.from report.part.value.series (piece_in report.piece report.of) (contents_of report.part.value.contents) (sym c.place.ensures ∙ c.in-None.is)
     ∙ ap (λ (copy : Copy). copies ++ copy ∷ []) (sym c.in_ok-prepare_new-in-None.ensures.copy))

@@ -14,12 +14,12 @@ pub prepare_series-requires : goal.prepare_series-requires
 prepare_series-requires c =
     let report = c.args.report.now in
     let copy = c.index_mut.result.now in
-    rw c.deref.ensures (ap (λ kept. is_bad_piece kept report.series (piece_in report.piece report.of) (contents_of report.contents.value)) (sym (place-at c.args.self.now.copies.items report.from c.args.place copy c.requires.place c.index_mut.ensures.value))
+    rw (c.deref.ensures, c.deref-2.ensures) (ap (λ kept. is_bad_piece kept report.part.value.series (piece_in report.piece report.of) (contents_of report.part.value.contents)) (sym (place-at c.args.self.now.copies.items report.from c.args.place copy c.requires.place c.index_mut.ensures.value))
     ∙ c.requires.piece)
 
 pub returns-clause-copy : goal.returns-clause-copy
 returns-clause-copy c =
-    changed-place c.args.self.now.copies.items c.args.report.now c.args.place c.index_mut.result.now c.prepare_series.result c.requires.place c.index_mut.ensures.value (rw c.deref.ensures at c.prepare_series.ensures.change)
+    changed-place c.args.self.now.copies.items c.args.report.now c.args.place c.index_mut.result.now c.prepare_series.result c.requires.place c.index_mut.ensures.value (rw (c.deref.ensures, c.deref-2.ensures) at c.prepare_series.ensures.change)
 
 pub returns-clause-ready : goal.returns-clause-ready
 returns-clause-ready c =

@@ -30,10 +30,10 @@ pub returns-clause-birth : goal.returns-clause-birth
 returns-clause-birth c =
     let plan : Plan = checked_model (arc_value c.args.plan) in
     let view = c.in-Ok.view.now in
-    let places = map place_of view.places.items in
+    let places = map place_of view.places.value.items in
     let groups = groups_in c.in_ok-standings.standings in
     let made = messages_of c.in_ok-messages.messages.items in
     let good : are_places plan places ≡ true = ap (λ (p : CheckedPlan). are_places (checked_model p) places) (sym c.deref.ensures) ∙ c.in-Ok.ensures.places in
-    let found : groups ≡ map newly_at places = subst (λ (xs : List Place). groups ≡ map newly_at (map place_of xs)) c.as_slice.ensures.value c.in_ok-standings.ensures.groups in
+    let found : groups ≡ map newly_at places = subst (λ (xs : List Place). groups ≡ map newly_at (map place_of xs)) (c.as_slice.ensures.value ∙ ap (λ v. v.items) c.deref-2.ensures) c.in_ok-standings.ensures.groups in
     ap (λ (m : Message). birth_of plan (message_of m)) c.in-Ok.ensures.view
     ∙ birth-is plan view.volume places groups made good found c.in_ok-messages.ensures

@@ -1,4 +1,4 @@
-use Rattle.std.proofs.Common.{◌≡◌, List, map, length, true, subst}
+use Rattle.std.proofs.Common.{◌≡◌, List, map, length, true, ap, subst, ◌∙◌}
 use Rattle.volume_model.specs.Plan.{Plan}
 use Rattle.volume_model.specs.Message as model
 use Rattle.volume_model.specs.Message.{place_in}
@@ -29,8 +29,8 @@ returns-in_ok-reread-in-None-clause-answers c =
     let self = c.args.self.now in
     let plan : Plan = standings_plan self.standings in
     let groups : List ClientGroup = groups_in self.standings in
-    let items : List Place = c.args.view.now.places.items in
-    let value : c.as_slice-places.result.now ≡ items = c.as_slice-places.ensures.value in
+    let items : List Place = c.args.view.now.places.value.items in
+    let value : c.as_slice-places.result.now ≡ items = c.as_slice-places.ensures.value ∙ ap (λ v. v.items) c.deref.ensures in
     let good : are_places plan (map place_of items) ≡ true = c.in_ok-admits_view.ensures.places in
     let now : groups_in c.reread.new.self ≡ with_places reread_group groups (map place_of items) = subst (λ (xs : List Place). groups_in c.reread.new.self ≡ with_places reread_group groups (map place_of xs)) value c.in_ok-reread-in-None.ensures.groups in
     let made : List model.Message = messages_of c.in_ok-messages-in-None.messages.items in
@@ -50,8 +50,8 @@ returns-in_ok-follow-in-Some-clause-answers c =
     let self = c.args.self.now in
     let plan : Plan = standings_plan self.standings in
     let groups : List ClientGroup = groups_in self.standings in
-    let items : List Place = c.args.view.now.places.items in
-    let value : c.as_slice-places.result.now ≡ items = c.as_slice-places.ensures.value in
+    let items : List Place = c.args.view.now.places.value.items in
+    let value : c.as_slice-places.result.now ≡ items = c.as_slice-places.ensures.value ∙ ap (λ v. v.items) c.deref.ensures in
     let good : are_places plan (map place_of items) ≡ true = c.in_ok-admits_view.ensures.places in
     let now : groups_in c.follow.new.self ≡ with_places later_group groups (map place_of items) = subst (λ (xs : List Place). groups_in c.follow.new.self ≡ with_places later_group groups (map place_of xs)) value c.in_ok-follow-in-Some.ensures.groups in
     let made : List model.Message = messages_of c.in_ok-messages-in-Some.messages.items in

@@ -59,10 +59,10 @@ returns-clause-answers c =
     let plan = standings_plan self.standings in
     let old = groups_in self.standings in
     let client = client_of self in
-    let same = c.as_slice-places.ensures.value in
-    let new : groups_in c.raise.new.self ≡ raised plan (with_places later_group old (map place_of view.places.items)) =
+    let same = c.as_slice-places.ensures.value ∙ ap (λ v. v.items) c.deref.ensures in
+    let new : groups_in c.raise.new.self ≡ raised plan (with_places later_group old (map place_of view.places.value.items)) =
     c.raise.ensures.groups ∙ ap (λ (p : Plan). raised p (groups_in c.follow.new.self)) c.in_ok-follow.ensures.plan
     ∙ ap (raised plan) (c.in_ok-follow.ensures.groups ∙ ap (λ (ps : List Place). with_places later_group old (map place_of ps)) same) in
-    view-writing plan self.volume view.volume old (groups_in c.raise.new.self) client.lineage client.found client.log (map place_of view.places.items) (messages_of c.in_ok-messages.messages.items)
+    view-writing plan self.volume view.volume old (groups_in c.raise.new.self) client.lineage client.found client.log (map place_of view.places.value.items) (messages_of c.in_ok-messages.messages.items)
     c.in_ok-admits_view.ensures.epoch c.in_ok-admits_view.ensures.places new
-    (installs-listed self.volume old client.lineage c.as_slice-places.result.now view.places.items _ same c.in_ok-messages.ensures)
+    (installs-listed self.volume old client.lineage c.as_slice-places.result.now view.places.value.items _ same c.in_ok-messages.ensures)

@@ -1,0 +1,107 @@
+//! What a segment holds, and what it told of it last.
+
+ghost use Rattle.std.specs.Prelude.{option_map};
+ghost use Rattle.std.specs.Arc.{arc_value};
+ghost use Rattle.lineage.specs.Lineage.{lineage_of};
+ghost use Rattle.segment_core.specs.Records.{records_of};
+ghost use Rattle.segment_core.specs.Told.{TellsAll, told_of};
+
+use crate::entrant::Entrant;
+use crate::records::Records;
+use lineage::Lineage;
+use pages::BLOCK;
+use redo_record::Packet;
+use runs::Place;
+use std::alloc::{AllocError, Global};
+use std::sync::Arc;
+use wire::Contents;
+
+/// What a segment holds, and what it told of it last, which later reports share until a record comes.
+#[derive(Drop)]
+pub struct Held {
+    pub lineage: Lineage,
+    pub records: Records,
+    /// All that is held, as it was told last, where no record has come since.
+    told: Option<Arc<Contents>>,
+    ghost tells: { ∥ TellsAll (option_map arc_value told) (told_of lineage records) ∥₁ },
+}
+
+impl Held {
+    ghost use Rattle.std.specs.Prelude.{◌≡◌, IfOk};
+    ghost use Rattle.volume_model.specs.Node.{page_of};
+    ghost use Rattle.volume_model.specs.Redo.{with_record};
+    ghost use Rattle.redo_record.specs.Packet.{packet_redo};
+    ghost use Rattle.wire.specs.Contents.{contents_of};
+    ghost use Rattle.segment_core.specs.Held.{held_in, entered};
+    ghost use Rattle.segment_core.specs.Ordered.{StandsAt};
+    ghost use Rattle.segment_core.specs.Records.{CanEnter};
+
+    /// This lineage and these records.
+    pub fn new(lineage: Lineage, records: Records) -> Held
+        ensures { held_in result ≡ told_of lineage records }
+    {
+        Held {
+            lineage,
+            records,
+            told: None,
+        }
+    }
+
+    /// All that is held, which is shared with later calls until a record comes. Fails for want of memory alone.
+    pub fn contents(&mut self, alloc: Global) -> Result<Arc<Contents>, AllocError>
+        ensures contents { IfOk result (λ contents. contents_of (arc_value contents) ≡ held_in self.new) }
+        ensures same { held_in self.new ≡ held_in self.old }
+    {
+        if let Some(told) = &self.told {
+            return told.clone();
+        }
+        let contents = Contents {
+            lineage: self.lineage.clone()?,
+            records: self.records.to_set(alloc)?,
+        };
+        let shared = Arc::new(alloc, contents)?;
+        self.told = Some(shared.clone()?);
+        Ok(shared)
+    }
+
+    /// The bytes of a block, made from its records up to the point. The first page parts all records by their blocks.
+    ///
+    /// # Errors
+    /// Where a growth was refused.
+    #[inline(always)]
+    pub fn page(&mut self, alloc: Global, block: u32, point: u64) -> Result<[u8; BLOCK], AllocError>
+        ensures page { IfOk result (λ page. page ≡ page_of (held_in self.new).records block point) }
+        ensures same { held_in self.new ≡ held_in self.old }
+    {
+        self.records.page(alloc, block, point)
+    }
+
+    /// Makes ready to take a record into its place: makes every growth, and changes none of the records.
+    ///
+    /// # Errors
+    /// Where a growth was refused.
+    #[inline(always)]
+    pub fn prepare(
+        &mut self,
+        alloc: Global,
+        place: Place,
+        packet: &Packet,
+    ) -> Result<Entrant, AllocError>
+        requires { StandsAt place self.old.records.ordered (packet_redo packet.now) }
+        ensures ready { IfOk result (λ entrant. CanEnter self.new.records entrant) }
+        ensures packet { IfOk result (λ entrant. packet_redo entrant.packet ≡ packet_redo packet.now) }
+        ensures same { held_in self.new ≡ held_in self.old }
+    {
+        self.records.prepare(alloc, place, packet)
+    }
+
+    /// Takes a record that is made ready to enter. Takes no memory.
+    #[inline(always)]
+    pub fn enter(&mut self, entrant: Entrant)
+        requires { CanEnter self.old.records entrant }
+        ensures { held_in self.new ≡ entered (packet_redo entrant.packet) (held_in self.old) }
+    {
+        self.told = None;
+        self.records.enter(entrant);
+    }
+}
