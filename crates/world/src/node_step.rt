@@ -60,6 +60,46 @@ fn act_at_large(
     take(segment, messages, prepared)
 }
 
+/// Lets a segment act, as [`act`] does: a piece of an install has a short way of its own.
+#[inline(never)]
+fn act_installing(
+    alloc: Global,
+    segment: &mut Segment,
+    messages: &mut Vec<Message>,
+    order: NodeOrder<'_>,
+) -> Result<u64, Fault>
+    ensures moves { NodeMoves (node_late order.entry) (node_ordered (added (messages_of messages.old.items) []) order.entry (segment_plan segment.old) (segment_group segment.old) (segment_member segment.old) (node_of segment.old)) (node_of segment.old) (added (messages_of messages.old.items) []) result (node_of segment.new) (added (messages_of messages.new.items) []) }
+    ensures actor { IsSameActor segment.old segment.new }
+{
+    if let NodeOrder::Deliver { message } = order {
+        if let Message::Install(install) = named(messages.as_slice(), message)? {
+            let prepared = segment.prepare_install(alloc, install)?;
+            return take(segment, messages, prepared);
+        }
+    }
+    act_at_large(alloc, segment, messages, order)
+}
+
+/// Lets a segment act, as [`act`] does: a recovery's fence has a short way of its own.
+#[inline(never)]
+fn act_fenced(
+    alloc: Global,
+    segment: &mut Segment,
+    messages: &mut Vec<Message>,
+    order: NodeOrder<'_>,
+) -> Result<u64, Fault>
+    ensures moves { NodeMoves (node_late order.entry) (node_ordered (added (messages_of messages.old.items) []) order.entry (segment_plan segment.old) (segment_group segment.old) (segment_member segment.old) (node_of segment.old)) (node_of segment.old) (added (messages_of messages.old.items) []) result (node_of segment.new) (added (messages_of messages.new.items) []) }
+    ensures actor { IsSameActor segment.old segment.new }
+{
+    if let NodeOrder::Deliver { message } = order {
+        if let Message::Fence(fence) = named(messages.as_slice(), message)? {
+            let prepared = segment.prepare_fence(alloc, fence)?;
+            return take(segment, messages, prepared);
+        }
+    }
+    act_installing(alloc, segment, messages, order)
+}
+
 /// Lets a segment act, and adds the messages that it makes to the others, for which it makes room before the segment changes. Where memory
 /// runs out nothing has changed.
 pub fn act(
@@ -78,5 +118,5 @@ pub fn act(
             return take(segment, messages, prepared);
         }
     }
-    act_at_large(alloc, segment, messages, order)
+    act_fenced(alloc, segment, messages, order)
 }
