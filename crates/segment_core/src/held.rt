@@ -19,7 +19,9 @@ use wire::Contents;
 /// What a segment holds, and what it told of it last, which later reports share until a record comes.
 #[derive(Drop)]
 pub struct Held {
+    /// The recoveries that its volume went through.
     pub lineage: Lineage,
+    /// Its records.
     pub records: Records,
     /// All that is held, as it was told last, where no record has come since.
     told: Option<Arc<Contents>>,
