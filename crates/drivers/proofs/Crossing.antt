@@ -6,7 +6,7 @@ use Rattle.std.proofs.Crossing.{crosses}
 use Rattle.quorum_expr.proofs.expression.Expr.TheLaws.TheKnot as expr
 use Rattle.refutation.proofs.Refutation.TheLaws.TheKnot as cert
 use Rattle.redo_record.proofs.record.Record.TheSendSync as record_type
-use Rattle.redo_record.proofs.packet.Packet.TheSendSync as packet_type
+use Rattle.redo_record.proofs.shared_record.SharedRecord.TheSendSync as shared_record_type
 use Rattle.lineage.proofs.lineage.Lineage.TheSendSync as lineage_type
 use Rattle.segment_core.proofs.assembly.Assembly.TheSendSync as assembly
 use Rattle.segment_core.proofs.held.Held.TheSendSync as held
@@ -35,7 +35,7 @@ use Rattle.fleet_actors.specs.contracts.client.ClientActor as ClientActor
 use Rattle.fleet_actors.specs.contracts.node.NodeActor as NodeActor
 use Rattle.node_fleet.specs.contracts.fleet.Fleet as Fleet
 
-ruleset parts = (sendable, crosses, record_type.the_send, record_type.the_field_send, record_type.the_sync, packet_type.the_send, packet_type.the_field_send, packet_type.the_sync, lineage_type.the_send, lineage_type.the_field_send, records.the_send, records.the_field_send, held.the_send, held.the_field_send, assembly.the_send, assembly.the_field_send, hydration_type.the_send, hydration_type.the_field_send, copied.the_send, copied.the_field_send, lasts.the_send, lasts.the_field_send, covered.the_send, covered.the_field_send, standing.the_send, standing.the_field_send, found.the_send, found.the_field_send)
+ruleset parts = (sendable, crosses, record_type.the_send, record_type.the_field_send, record_type.the_sync, shared_record_type.the_send, shared_record_type.the_field_send, shared_record_type.the_sync, lineage_type.the_send, lineage_type.the_field_send, records.the_send, records.the_field_send, held.the_send, held.the_field_send, assembly.the_send, assembly.the_field_send, hydration_type.the_send, hydration_type.the_field_send, copied.the_send, copied.the_field_send, lasts.the_send, lasts.the_field_send, covered.the_send, covered.the_field_send, standing.the_send, standing.the_field_send, found.the_send, found.the_field_send)
 
 pub plan_send : IsSend CheckedPlan.the_row
 plan_send = search (sendable, crosses, expr.crosses, cert.crosses) depth 60 fits 20000

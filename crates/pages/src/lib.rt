@@ -4,9 +4,9 @@
 ghost use Rattle.std.specs.Prelude.{◌≡◌, ◌+◌, ◌≤◌, ◌++◌, nat_le, if◌then◌else◌, length, map, take, drop, All};
 ghost use Rattle.volume_model.specs.Node.{written, page_from, page_of};
 ghost use Rattle.redo_record.specs.Record.{redo_of};
-ghost use Rattle.redo_record.specs.Packet.{packet_redo};
+ghost use Rattle.redo_record.specs.SharedRecord.{shared_redo};
 
-use redo_record::{Packet, Record};
+use redo_record::{Record, SharedRecord};
 
 /// The bytes of a block.
 pub const BLOCK: usize = 512;
@@ -33,15 +33,15 @@ fn apply(page: &mut [u8], entry: &Record)
 }
 
 /// Applies a packet's record.
-fn write_packet(page: &mut [u8; BLOCK], packet: &Packet)
-    ensures { page.new ≡ written (packet_redo packet.now) page.old }
+fn write_packet(page: &mut [u8; BLOCK], packet: &SharedRecord)
+    ensures { page.new ≡ written (shared_redo packet.now) page.old }
 {
     apply(page, packet.record());
 }
 
 /// Applies a packet's record that isn't past the point.
-fn write_packet_up_to(page: &mut [u8; BLOCK], packet: &Packet, point: u64)
-    ensures { page.new ≡ (if nat_le (packet_redo packet.now).lsn point then written (packet_redo packet.now) page.old else page.old) }
+fn write_packet_up_to(page: &mut [u8; BLOCK], packet: &SharedRecord, point: u64)
+    ensures { page.new ≡ (if nat_le (shared_redo packet.now).lsn point then written (shared_redo packet.now) page.old else page.old) }
 {
     if packet.lsn() <= point {
         write_packet(page, packet);
@@ -49,9 +49,9 @@ fn write_packet_up_to(page: &mut [u8; BLOCK], packet: &Packet, point: u64)
 }
 
 /// Applies the packets' records that aren't past the point, testing each.
-fn write_up_to(page: &mut [u8; BLOCK], packets: &[Packet], block: u32, point: u64)
-    requires { All (λ packet. (packet_redo packet).block ≡ block) packets.now }
-    ensures { page.new ≡ page_from page.old block point (map packet_redo packets.now) }
+fn write_up_to(page: &mut [u8; BLOCK], packets: &[SharedRecord], block: u32, point: u64)
+    requires { All (λ packet. (shared_redo packet).block ≡ block) packets.now }
+    ensures { page.new ≡ page_from page.old block point (map shared_redo packets.now) }
 {
     for packet in packets {
         write_packet_up_to(page, packet, point);
@@ -59,10 +59,10 @@ fn write_up_to(page: &mut [u8; BLOCK], packets: &[Packet], block: u32, point: u6
 }
 
 /// Applies the packets' records, none of which is past the point.
-fn write_all(page: &mut [u8; BLOCK], packets: &[Packet], block: u32, point: u64)
-    requires own { All (λ packet. (packet_redo packet).block ≡ block) packets.now }
-    requires up_to { All (λ packet. (packet_redo packet).lsn ≤ point) packets.now }
-    ensures { page.new ≡ page_from page.old block point (map packet_redo packets.now) }
+fn write_all(page: &mut [u8; BLOCK], packets: &[SharedRecord], block: u32, point: u64)
+    requires own { All (λ packet. (shared_redo packet).block ≡ block) packets.now }
+    requires up_to { All (λ packet. (shared_redo packet).lsn ≤ point) packets.now }
+    ensures { page.new ≡ page_from page.old block point (map shared_redo packets.now) }
 {
     for packet in packets {
         write_packet(page, packet);
@@ -70,8 +70,8 @@ fn write_all(page: &mut [u8; BLOCK], packets: &[Packet], block: u32, point: u64)
 }
 
 /// A number that none of the packets' LSNs is above. Never branches on what is loaded.
-fn greatest_of(packets: &[Packet]) -> u64
-    ensures { All (λ packet. (packet_redo packet).lsn ≤ result) packets.now }
+fn greatest_of(packets: &[SharedRecord]) -> u64
+    ensures { All (λ packet. (shared_redo packet).lsn ≤ result) packets.now }
 {
     let mut greatest = 0;
     for packet in packets {
@@ -81,9 +81,9 @@ fn greatest_of(packets: &[Packet]) -> u64
 }
 
 /// Applies the packets' records that aren't past the point, having looked at all of them first.
-fn write_ahead(page: &mut [u8; BLOCK], packets: &[Packet], block: u32, point: u64)
-    requires { All (λ packet. (packet_redo packet).block ≡ block) packets.now }
-    ensures { page.new ≡ page_from page.old block point (map packet_redo packets.now) }
+fn write_ahead(page: &mut [u8; BLOCK], packets: &[SharedRecord], block: u32, point: u64)
+    requires { All (λ packet. (shared_redo packet).block ≡ block) packets.now }
+    ensures { page.new ≡ page_from page.old block point (map shared_redo packets.now) }
 {
     if greatest_of(packets) <= point {
         write_all(page, packets, block, point);
@@ -94,9 +94,9 @@ fn write_ahead(page: &mut [u8; BLOCK], packets: &[Packet], block: u32, point: u6
 
 /// The bytes of a block at a point: the writes of its records up to the point, in the order of the packets, over zeros.
 /// The packets are those of one group, in order of LSN, and all of the block.
-pub fn page_of(packets: &[Packet], block: u32, point: u64) -> [u8; BLOCK]
-    requires { All (λ packet. (packet_redo packet).block ≡ block) packets.now }
-    ensures { result ≡ page_of (map packet_redo packets.now) block point }
+pub fn page_of(packets: &[SharedRecord], block: u32, point: u64) -> [u8; BLOCK]
+    requires { All (λ packet. (shared_redo packet).block ≡ block) packets.now }
+    ensures { result ≡ page_of (map shared_redo packets.now) block point }
 {
     let mut page = [0; BLOCK];
     let mut rest = packets;

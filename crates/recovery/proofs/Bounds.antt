@@ -14,10 +14,10 @@ use Rattle.volume_model.specs.Few.{StepsAreFew, records_in, records_said}
 use Rattle.volume_model.proofs.Basics.{IsIn-append}
 use Rattle.volume_model.proofs.Chains.{greatest_point-is}
 use Rattle.volume_model.proofs.Records.{found_in-from}
-use Rattle.redo_record.specs.declared.packet.Packet.{Packet}
+use Rattle.redo_record.specs.declared.shared_record.SharedRecord.{SharedRecord}
 use Rattle.redo_record.specs.declared.record_set.RecordSet.{RecordSet}
-use Rattle.redo_record.specs.Packet.{packet_redo}
-use Rattle.redo_record.proofs.KeptRanges.{packet_redo-ranges}
+use Rattle.redo_record.specs.SharedRecord.{shared_redo}
+use Rattle.redo_record.proofs.KeptRanges.{shared_redo-ranges}
 use Rattle.redo_record.specs.Ranges.{HasRanges}
 use Rattle.redo_record.specs.RecordSet.{records_of}
 use Rattle.hydration.specs.declared.copied.Copied.{Copied}
@@ -60,9 +60,9 @@ counted-own most whole first rest x y z sum is also all = omega (arith, sum, is,
 abbrev AreRanged : List Redo → Type 0
 AreRanged records = (r : Redo) → IsIn r records → HasRanges r
 
-ranged-packets : (packets : List Packet) → AreRanged (map packet_redo packets)
+ranged-packets : (packets : List SharedRecord) → AreRanged (map shared_redo packets)
 ranged-packets [] r i = absurd i
-ranged-packets (p ∷ rest) r (inl e) = subst HasRanges (sym e) (packet_redo-ranges p)
+ranged-packets (p ∷ rest) r (inl e) = subst HasRanges (sym e) (shared_redo-ranges p)
 ranged-packets (p ∷ rest) r (inr i) = ranged-packets rest r i
 
 ranged-take : (n : ℕ) (records : List Redo) → AreRanged records → AreRanged (take n records)

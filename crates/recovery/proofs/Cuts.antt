@@ -4,34 +4,34 @@ use Rattle.std.specs.Prelude.{◌==◌}
 use Rattle.std.proofs.lemmas.Bool.{cases_Bool, cases_lt, or_right, true≢false, eqb-true}
 use Rattle.volume_model.specs.Lists.{added}
 use Rattle.volume_model.specs.Redo.{Redo, last_lsn, cut_of}
-use Rattle.redo_record.specs.declared.packet.Packet.{Packet}
-use Rattle.redo_record.specs.Packet.{packet_redo}
-use Rattle.redo_record.proofs.KeptRanges.{packet_redo-ranges}
+use Rattle.redo_record.specs.declared.shared_record.SharedRecord.{SharedRecord}
+use Rattle.redo_record.specs.SharedRecord.{shared_redo}
+use Rattle.redo_record.proofs.KeptRanges.{shared_redo-ranges}
 use Rattle.writer_core.specs.Logs.{log_of, is_growing}
 use Rattle.writer_core.proofs.Logs.{log_of-more}
 use Rattle.writer_core.proofs.Growing.{both}
 use Rattle.writer_core.proofs.Finding.{above, all-log}
 use Rattle.recovery.proofs.Links.{IsBack, leads, leads-above, cut-next}
 
-pub log-back : (records : List Packet) → IsBack (log_of records)
-log-back records = all-log (λ r. r.prev_volume < r.lsn) records (λ k d l. (packet_redo-ranges (get_or records k d)).prev_volume_before)
+pub log-back : (records : List SharedRecord) → IsBack (log_of records)
+log-back records = all-log (λ r. r.prev_volume < r.lsn) records (λ k d l. (shared_redo-ranges (get_or records k d)).prev_volume_before)
 
-front-grows : (records : List Packet) (i : ℕ) (kept : List Redo) → is_growing (added (map packet_redo records) kept) ≡ true → is_growing (added (map packet_redo (take i records)) kept) ≡ true
+front-grows : (records : List SharedRecord) (i : ℕ) (kept : List Redo) → is_growing (added (map shared_redo records) kept) ≡ true → is_growing (added (map shared_redo (take i records)) kept) ≡ true
 front-grows [] zero kept h = h
 front-grows [] (suc i) kept h = h
 front-grows (x ∷ records) zero kept h = (above (x ∷ records) kept h).0
-front-grows (x ∷ records) (suc i) kept h = front-grows records i (packet_redo x ∷ kept) h
+front-grows (x ∷ records) (suc i) kept h = front-grows records i (shared_redo x ∷ kept) h
 
 -- the first records of a growing list grow
-pub front-growing : (records : List Packet) (i : ℕ) → is_growing (log_of records) ≡ true → is_growing (log_of (take i records)) ≡ true
+pub front-growing : (records : List SharedRecord) (i : ℕ) → is_growing (log_of records) ≡ true → is_growing (log_of (take i records)) ≡ true
 front-growing records i h = front-grows records i [] h
 
-module _ (records : List Packet) (i : ℕ) (p : Packet) (r : Redo) (within : i < length records) (is : p ≡ get_or records i p) (shows : r ≡ packet_redo p) (growing : is_growing (log_of records) ≡ true) where
+module _ (records : List SharedRecord) (i : ℕ) (p : SharedRecord) (r : Redo) (within : i < length records) (is : p ≡ get_or records i p) (shows : r ≡ shared_redo p) (growing : is_growing (log_of records) ≡ true) where
   abbrev pub front : List Redo
   front = log_of (take i records)
 
   pub more-is : log_of (take (i + 1) records) ≡ r ∷ front
-  more-is = log_of-more records i p within ∙ ap (λ (x : Packet). packet_redo x ∷ front) (sym is) ∙ ap (λ s. s ∷ front) (sym shows)
+  more-is = log_of-more records i p within ∙ ap (λ (x : SharedRecord). shared_redo x ∷ front) (sym is) ∙ ap (λ s. s ∷ front) (sym shows)
 
   pub more-grows : is_growing (r ∷ front) ≡ true
   more-grows = subst (λ l. is_growing l ≡ true) more-is (front-growing records (i + 1) growing)

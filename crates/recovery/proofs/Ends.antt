@@ -4,15 +4,15 @@ use Rattle.std.specs.Prelude.{reverse}
 use Rattle.std.proofs.lemmas.List.{reverse-append}
 use Rattle.std.proofs.lemmas.Bool.{cases_Bool, eqb-true, true≢false, lt-ltb}
 use Rattle.volume_model.specs.Redo.{Redo, chain_from, last_lsn}
-use Rattle.redo_record.specs.declared.packet.Packet.{Packet}
-use Rattle.redo_record.specs.Packet.{packet_redo}
+use Rattle.redo_record.specs.declared.shared_record.SharedRecord.{SharedRecord}
+use Rattle.redo_record.specs.SharedRecord.{shared_redo}
 use Rattle.writer_core.specs.Logs.{log_of, is_growing}
 use Rattle.writer_core.proofs.Logs.{log_of-push}
 use Rattle.writer_core.proofs.Growing.{both}
 use Rattle.recovery.proofs.Links.{IsBack, chain, chain_from-is}
 
 -- a backward walk has come to the end of the list
-pub walked : (log : List Redo) → is_growing log ≡ true → IsBack log → (xs : List Packet) (ys : List Redo) (n next : ℕ) → length xs ≡ 0 → is_some (chain_from n log n) ≡ true
+pub walked : (log : List Redo) → is_growing log ≡ true → IsBack log → (xs : List SharedRecord) (ys : List Redo) (n next : ℕ) → length xs ≡ 0 → is_some (chain_from n log n) ≡ true
     → chain log n ≡ option_map (λ rest. ys ++ rest) (chain (log_of xs) next) → chain_from n log n ≡ Some ys
 walked log g back (x ∷ xs) ys n next none there is = absurd (omega (arith, none))
 walked log g back [] ys n next none there is =
@@ -24,9 +24,9 @@ walked log g back [] ys n next none there is =
           absurd (true≢false (sym there ∙ ap is_some gone)))
     ]
 
-pub log_of-reverse : (records : List Packet) → log_of (reverse records) ≡ map packet_redo records
+pub log_of-reverse : (records : List SharedRecord) → log_of (reverse records) ≡ map shared_redo records
 log_of-reverse [] = refl
-log_of-reverse (r ∷ rest) = ap log_of (reverse-append (r ∷ []) rest) ∙ log_of-push (reverse rest) r ∙ ap (λ l. packet_redo r ∷ l) (log_of-reverse rest)
+log_of-reverse (r ∷ rest) = ap log_of (reverse-append (r ∷ []) rest) ∙ log_of-push (reverse rest) r ∙ ap (λ l. shared_redo r ∷ l) (log_of-reverse rest)
 
 -- a chain grows, and its newest record has the number
 pub chain-grows : (log : List Redo) → is_growing log ≡ true → IsBack log → (n : ℕ) (c : List Redo) → chain log n ≡ Some c → (is_growing c ≡ true) × (last_lsn c ≡ n)

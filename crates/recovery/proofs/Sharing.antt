@@ -7,10 +7,10 @@ use Rattle.volume_model.specs.Lists.{IsIn, added}
 use Rattle.volume_model.specs.Redo.{Redo, spelling, numbers_before, last_lsn, record_at, chain_from}
 use Rattle.volume_model.proofs.Basics.{IsIn-added}
 use Rattle.volume_model.proofs.Chains.{record_at-some, record_at-there}
-use Rattle.redo_record.specs.declared.packet.Packet.{Packet}
+use Rattle.redo_record.specs.declared.shared_record.SharedRecord.{SharedRecord}
 use Rattle.redo_record.specs.declared.record_set.RecordSet.{RecordSet}
 use Rattle.redo_record.specs.Order.{IsInOrder, ComesAfter}
-use Rattle.redo_record.specs.Packet.{packet_redo}
+use Rattle.redo_record.specs.SharedRecord.{shared_redo}
 use Rattle.redo_record.specs.RecordSet.{records_of}
 use Rattle.redo_record.proofs.Before.{IsBefore}
 use Rattle.redo_record.proofs.Places.{IsOrdered, in_order-from}
@@ -121,8 +121,8 @@ chain-more last n r older log is prev at h =
     ap (is_chain_to n) is ∙ ap (λ b. b && is_chain_to r.prev_volume older) (eq-eqb r.lsn n (sym at)) ∙ ap (λ m. is_chain_to m older) prev ∙ h
 
 -- what is read off packets is read off their records
-pub log_of-shown : (packets : List Packet) (records : List Redo) → map packet_redo packets ≡ records → log_of packets ≡ added records []
+pub log_of-shown : (packets : List SharedRecord) (records : List Redo) → map shared_redo packets ≡ records → log_of packets ≡ added records []
 log_of-shown packets records is = ap (λ (rs : List Redo). added rs []) is
 
-pub front-shown : (packets : List Packet) (records : List Redo) (len : ℕ) → map packet_redo packets ≡ records → log_of (take len packets) ≡ added (take len records) []
-front-shown packets records len is = ap (λ (rs : List Redo). added rs []) (sym (take-map packet_redo len packets) ∙ ap (take len) is)
+pub front-shown : (packets : List SharedRecord) (records : List Redo) (len : ℕ) → map shared_redo packets ≡ records → log_of (take len packets) ≡ added (take len records) []
+front-shown packets records len is = ap (λ (rs : List Redo). added rs []) (sym (take-map shared_redo len packets) ∙ ap (take len) is)

@@ -7,7 +7,7 @@ ghost use Rattle.writer_core.specs.Logs.{log_of, log_of_set, is_growing};
 ghost use Rattle.recovery.specs.Chains.{IsChainTo};
 
 use crate::cutting::is_growing;
-use redo_record::{Packet, RecordSet};
+use redo_record::{RecordSet, SharedRecord};
 use std::alloc::{AllocError, Global};
 
 /// The first record of each LSN of a set: the set itself, shared with it, where no LSN stands twice.
@@ -33,7 +33,7 @@ pub fn firsts(alloc: Global, set: &RecordSet) -> Result<RecordSet, AllocError>
 }
 
 /// How many packets from the first on are the chain by `prev_volume` from an LSN down to 0; `None` where others stand between.
-fn chain_length(packets: &[Packet], lsn: u64) -> Option<usize>
+fn chain_length(packets: &[SharedRecord], lsn: u64) -> Option<usize>
     ensures chain { IfSome result (λ len. IsChainTo lsn (log_of (take len packets.now))) }
     ensures within { IfSome result (λ len. len ≤ length packets.now) }
 {
@@ -56,7 +56,11 @@ fn chain_length(packets: &[Packet], lsn: u64) -> Option<usize>
 }
 
 /// The packets of the chain by `prev_volume` from an LSN down to 0, in growing LSN.
-fn chain_packets(alloc: Global, records: &[Packet], lsn: u64) -> Result<Vec<Packet>, AllocError>
+fn chain_packets(
+    alloc: Global,
+    records: &[SharedRecord],
+    lsn: u64,
+) -> Result<Vec<SharedRecord>, AllocError>
     requires growing { is_growing (log_of records.now) ≡ true }
     requires there { is_some (chain_from lsn (log_of records.now) lsn) ≡ true }
     ensures chain { IfOk result (λ log. log_of log.items ≡ chain_or_none (chain_from lsn (log_of records.now) lsn)) }

@@ -6,12 +6,12 @@ ghost use Rattle.volume_model.specs.Redo.{cut_of};
 ghost use Rattle.writer_core.specs.Logs.{log_of, is_growing};
 
 use crate::led::Led;
-use redo_record::Packet;
+use redo_record::SharedRecord;
 use std::alloc::Global;
 use volume_model::Fault;
 
 /// Whether records stand in growing LSN.
-pub fn is_growing(records: &[Packet]) -> bool
+pub fn is_growing(records: &[SharedRecord]) -> bool
     ensures { result ≡ is_growing (log_of records.now) }
 {
     let mut growing = true;
@@ -28,7 +28,7 @@ pub fn is_growing(records: &[Packet]) -> bool
 ///
 /// # Errors
 /// `NoMemory` where a growth was refused.
-pub fn cut_of(alloc: Global, records: &[Packet]) -> Result<u64, Fault>
+pub fn cut_of(alloc: Global, records: &[SharedRecord]) -> Result<u64, Fault>
     requires { is_growing (log_of records.now) ≡ true }
     ensures { Gives (λ cut. cut) result (Ok (cut_of (log_of records.now))) }
 {

@@ -5,32 +5,32 @@ use Rattle.std.specs.Global.{Global}
 use Rattle.std.proofs.lemmas.List.{map-append}
 use Rattle.std.specs.List.{AllZip, AppendsClones}
 use Rattle.volume_model.specs.Redo.{Redo}
-use Rattle.redo_record.specs.declared.packet.Packet.{Packet}
-use Rattle.redo_record.specs.Packet.{packet_redo}
+use Rattle.redo_record.specs.declared.shared_record.SharedRecord.{SharedRecord}
+use Rattle.redo_record.specs.SharedRecord.{shared_redo}
 
 -- the records of packets
-abbrev pub redos : List Packet → List Redo
-redos packets = map packet_redo packets
+abbrev pub redos : List SharedRecord → List Redo
+redos packets = map shared_redo packets
 
 -- a clone shares the record
-abbrev pub IsCopy : Packet → Packet → Type 0
-IsCopy packet copy = packet_redo copy ≡ packet_redo packet
+abbrev pub IsCopy : SharedRecord → SharedRecord → Type 0
+IsCopy packet copy = shared_redo copy ≡ shared_redo packet
 
 -- the clones of packets have their records
-pub redos-copied : (packets copies : List Packet) → AllZip IsCopy packets copies → redos copies ≡ redos packets
+pub redos-copied : (packets copies : List SharedRecord) → AllZip IsCopy packets copies → redos copies ≡ redos packets
 redos-copied [] [] h = refl
 redos-copied [] (copy ∷ copies) h = absurd h
 redos-copied (packet ∷ packets) [] h = absurd h
 redos-copied (packet ∷ packets) (copy ∷ copies) h =
-    ap (λ r. r ∷ redos copies) h.0 ∙ ap (λ rs. packet_redo packet ∷ rs) (redos-copied packets copies h.1)
+    ap (λ r. r ∷ redos copies) h.0 ∙ ap (λ rs. shared_redo packet ∷ rs) (redos-copied packets copies h.1)
 
 -- with clones at its end a list has the records of both
-pub redos-appended : (old now more : List Packet) → AppendsClones IsCopy old now more → redos now ≡ redos old ++ redos more
+pub redos-appended : (old now more : List SharedRecord) → AppendsClones IsCopy old now more → redos now ≡ redos old ++ redos more
 redos-appended old now more h =
-    ap redos h.1 ∙ map-append packet_redo old h.0 ∙ ap (λ rs. redos old ++ rs) (redos-copied more h.0 h.2)
+    ap redos h.1 ∙ map-append shared_redo old h.0 ∙ ap (λ rs. redos old ++ rs) (redos-copied more h.0 h.2)
 
 -- packets that may be written to are those that were there, or clones of them
-pub redos-made : (old now : Vec Packet Global) → (now ≡ old) ⊎ (AllZip IsCopy old.items now.items × (vec_len now ≡ vec_len old)) → redos now.items ≡ redos old.items
+pub redos-made : (old now : Vec SharedRecord Global) → (now ≡ old) ⊎ (AllZip IsCopy old.items now.items × (vec_len now ≡ vec_len old)) → redos now.items ≡ redos old.items
 redos-made old now (inl same) = ap (λ v. redos v.items) same
 redos-made old now (inr copied) = redos-copied old.items now.items copied.0
 

@@ -1,8 +1,8 @@
 -- What each record keeps, in the words of the model.
 use Rattle.std.specs.Arc.{arc_value}
 use Rattle.redo_record.specs.declared.«record».Record.{Record}
-use Rattle.redo_record.specs.declared.packet.Packet.{Packet}
-use Rattle.redo_record.specs.Packet.{packet_redo}
+use Rattle.redo_record.specs.declared.shared_record.SharedRecord.{SharedRecord}
+use Rattle.redo_record.specs.SharedRecord.{shared_redo}
 use Rattle.redo_record.specs.Ranges.{HasRanges}
 use Rattle.redo_record.specs.Record.{redo_of}
 
@@ -20,6 +20,6 @@ redo_of-ranges r = record {
 }
 
 -- a packet's record keeps its ranges
-pub packet_redo-ranges : (packet : Packet) → HasRanges (packet_redo packet)
-unfolding packet_redo
-packet_redo-ranges packet = redo_of-ranges (arc_value packet.shared)
+pub shared_redo-ranges : (packet : SharedRecord) → HasRanges (shared_redo packet)
+unfolding shared_redo
+shared_redo-ranges packet = redo_of-ranges (arc_value packet.shared)

@@ -1,6 +1,6 @@
 pub mod Payload
 pub mod Record
-pub mod Packet
+pub mod SharedRecord
 pub mod Shared
 pub mod Window
 pub mod Ranges

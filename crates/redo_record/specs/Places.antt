@@ -2,8 +2,8 @@ use Rattle.std.specs.Prelude.{◌≡◌, ℕ, ◌≤◌, true, false, List, leng
 use Rattle.std.specs.List.{insert}
 use Rattle.std.specs.List.Sorted.{IsPartitionPoint}
 use Rattle.volume_model.specs.Redo.{Redo, numbers_before, spelling, with_record, holds_record}
-use Rattle.redo_record.specs.declared.packet.Packet.{Packet}
-use Rattle.redo_record.specs.Packet.{packet_redo}
+use Rattle.redo_record.specs.declared.shared_record.SharedRecord.{SharedRecord}
+use Rattle.redo_record.specs.SharedRecord.{shared_redo}
 
 -- the record is one of these
 pub record IsHeldIn (records : List Redo) (r : Redo) : Type 0 where
@@ -17,5 +17,5 @@ pub record IsPlaceFor (records : List Redo) (r : Redo) (place : ℕ) : Type 0 wh
   pub joins : with_record r records ≡ insert records place r
 
 -- so many of the packets come before the record, and the later ones don't
-abbrev pub IsCountBefore : List Packet → Redo → ℕ → Type 0
-IsCountBefore packets r count = IsPartitionPoint (λ p. numbers_before (spelling (packet_redo p)) (spelling r) ≡ true) (λ p. numbers_before (spelling (packet_redo p)) (spelling r) ≡ false) packets count
+abbrev pub IsCountBefore : List SharedRecord → Redo → ℕ → Type 0
+IsCountBefore packets r count = IsPartitionPoint (λ p. numbers_before (spelling (shared_redo p)) (spelling r) ≡ true) (λ p. numbers_before (spelling (shared_redo p)) (spelling r) ≡ false) packets count

@@ -2,11 +2,11 @@
 use Rattle.std.specs.Prelude.{◌≡◌, List, length, take, drop}
 use Rattle.volume_model.specs.Redo.{Redo}
 use Rattle.redo_record.specs.declared.window.Window.{Window}
-use Rattle.redo_record.specs.declared.packet.Packet.{Packet}
+use Rattle.redo_record.specs.declared.shared_record.SharedRecord.{SharedRecord}
 use Rattle.redo_record.specs.Shared.{packets_in, redos_in}
 
 -- the packets, in their order
-abbrev pub packets_seen : Window → List Packet
+abbrev pub packets_seen : Window → List SharedRecord
 packets_seen window = take window.len (drop window.from (packets_in window.shared.packets))
 
 -- the records of the packets, in their order

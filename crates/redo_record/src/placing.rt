@@ -4,16 +4,16 @@ ghost use Rattle.std.specs.Prelude.{◌≡◌, ◌≤◌, map, length, true, fal
 ghost use Rattle.std.specs.List.Sorted.{IsPartitionPoint};
 ghost use Rattle.volume_model.specs.Redo.{numbers_before, spelling};
 ghost use Rattle.redo_record.specs.Order.{IsInOrder};
-ghost use Rattle.redo_record.specs.Packet.{packet_redo};
+ghost use Rattle.redo_record.specs.SharedRecord.{shared_redo};
 ghost use Rattle.redo_record.specs.Places.{IsCountBefore, IsHeldIn, IsPlaceFor};
 
-use crate::packet::Packet;
+use crate::shared_record::SharedRecord;
 
 /// How many packets in order come before this one: often all of them, which takes one look.
-fn count_before(packets: &[Packet], packet: &Packet) -> usize
-    requires { IsInOrder (map packet_redo packets.now) }
+fn count_before(packets: &[SharedRecord], packet: &SharedRecord) -> usize
+    requires { IsInOrder (map shared_redo packets.now) }
     ensures bound { result ≤ length packets.now }
-    ensures split { IsCountBefore packets.now (packet_redo packet.now) result }
+    ensures split { IsCountBefore packets.now (shared_redo packet.now) result }
 {
     if let Some(last) = packets.last() {
         if last.is_before(packet) {
@@ -24,9 +24,9 @@ fn count_before(packets: &[Packet], packet: &Packet) -> usize
 }
 
 /// Where a packet would stand among these, which are in order; `None` where its record is one of theirs.
-pub fn place_among(packets: &[Packet], packet: &Packet) -> Option<usize>
-    requires { IsInOrder (map packet_redo packets.now) }
-    ensures { MatchOption result (IsHeldIn (map packet_redo packets.now) (packet_redo packet.now)) (λ place. IsPlaceFor (map packet_redo packets.now) (packet_redo packet.now) place) }
+pub fn place_among(packets: &[SharedRecord], packet: &SharedRecord) -> Option<usize>
+    requires { IsInOrder (map shared_redo packets.now) }
+    ensures { MatchOption result (IsHeldIn (map shared_redo packets.now) (shared_redo packet.now)) (λ place. IsPlaceFor (map shared_redo packets.now) (shared_redo packet.now) place) }
 {
     let place = count_before(packets, packet);
     if place == packets.len() {

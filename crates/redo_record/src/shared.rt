@@ -1,6 +1,6 @@
 //! Packets that are shared with their clones.
 
-use crate::packet::Packet;
+use crate::shared_record::SharedRecord;
 use std::alloc::{AllocError, Global};
 use std::sync::Arc;
 
@@ -8,13 +8,13 @@ use std::sync::Arc;
 #[derive(Drop)]
 pub struct Shared {
     alloc: Global,
-    packets: Option<Arc<Vec<Packet>>>,
+    packets: Option<Arc<Vec<SharedRecord>>>,
 }
 
 impl Shared {
     ghost use Rattle.std.specs.Prelude.{◌≡◌, ◌+◌, ◌≤◌, [], ◌∷◌, ◌++◌, length, map, take, drop, IfOk, OnOk, OnErr};
     ghost use Rattle.std.specs.List.{insert};
-    ghost use Rattle.redo_record.specs.Packet.{packet_redo};
+    ghost use Rattle.redo_record.specs.SharedRecord.{shared_redo};
     ghost use Rattle.redo_record.specs.Shared.{packets_in, redos_in};
 
     /// No packet.
@@ -28,8 +28,8 @@ impl Shared {
     }
 
     /// These packets. Fails for want of memory alone.
-    pub fn from_vec(alloc: Global, packets: Vec<Packet>) -> Result<Shared, AllocError>
-        ensures { IfOk result (λ shared. redos_in shared ≡ map packet_redo packets.items) }
+    pub fn from_vec(alloc: Global, packets: Vec<SharedRecord>) -> Result<Shared, AllocError>
+        ensures { IfOk result (λ shared. redos_in shared ≡ map shared_redo packets.items) }
     {
         Ok(Shared {
             alloc,
@@ -38,7 +38,7 @@ impl Shared {
     }
 
     /// The packets.
-    pub fn as_slice(&self) -> &[Packet]
+    pub fn as_slice(&self) -> &[SharedRecord]
         ensures { result.now ≡ packets_in self.now.packets }
     {
         match &self.packets {
@@ -59,14 +59,14 @@ impl Shared {
         requires { from + len ≤ length (redos_in self.now) }
         ensures { IfOk result (λ part. redos_in part ≡ take len (drop from (redos_in self.now))) }
     {
-        let mut packets: Vec<Packet> = Vec::new(self.alloc);
+        let mut packets: Vec<SharedRecord> = Vec::new(self.alloc);
         packets.extend_from_slice(&self.as_slice()[from..from + len])?;
         Shared::from_vec(self.alloc, packets)
     }
 
     /// Adds a packet at the end. Where memory runs out the packets are what they were.
-    pub fn push(&mut self, packet: Packet) -> Result<(), AllocError>
-        ensures ok { OnOk result (redos_in self.new ≡ redos_in self.old ++ packet_redo packet ∷ []) }
+    pub fn push(&mut self, packet: SharedRecord) -> Result<(), AllocError>
+        ensures ok { OnOk result (redos_in self.new ≡ redos_in self.old ++ shared_redo packet ∷ []) }
         ensures err { OnErr result (redos_in self.new ≡ redos_in self.old) }
     {
         match &mut self.packets {
@@ -83,9 +83,9 @@ impl Shared {
     }
 
     /// Adds a packet at this place. Where memory runs out the packets are what they were.
-    pub fn insert(&mut self, place: usize, packet: Packet) -> Result<(), AllocError>
+    pub fn insert(&mut self, place: usize, packet: SharedRecord) -> Result<(), AllocError>
         requires { place ≤ length (redos_in self.old) }
-        ensures ok { OnOk result (redos_in self.new ≡ insert (redos_in self.old) place (packet_redo packet)) }
+        ensures ok { OnOk result (redos_in self.new ≡ insert (redos_in self.old) place (shared_redo packet)) }
         ensures err { OnErr result (redos_in self.new ≡ redos_in self.old) }
     {
         match &mut self.packets {
@@ -99,8 +99,8 @@ impl Shared {
     }
 
     /// Adds packets at the end. Where memory runs out the packets are what they were.
-    pub fn extend_from_slice(&mut self, more: &[Packet]) -> Result<(), AllocError>
-        ensures ok { OnOk result (redos_in self.new ≡ redos_in self.old ++ map packet_redo more.now) }
+    pub fn extend_from_slice(&mut self, more: &[SharedRecord]) -> Result<(), AllocError>
+        ensures ok { OnOk result (redos_in self.new ≡ redos_in self.old ++ map shared_redo more.now) }
         ensures err { OnErr result (redos_in self.new ≡ redos_in self.old) }
     {
         match &mut self.packets {
@@ -109,7 +109,7 @@ impl Shared {
                 packets.extend_from_slice(more)?;
             }
             None => {
-                let mut packets: Vec<Packet> = Vec::new(self.alloc);
+                let mut packets: Vec<SharedRecord> = Vec::new(self.alloc);
                 packets.extend_from_slice(more)?;
                 self.packets = Some(Arc::new(self.alloc, packets)?);
             }

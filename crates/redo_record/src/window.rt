@@ -3,8 +3,8 @@
 ghost use Rattle.std.specs.Prelude.{◌+◌, ◌≤◌, length};
 ghost use Rattle.redo_record.specs.Shared.{redos_in};
 
-use crate::packet::Packet;
 use crate::shared::Shared;
+use crate::shared_record::SharedRecord;
 use std::alloc::{AllocError, Global};
 
 /// Packets that are shared with their clones: all of a list, or some that stand one behind the other in it.
@@ -19,7 +19,7 @@ pub struct Window {
 impl Window {
     ghost use Rattle.std.specs.Prelude.{◌≡◌, [], ◌∷◌, ◌++◌, map, take, drop, IfOk, OnOk, OnErr};
     ghost use Rattle.std.specs.List.{insert};
-    ghost use Rattle.redo_record.specs.Packet.{packet_redo};
+    ghost use Rattle.redo_record.specs.SharedRecord.{shared_redo};
     ghost use Rattle.redo_record.specs.Window.{packets_seen, redos_seen, IsWhole};
 
     /// No packet.
@@ -34,8 +34,8 @@ impl Window {
     }
 
     /// These packets. Fails for want of memory alone.
-    pub fn from_vec(alloc: Global, packets: Vec<Packet>) -> Result<Window, AllocError>
-        ensures { IfOk result (λ window. redos_seen window ≡ map packet_redo packets.items) }
+    pub fn from_vec(alloc: Global, packets: Vec<SharedRecord>) -> Result<Window, AllocError>
+        ensures { IfOk result (λ window. redos_seen window ≡ map shared_redo packets.items) }
     {
         let shared = Shared::from_vec(alloc, packets)?;
         let len = shared.len();
@@ -47,9 +47,9 @@ impl Window {
     }
 
     /// The packets.
-    pub fn as_slice(&self) -> &[Packet]
+    pub fn as_slice(&self) -> &[SharedRecord]
         ensures packets { result.now ≡ packets_seen self.now }
-        ensures records { map packet_redo result.now ≡ redos_seen self.now }
+        ensures records { map shared_redo result.now ≡ redos_seen self.now }
     {
         &self.shared.as_slice()[self.from..self.from + self.len]
     }
@@ -79,8 +79,8 @@ impl Window {
     }
 
     /// Adds a packet at the end. Where memory runs out the packets are what they were.
-    pub fn push(&mut self, packet: Packet) -> Result<(), AllocError>
-        ensures ok { OnOk result (redos_seen self.new ≡ redos_seen self.old ++ packet_redo packet ∷ []) }
+    pub fn push(&mut self, packet: SharedRecord) -> Result<(), AllocError>
+        ensures ok { OnOk result (redos_seen self.new ≡ redos_seen self.old ++ shared_redo packet ∷ []) }
         ensures err { OnErr result (redos_seen self.new ≡ redos_seen self.old) }
     {
         self.make_whole()?;
@@ -90,9 +90,9 @@ impl Window {
     }
 
     /// Adds a packet at this place. Where memory runs out the packets are what they were.
-    pub fn insert(&mut self, place: usize, packet: Packet) -> Result<(), AllocError>
+    pub fn insert(&mut self, place: usize, packet: SharedRecord) -> Result<(), AllocError>
         requires { place ≤ length (redos_seen self.old) }
-        ensures ok { OnOk result (redos_seen self.new ≡ insert (redos_seen self.old) place (packet_redo packet)) }
+        ensures ok { OnOk result (redos_seen self.new ≡ insert (redos_seen self.old) place (shared_redo packet)) }
         ensures err { OnErr result (redos_seen self.new ≡ redos_seen self.old) }
     {
         self.make_whole()?;
@@ -102,8 +102,8 @@ impl Window {
     }
 
     /// Adds packets at the end. Where memory runs out the packets are what they were.
-    pub fn extend_from_slice(&mut self, more: &[Packet]) -> Result<(), AllocError>
-        ensures ok { OnOk result (redos_seen self.new ≡ redos_seen self.old ++ map packet_redo more.now) }
+    pub fn extend_from_slice(&mut self, more: &[SharedRecord]) -> Result<(), AllocError>
+        ensures ok { OnOk result (redos_seen self.new ≡ redos_seen self.old ++ map shared_redo more.now) }
         ensures err { OnErr result (redos_seen self.new ≡ redos_seen self.old) }
     {
         self.make_whole()?;

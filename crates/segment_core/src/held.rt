@@ -10,7 +10,7 @@ use crate::entrant::Entrant;
 use crate::records::Records;
 use lineage::Lineage;
 use pages::BLOCK;
-use redo_record::Packet;
+use redo_record::SharedRecord;
 use runs::Place;
 use std::alloc::{AllocError, Global};
 use std::sync::Arc;
@@ -32,7 +32,7 @@ impl Held {
     ghost use Rattle.std.specs.Prelude.{◌≡◌, IfOk};
     ghost use Rattle.volume_model.specs.Node.{page_of};
     ghost use Rattle.volume_model.specs.Redo.{with_record};
-    ghost use Rattle.redo_record.specs.Packet.{packet_redo};
+    ghost use Rattle.redo_record.specs.SharedRecord.{shared_redo};
     ghost use Rattle.wire.specs.Contents.{contents_of};
     ghost use Rattle.segment_core.specs.Held.{held_in, entered};
     ghost use Rattle.segment_core.specs.Ordered.{StandsAt};
@@ -87,11 +87,11 @@ impl Held {
         &mut self,
         alloc: Global,
         place: Place,
-        packet: &Packet,
+        packet: &SharedRecord,
     ) -> Result<Entrant, AllocError>
-        requires { StandsAt place self.old.records.ordered (packet_redo packet.now) }
+        requires { StandsAt place self.old.records.ordered (shared_redo packet.now) }
         ensures ready { IfOk result (λ entrant. CanEnter self.new.records entrant) }
-        ensures packet { IfOk result (λ entrant. packet_redo entrant.packet ≡ packet_redo packet.now) }
+        ensures packet { IfOk result (λ entrant. shared_redo entrant.packet ≡ shared_redo packet.now) }
         ensures same { held_in self.new ≡ held_in self.old }
     {
         self.records.prepare(alloc, place, packet)
@@ -101,7 +101,7 @@ impl Held {
     #[inline(always)]
     pub fn enter(&mut self, entrant: Entrant)
         requires { CanEnter self.old.records entrant }
-        ensures { held_in self.new ≡ entered (packet_redo entrant.packet) (held_in self.old) }
+        ensures { held_in self.new ≡ entered (shared_redo entrant.packet) (held_in self.old) }
     {
         self.told = None;
         self.records.enter(entrant);

@@ -14,7 +14,7 @@ use crate::records::Records;
 use hydration::Hydration;
 use lineage::Lineage;
 use plan::CheckedPlan;
-use redo_record::{Packet, RecordSet};
+use redo_record::{RecordSet, SharedRecord};
 use std::alloc::{AllocError, Global};
 use std::sync::Arc;
 use volume_model::Fault;
@@ -58,7 +58,7 @@ impl Segment {
     ghost use Rattle.volume_model.specs.Node.{NodeAnswer, gossip_of, installed, label_checks, lineage_epoch, offered, restarted, take_record};
     ghost use Rattle.volume_model.specs.Pieces.{is_bad_piece};
     ghost use Rattle.plan.specs.CheckedModel.{checked_model};
-    ghost use Rattle.redo_record.specs.Packet.{packet_redo};
+    ghost use Rattle.redo_record.specs.SharedRecord.{shared_redo};
     ghost use Rattle.redo_record.specs.RecordSet.{records_of as set_records};
     ghost use Rattle.volume_model.specs.Message as model;
     ghost use Rattle.wire.specs.Contents.{contents_of, piece_in};
@@ -273,9 +273,9 @@ impl Segment {
         &mut self,
         alloc: Global,
         label: Label,
-        packet: &Packet,
+        packet: &SharedRecord,
     ) -> Result<Prepared, Fault>
-        ensures step { Answers step_of (take_record (segment_group self.old) (segment_member self.old) (node_of self.old) (label_of label) (packet_redo packet.now)) (node_of self.old) result (node_of self.old) }
+        ensures step { Answers step_of (take_record (segment_group self.old) (segment_member self.old) (node_of self.old) (label_of label) (shared_redo packet.now)) (node_of self.old) result (node_of self.old) }
         ensures ready { IfOk result (λ prepared. CanTake self.new prepared.effect) }
         ensures node { node_of self.new ≡ node_of self.old }
         ensures actor { IsSameActor self.old self.new }

@@ -1,7 +1,7 @@
 //! Records that tests speak of, their packets, and what is held of them.
 
 use lineage::Lineage;
-use redo_record::{Packet, Payload, Record, RecordSet};
+use redo_record::{Payload, Record, RecordSet, SharedRecord};
 use std::alloc::Global;
 use std::sync::Arc;
 use volume_model::Fault;
@@ -49,7 +49,7 @@ pub fn chained(lsn: u64) -> Line {
 }
 
 /// The packet of a record, `BadField` where there is no such record.
-pub fn packet(alloc: Global, line: Line) -> Result<Packet, Fault> {
+pub fn packet(alloc: Global, line: Line) -> Result<SharedRecord, Fault> {
     let Some(bytes) = Payload::new(&[line.byte]) else {
         return Err(Fault::BadField);
     };
@@ -75,7 +75,7 @@ pub fn packet(alloc: Global, line: Line) -> Result<Packet, Fault> {
         bytes,
         point: line.point,
     };
-    Ok(Packet::pack(alloc, record)?)
+    Ok(SharedRecord::pack(alloc, record)?)
 }
 
 /// The chained records from a number up to another.

@@ -1,14 +1,18 @@
 //! The packets of one block, which a page is made of.
 
 ghost use Rattle.std.specs.Prelude.{◌≡◌, All, IfOk};
-ghost use Rattle.redo_record.specs.Packet.{packet_redo};
+ghost use Rattle.redo_record.specs.SharedRecord.{shared_redo};
 
-use redo_record::Packet;
+use redo_record::SharedRecord;
 use std::alloc::{AllocError, Global};
 
 /// Those of the packets that are of the block.
-pub fn of_block(alloc: Global, packets: &[Packet], block: u32) -> Result<Vec<Packet>, AllocError>
-    ensures { IfOk result (λ found. All (λ packet. (packet_redo packet).block ≡ block) found.items) }
+pub fn of_block(
+    alloc: Global,
+    packets: &[SharedRecord],
+    block: u32,
+) -> Result<Vec<SharedRecord>, AllocError>
+    ensures { IfOk result (λ found. All (λ packet. (shared_redo packet).block ≡ block) found.items) }
 {
     let mut found = Vec::new(alloc);
     for packet in packets {

@@ -1,7 +1,7 @@
 //! Records as bytes, and sets of them.
 
 use super::packets::{FIRST, Line, packet};
-use redo_record::{Packet, RecordSet, decode, encode};
+use redo_record::{RecordSet, SharedRecord, decode, encode};
 use std::alloc::Global;
 use std::test::*;
 use volume_model::Fault;
@@ -21,8 +21,8 @@ fn read(bytes: &[u8]) -> Result<(u64, u32, bool), Fault> {
 /// Whether the record writes `a`, its packets are the same, and it is spelled as it was read.
 fn written(alloc: Global) -> Result<[bool; 3], Fault> {
     let record = decode(&BYTES)?;
-    let packet = Packet::pack(alloc, record)?;
-    let again = Packet::pack(alloc, *packet.record())?;
+    let packet = SharedRecord::pack(alloc, record)?;
+    let again = SharedRecord::pack(alloc, *packet.record())?;
     let bytes = encode(alloc, packet.record())?;
     Ok([
         record.bytes.as_slice() == b"a".as_slice(),
@@ -51,7 +51,7 @@ fn faults(rt: HostRuntime) {
 }
 
 /// The packet of the record of this number that writes one byte.
-fn writing(alloc: Global, lsn: u64, byte: u8) -> Result<Packet, Fault> {
+fn writing(alloc: Global, lsn: u64, byte: u8) -> Result<SharedRecord, Fault> {
     packet(alloc, Line { lsn, byte, ..FIRST })
 }
 

@@ -1,6 +1,6 @@
 //! Sets of records in sorted runs, whose records come in several orders.
 
-use redo_record::{Packet, Payload, Record, RecordSet};
+use redo_record::{Payload, Record, RecordSet, SharedRecord};
 use runs::Runs;
 use std::alloc::{AllocError, Global};
 use std::test::*;
@@ -8,7 +8,7 @@ use std::test::*;
 const COUNT: u64 = 10_000;
 
 // The packet of a record of this number on this block, without any before it.
-fn packet(alloc: Global, lsn: u64, block: u32) -> Result<Packet, Fail> {
+fn packet(alloc: Global, lsn: u64, block: u32) -> Result<SharedRecord, Fail> {
     let record = Record {
         lsn: lsn.clamp(1, 2 * COUNT),
         volume_epoch: 1,
@@ -21,11 +21,11 @@ fn packet(alloc: Global, lsn: u64, block: u32) -> Result<Packet, Fail> {
         bytes: Payload::new(b"a").ok_or("one byte is a payload")?,
         point: false,
     };
-    Ok(Packet::pack(alloc, record)?)
+    Ok(SharedRecord::pack(alloc, record)?)
 }
 
 // Takes a record up, and tells whether it is new.
-fn take(alloc: Global, runs: &mut Runs, packet: Packet) -> Result<bool, AllocError> {
+fn take(alloc: Global, runs: &mut Runs, packet: SharedRecord) -> Result<bool, AllocError> {
     let Some(place) = runs.place_for(&packet) else {
         return Ok(false);
     };

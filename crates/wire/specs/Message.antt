@@ -1,7 +1,7 @@
 use Rattle.std.specs.Prelude.{List, map}
 use Rattle.std.specs.Arc.{arc_value}
 use Rattle.volume_model.specs.Message as model
-use Rattle.redo_record.specs.Packet.{packet_redo}
+use Rattle.redo_record.specs.SharedRecord.{shared_redo}
 use Rattle.wire.specs.declared.label.Label.{Label}
 use Rattle.wire.specs.declared.label.Place.{Place}
 use Rattle.wire.specs.declared.message.Message.{Message}
@@ -23,8 +23,8 @@ message_of (StepTo m) = model.Message.StepTo m.group (place_of m.place)
 message_of (Fence m) = model.Message.Fence m.group (label_of m.label)
 message_of (Report m) = model.Message.Report m.group (label_of m.label) m.from (contents_of (arc_value m.contents))
 message_of (Install m) = model.Message.Install m.group (label_of m.label) (piece_in m.piece m.of) (contents_of m.contents.value)
-message_of (Write m) = model.Message.Write m.group (label_of m.label) (packet_redo m.packet)
-message_of (Gossip m) = model.Message.Gossip m.group (label_of m.label) (packet_redo m.packet)
+message_of (Write m) = model.Message.Write m.group (label_of m.label) (shared_redo m.packet)
+message_of (Gossip m) = model.Message.Gossip m.group (label_of m.label) (shared_redo m.packet)
 message_of (Ack m) = model.Message.Ack m.group (label_of m.label) m.from m.scl
 message_of (CopyAsk m) = model.Message.CopyAsk m.group m.epoch
 message_of (CopyReport m) = model.Message.CopyReport m.group m.epoch m.from m.part.value.series (piece_in m.piece m.of) (contents_of m.part.value.contents)

@@ -2,12 +2,12 @@
 
 ghost use Rattle.std.specs.Prelude.{◌≡◌, IfOk};
 ghost use Rattle.volume_model.specs.Message as model;
-ghost use Rattle.redo_record.specs.Packet.{packet_redo};
+ghost use Rattle.redo_record.specs.SharedRecord.{shared_redo};
 ghost use Rattle.wire.specs.Message.{label_of, message_of};
 
 use crate::label::Label;
 use crate::message::{Gossip, Message, Write};
-use redo_record::Packet;
+use redo_record::SharedRecord;
 use std::alloc::AllocError;
 
 /// A record that an actor lends, with the group and the label under which it is carried.
@@ -18,13 +18,13 @@ pub struct Carried<'a> {
     /// The epochs under which the actor speaks.
     pub label: Label,
     /// The record.
-    pub packet: &'a Packet,
+    pub packet: &'a SharedRecord,
 }
 
 impl Carried<'_> {
     /// The `Write` that carries the record. Fails for want of memory alone.
     pub fn write(&self) -> Result<Message, AllocError>
-        ensures { IfOk result (λ message. message_of message ≡ model.Message.Write self.now.group (label_of self.now.label) (packet_redo self.now.packet.now)) }
+        ensures { IfOk result (λ message. message_of message ≡ model.Message.Write self.now.group (label_of self.now.label) (shared_redo self.now.packet.now)) }
     {
         Ok(Message::Write(Write {
             group: self.group,
@@ -35,7 +35,7 @@ impl Carried<'_> {
 
     /// The `Gossip` that carries the record. Fails for want of memory alone.
     pub fn gossip(&self) -> Result<Message, AllocError>
-        ensures { IfOk result (λ message. message_of message ≡ model.Message.Gossip self.now.group (label_of self.now.label) (packet_redo self.now.packet.now)) }
+        ensures { IfOk result (λ message. message_of message ≡ model.Message.Gossip self.now.group (label_of self.now.label) (shared_redo self.now.packet.now)) }
     {
         Ok(Message::Gossip(Gossip {
             group: self.group,

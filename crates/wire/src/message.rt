@@ -1,12 +1,12 @@
 //! What actors say to one another.
 
 ghost use Rattle.std.specs.Prelude.{◌≡◌, ◌==◌, ◌&&◌};
-ghost use Rattle.redo_record.specs.Packet.{packet_redo};
+ghost use Rattle.redo_record.specs.SharedRecord.{shared_redo};
 
 use crate::contents::Contents;
 use crate::label::{Label, Place};
 use crate::view::View;
-use redo_record::Packet;
+use redo_record::SharedRecord;
 use std::sync::Arc;
 
 /// Where a group now stands, for its nodes.
@@ -63,7 +63,7 @@ pub struct Write {
     /// The epochs under which the writer speaks.
     pub label: Label,
     /// The record.
-    pub packet: Packet,
+    pub packet: SharedRecord,
 }
 
 /// A record that a node holds, for the other nodes of its group.
@@ -74,7 +74,7 @@ pub struct Gossip {
     /// The epochs of the node.
     pub label: Label,
     /// The record.
-    pub packet: Packet,
+    pub packet: SharedRecord,
 }
 
 /// How far a node holds the log, told to the client whose message it answers.
@@ -196,7 +196,7 @@ const _: () = prove!(size_of::<Message>() <= 32);
 impl Write {
     /// Whether it is for the nodes of the group: it speaks of the group, and its record is one of the group.
     pub fn is_for(&self, group: u8) -> bool
-        ensures { result ≡ (self.now.group == group && (packet_redo self.now.packet).group == group) }
+        ensures { result ≡ (self.now.group == group && (shared_redo self.now.packet).group == group) }
     {
         self.group == group && self.packet.group() == group
     }
@@ -205,7 +205,7 @@ impl Write {
 impl Gossip {
     /// Whether it is for the nodes of the group: it speaks of the group, and its record is one of the group.
     pub fn is_for(&self, group: u8) -> bool
-        ensures { result ≡ (self.now.group == group && (packet_redo self.now.packet).group == group) }
+        ensures { result ≡ (self.now.group == group && (shared_redo self.now.packet).group == group) }
     {
         self.packet.group() == group && self.group == group
     }

@@ -9,8 +9,8 @@ use Rattle.volume_model.specs.Lists.{every, added}
 use Rattle.volume_model.specs.Redo.{Redo, last_lsn, last_of_group}
 use Rattle.volume_model.specs.ClientPoints.{complete_of, consistency_point_below}
 use Rattle.volume_model.specs.ClientWriter.{last_of_group_below}
-use Rattle.redo_record.specs.declared.packet.Packet.{Packet}
-use Rattle.redo_record.specs.Packet.{packet_redo}
+use Rattle.redo_record.specs.declared.shared_record.SharedRecord.{SharedRecord}
+use Rattle.redo_record.specs.SharedRecord.{shared_redo}
 use Rattle.writer_core.specs.Logs.{log_of, is_growing}
 use Rattle.writer_core.specs.Covered.{is_covered, Covers, CoversNone, CoversFront, CoversLog}
 use Rattle.writer_core.specs.declared.covered.Covered.{Covered}
@@ -29,11 +29,11 @@ added-append : {A : Type 0} (xs ys kept : List A) → added (xs ++ ys) kept ≡ 
 added-append [] ys kept = refl
 added-append (x ∷ xs) ys kept = added-append xs ys (x ∷ kept)
 
-split : (records : List Packet) (n : ℕ) → log_of records ≡ added (map packet_redo (drop n records)) (log_of (take n records))
+split : (records : List SharedRecord) (n : ℕ) → log_of records ≡ added (map shared_redo (drop n records)) (log_of (take n records))
 split records n =
     ap log_of (sym (take-append-drop n records))
-    ∙ ap (λ xs. added xs []) (map-append packet_redo (take n records) (drop n records))
-    ∙ added-append (map packet_redo (take n records)) (map packet_redo (drop n records)) []
+    ∙ ap (λ xs. added xs []) (map-append shared_redo (take n records) (drop n records))
+    ∙ added-append (map shared_redo (take n records)) (map shared_redo (drop n records)) []
 
 -- ---- all records are covered
 
@@ -58,22 +58,22 @@ consistency_point_below-whole n (r ∷ older) h le =
 -- ---- one record isn't
 
 -- behind a record that isn't covered the complete point stays
-complete_of-stuck : (points : ℕ → ℕ) (xs : List Packet) (kept : List Redo) → is_growing (added (map packet_redo xs) kept) ≡ true → complete_of points kept < last_lsn kept → complete_of points (added (map packet_redo xs) kept) ≡ complete_of points kept
+complete_of-stuck : (points : ℕ → ℕ) (xs : List SharedRecord) (kept : List Redo) → is_growing (added (map shared_redo xs) kept) ≡ true → complete_of points kept < last_lsn kept → complete_of points (added (map shared_redo xs) kept) ≡ complete_of points kept
 complete_of-stuck points [] kept h less = refl
 complete_of-stuck points (x ∷ xs) kept h less =
-    let more : last_lsn kept < (packet_redo x).lsn = (both (last_lsn kept) (packet_redo x).lsn (is_growing kept) (above xs (packet_redo x ∷ kept) h).0).0 in
+    let more : last_lsn kept < (shared_redo x).lsn = (both (last_lsn kept) (shared_redo x).lsn (is_growing kept) (above xs (shared_redo x ∷ kept) h).0).0 in
     let apart : (complete_of points kept == last_lsn kept) ≡ false = grind (arith, nat_tests) in
-    let step : complete_of points (packet_redo x ∷ kept) ≡ complete_of points kept = rw apart refl in
-    complete_of-stuck points xs (packet_redo x ∷ kept) h (omega arith) ∙ step
+    let step : complete_of points (shared_redo x ∷ kept) ≡ complete_of points kept = rw apart refl in
+    complete_of-stuck points xs (shared_redo x ∷ kept) h (omega arith) ∙ step
 
 -- later records have greater numbers than the bound
-consistency_point_below-later : (n : ℕ) (xs : List Packet) (kept : List Redo) → is_growing (added (map packet_redo xs) kept) ≡ true → n ≤ last_lsn kept → consistency_point_below n (added (map packet_redo xs) kept) ≡ consistency_point_below n kept
+consistency_point_below-later : (n : ℕ) (xs : List SharedRecord) (kept : List Redo) → is_growing (added (map shared_redo xs) kept) ≡ true → n ≤ last_lsn kept → consistency_point_below n (added (map shared_redo xs) kept) ≡ consistency_point_below n kept
 consistency_point_below-later n [] kept h le = refl
 consistency_point_below-later n (x ∷ xs) kept h le =
-    let more : last_lsn kept < (packet_redo x).lsn = (both (last_lsn kept) (packet_redo x).lsn (is_growing kept) (above xs (packet_redo x ∷ kept) h).0).0 in
-    let later : nat_le (packet_redo x).lsn n ≡ false = lt-leb (packet_redo x).lsn n (omega arith) in
-    let step : consistency_point_below n (packet_redo x ∷ kept) ≡ consistency_point_below n kept = ap (λ b. if b then (packet_redo x).lsn else consistency_point_below n kept) (ap (λ b. (packet_redo x).point && b) later ∙ and_false (packet_redo x).point) in
-    consistency_point_below-later n xs (packet_redo x ∷ kept) h (omega arith) ∙ step
+    let more : last_lsn kept < (shared_redo x).lsn = (both (last_lsn kept) (shared_redo x).lsn (is_growing kept) (above xs (shared_redo x ∷ kept) h).0).0 in
+    let later : nat_le (shared_redo x).lsn n ≡ false = lt-leb (shared_redo x).lsn n (omega arith) in
+    let step : consistency_point_below n (shared_redo x ∷ kept) ≡ consistency_point_below n kept = ap (λ b. if b then (shared_redo x).lsn else consistency_point_below n kept) (ap (λ b. (shared_redo x).point && b) later ∙ and_false (shared_redo x).point) in
+    consistency_point_below-later n xs (shared_redo x ∷ kept) h (omega arith) ∙ step
 
 -- ---- the last numbers of groups
 
@@ -101,26 +101,26 @@ last_of_group_below-above group n r older more =
     ap (λ b. if b then r.lsn else last_of_group_below group n older) (ap (λ b. (r.group == group) && b) later ∙ and_false (r.group == group))
 
 -- later records have greater numbers than the bound
-last_of_group_below-later : (group n : ℕ) (xs : List Packet) (kept : List Redo) → is_growing (added (map packet_redo xs) kept) ≡ true → n ≤ last_lsn kept → last_of_group_below group n (added (map packet_redo xs) kept) ≡ last_of_group_below group n kept
+last_of_group_below-later : (group n : ℕ) (xs : List SharedRecord) (kept : List Redo) → is_growing (added (map shared_redo xs) kept) ≡ true → n ≤ last_lsn kept → last_of_group_below group n (added (map shared_redo xs) kept) ≡ last_of_group_below group n kept
 last_of_group_below-later group n [] kept h le = refl
 last_of_group_below-later group n (x ∷ xs) kept h le =
-    let more : last_lsn kept < (packet_redo x).lsn = (both (last_lsn kept) (packet_redo x).lsn (is_growing kept) (above xs (packet_redo x ∷ kept) h).0).0 in
-    last_of_group_below-later group n xs (packet_redo x ∷ kept) h (omega arith) ∙ last_of_group_below-above group n (packet_redo x) kept (omega arith)
+    let more : last_lsn kept < (shared_redo x).lsn = (both (last_lsn kept) (shared_redo x).lsn (is_growing kept) (above xs (shared_redo x ∷ kept) h).0).0 in
+    last_of_group_below-later group n xs (shared_redo x ∷ kept) h (omega arith) ∙ last_of_group_below-above group n (shared_redo x) kept (omega arith)
 
 -- ---- what is kept of a front
 
-module _ (points : ℕ → ℕ) (records : List Packet) (growing : is_growing (log_of records) ≡ true) (old : Covered) (front : CoversFront old points records) where
+module _ (points : ℕ → ℕ) (records : List SharedRecord) (growing : is_growing (log_of records) ≡ true) (old : Covered) (front : CoversFront old points records) where
   abbrev kept : List Redo
   kept = log_of (take old.records records)
 
-  grown : is_growing (added (map packet_redo (drop old.records records)) kept) ≡ true
+  grown : is_growing (added (map shared_redo (drop old.records records)) kept) ≡ true
   grown = subst (λ log. is_growing log ≡ true) (split records old.records) growing
 
   kept_grows : is_growing kept ≡ true
   kept_grows = (above (drop old.records records) kept grown).0
 
-  next-kept : (p : Packet) (r : Redo) → old.records < length records → p ≡ get_or records old.records p → r ≡ packet_redo p → log_of (take (old.records + 1) records) ≡ r ∷ kept
-  next-kept p r within is shows = log_of-more records old.records p within ∙ ap (λ x. packet_redo x ∷ kept) (sym is) ∙ ap (λ s. s ∷ kept) (sym shows)
+  next-kept : (p : SharedRecord) (r : Redo) → old.records < length records → p ≡ get_or records old.records p → r ≡ shared_redo p → log_of (take (old.records + 1) records) ≡ r ∷ kept
+  next-kept p r within is shows = log_of-more records old.records p within ∙ ap (λ x. shared_redo x ∷ kept) (sym is) ∙ ap (λ s. s ∷ kept) (sym shows)
 
   durable-le : old.durable ≤ last_lsn kept
   durable-le = let le : consistency_point_below old.complete kept ≤ old.complete = consistency_point_below-le old.complete kept in omega (arith, le, front.durable, front.complete)
@@ -132,7 +132,7 @@ module _ (points : ℕ → ℕ) (records : List Packet) (growing : is_growing (l
       front.durable_lasts group h ∙ sym (last_of_group_below-above group old.durable r kept (omega arith))
 
   -- one record more is covered
-  pub covers-more : (new : Covered) (p : Packet) (r : Redo) → old.records < length records → p ≡ get_or records old.records p → r ≡ packet_redo p → r.group < 16 → r.lsn ≤ points r.group → Covers old new r → CoversFront new points records
+  pub covers-more : (new : Covered) (p : SharedRecord) (r : Redo) → old.records < length records → p ≡ get_or records old.records p → r ≡ shared_redo p → r.group < 16 → r.lsn ≤ points r.group → Covers old new r → CoversFront new points records
   covers-more new p r within is shows small reached covers =
       let here : nat_le r.lsn (points r.group) ≡ true = le-leb r.lsn (points r.group) reached in
       let one : log_of (take (old.records + 1) records) ≡ r ∷ kept = next-kept p r within is shows in
@@ -171,25 +171,25 @@ module _ (points : ℕ → ℕ) (records : List Packet) (growing : is_growing (l
   pub covers-all : length records ≤ old.records → CoversLog old points records
   covers-all end =
       let whole : take old.records records ≡ records = take_all old.records records end in
-      let all : every (is_covered points) (log_of records) ≡ true = subst (λ (xs : List Packet). every (is_covered points) (log_of xs) ≡ true) whole front.all in
-      let complete : old.complete ≡ complete_of points (log_of records) = front.complete ∙ ap (λ (xs : List Packet). last_lsn (log_of xs)) whole ∙ sym (complete_of-covered points (log_of records) all) in
+      let all : every (is_covered points) (log_of records) ≡ true = subst (λ (xs : List SharedRecord). every (is_covered points) (log_of xs) ≡ true) whole front.all in
+      let complete : old.complete ≡ complete_of points (log_of records) = front.complete ∙ ap (λ (xs : List SharedRecord). last_lsn (log_of xs)) whole ∙ sym (complete_of-covered points (log_of records) all) in
       record {
         front = front;
         complete = complete;
-        durable = front.durable ∙ ap₂ (λ n (xs : List Packet). consistency_point_below n (log_of xs)) complete whole;
-        durable_lasts = λ group h. front.durable_lasts group h ∙ ap (λ (xs : List Packet). last_of_group_below group old.durable (log_of xs)) whole;
+        durable = front.durable ∙ ap₂ (λ n (xs : List SharedRecord). consistency_point_below n (log_of xs)) complete whole;
+        durable_lasts = λ group h. front.durable_lasts group h ∙ ap (λ (xs : List SharedRecord). last_of_group_below group old.durable (log_of xs)) whole;
       }
 
   -- the next record isn't covered
-  pub covers-up-to : (p : Packet) (r : Redo) → old.records < length records → p ≡ get_or records old.records p → r ≡ packet_redo p → points r.group < r.lsn → CoversLog old points records
+  pub covers-up-to : (p : SharedRecord) (r : Redo) → old.records < length records → p ≡ get_or records old.records p → r ≡ shared_redo p → points r.group < r.lsn → CoversLog old points records
   covers-up-to p r within is shows short =
       let here : nat_le r.lsn (points r.group) ≡ false = lt-leb r.lsn (points r.group) short in
       let next : drop old.records records ≡ p ∷ drop (old.records + 1) records =
       drop-cons records old.records p within ∙ ap₂ (λ x n. x ∷ drop n records) (sym is) (sym (add-one old.records)) in
-      let whole : log_of records ≡ added (map packet_redo (drop (old.records + 1) records)) (r ∷ kept) =
-      split records old.records ∙ ap (λ (xs : List Packet). added (map packet_redo xs) kept) next
-      ∙ ap (λ s. added (map packet_redo (drop (old.records + 1) records)) (s ∷ kept)) (sym shows) in
-      let grows : is_growing (added (map packet_redo (drop (old.records + 1) records)) (r ∷ kept)) ≡ true = subst (λ log. is_growing log ≡ true) whole growing in
+      let whole : log_of records ≡ added (map shared_redo (drop (old.records + 1) records)) (r ∷ kept) =
+      split records old.records ∙ ap (λ (xs : List SharedRecord). added (map shared_redo xs) kept) next
+      ∙ ap (λ s. added (map shared_redo (drop (old.records + 1) records)) (s ∷ kept)) (sym shows) in
+      let grows : is_growing (added (map shared_redo (drop (old.records + 1) records)) (r ∷ kept)) ≡ true = subst (λ log. is_growing log ≡ true) whole growing in
       let link : last_lsn kept < r.lsn = (both (last_lsn kept) r.lsn (is_growing kept) (above (drop (old.records + 1) records) (r ∷ kept) grows).0).0 in
       let covered : complete_of points kept ≡ last_lsn kept = complete_of-covered points kept front.all in
       let step : complete_of points (r ∷ kept) ≡ last_lsn kept =
@@ -207,7 +207,7 @@ module _ (points : ℕ → ℕ) (records : List Packet) (growing : is_growing (l
       }
 
 -- a log of no record
-pub covers-none : (covered : Covered) (points : ℕ → ℕ) (records : List Packet) → CoversNone covered → records ≡ [] → CoversLog covered points records
+pub covers-none : (covered : Covered) (points : ℕ → ℕ) (records : List SharedRecord) → CoversNone covered → records ≡ [] → CoversLog covered points records
 covers-none covered points records none empty = subst (CoversLog covered points) (sym empty) (covers-all points [] refl covered (none points []) (omega arith))
 
 -- ---- points that rise, and logs that grow
@@ -221,7 +221,7 @@ every-covered points points' up (r ∷ older) h =
     and_from _ _ (le-leb r.lsn (points' r.group) (omega arith)) (every-covered points points' up older parts.1)
 
 -- points have risen
-pub covers-raised : (covered : Covered) (points points' : ℕ → ℕ) (records : List Packet) → ((group : ℕ) → points group ≤ points' group) → CoversFront covered points records → CoversFront covered points' records
+pub covers-raised : (covered : Covered) (points points' : ℕ → ℕ) (records : List SharedRecord) → ((group : ℕ) → points group ≤ points' group) → CoversFront covered points records → CoversFront covered points' records
 covers-raised covered points points' records up front = record {
   within = front.within;
   all = every-covered points points' up (log_of (take covered.records records)) front.all;
@@ -232,5 +232,5 @@ covers-raised covered points points' records up front = record {
 }
 
 -- points that are the same
-pub covers-same : (covered : Covered) (points points' : ℕ → ℕ) (records : List Packet) → ((group : ℕ) → points group ≡ points' group) → CoversLog covered points records → CoversLog covered points' records
+pub covers-same : (covered : Covered) (points points' : ℕ → ℕ) (records : List SharedRecord) → ((group : ℕ) → points group ≡ points' group) → CoversLog covered points records → CoversLog covered points' records
 covers-same covered points points' records same covers = subst (λ p. CoversLog covered p records) (fun_ext same) covers

@@ -7,8 +7,8 @@ use Rattle.std.proofs.lemmas.List.{take_all}
 use Rattle.std.proofs.lemmas.Bool.{cases_eq}
 use Rattle.std.proofs.lemmas.Bool.Decides.{nat_tests}
 use Rattle.volume_model.specs.Redo.{last_of_group, last_of_block}
-use Rattle.redo_record.specs.declared.packet.Packet.{Packet}
-use Rattle.redo_record.specs.Packet.{packet_redo}
+use Rattle.redo_record.specs.declared.shared_record.SharedRecord.{SharedRecord}
+use Rattle.redo_record.specs.SharedRecord.{shared_redo}
 use Rattle.writer_core.specs.Logs.{log_of}
 use Rattle.writer_core.specs.Kept.{Blocks, block_cmp, kept_in, AreSameIn, PutsIn}
 use Rattle.writer_core.specs.Lasts.{AreLasts, AreLastsOfAll, AreLastsOfFront, Enters, EntersNone}
@@ -81,22 +81,22 @@ lasts-same old new counted groups same = record {
 }
 
 -- all records are a front
-pub all-front : (lasts : Lasts) (records : List Packet) → AreLastsOfAll lasts records → AreLastsOfFront lasts records
+pub all-front : (lasts : Lasts) (records : List SharedRecord) → AreLastsOfAll lasts records → AreLastsOfFront lasts records
 all-front lasts records all = record {
   within = omega (arith, all.counted);
-  front = subst (λ (xs : List Packet). AreLasts lasts (log_of xs)) (sym (take_all lasts.entered records (omega (arith, all.counted)))) all.all;
+  front = subst (λ (xs : List SharedRecord). AreLasts lasts (log_of xs)) (sym (take_all lasts.entered records (omega (arith, all.counted)))) all.all;
 }
 
 -- the front is all records, where no more are left
-pub front-all : (lasts : Lasts) (records : List Packet) → length records ≤ lasts.entered → AreLastsOfFront lasts records → AreLastsOfAll lasts records
+pub front-all : (lasts : Lasts) (records : List SharedRecord) → length records ≤ lasts.entered → AreLastsOfFront lasts records → AreLastsOfAll lasts records
 front-all lasts records whole front = record {
   counted = omega (arith, whole, front.within);
-  all = subst (λ (xs : List Packet). AreLasts lasts (log_of xs)) (take_all lasts.entered records whole) front.front;
+  all = subst (λ (xs : List SharedRecord). AreLasts lasts (log_of xs)) (take_all lasts.entered records whole) front.front;
 }
 
 -- a record that is entered is then pushed
-pub all-pushed : (old new : Lasts) (records : List Packet) (p : Packet) (group block lsn : ℕ) → (packet_redo p).group ≡ group → (packet_redo p).block ≡ block → (packet_redo p).lsn ≡ lsn → Enters old new group block lsn → AreLastsOfAll old records → AreLastsOfAll new (records ++ p ∷ [])
+pub all-pushed : (old new : Lasts) (records : List SharedRecord) (p : SharedRecord) (group block lsn : ℕ) → (shared_redo p).group ≡ group → (shared_redo p).block ≡ block → (shared_redo p).lsn ≡ lsn → Enters old new group block lsn → AreLastsOfAll old records → AreLastsOfAll new (records ++ p ∷ [])
 all-pushed old new records p group block lsn on_group on_block has_lsn enters all = record {
   counted = omega (arith, enters.counted, all.counted, length-append records (p ∷ []));
-  all = subst (AreLasts new) (sym (log_of-push records p)) (enters.lasts (packet_redo p) on_group on_block has_lsn (log_of records) all.all);
+  all = subst (AreLasts new) (sym (log_of-push records p)) (enters.lasts (shared_redo p) on_group on_block has_lsn (log_of records) all.all);
 }

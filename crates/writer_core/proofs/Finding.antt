@@ -9,39 +9,39 @@ use Rattle.volume_model.specs.Redo.{Redo, last_lsn, record_at}
 use Rattle.volume_model.specs.ClientPoints.{is_consistency_point}
 use Rattle.volume_model.proofs.Basics.{IsIn-added}
 use Rattle.volume_model.proofs.Chains.{record_at-some, record_at-there}
-use Rattle.redo_record.specs.declared.packet.Packet.{Packet}
-use Rattle.redo_record.specs.Packet.{packet_redo}
+use Rattle.redo_record.specs.declared.shared_record.SharedRecord.{SharedRecord}
+use Rattle.redo_record.specs.SharedRecord.{shared_redo}
 use Rattle.writer_core.specs.Logs.{log_of, is_growing}
 use Rattle.writer_core.proofs.Growing.{both}
 
 -- ---- numbers that grow
 
-pub above : (xs : List Packet) (kept : List Redo) → is_growing (added (map packet_redo xs) kept) ≡ true → (is_growing kept ≡ true) × ((k : ℕ) (d : Packet) → k < length xs → last_lsn kept < (packet_redo (get_or xs k d)).lsn)
+pub above : (xs : List SharedRecord) (kept : List Redo) → is_growing (added (map shared_redo xs) kept) ≡ true → (is_growing kept ≡ true) × ((k : ℕ) (d : SharedRecord) → k < length xs → last_lsn kept < (shared_redo (get_or xs k d)).lsn)
 above [] kept h = (h, λ k d l. absurd (omega arith))
 above (x ∷ xs) kept h =
-    let (g, later) = above xs (packet_redo x ∷ kept) h in
-    let (a, rest) = both (last_lsn kept) (packet_redo x).lsn (is_growing kept) g in
+    let (g, later) = above xs (shared_redo x ∷ kept) h in
+    let (a, rest) = both (last_lsn kept) (shared_redo x).lsn (is_growing kept) g in
     (rest, next a later)
   where
-    next : last_lsn kept < (packet_redo x).lsn → ((k : ℕ) (d : Packet) → k < length xs → (packet_redo x).lsn < (packet_redo (get_or xs k d)).lsn) → (k : ℕ) (d : Packet) → k < length (x ∷ xs) → last_lsn kept < (packet_redo (get_or (x ∷ xs) k d)).lsn
+    next : last_lsn kept < (shared_redo x).lsn → ((k : ℕ) (d : SharedRecord) → k < length xs → (shared_redo x).lsn < (shared_redo (get_or xs k d)).lsn) → (k : ℕ) (d : SharedRecord) → k < length (x ∷ xs) → last_lsn kept < (shared_redo (get_or (x ∷ xs) k d)).lsn
     next a later zero d l = a
-    next a later (suc k) d l = let b : (packet_redo x).lsn < (packet_redo (get_or xs k d)).lsn = later k d (omega arith) in omega arith
+    next a later (suc k) d l = let b : (shared_redo x).lsn < (shared_redo (get_or xs k d)).lsn = later k d (omega arith) in omega arith
 
-pairs : (xs : List Packet) (kept : List Redo) → is_growing (added (map packet_redo xs) kept) ≡ true → (i j : ℕ) (d : Packet) → i < j → j < length xs → (packet_redo (get_or xs i d)).lsn < (packet_redo (get_or xs j d)).lsn
+pairs : (xs : List SharedRecord) (kept : List Redo) → is_growing (added (map shared_redo xs) kept) ≡ true → (i j : ℕ) (d : SharedRecord) → i < j → j < length xs → (shared_redo (get_or xs i d)).lsn < (shared_redo (get_or xs j d)).lsn
 pairs [] kept h i j d l k = absurd (omega arith)
 pairs (x ∷ xs) kept h i zero d l k = absurd (omega arith)
-pairs (x ∷ xs) kept h zero (suc j) d l k = (above xs (packet_redo x ∷ kept) h).1 j d (omega arith)
-pairs (x ∷ xs) kept h (suc i) (suc j) d l k = pairs xs (packet_redo x ∷ kept) h i j d (omega arith) (omega arith)
+pairs (x ∷ xs) kept h zero (suc j) d l k = (above xs (shared_redo x ∷ kept) h).1 j d (omega arith)
+pairs (x ∷ xs) kept h (suc i) (suc j) d l k = pairs xs (shared_redo x ∷ kept) h i j d (omega arith) (omega arith)
 
 -- a later record of the log has a greater number
-pub lsn-below : (xs : List Packet) → is_growing (log_of xs) ≡ true → (i j : ℕ) (d : Packet) → i < j → j < length xs → (packet_redo (get_or xs i d)).lsn < (packet_redo (get_or xs j d)).lsn
+pub lsn-below : (xs : List SharedRecord) → is_growing (log_of xs) ≡ true → (i j : ℕ) (d : SharedRecord) → i < j → j < length xs → (shared_redo (get_or xs i d)).lsn < (shared_redo (get_or xs j d)).lsn
 lsn-below xs h = pairs xs [] h
 
-pub lsn-rises : (xs : List Packet) → is_growing (log_of xs) ≡ true → IsNonDecreasingBy (λ (p : Packet). (packet_redo p).lsn) xs
+pub lsn-rises : (xs : List SharedRecord) → is_growing (log_of xs) ≡ true → IsNonDecreasingBy (λ (p : SharedRecord). (shared_redo p).lsn) xs
 lsn-rises xs h i j d l k =
     elim (cases_lt i j) [
-      | inl b ↦ (let less : (packet_redo (get_or xs i d)).lsn < (packet_redo (get_or xs j d)).lsn = lsn-below xs h i j d b k in omega arith)
-      | inr b ↦ (let same : i ≡ j = omega arith in subst (λ m. (packet_redo (get_or xs i d)).lsn ≤ (packet_redo (get_or xs m d)).lsn) same (omega arith))
+      | inl b ↦ (let less : (shared_redo (get_or xs i d)).lsn < (shared_redo (get_or xs j d)).lsn = lsn-below xs h i j d b k in omega arith)
+      | inr b ↦ (let same : i ≡ j = omega arith in subst (λ m. (shared_redo (get_or xs i d)).lsn ≤ (shared_redo (get_or xs m d)).lsn) same (omega arith))
     ]
 
 -- ---- the records of a log
@@ -53,21 +53,21 @@ in-added (y ∷ xs) kept x (inl (inl e)) = in-added xs (y ∷ kept) x (inr (inl 
 in-added (y ∷ xs) kept x (inl (inr i)) = in-added xs (y ∷ kept) x (inl i)
 in-added (y ∷ xs) kept x (inr i) = in-added xs (y ∷ kept) x (inr (inr i))
 
-in-map : (xs : List Packet) (k : ℕ) (d : Packet) → k < length xs → IsIn (packet_redo (get_or xs k d)) (map packet_redo xs)
+in-map : (xs : List SharedRecord) (k : ℕ) (d : SharedRecord) → k < length xs → IsIn (shared_redo (get_or xs k d)) (map shared_redo xs)
 in-map [] k d h = absurd (omega arith)
 in-map (x ∷ xs) zero d h = inl refl
 in-map (x ∷ xs) (suc k) d h = inr (in-map xs k d (omega arith))
 
-all-map : (P : Redo → Type 0) (xs : List Packet) → ((k : ℕ) (d : Packet) → k < length xs → P (packet_redo (get_or xs k d))) → (r : Redo) → IsIn r (map packet_redo xs) → P r
+all-map : (P : Redo → Type 0) (xs : List SharedRecord) → ((k : ℕ) (d : SharedRecord) → k < length xs → P (shared_redo (get_or xs k d))) → (r : Redo) → IsIn r (map shared_redo xs) → P r
 all-map P [] h r i = absurd i
 all-map P (x ∷ xs) h r (inl e) = subst P (sym e) (h 0 x (omega arith))
 all-map P (x ∷ xs) h r (inr i) = all-map P xs (λ k d l. h (suc k) d (omega arith)) r i
 
-pub in-log : (xs : List Packet) (k : ℕ) (d : Packet) → k < length xs → IsIn (packet_redo (get_or xs k d)) (log_of xs)
-in-log xs k d h = in-added (map packet_redo xs) [] (packet_redo (get_or xs k d)) (inl (in-map xs k d h))
+pub in-log : (xs : List SharedRecord) (k : ℕ) (d : SharedRecord) → k < length xs → IsIn (shared_redo (get_or xs k d)) (log_of xs)
+in-log xs k d h = in-added (map shared_redo xs) [] (shared_redo (get_or xs k d)) (inl (in-map xs k d h))
 
-pub all-log : (P : Redo → Type 0) (xs : List Packet) → ((k : ℕ) (d : Packet) → k < length xs → P (packet_redo (get_or xs k d))) → (r : Redo) → IsIn r (log_of xs) → P r
-all-log P xs h r i = elim (IsIn-added (map packet_redo xs) [] r i) [ inl j ↦ all-map P xs h r j | inr j ↦ absurd j ]
+pub all-log : (P : Redo → Type 0) (xs : List SharedRecord) → ((k : ℕ) (d : SharedRecord) → k < length xs → P (shared_redo (get_or xs k d))) → (r : Redo) → IsIn r (log_of xs) → P r
+all-log P xs h r i = elim (IsIn-added (map shared_redo xs) [] r i) [ inl j ↦ all-map P xs h r j | inr j ↦ absurd j ]
 
 -- ---- the record of a number
 
@@ -131,26 +131,26 @@ is_consistency_point-record_at (r ∷ older) n h =
     or_false false = refl
 
 -- a search has found the number's record
-pub record-found : (log : List Packet) (i n : ℕ) (p : Packet) → is_growing (log_of log) ≡ true → i < length log → p ≡ get_or log i p → (packet_redo p).lsn ≡ n → Some (packet_redo p) ≡ record_at (log_of log) n
+pub record-found : (log : List SharedRecord) (i n : ℕ) (p : SharedRecord) → is_growing (log_of log) ≡ true → i < length log → p ≡ get_or log i p → (shared_redo p).lsn ≡ n → Some (shared_redo p) ≡ record_at (log_of log) n
 record-found log i n p h within is e =
-    let in-it : IsIn (packet_redo p) (log_of log) = subst (λ (x : Packet). IsIn (packet_redo x) (log_of log)) (sym is) (in-log log i p within) in
-    sym (record_at-in (log_of log) h (packet_redo p) in-it) ∙ ap (record_at (log_of log)) e
+    let in-it : IsIn (shared_redo p) (log_of log) = subst (λ (x : SharedRecord). IsIn (shared_redo x) (log_of log)) (sym is) (in-log log i p within) in
+    sym (record_at-in (log_of log) h (shared_redo p) in-it) ∙ ap (record_at (log_of log)) e
 
 -- it has found the place where the record would stand, and the one there has another number
-pub record-missing : (log : List Packet) (i n : ℕ) → is_growing (log_of log) ≡ true → IsPartitionPoint (λ (p : Packet). nat_lt (packet_redo p).lsn n ≡ true) (λ (p : Packet). nat_lt (packet_redo p).lsn n ≡ false) log i → ((d : Packet) → i < length log → (packet_redo (get_or log i d)).lsn ≢ n)
+pub record-missing : (log : List SharedRecord) (i n : ℕ) → is_growing (log_of log) ≡ true → IsPartitionPoint (λ (p : SharedRecord). nat_lt (shared_redo p).lsn n ≡ true) (λ (p : SharedRecord). nat_lt (shared_redo p).lsn n ≡ false) log i → ((d : SharedRecord) → i < length log → (shared_redo (get_or log i d)).lsn ≢ n)
     → record_at (log_of log) n ≡ None
 record-missing log i n h split other = record_at-none (log_of log) n (all-log (λ r. r.lsn ≢ n) log differs)
   where
-    differs : (k : ℕ) (d : Packet) → k < length log → (packet_redo (get_or log k d)).lsn ≢ n
+    differs : (k : ℕ) (d : SharedRecord) → k < length log → (shared_redo (get_or log k d)).lsn ≢ n
     differs k d within =
         elim (cases_lt k i) [
-          | inl b ↦ (let less : (packet_redo (get_or log k d)).lsn < n = ltb-true _ _ (split.0 k d (omega arith) b) in λ e. absurd (omega (arith, e)))
+          | inl b ↦ (let less : (shared_redo (get_or log k d)).lsn < n = ltb-true _ _ (split.0 k d (omega arith) b) in λ e. absurd (omega (arith, e)))
           | inr b ↦ elim (cases_lt i k) [
             | inl up ↦ (
-                let from : nat_lt (packet_redo (get_or log i d)).lsn n ≡ false = split.1 i d (omega arith) (omega arith) in
-                let least : n ≤ (packet_redo (get_or log i d)).lsn = ltb-false _ _ from in
-                let more : (packet_redo (get_or log i d)).lsn < (packet_redo (get_or log k d)).lsn = lsn-below log h i k d up within in
+                let from : nat_lt (shared_redo (get_or log i d)).lsn n ≡ false = split.1 i d (omega arith) (omega arith) in
+                let least : n ≤ (shared_redo (get_or log i d)).lsn = ltb-false _ _ from in
+                let more : (shared_redo (get_or log i d)).lsn < (shared_redo (get_or log k d)).lsn = lsn-below log h i k d up within in
                 λ e. absurd (omega (arith, e)))
-            | inr up ↦ (let same : i ≡ k = omega arith in subst (λ m. (packet_redo (get_or log m d)).lsn ≢ n) same (other d (omega arith)))
+            | inr up ↦ (let same : i ≡ k = omega arith in subst (λ m. (shared_redo (get_or log m d)).lsn ≢ n) same (other d (omega arith)))
           ]
         ]

@@ -8,10 +8,10 @@ use Rattle.volume_model.specs.Lists.{IsIn, added, every}
 use Rattle.volume_model.specs.Redo.{Redo, spelling, numbers_before, last_lsn, record_at, of_group, with_record}
 use Rattle.volume_model.proofs.Basics.{IsIn-added, IsIn-append_right}
 use Rattle.volume_model.proofs.Chains.{record_at-some, record_at-there}
-use Rattle.redo_record.specs.declared.packet.Packet.{Packet}
+use Rattle.redo_record.specs.declared.shared_record.SharedRecord.{SharedRecord}
 use Rattle.redo_record.specs.declared.record_set.RecordSet.{RecordSet}
 use Rattle.redo_record.specs.Order.{IsInOrder, ComesAfter}
-use Rattle.redo_record.specs.Packet.{packet_redo}
+use Rattle.redo_record.specs.SharedRecord.{shared_redo}
 use Rattle.redo_record.specs.RecordSet.{packets_of, records_of}
 use Rattle.redo_record.specs.Shared.{packets_in}
 use Rattle.redo_record.proofs.Before.{IsBefore}
@@ -25,20 +25,20 @@ use Rattle.writer_core.proofs.Finding.{in-added, record_at-in, record_at-none}
 
 -- ---- the records of a set
 
-pub shown-set : (set : RecordSet) → map packet_redo (packets_of set) ≡ records_of set
-shown-set set = part-shown packet_redo (packets_in set.packets.shared.packets) set.packets.from set.packets.len
+pub shown-set : (set : RecordSet) → map shared_redo (packets_of set) ≡ records_of set
+shown-set set = part-shown shared_redo (packets_in set.packets.shared.packets) set.packets.from set.packets.len
 
 pub log_of-set : (set : RecordSet) → log_of (packets_of set) ≡ log_of_set set
 log_of-set set = ap (λ (rs : List Redo). added rs []) (shown-set set)
 
 -- ---- two lists
 
-added-append : (xs ys : List Packet) (kept : List Redo) → added (map packet_redo (xs ++ ys)) kept ≡ added (map packet_redo ys) (added (map packet_redo xs) kept)
+added-append : (xs ys : List SharedRecord) (kept : List Redo) → added (map shared_redo (xs ++ ys)) kept ≡ added (map shared_redo ys) (added (map shared_redo xs) kept)
 added-append [] ys kept = refl
-added-append (x ∷ xs) ys kept = added-append xs ys (packet_redo x ∷ kept)
+added-append (x ∷ xs) ys kept = added-append xs ys (shared_redo x ∷ kept)
 
 -- the newer records stand before the older ones
-pub log_of-append : (xs ys : List Packet) → log_of (xs ++ ys) ≡ added (map packet_redo ys) (log_of xs)
+pub log_of-append : (xs ys : List SharedRecord) → log_of (xs ++ ys) ≡ added (map shared_redo ys) (log_of xs)
 log_of-append xs ys = added-append xs ys []
 
 -- a log grows up to each of its records
@@ -61,17 +61,17 @@ newer-grows [] newer kept h = front-grows newer kept h
 newer-grows (r ∷ rs) newer kept h = newer-grows rs (r ∷ newer) kept h
 
 -- the front of a log grows, and so does the rest
-pub found-grows : (xs ys : List Packet) → is_growing (log_of (xs ++ ys)) ≡ true → is_growing (log_of xs) ≡ true
-found-grows xs ys h = older-grows (map packet_redo ys) (log_of xs) (ap is_growing (sym (log_of-append xs ys)) ∙ h)
+pub found-grows : (xs ys : List SharedRecord) → is_growing (log_of (xs ++ ys)) ≡ true → is_growing (log_of xs) ≡ true
+found-grows xs ys h = older-grows (map shared_redo ys) (log_of xs) (ap is_growing (sym (log_of-append xs ys)) ∙ h)
 
-pub issued-grows : (xs ys : List Packet) → is_growing (log_of (xs ++ ys)) ≡ true → is_growing (log_of ys) ≡ true
-issued-grows xs ys h = newer-grows (map packet_redo ys) [] (log_of xs) (ap is_growing (sym (log_of-append xs ys)) ∙ h)
+pub issued-grows : (xs ys : List SharedRecord) → is_growing (log_of (xs ++ ys)) ≡ true → is_growing (log_of ys) ≡ true
+issued-grows xs ys h = newer-grows (map shared_redo ys) [] (log_of xs) (ap is_growing (sym (log_of-append xs ys)) ∙ h)
 
 -- ---- the record of a number
 
-module _ (xs ys : List Packet) (grows : is_growing (log_of (xs ++ ys)) ≡ true) (n : ℕ) where
-  in-whole : (r : Redo) → IsIn r (map packet_redo ys) ⊎ IsIn r (log_of xs) → IsIn r (log_of (xs ++ ys))
-  in-whole r i = subst (IsIn r) (sym (log_of-append xs ys)) (in-added (map packet_redo ys) (log_of xs) r i)
+module _ (xs ys : List SharedRecord) (grows : is_growing (log_of (xs ++ ys)) ≡ true) (n : ℕ) where
+  in-whole : (r : Redo) → IsIn r (map shared_redo ys) ⊎ IsIn r (log_of xs) → IsIn r (log_of (xs ++ ys))
+  in-whole r i = subst (IsIn r) (sym (log_of-append xs ys)) (in-added (map shared_redo ys) (log_of xs) r i)
 
   at-whole : (r : Redo) → IsIn r (log_of (xs ++ ys)) → r.lsn ≡ n → record_at (log_of (xs ++ ys)) n ≡ Some r
   at-whole r i e = subst (λ m. record_at (log_of (xs ++ ys)) m ≡ Some r) e (record_at-in (log_of (xs ++ ys)) grows r i)
@@ -88,8 +88,8 @@ module _ (xs ys : List Packet) (grows : is_growing (log_of (xs ++ ys)) ≡ true)
       apart : (s : Redo) → Some s ≡ None → ⊥
       apart s h = cc
 
-  of-issued : (r : Redo) → IsIn r (log_of ys) → IsIn r (map packet_redo ys)
-  of-issued r i = elim (IsIn-added (map packet_redo ys) [] r i) [ inl j ↦ j | inr j ↦ absurd j ]
+  of-issued : (r : Redo) → IsIn r (log_of ys) → IsIn r (map shared_redo ys)
+  of-issued r i = elim (IsIn-added (map shared_redo ys) [] r i) [ inl j ↦ j | inr j ↦ absurd j ]
 
   -- it is none of the front
   pub at-issued : record_at (log_of xs) n ≡ None → record_at (log_of (xs ++ ys)) n ≡ record_at (log_of ys) n
@@ -98,8 +98,8 @@ module _ (xs ys : List Packet) (grows : is_growing (log_of (xs ++ ys)) ≡ true)
       go : (found : Option Redo) → record_at (log_of ys) n ≡ found → record_at (log_of (xs ++ ys)) n ≡ record_at (log_of ys) n
       go (Some r) found = (let (i, e) = record_at-some (log_of ys) n r found in at-whole r (in-whole r (inl (of-issued r i))) e ∙ sym found)
       go None found =
-          record_at-none (log_of (xs ++ ys)) n (λ r i e. elim (IsIn-added (map packet_redo ys) (log_of xs) r (subst (IsIn r) (log_of-append xs ys) i)) [
-            | inl j ↦ missing (log_of ys) found r (in-added (map packet_redo ys) [] r (inl j)) e
+          record_at-none (log_of (xs ++ ys)) n (λ r i e. elim (IsIn-added (map shared_redo ys) (log_of xs) r (subst (IsIn r) (log_of-append xs ys) i)) [
+            | inl j ↦ missing (log_of ys) found r (in-added (map shared_redo ys) [] r (inl j)) e
             | inr j ↦ missing (log_of xs) none r j e
           ])
           ∙ sym found
@@ -107,27 +107,27 @@ module _ (xs ys : List Packet) (grows : is_growing (log_of (xs ++ ys)) ≡ true)
 -- ---- what fewer records leave
 
 -- the first of the rest's packets, behind the front
-pub taken-behind : (xs ys : List Packet) (n : ℕ) → length xs ≤ n → xs ++ take (n - length xs) ys ≡ take n (xs ++ ys)
+pub taken-behind : (xs ys : List SharedRecord) (n : ℕ) → length xs ≤ n → xs ++ take (n - length xs) ys ≡ take n (xs ++ ys)
 taken-behind [] ys n h = (let whole : n - 0 ≡ n = omega arith in ap (λ m. take m ys) whole)
 taken-behind (x ∷ xs) ys zero h = absurd (omega arith)
 taken-behind (x ∷ xs) ys (suc n) h =
     let fewer : suc n - length (x ∷ xs) ≡ n - length xs = omega arith in
-    ap (λ m. x ∷ xs ++ take m ys) fewer ∙ ap (λ (ps : List Packet). x ∷ ps) (taken-behind xs ys n (omega arith))
+    ap (λ m. x ∷ xs ++ take m ys) fewer ∙ ap (λ (ps : List SharedRecord). x ∷ ps) (taken-behind xs ys n (omega arith))
 
-pub taken-grows : (packets : List Packet) (n : ℕ) → is_growing (log_of packets) ≡ true → is_growing (log_of (take n packets)) ≡ true
-taken-grows packets n h = found-grows (take n packets) (drop n packets) (subst (λ (ps : List Packet). is_growing (log_of ps) ≡ true) (sym (take-append-drop n packets)) h)
+pub taken-grows : (packets : List SharedRecord) (n : ℕ) → is_growing (log_of packets) ≡ true → is_growing (log_of (take n packets)) ≡ true
+taken-grows packets n h = found-grows (take n packets) (drop n packets) (subst (λ (ps : List SharedRecord). is_growing (log_of ps) ≡ true) (sym (take-append-drop n packets)) h)
 
 -- the clones of both lists
-pub joined-copied : (set other : RecordSet) (ys zs : List Packet) → records_of other ≡ records_of set → AllZip IsCopy ys zs → log_of (packets_of other ++ zs) ≡ log_of (packets_of set ++ ys)
+pub joined-copied : (set other : RecordSet) (ys zs : List SharedRecord) → records_of other ≡ records_of set → AllZip IsCopy ys zs → log_of (packets_of other ++ zs) ≡ log_of (packets_of set ++ ys)
 joined-copied set other ys zs same copied =
     log_of-append (packets_of other) zs
     ∙ ap (λ (rs : List Redo). added rs (log_of (packets_of other))) (redos-copied ys zs copied)
-    ∙ ap (added (map packet_redo ys)) (log_of-set other ∙ ap (λ (rs : List Redo). added rs []) same ∙ sym (log_of-set set))
+    ∙ ap (added (map shared_redo ys)) (log_of-set other ∙ ap (λ (rs : List Redo). added rs []) same ∙ sym (log_of-set set))
     ∙ sym (log_of-append (packets_of set) ys)
 
 -- how many packets a set has
 pub length-set : (set : RecordSet) → length (packets_of set) ≡ length (records_of set)
-length-set set = sym (length-map (packets_of set) packet_redo) ∙ ap length (shown-set set)
+length-set set = sym (length-map (packets_of set) shared_redo) ∙ ap length (shown-set set)
 
 pub length-same : (set other : RecordSet) → records_of other ≡ records_of set → length (packets_of other) ≡ length (packets_of set)
 length-same set other same = length-set other ∙ ap length same ∙ sym (length-set set)
@@ -143,19 +143,19 @@ added-more [] r kept = refl
 added-more (s ∷ rs) r kept = added-more rs r (s ∷ kept)
 
 -- one record more of a list
-module _ (packets : List Packet) (records : List Redo) (i : ℕ) (p : Packet) (listed : map packet_redo packets ≡ records) (within : i < length packets) (is : p ≡ get_or packets i p) where
-  pub one-more : added (take (i + 1) records) [] ≡ packet_redo p ∷ added (take i records) []
+module _ (packets : List SharedRecord) (records : List Redo) (i : ℕ) (p : SharedRecord) (listed : map shared_redo packets ≡ records) (within : i < length packets) (is : p ≡ get_or packets i p) where
+  pub one-more : added (take (i + 1) records) [] ≡ shared_redo p ∷ added (take i records) []
   one-more =
-      let inside : i < length records = subst (λ n. i < n) (sym (length-map packets packet_redo) ∙ ap length listed) within in
-      let here : packet_redo p ≡ get_or records i (packet_redo p) = ap packet_redo is ∙ sym (get_or-map packet_redo packets i p (packet_redo p) within) ∙ ap (λ l. get_or l i (packet_redo p)) listed in
-      ap (λ (rs : List Redo). added rs []) (take_more records i (packet_redo p) inside ∙ ap (λ r. take i records ++ r ∷ []) (sym here)) ∙ added-more (take i records) (packet_redo p) []
+      let inside : i < length records = subst (λ n. i < n) (sym (length-map packets shared_redo) ∙ ap length listed) within in
+      let here : shared_redo p ≡ get_or records i (shared_redo p) = ap shared_redo is ∙ sym (get_or-map shared_redo packets i p (shared_redo p) within) ∙ ap (λ l. get_or l i (shared_redo p)) listed in
+      ap (λ (rs : List Redo). added rs []) (take_more records i (shared_redo p) inside ∙ ap (λ r. take i records ++ r ∷ []) (sym here)) ∙ added-more (take i records) (shared_redo p) []
 
-  pub of_group-more : (group : ℕ) (b : Bool) → nat_eq (packet_redo p).group group ≡ b → of_group group (added (take (i + 1) records) []) ≡ (if b then with_record (packet_redo p) (of_group group (added (take i records) [])) else of_group group (added (take i records) []))
-  of_group-more group b test = ap (of_group group) one-more ∙ ap (λ (t : Bool). if t then with_record (packet_redo p) (of_group group (added (take i records) [])) else of_group group (added (take i records) [])) test
+  pub of_group-more : (group : ℕ) (b : Bool) → nat_eq (shared_redo p).group group ≡ b → of_group group (added (take (i + 1) records) []) ≡ (if b then with_record (shared_redo p) (of_group group (added (take i records) [])) else of_group group (added (take i records) []))
+  of_group-more group b test = ap (of_group group) one-more ∙ ap (λ (t : Bool). if t then with_record (shared_redo p) (of_group group (added (take i records) [])) else of_group group (added (take i records) [])) test
 
 -- all records of a list
-pub of_group-end : (group : ℕ) (packets : List Packet) (records : List Redo) (i : ℕ) → map packet_redo packets ≡ records → length packets ≤ i → of_group group (added (take i records) []) ≡ of_group group (added records [])
-of_group-end group packets records i listed end = ap (λ (rs : List Redo). of_group group (added rs [])) (take_all i records (subst (λ n. n ≤ i) (sym (length-map packets packet_redo) ∙ ap length listed) end))
+pub of_group-end : (group : ℕ) (packets : List SharedRecord) (records : List Redo) (i : ℕ) → map shared_redo packets ≡ records → length packets ≤ i → of_group group (added (take i records) []) ≡ of_group group (added records [])
+of_group-end group packets records i listed end = ap (λ (rs : List Redo). of_group group (added rs [])) (take_all i records (subst (λ n. n ≤ i) (sym (length-map packets shared_redo) ∙ ap length listed) end))
 
 before-here : (older : List Redo) (r : Redo) (rest : List Redo) → IsOrdered (older ++ r ∷ rest) → ComesAfter older r
 unfolding IsBefore

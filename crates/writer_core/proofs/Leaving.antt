@@ -8,9 +8,9 @@ use Rattle.std.proofs.Math.Seq.{get_or-append_seam}
 use Rattle.std.proofs.lemmas.List.{take-append-le, take-take, take_all, length-take}
 use Rattle.std.proofs.lemmas.Bool.Decides.{nat_tests}
 use Rattle.volume_model.specs.Redo.{Redo, last_of_group, last_of_block}
-use Rattle.redo_record.specs.declared.packet.Packet.{Packet}
+use Rattle.redo_record.specs.declared.shared_record.SharedRecord.{SharedRecord}
 use Rattle.redo_record.specs.declared.«record».Record.{Record}
-use Rattle.redo_record.specs.Packet.{packet_redo}
+use Rattle.redo_record.specs.SharedRecord.{shared_redo}
 use Rattle.redo_record.specs.Record.{redo_of}
 use Rattle.writer_core.specs.Logs.{log_of}
 use Rattle.writer_core.specs.Kept.{Blocks, block_cmp, kept_in, PutsIn}
@@ -64,22 +64,22 @@ lasts-left old new i group block prev_group prev_block is below counted groups (
 }
 
 -- one record of the front is taken out
-pub front-left : (old new : Lasts) (records : List Packet) (p : Packet) (r : Record) (place : ℕ) → place < old.entered → AreLinkedFrom place records → p ≡ get_or records (old.entered - 1) p → redo_of r ≡ packet_redo p
+pub front-left : (old new : Lasts) (records : List SharedRecord) (p : SharedRecord) (r : Record) (place : ℕ) → place < old.entered → AreLinkedFrom place records → p ≡ get_or records (old.entered - 1) p → redo_of r ≡ shared_redo p
     → Leaves old new r.group r.block r.prev_group r.prev_block → AreLastsOfFront old records → AreLastsOfFront new records
 front-left old new records p r place more linked is shows leaves front =
     let counted : old.entered - 1 ≡ new.entered = omega (arith, leaves.counted) in
     let here : p ≡ get_or records new.entered p = is ∙ ap (λ n. get_or records n p) counted in
     let within : new.entered < length records = omega (arith, leaves.counted, front.within) in
     let one : log_of (take old.entered records) ≡ redo_of r ∷ log_of (take new.entered records) =
-    ap (λ n. log_of (take n records)) (sym leaves.counted) ∙ log_of-more records new.entered p within ∙ ap (λ x. packet_redo x ∷ log_of (take new.entered records)) (sym here) ∙ ap (λ s. s ∷ log_of (take new.entered records)) (sym shows) in
-    let link : IsLinked (redo_of r) (log_of (take new.entered records)) = subst (λ s. IsLinked s (log_of (take new.entered records))) (ap packet_redo (sym here) ∙ sym shows) (linked new.entered p (omega (arith, leaves.counted, more)) within) in
+    ap (λ n. log_of (take n records)) (sym leaves.counted) ∙ log_of-more records new.entered p within ∙ ap (λ x. shared_redo x ∷ log_of (take new.entered records)) (sym here) ∙ ap (λ s. s ∷ log_of (take new.entered records)) (sym shows) in
+    let link : IsLinked (redo_of r) (log_of (take new.entered records)) = subst (λ s. IsLinked s (log_of (take new.entered records))) (ap shared_redo (sym here) ∙ sym shows) (linked new.entered p (omega (arith, leaves.counted, more)) within) in
     record {
       within = omega (arith, within);
       front = leaves.lasts (redo_of r) refl refl refl refl r.lsn_positive (log_of (take new.entered records)) link (subst (AreLasts old) one front.front);
     }
 
 -- the record that was entered behind all others, and names what is before it, is taken out
-pub all-left : (old mid new : Lasts) (records : List Packet) (r : Redo) (lsn prev_group prev_block : ℕ) → r.lsn ≡ lsn → r.prev_group ≡ prev_group → r.prev_block ≡ prev_block → 1 ≤ r.lsn → IsLinked r (log_of records)
+pub all-left : (old mid new : Lasts) (records : List SharedRecord) (r : Redo) (lsn prev_group prev_block : ℕ) → r.lsn ≡ lsn → r.prev_group ≡ prev_group → r.prev_block ≡ prev_block → 1 ≤ r.lsn → IsLinked r (log_of records)
     → Enters old mid r.group r.block lsn → Leaves mid new r.group r.block prev_group prev_block → AreLastsOfAll old records → AreLastsOfAll new records
 all-left old mid new records r lsn prev_group prev_block has_lsn names_group names_block some linked enters leaves all = record {
   counted = omega (arith, enters.counted, leaves.counted, all.counted);
@@ -87,27 +87,27 @@ all-left old mid new records r lsn prev_group prev_block has_lsn names_group nam
 }
 
 -- what is entered is the front of a front
-pub front-cut : (lasts : Lasts) (records : List Packet) (n : ℕ) → lasts.entered ≤ n → AreLastsOfFront lasts records → AreLastsOfFront lasts (take n records)
+pub front-cut : (lasts : Lasts) (records : List SharedRecord) (n : ℕ) → lasts.entered ≤ n → AreLastsOfFront lasts records → AreLastsOfFront lasts (take n records)
 front-cut lasts records n few front = record {
   within = omega (arith, few, front.within, length-take n records);
-  front = subst (λ (xs : List Packet). AreLasts lasts (log_of xs)) (sym (take-take lasts.entered n records few)) front.front;
+  front = subst (λ (xs : List SharedRecord). AreLasts lasts (log_of xs)) (sym (take-take lasts.entered n records few)) front.front;
 }
 
 -- ---- a log that grows by records that name what is before them
 
-pub linked-none : (records : List Packet) → AreLinkedFrom (length records) records
+pub linked-none : (records : List SharedRecord) → AreLinkedFrom (length records) records
 linked-none records k d from within = absurd (omega arith)
 
-pub linked-pushed : (place : ℕ) (records : List Packet) (p : Packet) → IsLinked (packet_redo p) (log_of records) → AreLinkedFrom place records → AreLinkedFrom place (records ++ p ∷ [])
+pub linked-pushed : (place : ℕ) (records : List SharedRecord) (p : SharedRecord) → IsLinked (shared_redo p) (log_of records) → AreLinkedFrom place records → AreLinkedFrom place (records ++ p ∷ [])
 linked-pushed place records p link linked k d from within =
     elim (cases_lt k (length records)) [
       | inl b ↦ (
           let x : get_or (records ++ p ∷ []) k d ≡ get_or records k d = get_or-append records (p ∷ []) d k b in
           let kept : take k (records ++ p ∷ []) ≡ take k records = take-append-le k records (p ∷ []) (omega arith) in
-          subst (λ (xs : List Packet). IsLinked (packet_redo (get_or (records ++ p ∷ []) k d)) (log_of xs)) (sym kept) (subst (λ (y : Packet). IsLinked (packet_redo y) (log_of (take k records))) (sym x) (linked k d from b)))
+          subst (λ (xs : List SharedRecord). IsLinked (shared_redo (get_or (records ++ p ∷ []) k d)) (log_of xs)) (sym kept) (subst (λ (y : SharedRecord). IsLinked (shared_redo y) (log_of (take k records))) (sym x) (linked k d from b)))
       | inr b ↦ (
           let same : k ≡ length records = omega (arith, length-append records (p ∷ [])) in
           let x : get_or (records ++ p ∷ []) k d ≡ p = ap (λ n. get_or (records ++ p ∷ []) n d) same ∙ get_or-append_seam records p [] d in
           let kept : take k (records ++ p ∷ []) ≡ records = ap (λ n. take n (records ++ p ∷ [])) same ∙ take-append-le (length records) records (p ∷ []) (omega arith) ∙ take_all (length records) records (omega arith) in
-          subst (λ (xs : List Packet). IsLinked (packet_redo (get_or (records ++ p ∷ []) k d)) (log_of xs)) (sym kept) (subst (λ (y : Packet). IsLinked (packet_redo y) (log_of records)) (sym x) link))
+          subst (λ (xs : List SharedRecord). IsLinked (shared_redo (get_or (records ++ p ∷ []) k d)) (log_of xs)) (sym kept) (subst (λ (y : SharedRecord). IsLinked (shared_redo y) (log_of records)) (sym x) link))
     ]

@@ -9,8 +9,8 @@ use Rattle.volume_model.specs.Message as model
 use Rattle.volume_model.specs.Client as client
 use Rattle.volume_model.specs.ClientWriter as model_writer
 use Rattle.volume_model.specs.ClientWriter.{record_of, is_last, issued_log, issued_writes, is_change}
-use Rattle.redo_record.specs.declared.packet.Packet.{Packet}
-use Rattle.redo_record.specs.Packet.{packet_redo}
+use Rattle.redo_record.specs.declared.shared_record.SharedRecord.{SharedRecord}
+use Rattle.redo_record.specs.SharedRecord.{shared_redo}
 use Rattle.wire.specs.declared.message.Message.{Message}
 use Rattle.wire.specs.Message.{message_of, messages_of}
 use Rattle.writer_core.specs.declared.change.Change.{Change}
@@ -51,11 +51,11 @@ good_here groups changes i change within is h =
       place = leb-true (it.offset + length it.bytes) 512 d.1;
     }
 
-module _ (volume start : ℕ) (places : ℕ → model.Place) (changes : List Change) (i : ℕ) (change : Change) (within : i < length changes) (is : change ≡ get_or changes i change) (records : List Packet) (p : Packet) (made : packet_redo p ≡ record_of volume start (log_of records) (change_of change) (nat_eq (i + 1) (length changes))) where
+module _ (volume start : ℕ) (places : ℕ → model.Place) (changes : List Change) (i : ℕ) (change : Change) (within : i < length changes) (is : change ≡ get_or changes i change) (records : List SharedRecord) (p : SharedRecord) (made : shared_redo p ≡ record_of volume start (log_of records) (change_of change) (nat_eq (i + 1) (length changes))) where
   pub rest_is : changes_of (drop i changes) ≡ change_of change ∷ changes_of (drop (i + 1) changes)
   rest_is = here_is changes i change within is
 
-  record_is : packet_redo p ≡ record_of volume start (log_of records) (change_of change) (is_last (changes_of (drop (i + 1) changes)))
+  record_is : shared_redo p ≡ record_of volume start (log_of records) (change_of change) (is_last (changes_of (drop (i + 1) changes)))
   record_is = made ∙ ap (record_of volume start (log_of records) (change_of change)) (last_here changes i within)
 
   log_is : log_of (records ++ p ∷ []) ≡ record_of volume start (log_of records) (change_of change) (is_last (changes_of (drop (i + 1) changes))) ∷ log_of records
@@ -64,20 +64,20 @@ module _ (volume start : ℕ) (places : ℕ → model.Place) (changes : List Cha
   pub logged_on : issued_log volume start (changes_of (drop (i + 1) changes)) (log_of (records ++ p ∷ [])) ≡ issued_log volume start (changes_of (drop i changes)) (log_of records)
   logged_on = ap (issued_log volume start (changes_of (drop (i + 1) changes))) log_is ∙ sym (ap (λ cs. issued_log volume start cs (log_of records)) rest_is)
 
-  pub written_on : (m : model.Message) → m ≡ model.Message.Write (change_of change).group (client.label_of volume places (change_of change).group) (packet_redo p) → m ∷ issued_writes volume places start (changes_of (drop (i + 1) changes)) (log_of (records ++ p ∷ [])) ≡ issued_writes volume places start (changes_of (drop i changes)) (log_of records)
+  pub written_on : (m : model.Message) → m ≡ model.Message.Write (change_of change).group (client.label_of volume places (change_of change).group) (shared_redo p) → m ∷ issued_writes volume places start (changes_of (drop (i + 1) changes)) (log_of (records ++ p ∷ [])) ≡ issued_writes volume places start (changes_of (drop i changes)) (log_of records)
   written_on m e =
       ap₂ (λ x l. x ∷ issued_writes volume places start (changes_of (drop (i + 1) changes)) l) (e ∙ ap (model.Message.Write (change_of change).group (client.label_of volume places (change_of change).group)) record_is) log_is
       ∙ sym (ap (λ cs. issued_writes volume places start cs (log_of records)) rest_is)
 
   pub growing_on : is_growing (log_of records) ≡ true → is_growing (log_of (records ++ p ∷ [])) ≡ true
   growing_on h =
-      let lsn : (packet_redo p).lsn ≡ suc (max (last_lsn (log_of records)) start) = ap (λ s. s.lsn) record_is in
-      let above : nat_lt (last_lsn (log_of records)) (packet_redo p).lsn ≡ true = lt-ltb (last_lsn (log_of records)) (packet_redo p).lsn (omega arith) in
+      let lsn : (shared_redo p).lsn ≡ suc (max (last_lsn (log_of records)) start) = ap (λ s. s.lsn) record_is in
+      let above : nat_lt (last_lsn (log_of records)) (shared_redo p).lsn ≡ true = lt-ltb (last_lsn (log_of records)) (shared_redo p).lsn (omega arith) in
       ap is_growing (log_of-push records p) ∙ ap (λ b. b && is_growing (log_of records)) above ∙ h
 
   pub room_on : max (last_lsn (log_of records)) start + length (drop i changes) ≤ 2 ^ 62 → max (last_lsn (log_of (records ++ p ∷ []))) start + length (drop (i + 1) changes) ≤ 2 ^ 62
   room_on h =
-      let lsn : (packet_redo p).lsn ≡ suc (max (last_lsn (log_of records)) start) = ap (λ s. s.lsn) record_is in
+      let lsn : (shared_redo p).lsn ≡ suc (max (last_lsn (log_of records)) start) = ap (λ s. s.lsn) record_is in
       rw (log_of-push records p, lsn) (omega (arith, length-drop {A = Change}))
 
   pub good_on : (groups : ℕ) → every (is_change groups) (changes_of (drop i changes)) ≡ true → (is_change groups (change_of change) ≡ true) × (every (is_change groups) (changes_of (drop (i + 1) changes)) ≡ true)

@@ -1,9 +1,9 @@
 -- A record that a writer lends, as the message that carries it.
 use Rattle.volume_model.specs.Message as model
-use Rattle.redo_record.specs.Packet.{packet_redo}
+use Rattle.redo_record.specs.SharedRecord.{shared_redo}
 use Rattle.wire.specs.declared.carried.Carried.{Carried}
 use Rattle.wire.specs.Message.{label_of}
 
 -- the Write that carries it
 abbrev pub carried_write : Carried → model.Message
-carried_write carried = model.Message.Write carried.group (label_of carried.label) (packet_redo carried.packet.now)
+carried_write carried = model.Message.Write carried.group (label_of carried.label) (shared_redo carried.packet.now)

@@ -4,7 +4,7 @@ use Rattle.volume_model.specs.Lists.{every}
 use Rattle.volume_model.specs.Redo.{Redo, last_lsn, last_of_group}
 use Rattle.volume_model.specs.ClientPoints.{complete_of, consistency_point_below}
 use Rattle.volume_model.specs.ClientWriter.{last_of_group_below}
-use Rattle.redo_record.specs.declared.packet.Packet.{Packet}
+use Rattle.redo_record.specs.declared.shared_record.SharedRecord.{SharedRecord}
 use Rattle.writer_core.specs.Logs.{log_of}
 use Rattle.writer_core.specs.declared.covered.Covered.{Covered}
 
@@ -14,7 +14,7 @@ is_covered points r = nat_le r.lsn (points r.group)
 
 -- so many records from the first on are covered, and these are the numbers of the last of them and of its last consistency point, and by group
 -- the last of them and the last one up to that point
-pub record CoversFront (covered : Covered) (points : ℕ → ℕ) (records : List Packet) : Type 0 where
+pub record CoversFront (covered : Covered) (points : ℕ → ℕ) (records : List SharedRecord) : Type 0 where
   pub within : covered.records ≤ length records
   pub all : every (is_covered points) (log_of (take covered.records records)) ≡ true
   pub complete : covered.complete ≡ last_lsn (log_of (take covered.records records))
@@ -24,7 +24,7 @@ pub record CoversFront (covered : Covered) (points : ℕ → ℕ) (records : Lis
 
 -- no record is covered yet, of whatever log
 abbrev pub CoversNone : Covered → Type 0
-CoversNone covered = (points : ℕ → ℕ) (records : List Packet) → CoversFront covered points records
+CoversNone covered = (points : ℕ → ℕ) (records : List SharedRecord) → CoversFront covered points records
 
 -- one record more is covered
 pub record Covers (old new : Covered) (r : Redo) : Type 0 where
@@ -36,7 +36,7 @@ pub record Covers (old new : Covered) (r : Redo) : Type 0 where
 
 -- the records from the first on are covered as far as they go: their numbers are the log's complete point, its durable point, and by group the
 -- last number up to that
-pub record CoversLog (covered : Covered) (points : ℕ → ℕ) (records : List Packet) : Type 0 where
+pub record CoversLog (covered : Covered) (points : ℕ → ℕ) (records : List SharedRecord) : Type 0 where
   pub front : CoversFront covered points records
   pub complete : covered.complete ≡ complete_of points (log_of records)
   pub durable : covered.durable ≡ consistency_point_below (complete_of points (log_of records)) (log_of records)

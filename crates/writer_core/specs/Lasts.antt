@@ -1,8 +1,8 @@
 -- The last numbers of groups and blocks, as a table keeps them.
 use Rattle.std.specs.Prelude.{◌≡◌, ℕ, ◌+◌, ◌<◌, ◌≤◌, List, ◌∷◌, length, take, slice_index, slice_index_or}
 use Rattle.volume_model.specs.Redo.{Redo, last_of_group, last_of_block}
-use Rattle.redo_record.specs.declared.packet.Packet.{Packet}
-use Rattle.redo_record.specs.Packet.{packet_redo}
+use Rattle.redo_record.specs.declared.shared_record.SharedRecord.{SharedRecord}
+use Rattle.redo_record.specs.SharedRecord.{shared_redo}
 use Rattle.writer_core.specs.Logs.{log_of}
 use Rattle.writer_core.specs.Kept.{kept_in}
 use Rattle.writer_core.specs.declared.lasts.Lasts.{Lasts}
@@ -21,12 +21,12 @@ pub record AreLasts (lasts : Lasts) (log : List Redo) : Type 0 where
   pub of_block : (group block : ℕ) → kept_of_block lasts group block ≡ last_of_block group block log
 
 -- the same of the records that are entered, from the first on
-pub record AreLastsOfFront (lasts : Lasts) (records : List Packet) : Type 0 where
+pub record AreLastsOfFront (lasts : Lasts) (records : List SharedRecord) : Type 0 where
   pub within : lasts.entered ≤ length records
   pub front : AreLasts lasts (log_of (take lasts.entered records))
 
 -- all records are entered
-pub record AreLastsOfAll (lasts : Lasts) (records : List Packet) : Type 0 where
+pub record AreLastsOfAll (lasts : Lasts) (records : List SharedRecord) : Type 0 where
   pub counted : lasts.entered ≡ length records
   pub all : AreLasts lasts (log_of records)
 
@@ -46,8 +46,8 @@ pub record IsLinked (r : Redo) (older : List Redo) : Type 0 where
   pub block : r.prev_block ≡ last_of_block r.group r.block older
 
 -- each record from this place on does
-abbrev pub AreLinkedFrom : ℕ → List Packet → Type 0
-AreLinkedFrom place records = (k : ℕ) (d : Packet) → place ≤ k → k < length records → IsLinked (packet_redo (slice_index_or records k d)) (log_of (take k records))
+abbrev pub AreLinkedFrom : ℕ → List SharedRecord → Type 0
+AreLinkedFrom place records = (k : ℕ) (d : SharedRecord) → place ≤ k → k < length records → IsLinked (shared_redo (slice_index_or records k d)) (log_of (take k records))
 
 -- the last record that was entered is taken out again, one on a block of a group that names these numbers before it
 pub record Leaves (old new : Lasts) (group block prev_group prev_block : ℕ) : Type 0 where

@@ -2,14 +2,14 @@
 use Rattle.std.specs.Prelude.{Bool, true, ◌&&◌, nat_lt, List, [], ◌∷◌, map}
 use Rattle.volume_model.specs.Lists.{added}
 use Rattle.volume_model.specs.Redo.{Redo, last_lsn}
-use Rattle.redo_record.specs.declared.packet.Packet.{Packet}
+use Rattle.redo_record.specs.declared.shared_record.SharedRecord.{SharedRecord}
 use Rattle.redo_record.specs.declared.record_set.RecordSet.{RecordSet}
-use Rattle.redo_record.specs.Packet.{packet_redo}
+use Rattle.redo_record.specs.SharedRecord.{shared_redo}
 use Rattle.redo_record.specs.RecordSet.{records_of}
 
 -- the log that a list of packets is
-abbrev pub log_of : List Packet → List Redo
-log_of packets = added (map packet_redo packets) []
+abbrev pub log_of : List SharedRecord → List Redo
+log_of packets = added (map shared_redo packets) []
 
 -- the log that a set of records is
 abbrev pub log_of_set : RecordSet → List Redo

@@ -6,7 +6,7 @@ ghost use Rattle.volume_model.specs.Redo.{last_lsn};
 ghost use Rattle.volume_model.specs.Client.{place_of};
 ghost use Rattle.volume_model.specs.ClientWriter.{record_of, issued_log, issued_writes, is_change};
 ghost use Rattle.volume_model.specs.Lists.{every};
-ghost use Rattle.redo_record.specs.Packet.{packet_redo};
+ghost use Rattle.redo_record.specs.SharedRecord.{shared_redo};
 ghost use Rattle.volume_model.specs.Message as model;
 ghost use Rattle.volume_model.specs.Client.{label_of};
 ghost use Rattle.wire.specs.Listed.{listed};
@@ -21,7 +21,7 @@ use crate::change::Change;
 use crate::lasts::Lasts;
 use crate::log::Log;
 use crate::standings::Standings;
-use redo_record::{Packet, Record};
+use redo_record::{Record, SharedRecord};
 use std::alloc::{AllocError, Global};
 use std::mem;
 use volume_model::Fault;
@@ -45,12 +45,12 @@ fn next_packet(
     lasts: &mut Lasts,
     change: &Change,
     point: bool,
-) -> Result<Packet, AllocError>
+) -> Result<SharedRecord, AllocError>
     requires lasts { AreLastsOfAll lasts.old (packets_in log.now) }
     requires room { max (last_lsn (log_in log.now)) span.start < 2 ^ 62 }
     requires group { (change_of change.now).group < 16 }
     requires place { (change_of change.now).offset + length (change_of change.now).bytes ≤ 512 }
-    ensures made { IfOk result (λ packet. packet_redo packet ≡ record_of span.volume span.start (log_in log.now) (change_of change.now) point) }
+    ensures made { IfOk result (λ packet. shared_redo packet ≡ record_of span.volume span.start (log_in log.now) (change_of change.now) point) }
     ensures entered { IfOk result (λ packet. AreLastsOfAll lasts.new (packets_in log.now ++ packet ∷ [])) }
     ensures err { OnErr result (AreLastsOfAll lasts.new (packets_in log.now)) }
 {
@@ -71,7 +71,7 @@ fn next_packet(
         bytes: change.payload(),
         point,
     };
-    match Packet::pack(alloc, record) {
+    match SharedRecord::pack(alloc, record) {
         Ok(packet) => Ok(packet),
         Err(error) => {
             lasts.leave(group, block, prev_group, prev_block);
@@ -81,8 +81,8 @@ fn next_packet(
 }
 
 /// A record as a writer of this volume epoch carries it to the nodes of its group.
-pub fn carry<'a>(volume: u32, standings: &Standings, packet: &'a Packet) -> Carried<'a>
-    ensures { carried_write result ≡ model.Message.Write (packet_redo packet.now).group (label_of volume (place_of (groups_in standings.now)) (packet_redo packet.now).group) (packet_redo packet.now) }
+pub fn carry<'a>(volume: u32, standings: &Standings, packet: &'a SharedRecord) -> Carried<'a>
+    ensures { carried_write result ≡ model.Message.Write (shared_redo packet.now).group (label_of volume (place_of (groups_in standings.now)) (shared_redo packet.now).group) (shared_redo packet.now) }
 {
     let group = packet.group();
     Carried {

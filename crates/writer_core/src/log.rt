@@ -5,7 +5,7 @@ ghost use Rattle.redo_record.specs.RecordSet.{packets_of};
 ghost use Rattle.writer_core.specs.Logs.{log_of, is_growing};
 
 use crate::reading::{last_lsn, record_at};
-use redo_record::{Packet, RecordSet};
+use redo_record::{RecordSet, SharedRecord};
 use std::alloc::{AllocError, Global};
 
 /// A log, in growing LSN: what was found, which clones share, and behind it what was issued since.
@@ -14,7 +14,7 @@ pub struct Log {
     found: RecordSet,
     /// How many records were found.
     begun: usize,
-    issued: Vec<Packet>,
+    issued: Vec<SharedRecord>,
     ghost counted: { begun ≡ length (packets_of found) },
     ghost few: { begun < 2 ^ 63 },
     ghost growing: { is_growing (log_of (packets_of found ++ issued.items)) ≡ true },
@@ -24,7 +24,7 @@ impl Log {
     ghost use Rattle.std.specs.Prelude.{◌≤◌, ◌+◌, [], ◌∷◌, take, slice_index_or, option_copied, option_map, OnOk, OnErr};
     ghost use Rattle.volume_model.specs.Redo.{last_lsn, record_at};
     ghost use Rattle.volume_model.specs.ClientPoints.{is_consistency_point};
-    ghost use Rattle.redo_record.specs.Packet.{packet_redo};
+    ghost use Rattle.redo_record.specs.SharedRecord.{shared_redo};
     ghost use Rattle.redo_record.specs.RecordSet.{records_of};
     ghost use Rattle.writer_core.specs.Logs.{log_of_set};
     ghost use Rattle.writer_core.specs.Log.{found_of, packets_in, log_in, room_in};
@@ -58,7 +58,7 @@ impl Log {
     }
 
     /// The packet at this place, counted from the first.
-    pub fn packet(&self, place: usize) -> &Packet
+    pub fn packet(&self, place: usize) -> &SharedRecord
         requires { place < length (packets_in self.now) }
         ensures { result.now ≡ slice_index_or (packets_in self.now) place result.now }
     {
@@ -81,8 +81,8 @@ impl Log {
     }
 
     /// The record of an LSN, where there is one.
-    pub fn record_at(&self, lsn: u64) -> Option<&Packet>
-        ensures { option_map packet_redo (option_copied result) ≡ record_at (log_in self.now) lsn }
+    pub fn record_at(&self, lsn: u64) -> Option<&SharedRecord>
+        ensures { option_map shared_redo (option_copied result) ≡ record_at (log_in self.now) lsn }
     {
         match record_at(self.found.as_slice(), lsn) {
             Some(packet) => Some(packet),
@@ -110,9 +110,9 @@ impl Log {
     }
 
     /// Adds a record behind all others, for which there is room.
-    pub(crate) fn push_reserved(&mut self, packet: Packet)
+    pub(crate) fn push_reserved(&mut self, packet: SharedRecord)
         requires room { 0 < room_in self.old }
-        requires above { last_lsn (log_in self.old) < (packet_redo packet).lsn }
+        requires above { last_lsn (log_in self.old) < (shared_redo packet).lsn }
         ensures packets { packets_in self.new ≡ packets_in self.old ++ packet ∷ [] }
         ensures found { found_of self.new ≡ found_of self.old }
         ensures room { room_in self.old ≡ room_in self.new + 1 }

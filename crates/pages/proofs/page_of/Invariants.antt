@@ -1,12 +1,12 @@
 use Rattle.std.proofs.Common.{◌≡◌, length, map, All}
 use Rattle.volume_model.specs.Node.{page_from, page_of}
-use Rattle.redo_record.specs.Packet.{packet_redo}
+use Rattle.redo_record.specs.SharedRecord.{shared_redo}
 use Rattle.pages.proofs.page_of.Given as goal
 
 abbrev pub invariant-loop-rest : goal.invariant-loop-rest
 invariant-loop-rest l =
-    (All (λ packet. (packet_redo packet).block ≡ l.block) l.rest)
-    × (page_from l.page l.block l.point (map packet_redo l.rest) ≡ page_of (map packet_redo l.packets) l.block l.point)
+    (All (λ packet. (shared_redo packet).block ≡ l.block) l.rest)
+    × (page_from l.page l.block l.point (map shared_redo l.rest) ≡ page_of (map shared_redo l.packets) l.block l.point)
 
 abbrev pub decreases-loop-rest : goal.decreases-loop-rest
 decreases-loop-rest l = length l.rest

@@ -1,8 +1,8 @@
 use Rattle.std.proofs.Common.{◌≡◌, drop, map}
 use Rattle.volume_model.specs.Node.{page_from}
-use Rattle.redo_record.specs.Packet.{packet_redo}
+use Rattle.redo_record.specs.SharedRecord.{shared_redo}
 use Rattle.pages.proofs.write_all.Given as goal
 
 abbrev pub invariant-loop-packet : goal.invariant-loop-packet
 invariant-loop-packet l =
-    page_from l.page l.block l.point (map packet_redo (drop l.packet-index l.packets)) ≡ page_from l.fn.page l.block l.point (map packet_redo l.packets)
+    page_from l.page l.block l.point (map shared_redo (drop l.packet-index l.packets)) ≡ page_from l.fn.page l.block l.point (map shared_redo l.packets)

@@ -3,7 +3,7 @@
 use super::told::{Held, Part, Sent, Told};
 use crate::packets::{Line, chain, chained, packet, recovered};
 use lineage::Lineage;
-use redo_record::{Packet, RecordSet};
+use redo_record::{RecordSet, SharedRecord};
 use std::alloc::Global;
 use std::sync::Arc;
 use volume_model::Fault;
@@ -50,7 +50,7 @@ fn line(sent: Sent) -> Line {
 }
 
 /// The packet of the record that is sent.
-fn sent(alloc: Global, sent: Sent) -> Result<Packet, Fault> {
+fn sent(alloc: Global, sent: Sent) -> Result<SharedRecord, Fault> {
     packet(alloc, line(sent))
 }
 

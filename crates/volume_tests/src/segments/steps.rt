@@ -2,7 +2,7 @@
 
 use super::messages::message;
 use super::told::Told;
-use redo_record::Packet;
+use redo_record::SharedRecord;
 use segment_core::Segment;
 use std::alloc::Global;
 use volume_model::Fault;
@@ -30,7 +30,7 @@ pub enum Said {
 }
 
 /// The number up to which these are the records from 1 on, in order, and no others; the greatest number where they are others.
-fn last_of(packets: &[Packet]) -> u64 {
+fn last_of(packets: &[SharedRecord]) -> u64 {
     let mut last: u64 = 0;
     for packet in packets {
         if last.checked_add(1) != Some(packet.lsn()) {

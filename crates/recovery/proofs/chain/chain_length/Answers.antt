@@ -1,7 +1,7 @@
 use Rattle.std.proofs.Common.{◌≡◌, ◌∙◌, ◌+◌, ◌∷◌, ℕ, List, length, take, refl, sym, ap, subst, arith}
 use Rattle.volume_model.specs.Redo.{Redo}
-use Rattle.redo_record.specs.declared.packet.Packet.{Packet}
-use Rattle.redo_record.specs.Packet.{packet_redo}
+use Rattle.redo_record.specs.declared.shared_record.SharedRecord.{SharedRecord}
+use Rattle.redo_record.specs.SharedRecord.{shared_redo}
 use Rattle.redo_record.specs.Record.{redo_of}
 use Rattle.writer_core.specs.Logs.{log_of}
 use Rattle.writer_core.proofs.Logs.{log_of-more}
@@ -16,17 +16,17 @@ returns-then-last-lsn-clause-chain c =
 
 pub loop-place-preserved : goal.loop-place-preserved
 loop-place-preserved c =
-    let packets : List Packet = c.args.packets.now in
+    let packets : List SharedRecord = c.args.packets.now in
     let i : ℕ = c.loop-place.place in
-    let p : Packet = c.index-packets-place.result in
+    let p : SharedRecord = c.index-packets-place.result in
     let r : Redo = redo_of c.record-record.result.now in
     let front : List Redo = log_of (take i packets) in
     let more : log_of (take (i + 1) packets) ≡ r ∷ front =
-    log_of-more packets i p c.loop-place-test.true ∙ ap (λ (x : Packet). packet_redo x ∷ front) (sym c.index-packets-place.is) ∙ ap (λ s. s ∷ front) (sym c.record-record.ensures) in
+    log_of-more packets i p c.loop-place-test.true ∙ ap (λ (x : SharedRecord). shared_redo x ∷ front) (sym c.index-packets-place.is) ∙ ap (λ s. s ∷ front) (sym c.record-record.ensures) in
     chain-more c.loop-place.last r.lsn r front (log_of (take (i + 1) packets)) more (omega arith) refl c.loop-place.invariant
 
 pub returns-then-last-lsn-2-clause-chain : goal.returns-then-last-lsn-2-clause-chain
 returns-then-last-lsn-2-clause-chain c =
-    let packets : List Packet = c.args.packets.now in
+    let packets : List SharedRecord = c.args.packets.now in
     let end : c.loop-place.place ≡ length packets = omega arith in
     subst (λ n. IsChainTo n (log_of (take (length packets) packets))) c.if-last-lsn-2.true (subst (λ n. IsChainTo c.loop-place.last (log_of (take n packets))) end c.loop-place.invariant)

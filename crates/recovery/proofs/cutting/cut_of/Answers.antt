@@ -1,7 +1,7 @@
 use Rattle.std.proofs.Common.{◌≡◌, ℕ, Bool, true, false, ◌||◌, List, take, refl, sym, ap, ◌∙◌}
 use Rattle.std.specs.Prelude.{◌==◌}
 use Rattle.std.proofs.lemmas.Bool.{ne_eqb, eq-eqb}
-use Rattle.redo_record.specs.declared.packet.Packet.{Packet}
+use Rattle.redo_record.specs.declared.shared_record.SharedRecord.{SharedRecord}
 use Rattle.redo_record.specs.Record.{redo_of}
 use Rattle.volume_model.specs.Redo.{Redo}
 use Rattle.writer_core.specs.Logs.{log_of}
@@ -27,9 +27,9 @@ led-not front has p h ne e = sym (h p) ∙ ap (λ b. b || has p) (ne_eqb p 0 ne)
 
 pub loop-packet-preserved : goal.loop-packet-preserved
 loop-packet-preserved c =
-    let records : List Packet = c.args.records.now in
+    let records : List SharedRecord = c.args.records.now in
     let i : ℕ = c.loop-packet.packet-index in
-    let p : Packet = c.packet-item.result in
+    let p : SharedRecord = c.packet-item.result in
     let r : Redo = redo_of c.record-record.result.now in
     let shows = c.record-record.ensures in
     let within = c.loop-packet-test.true in

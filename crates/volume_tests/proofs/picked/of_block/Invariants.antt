@@ -1,6 +1,6 @@
 use Rattle.std.proofs.Common.{◌≡◌, All}
-use Rattle.redo_record.specs.Packet.{packet_redo}
+use Rattle.redo_record.specs.SharedRecord.{shared_redo}
 use Rattle.volume_tests.proofs.picked.of_block.Given as goal
 
 abbrev pub invariant-loop-packet : goal.invariant-loop-packet
-invariant-loop-packet l = All (λ packet. (packet_redo packet).block ≡ l.block) l.found.items
+invariant-loop-packet l = All (λ packet. (shared_redo packet).block ≡ l.block) l.found.items

@@ -5,7 +5,7 @@ use Rattle.volume_model.specs.Client.{place_of, label_of}
 use Rattle.volume_model.specs.ClientWriter.{record_of}
 use Rattle.wire.specs.Listed.{listed}
 use Rattle.wire.specs.Message.{message_of}
-use Rattle.redo_record.specs.Packet.{packet_redo}
+use Rattle.redo_record.specs.SharedRecord.{shared_redo}
 use Rattle.writer_core.specs.Logs.{log_of}
 use Rattle.writer_core.specs.Log.{packets_in}
 use Rattle.writer_core.specs.Lasts.{IsLinked, AreLinkedFrom}
@@ -61,12 +61,12 @@ loop-i-preserved c =
     let p = c.in_ok-packet.packet in
     let within = c.loop-i-test.true in
     let is = c.index-changes-i.is in
-    let made : packet_redo p ≡ record_of volume start (log_of records) (change_of change) (nat_eq (i + 1) (length changes)) = c.in_ok-packet.ensures.made in
+    let made : shared_redo p ≡ record_of volume start (log_of records) (change_of change) (nat_eq (i + 1) (length changes)) = c.in_ok-packet.ensures.made in
     let message = c.in_ok-message.field-0 in
     let logs : packets_in c.push_reserved.new.self ≡ records ++ p ∷ [] = c.push_reserved.ensures.packets in
     let messages : listed c.add.new.messages ≡ listed c.loop-i.messages ++ message ∷ [] = c.in_ok-add.ensures in
-    let said : message_of message ≡ model.Message.Write (change_of change).group (label_of volume places (change_of change).group) (packet_redo p) =
-    c.in_ok-message.ensures ∙ c.carry.ensures ∙ ap (λ (g : ℕ). model.Message.Write g (label_of volume places g) (packet_redo p)) (ap (λ (s : Redo). s.group) made) in
+    let said : message_of message ≡ model.Message.Write (change_of change).group (label_of volume places (change_of change).group) (shared_redo p) =
+    c.in_ok-message.ensures ∙ c.carry.ensures ∙ ap (λ (g : ℕ). model.Message.Write g (label_of volume places g) (shared_redo p)) (ap (λ (s : Redo). s.group) made) in
     record {
       lasts = rw logs c.in_ok-packet.ensures.entered;
       spare = omega (arith, c.push_reserved.ensures.room, c.loop-i.invariant.spare, within);

@@ -3,7 +3,7 @@ use Rattle.std.proofs.lemmas.List.{length_push}
 use Rattle.std.proofs.lemmas.List.Edits.{insert_end}
 use Rattle.volume_model.specs.Redo.{Redo, with_record}
 use Rattle.redo_record.specs.Order.{IsInOrder}
-use Rattle.redo_record.specs.Packet.{packet_redo}
+use Rattle.redo_record.specs.SharedRecord.{shared_redo}
 use Rattle.redo_record.proofs.Places.{in_order-with_record}
 use Rattle.runs.specs.declared.run.Run.{Run}
 use Rattle.runs.specs.Joined.{joined}
@@ -14,7 +14,7 @@ use Rattle.runs.proofs.runs.Runs.begin.Goals as goal
 pub invariant_of-self : goal.invariant_of-self
 invariant_of-self c =
     let runs : List Run = c.args.self.now.runs.items in
-    let r : Redo = packet_redo c.args.packet in
+    let r : Redo = shared_redo c.args.packet in
     let old : List Redo = joined (runs_in runs) in
     let pushed : joined (runs_in c.push_reserved.new.self.items) ≡ old ++ r ∷ [] =
     ap (λ rs. joined (runs_in rs)) c.push_reserved.ensures.items ∙ joined-push runs c.begin.result ∙ ap (λ rs. old ++ rs) c.begin.ensures in

@@ -4,7 +4,7 @@ use Rattle.std.proofs.lemmas.List.Edits.{length-insert}
 use Rattle.std.specs.List.{slice_set}
 use Rattle.volume_model.specs.Redo.{Redo, with_record}
 use Rattle.redo_record.specs.Order.{IsInOrder}
-use Rattle.redo_record.specs.Packet.{packet_redo}
+use Rattle.redo_record.specs.SharedRecord.{shared_redo}
 use Rattle.redo_record.proofs.Places.{in_order-with_record}
 use Rattle.runs.specs.declared.run.Run.{Run}
 use Rattle.runs.specs.Joined.{joined}
@@ -17,7 +17,7 @@ pub invariant_of-self : goal.invariant_of-self
 invariant_of-self c =
     let runs : List Run = c.args.self.now.runs.items in
     let k : ℕ = c.args.place.run in
-    let r : Redo = packet_redo c.args.packet in
+    let r : Redo = shared_redo c.args.packet in
     let old : List Redo = joined (runs_in runs) in
     let below : k < length (runs_in runs) = ltb-true k (length (runs_in runs)) (and_parts _ _ c.requires.open).0 in
     let put = joined-put runs k c.args.place.index c.index_mut.result.now c.insert.new.self r below c.requires.place.within.index_within c.index_mut.ensures.value c.insert.ensures in
@@ -32,6 +32,6 @@ pub returns : goal.returns
 returns c =
     let runs : List Run = c.args.self.now.runs.items in
     let k : ℕ = c.args.place.run in
-    let r : Redo = packet_redo c.args.packet in
+    let r : Redo = shared_redo c.args.packet in
     let below : k < length (runs_in runs) = ltb-true k (length (runs_in runs)) (and_parts _ _ c.requires.open).0 in
     joined-put runs k c.args.place.index c.index_mut.result.now c.insert.new.self r below c.requires.place.within.index_within c.index_mut.ensures.value c.insert.ensures ∙ sym c.requires.place.stands.joins

@@ -1,5 +1,5 @@
 use Rattle.std.proofs.Common.{◌≡◌, ◌∙◌, ◌-◌, ◌++◌, true, List, take, sym, ap, subst}
-use Rattle.redo_record.specs.declared.packet.Packet.{Packet}
+use Rattle.redo_record.specs.declared.shared_record.SharedRecord.{SharedRecord}
 use Rattle.redo_record.specs.RecordSet.{packets_of}
 use Rattle.writer_core.specs.Logs.{log_of, is_growing}
 use Rattle.writer_core.specs.Log.{packets_in}
@@ -11,15 +11,15 @@ invariant_of-self c =
     let log = c.args.self.now in
     let front = packets_of log.found in
     let taken : front ++ c.truncate.new.self.items ≡ take c.args.records (packets_in log) =
-    ap (λ (ps : List Packet). front ++ ps) (c.truncate.ensures.items ∙ ap (λ n. take (c.args.records - n) log.issued.items) log.counted) ∙ taken-behind front log.issued.items c.args.records c.requires in
+    ap (λ (ps : List SharedRecord). front ++ ps) (c.truncate.ensures.items ∙ ap (λ n. take (c.args.records - n) log.issued.items) log.counted) ∙ taken-behind front log.issued.items c.args.records c.requires in
     record {
       counted = log.counted;
       few = log.few;
-      growing = subst (λ (ps : List Packet). is_growing (log_of ps) ≡ true) (sym taken) (taken-grows (packets_in log) c.args.records log.growing);
+      growing = subst (λ (ps : List SharedRecord). is_growing (log_of ps) ≡ true) (sym taken) (taken-grows (packets_in log) c.args.records log.growing);
     }
 
 pub returns-clause-packets : goal.returns-clause-packets
 returns-clause-packets c =
     let log = c.args.self.now in
     let front = packets_of log.found in
-    ap (λ (ps : List Packet). front ++ ps) (c.truncate.ensures.items ∙ ap (λ n. take (c.args.records - n) log.issued.items) log.counted) ∙ taken-behind front log.issued.items c.args.records c.requires
+    ap (λ (ps : List SharedRecord). front ++ ps) (c.truncate.ensures.items ∙ ap (λ n. take (c.args.records - n) log.issued.items) log.counted) ∙ taken-behind front log.issued.items c.args.records c.requires

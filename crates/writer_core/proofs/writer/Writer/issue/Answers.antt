@@ -1,6 +1,6 @@
 use Rattle.std.proofs.Common.{◌≡◌, ℕ, length, take, List, Result, Err, sym, ap, ◌∙◌, subst}
 use Rattle.std.proofs.lemmas.Result.{err_from_is_err_and}
-use Rattle.redo_record.specs.declared.packet.Packet.{Packet}
+use Rattle.redo_record.specs.declared.shared_record.SharedRecord.{SharedRecord}
 use Rattle.wire.specs.declared.messages.Messages.{Messages}
 use Rattle.volume_model.specs.Answer.{Answers, never_late}
 use Rattle.volume_model.specs.Client.{Client, ClientAnswer, group_point_of}
@@ -29,4 +29,4 @@ invariant_of-self-in-Err-clause-covers c =
     let self = c.args.self.now in
     let many : c.len-length.result ≡ length (packets_in self.log) = c.len-length.ensures in
     let back : packets_in c.truncate.new.self ≡ packets_in self.log = c.truncate.ensures.packets ∙ ap (λ (n : ℕ). take n (packets_in c.append.new.log)) many ∙ c.append.ensures.front in
-    subst (λ (xs : List Packet). CoversLog self.covered (group_point_of (groups_in self.standings)) xs) (sym back) self.covers
+    subst (λ (xs : List SharedRecord). CoversLog self.covered (group_point_of (groups_in self.standings)) xs) (sym back) self.covers

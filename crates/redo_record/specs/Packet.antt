@@ -1,8 +1,0 @@
-use Rattle.std.specs.Arc.{arc_value}
-use Rattle.volume_model.specs.Redo.{Redo}
-use Rattle.redo_record.specs.declared.packet.Packet.{Packet}
-use Rattle.redo_record.specs.Record.{redo_of}
-
--- the record of the model that a packet shares
-unfoldable pub packet_redo : Packet → Redo
-packet_redo packet = redo_of (arc_value packet.shared)
