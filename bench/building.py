@@ -50,3 +50,14 @@ def built(folder, name, program, crates, words, proofs=None, modules=None):
     work = laid_out(folder, name, program, crates, proofs, modules)
     subprocess.run(["rt", "run", "--", *words], cwd=work, check=True, stdout=subprocess.DEVNULL)
     return work / "out" / name
+
+
+def tried(folder, name, program, crates, words, proofs=None, modules=None):
+    """The program of this name as `rt try` builds it: with its checks at run time, and with no proof. While it is built it runs once with these words."""
+    from draft import linked, translated
+
+    work = laid_out(folder, name, program, crates, proofs, modules)
+    module = folder / f"{name}.module"
+    translated(work, words, module)
+    linked(module, folder / name)
+    return folder / name

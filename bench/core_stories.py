@@ -16,6 +16,7 @@ use cert_search::{Gate, search_all, search_one};
 use plan::{
     CheckedPlan, Configuration, LentClaim, NamedClaim, Plan, PlanFault, check_plan, claims, lent_claims,
 };
+use plan_tokens::{Spelling, read_spelled};
 use quorum_checker::{Claim, FaultAt, check};
 use quorum_expr::{Expr, MemberSet, copy_in, dual_in, holds, valid};
 use refutation::Certificate;
@@ -210,16 +211,32 @@ fn searched_one(
     }
 }
 
+/// The plan that a text spells, and how, read once more where memory ran out.
+fn spelled(alloc: Global, text: &[u8]) -> Result<(Plan, Option<Spelling>), PlanFault>
+    ensures { IfOk result (λ read. plan_of text.now ≡ Ok (plan_data read.0)) }
+{
+    match read_spelled(alloc, text) {
+        Ok(read) => Ok(read),
+        Err(fault) => {
+            if fault.kind() != Fault::NoMemory {
+                return Err(fault);
+            }
+            read_spelled(alloc, text)
+        }
+    }
+}
+
 fn written(
     alloc: Global,
     text: &[u8],
     certificates: &[Option<Certificate<Global>>],
-) -> Result<Vec<u8>, AllocError>
+) -> Result<Vec<u8>, PlanFault>
     requires { HasClaims text.now (length certificates.now) }
 {
-    match plan_tokens::write_plan(alloc, text, certificates) {
+    let (plan, spelling) = spelled(alloc, text)?;
+    match plan_tokens::write_plan(alloc, text, &plan, &spelling, certificates) {
         Ok(line) => Ok(line),
-        Err(_) => plan_tokens::write_plan(alloc, text, certificates),
+        Err(_) => Ok(plan_tokens::write_plan(alloc, text, &plan, &spelling, certificates)?),
     }
 }
 
@@ -501,7 +518,7 @@ fn of_written(
 {
     match written(alloc, text, found) {
         Ok(line) => of_bytes(line.as_slice(), story)?,
-        Err(_) => story.push_str("no text;")?,
+        Err(fault) => write!(story, "{fault};")?,
     }
     match written_by_value(alloc, text, found) {
         Ok(line) => of_bytes(line.as_slice(), story),

@@ -100,6 +100,15 @@ def translated(work, words, module):
     kept.rename(module)
 
 
+def linked(module, out):
+    """Compiles a module and links it as the program OUT."""
+    with tempfile.TemporaryDirectory() as room:
+        made = pathlib.Path(room, "it.o")
+        subprocess.run([CLANG, "-O3", "-c", "-x", "ir", str(module), "-o", str(made), "-w"], check=True)
+        libraries = [KIT / "c" / "libos_c.a", KIT / "c" / "liblibc_c.a"]
+        subprocess.run(["gcc", "-o", str(out), str(made), *map(str, libraries), "-lpthread", "-lm"], check=True)
+
+
 def drafted(out, work, words, inline=()):
     """Builds OUT of a crate in a folder of crates, without its proof. While it is translated it is run with these words."""
     module = pathlib.Path(f"{out}.module")
@@ -115,11 +124,9 @@ def drafted(out, work, words, inline=()):
     found = marks(work.parent)
     lines = [marked(line, found, inline) if line.startswith("define") else line for line in text.split("\n")]
     with tempfile.TemporaryDirectory() as room:
-        source, made = pathlib.Path(room, "it.ll"), pathlib.Path(room, "it.o")
+        source = pathlib.Path(room, "it.ll")
         source.write_text("\n".join(lines))
-        subprocess.run([CLANG, "-O3", "-c", "-x", "ir", str(source), "-o", str(made), "-w"], check=True)
-        libraries = [KIT / "c" / "libos_c.a", KIT / "c" / "liblibc_c.a"]
-        subprocess.run(["gcc", "-o", str(out), str(made), *map(str, libraries), "-lpthread", "-lm"], check=True)
+        linked(source, out)
 
 
 def main(out, *words):

@@ -10,8 +10,8 @@ First the program itself: `check` and `search` of plans of all kinds, certified,
 text; `run` and `fleet` of two scripts, one that writes three bytes and one in which a member joins. Each run has to end as with ample
 memory, or with status 2, nothing on standard output, and `input: 9 NoMemory` on standard error.
 
-With `--calls`, then the calls of the library, by two small programs that are built in folders of their own, which takes some minutes where
-the crates weren't proved before. Each tells a story twice. `core_stories.py` tells what `read_plan`, `lent_claims`, `claims`, `check`,
+With `--calls`, then the calls of the library, by two small programs that are built in folders of their own, each in some two minutes, with no
+proof and with the checks at run time that `rt try` puts in. Each tells a story twice. `core_stories.py` tells what `read_plan`, `lent_claims`, `claims`, `check`,
 `check_plan`, `copy_in`, `search_one`, `search_all` by one worker and by three, and `write_plan` answer, over plans of every format, with
 full members and such as keep the log alone, with weights, with certificates of each rule, and over texts with faults; `fleet_stories.py`
 what a fleet's calls give by one pass or three, each step's numbers, the closed journal and how the world's run of it ends, of the same two
@@ -19,6 +19,7 @@ scripts. A growth is refused while it tells the first time. A call that answers 
 the story goes on, with what it answers then; so where such a call had added anything, or changed what a later one sees, or answered another
 fault, the stories would differ.
 """
+import concurrent.futures
 import json
 import os
 import pathlib
@@ -27,7 +28,7 @@ import sys
 import tempfile
 
 sys.dont_write_bytecode = True
-from building import TOP, built
+from building import TOP, tried
 from core_stories import CORES
 from fleet_stories import FLEETS, SITE
 
@@ -204,7 +205,7 @@ class Refusing:
     """Runs programs with one growth refused."""
 
     def __init__(self, folder):
-        self.library, self.flag = folder / "refusing.so", folder / "refused"
+        self.library, self.flag, self.refused = folder / "refusing.so", folder / "refused", 0
         source = folder / "refusing.c"
         source.write_text(REFUSING)
         subprocess.run(["cc", "-O2", "-shared", "-fPIC", "-o", self.library, source], check=True)
@@ -228,11 +229,14 @@ class Refusing:
         return least
 
     def sweep(self, name, words, count, is_right):
-        """Refuses growths 1 to `count` in turn; whether nothing was wrong."""
-        wrong = [number for number in range(1, count + 1) if not is_right(*self.run(words, number)[:3])]
-        for number in wrong[:3]:
-            print(f"  growth {number}: {self.run(words, number)[:3]}")
+        """Refuses growths 1 to `count`, each in a run of its own, as many runs side by side as there are processors; whether nothing was wrong."""
+        with concurrent.futures.ThreadPoolExecutor(os.cpu_count()) as pool:
+            answers = pool.map(lambda number: self.run(words, number)[:3], range(1, count + 1))
+            wrong = [(number, said) for number, said in enumerate(answers, 1) if not is_right(*said)]
+        for number, said in wrong[:3]:
+            print(f"  growth {number}: {said}")
         print(f"{name}: {count} growths refused, {len(wrong)} wrong answers", flush=True)
+        self.refused += count
         return not wrong
 
 
@@ -291,7 +295,7 @@ def sweep_calls(refusing, folder):
     for (name, crates, proofs, modules), stories in ((core_program(), CORE_STORIES), (fleet_program(), FLEET_STORIES)):
         work = folder / name
         work.mkdir()
-        right &= sweep_stories(refusing, str(built(work, name, MAIN, crates, [stories[0]], proofs, modules)), stories)
+        right &= sweep_stories(refusing, str(tried(work, name, MAIN, crates, [stories[0]], proofs, modules)), stories)
     return right
 
 
@@ -303,6 +307,7 @@ def main():
         right = sweep_program(refusing, folder, tools[0])
         if "--calls" in sys.argv:
             right &= sweep_calls(refusing, folder)
+        print(f"refusals: {refusing.refused} growths refused, {'no answer' if right else 'an answer'} changed by it")
     sys.exit(0 if right else 1)
 
 
