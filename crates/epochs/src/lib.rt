@@ -2,5 +2,7 @@
 #![tactic(auto)]
 
 mod authority;
+mod snapshot;
 
 pub use authority::Authority;
+pub use snapshot::AuthoritySnapshot;

@@ -24,10 +24,12 @@ pub struct Lineage {
 }
 
 impl Lineage {
-    ghost use Rattle.std.specs.Prelude.{◌<◌, ◌≤◌, [], ◌∷◌, IfOk};
+    ghost use Rattle.std.specs.Prelude.{◌<◌, ◌≤◌, [], ◌∷◌, not, Ok, IfOk};
+    ghost use Rattle.volume_model.specs.Refusal.{refuse_if};
+    ghost use Rattle.volume_model.specs.declared.fault.Fault.TheVariants.{BadField};
     ghost use Rattle.volume_model.specs.Answer.{AnswersNew};
     ghost use Rattle.volume_model.specs.Lineage.{birth, extension, is_live, last_cut, last_epoch, last_start, newer};
-    ghost use Rattle.lineage.specs.Entries.{entry_of, kept_before};
+    ghost use Rattle.lineage.specs.Entries.{entries_of, entry_of, kept_before};
     ghost use Rattle.lineage.specs.Lineage.{lineage_of};
 
     /// No entry: what a segment has that was told nothing yet.
@@ -138,6 +140,42 @@ impl Lineage {
             last: Some(entry),
             before: self.all()?,
         })
+    }
+
+    /// Returns the lineage with one entry more, which may come from outside.
+    ///
+    /// # Errors
+    /// `BadField` if the entry can't come after the last: its volume epoch or its start isn't greater, or its cut is above its start;
+    /// `NoMemory` if a growth was refused.
+    pub fn added(&self, entry: Entry) -> Result<Lineage, Fault>
+        ensures { AnswersNew lineage_of (refuse_if (not (is_lineage (entry_of entry ∷ lineage_of self.now))) BadField (Ok (entry_of entry ∷ lineage_of self.now))) result }
+    {
+        let later = match &self.last {
+            Some(last) => last.volume_epoch < entry.volume_epoch && last.start < entry.start,
+            None => 0 < entry.volume_epoch,
+        };
+        if !later || entry.start < entry.cut {
+            return Err(Fault::BadField);
+        }
+        Ok(self.with(entry)?)
+    }
+
+    /// Returns all entries, oldest first.
+    ///
+    /// # Errors
+    /// Out of memory.
+    pub fn entries(&self, alloc: Global) -> Result<Vec<Entry>, AllocError>
+        ensures { IfOk result (λ list. entries_of list.items ≡ lineage_of self.now) }
+    {
+        let mut list = Vec::new(alloc);
+        let Some(last) = self.last else {
+            return Ok(list);
+        };
+        if let Some(past) = &self.before {
+            past.append_to(&mut list)?;
+        }
+        list.push(last)?;
+        Ok(list)
     }
 
     /// The lineage with the entry that a recovery of a later volume epoch adds, whose own numbers begin `lal` above all that its log

@@ -1,6 +1,6 @@
 //! The entries of a lineage before its last.
 
-ghost use Rattle.std.specs.Prelude.{◌≡◌, [], ◌∷◌, ◌++◌, IfOk, MatchOption};
+ghost use Rattle.std.specs.Prelude.{◌≡◌, [], ◌∷◌, ◌++◌, IfOk, OnOk, MatchOption};
 ghost use Rattle.volume_model.specs.Lineage as model;
 ghost use Rattle.volume_model.specs.Lineage.{is_live};
 ghost use Rattle.lineage.specs.Entries.{entry_of, entries_of, entries_before};
@@ -69,6 +69,17 @@ impl Past {
             }
         }
         false
+    }
+
+    /// Appends these entries to a list, oldest first. Fails only if memory is out.
+    pub fn append_to(&self, list: &mut Vec<Entry>) -> Result<(), AllocError>
+        ensures { OnOk result (entries_of list.new.items ≡ entries_before self.now ++ entries_of list.old.items) }
+    {
+        for chunk in self.chunks.as_slice() {
+            list.extend_from_slice(chunk)?;
+        }
+        list.extend_from_slice(&self.recent)?;
+        Ok(())
     }
 
     /// These entries and one more. Fails for want of memory alone.

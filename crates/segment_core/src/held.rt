@@ -49,6 +49,19 @@ impl Held {
         }
     }
 
+    /// What contents tell, which are shared with what is told of it. Fails for want of memory alone.
+    pub fn of(alloc: Global, contents: Arc<Contents>) -> Result<Held, AllocError>
+        ensures { IfOk result (λ held. held_in held ≡ contents_of (arc_value contents)) }
+    {
+        let lineage = contents.lineage.clone()?;
+        let records = Records::from_set(alloc, &contents.records)?;
+        Ok(Held {
+            lineage,
+            records,
+            told: Some(contents),
+        })
+    }
+
     /// All that is held, which is shared with later calls until a record comes. Fails for want of memory alone.
     pub fn contents(&mut self, alloc: Global) -> Result<Arc<Contents>, AllocError>
         ensures contents { IfOk result (λ contents. contents_of (arc_value contents) ≡ held_in self.new) }

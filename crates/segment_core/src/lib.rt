@@ -14,7 +14,9 @@ mod page_index;
 mod prepared;
 mod records;
 mod segment;
+mod snapshot;
 
 pub use act::NodeAct;
 pub use prepared::Prepared;
 pub use segment::Segment;
+pub use snapshot::SegmentSnapshot;

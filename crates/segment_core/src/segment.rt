@@ -3,8 +3,12 @@
 mod copying;
 mod hydrating;
 mod paging;
+mod saving;
 
-ghost use Rattle.std.specs.Prelude.{◌≡◌, IfOk};
+ghost use Rattle.std.specs.Prelude.{◌≡◌, true, IfOk};
+ghost use Rattle.std.specs.Arc.{arc_value};
+ghost use Rattle.volume_model.specs.Plan.{is_named};
+ghost use Rattle.plan.specs.CheckedModel.{checked_model};
 
 use crate::act::NodeAct;
 use crate::assembly::Assembly;
@@ -46,18 +50,17 @@ pub struct Segment {
     assembly: Assembly,
     /// How many copies it has told.
     copied: u64,
+    ghost named: { is_named (checked_model (arc_value plan)) group member ≡ true },
 }
 
 impl Segment {
     ghost use Rattle.std.specs.Prelude.{◌==◌, false, not, [], ◌∷◌, Ok, Err, IfErr, MatchResult, ◌≢◌};
-    ghost use Rattle.std.specs.Arc.{arc_value};
     ghost use Rattle.volume_model.specs.Answer.{Answers, AnswersAlways, AnswersLate, AnswersNew};
     ghost use Rattle.volume_model.specs.Refusal.{refuse_if};
     ghost use Rattle.volume_model.specs.declared.fault.Fault.TheVariants.{NoMemory, NotAddressed, NotInstalled};
     ghost use Rattle.volume_model.specs.Redo.{record_at, scl};
     ghost use Rattle.volume_model.specs.Node.{NodeAnswer, gossip_of, installed, label_checks, lineage_epoch, offered, restarted, take_record};
     ghost use Rattle.volume_model.specs.Pieces.{is_bad_piece};
-    ghost use Rattle.plan.specs.CheckedModel.{checked_model};
     ghost use Rattle.redo_record.specs.SharedRecord.{shared_redo};
     ghost use Rattle.redo_record.specs.RecordSet.{records_of as set_records};
     ghost use Rattle.volume_model.specs.Message as model;

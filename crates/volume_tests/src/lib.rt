@@ -25,11 +25,15 @@ mod records;
 #[cfg(test)]
 mod recoveries;
 #[cfg(test)]
+mod runs;
+#[cfg(test)]
 mod said;
 #[cfg(test)]
 mod segments;
 #[cfg(test)]
 mod sorted;
+#[cfg(test)]
+mod spent;
 #[cfg(test)]
 mod texts;
 #[cfg(test)]
