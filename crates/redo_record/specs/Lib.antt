@@ -1,6 +1,7 @@
 pub mod Payload
 pub mod Record
 pub mod SharedRecord
+pub mod Packet
 pub mod Shared
 pub mod Window
 pub mod Ranges

@@ -7,6 +7,7 @@ ghost use Rattle.redo_record.specs.Text.{text_bytes};
 ghost use Rattle.redo_record.specs.Ranges.{IsSpellable};
 ghost use Rattle.redo_record.specs.Spelling.{spelled, decoded};
 
+use crate::packet::Packet;
 use crate::record::Record;
 use crate::text::Text;
 use std::alloc::Global;
@@ -41,7 +42,7 @@ pub fn encode(alloc: Global, record: &Record) -> Result<Vec<u8>, Fault>
     ensures decoded { IfOk result (λ v. decoded v.items ≡ Ok (redo_of «record».now)) }
     ensures err { IfErr result (λ fault. fault ≡ NoMemory) }
 {
-    let text = spell(record);
-    let bytes = Vec::from_slice(alloc, text.as_slice())?;
+    let packet = Packet::pack(record);
+    let bytes = Vec::from_slice(alloc, packet.as_bytes())?;
     Ok(bytes)
 }

@@ -7,6 +7,7 @@ mod encoding;
 mod group;
 mod head;
 mod joining;
+mod packet;
 mod payload;
 mod placing;
 mod record;
@@ -18,6 +19,7 @@ mod window;
 
 pub use decoding::decode;
 pub use encoding::encode;
+pub use packet::Packet;
 pub use payload::Payload;
 pub use placing::place_among;
 pub use record::Record;

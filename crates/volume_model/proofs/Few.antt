@@ -12,9 +12,9 @@ use Rattle.volume_model.specs.Answer.{◌>>=◌}
 use Rattle.volume_model.specs.Plan.{Plan}
 use Rattle.volume_model.specs.Message.{Place, Message, place_in}
 use Rattle.volume_model.specs.Message.Message.{View, StepTo, Fence, Report, Install, Write, Gossip, Ack, CopyAsk, CopyReport, PageAsk, Page}
-use Rattle.volume_model.specs.Client.{Client, ClientAnswer, Stage, label_of, place_of, reports_of}
+use Rattle.volume_model.specs.Client.{Client, ClientAnswer, Stage, label_of, place_of}
 use Rattle.volume_model.specs.ClientWriter.{Change, issued, issued_writes, page_asked, record_of, resent, write_of, is_last}
-use Rattle.volume_model.specs.ClientRecovery.{to_install, installs, all_reports, cut_step, live_reported, log_reported, cut_client, reported}
+use Rattle.volume_model.specs.ClientRecovery.{to_install, installs, cut_step, live_reported, log_reported, cut_client, reported}
 use Rattle.volume_model.specs.ClientMessages.{later_group, later_in, taken, viewed, with_places, later_unjoined, are_places}
 use Rattle.volume_model.specs.Client.Stage.{Unborn, Reading, Installing, Writing}
 use Rattle.volume_model.specs.Leading.{VolumeLinksFall}

@@ -8,10 +8,10 @@ use Rattle.volume_model.specs.Plan.{Plan}
 use Rattle.volume_model.specs.Message.{Label, Place, Message}
 use Rattle.volume_model.specs.Message.Message.{View, StepTo, Fence, Report, Install, Write, Gossip, Ack, CopyAsk, CopyReport, PageAsk, Page}
 use Rattle.volume_model.specs.Node.{From, NodeAnswer, in_group}
-use Rattle.volume_model.specs.Client.{Client, Stage, ClientStep, ClientAnswer, ClientGroup, is_born, has_cut, is_open, place_of, reports_of, first_writer, unborn}
+use Rattle.volume_model.specs.Client.{Client, Stage, ClientStep, ClientAnswer, ClientGroup, is_born, has_cut, is_open, place_of, first_writer, unborn}
 use Rattle.volume_model.specs.ClientPoints.{durable_point}
 use Rattle.volume_model.specs.ClientWriter.{Change, is_transaction, issued, write_of, resent, page_asked, have_joined}
-use Rattle.volume_model.specs.ClientRecovery.{report_taken, all_reports, has_read, cut_client, opened, reported}
+use Rattle.volume_model.specs.ClientRecovery.{report_taken, has_read, cut_client, opened, reported}
 use Rattle.volume_model.specs.ClientMessages.{viewed, ack_taken, are_places, taken}
 use Rattle.volume_model.specs.Client.Stage.{Unborn, Reading, Installing, Writing}
 use Rattle.volume_model.specs.World.{World, Event, AuthorityStep, of_authority, of_client, of_node, after_step, after, run, opening, assigned, advanced, refreshed, grown, take}

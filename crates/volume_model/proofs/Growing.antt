@@ -1,5 +1,5 @@
 -- What a step does to the messages.
-use Rattle.std.proofs.Common.{◌≡◌, ℕ, ◌+◌, List, [], ◌∷◌, length, Some, Result, Ok, Err, refl, sym, ap, ◌∙◌, subst}
+use Rattle.std.proofs.Common.{◌≡◌, ℕ, ◌+◌, List, [], length, Some, Result, Ok, Err, refl, sym, ap, ◌∙◌, subst}
 use Rattle.volume_model.specs.declared.fault.Fault.{Fault}
 use Rattle.volume_model.specs.Lists.{added, numbered, IsBeginningOf}
 use Rattle.volume_model.specs.Plan.{Plan}

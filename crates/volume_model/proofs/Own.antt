@@ -10,9 +10,9 @@ use Rattle.volume_model.specs.Plan.{Plan}
 use Rattle.volume_model.specs.Message.{Label, Place, Message}
 use Rattle.volume_model.specs.Message.Message.{View, StepTo, Fence, Report, Install, Write, Gossip, Ack, CopyAsk, CopyReport, PageAsk, Page}
 use Rattle.volume_model.specs.Node.{Node, NodeStep, NodeAnswer, label_checks, take_record, page_checks, page_answer, reaction, Hydrated, finished, or_not_enough, gathered, whole_from, hydrated, offered, gossip_of}
-use Rattle.volume_model.specs.Client.{Client, ClientStep, is_born, reports_of}
+use Rattle.volume_model.specs.Client.{Client, ClientStep, is_born}
 use Rattle.volume_model.specs.ClientWriter.{Change, issued, resent, write_of, page_asked}
-use Rattle.volume_model.specs.ClientRecovery.{all_reports, cut_step, cut_client, opened, reported}
+use Rattle.volume_model.specs.ClientRecovery.{cut_step, cut_client, opened, reported}
 use Rattle.volume_model.specs.ClientMessages.{taken}
 use Rattle.volume_model.specs.World.{Authority, AuthorityStep, assigned, advanced, refreshed, grown}
 use Rattle.volume_model.specs.Told.{Refuses, IsOwn, IsOwnOfClient}

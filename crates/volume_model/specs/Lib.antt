@@ -40,3 +40,6 @@ pub mod Orderly
 pub mod Reported
 pub mod PieceLaws
 pub mod Few
+pub mod Raised
+pub mod PageBytes
+pub mod NewGroups

@@ -12,6 +12,9 @@ ghost use Rattle.volume_model.specs.Few.{StepsAreFew};
 ghost use Rattle.volume_model.specs.Orderly.{RunsAreOrderly};
 ghost use Rattle.volume_model.specs.Reported.{ReportsWereMade};
 ghost use Rattle.volume_model.specs.PieceLaws.{PiecesMakeUp, PiecesUnite, PiecesAreOfOne};
+ghost use Rattle.volume_model.specs.Raised.{EachGroupIsRaised};
+ghost use Rattle.volume_model.specs.PageBytes.{NodesRecordsInOrder, PagesByteByByte};
+ghost use Rattle.volume_model.specs.NewGroups.{NewGroupsAreEmpty};
 ghost use Rattle.volume_model.specs.WorkedPlans.{SixCopiesCertified, FullAndTailCertified, MemberReplacedCertified};
 
 /// A record is live in a lineage whose epochs grow exactly where its volume epoch has an entry, its number is above that
@@ -134,4 +137,26 @@ pub fn member_replaced_certified()
 /// records of the log found, a record sent again or a question for a page one. The log found has no more records than the reports hold.
 pub fn steps_are_few()
     ensures { StepsAreFew }
+{}
+
+/// Where an open client's groups are raised, as an acknowledgement, a View and the opening do, there are as many as before, and
+/// each is raised on its own, under its own number: its point as `group_point_is_greatest` says.
+pub fn each_group_is_raised()
+    ensures { EachGroupIsRaised }
+{}
+
+/// In every run the records of each node come in order of LSN, those of one LSN in order of bytes, each once.
+pub fn nodes_records_in_order()
+    ensures { NodesRecordsInOrder }
+{}
+
+/// Each byte of a page is that of the last record that writes it, by LSN and then in order of bytes, among those of the block
+/// that aren't above the point; it is 0 where none writes it.
+pub fn pages_byte_by_byte()
+    ensures { PagesByteByByte }
+{}
+
+/// In every run, what a client installs in a group that is new to it since its cut has no records.
+pub fn new_groups_are_empty()
+    ensures { NewGroupsAreEmpty }
 {}

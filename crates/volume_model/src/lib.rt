@@ -15,9 +15,10 @@ pub use actors::{
 pub use fault::Fault;
 pub use laws::{
     complete_and_durable_points_are_greatest, complete_point_is_greatest, cut_is_greatest,
-    finds_last, found_is_reported, full_and_tail_certified, group_point_is_greatest,
-    log_found_leads_down, member_replaced_certified, newest_is_newest, one_lineage_an_epoch,
-    opens_at_its_cut, parts_of_logs, pieces_are_of_one, pieces_make_up, pieces_unite,
+    each_group_is_raised, finds_last, found_is_reported, full_and_tail_certified,
+    group_point_is_greatest, log_found_leads_down, member_replaced_certified, new_groups_are_empty,
+    newest_is_newest, nodes_records_in_order, one_lineage_an_epoch, opens_at_its_cut,
+    pages_byte_by_byte, parts_of_logs, pieces_are_of_one, pieces_make_up, pieces_unite,
     record_at_is_first, records_live, reports_were_made, runs_are_orderly, six_copies_certified,
     steps_are_few,
 };

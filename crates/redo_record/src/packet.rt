@@ -1,0 +1,68 @@
+//! Packets: records as bytes in place.
+
+ghost use Rattle.std.specs.Prelude.{◌≡◌, IsTrue, is_ok};
+ghost use Rattle.redo_record.specs.Head.{redo_in};
+ghost use Rattle.redo_record.specs.Spelling.{spelled, decoded};
+ghost use Rattle.redo_record.specs.Text.{text_bytes};
+
+use crate::decoding::{checked_head, record_from};
+use crate::encoding::spell;
+use crate::head::{HEAD_BYTES, head_of};
+use crate::record::Record;
+use crate::text::Text;
+use volume_model::Fault;
+
+/// The canonical bytes of a record, in place: what a record is on a wire or in a file.
+///
+/// A packet takes no memory, and its bytes always spell a record.
+#[derive(Clone, Copy)]
+pub struct Packet {
+    text: Text,
+    ghost allowed: { IsTrue (is_ok (decoded (text_bytes text))) },
+    ghost canonical: { spelled (redo_in (text_bytes text)) ≡ text_bytes text },
+}
+
+impl Packet {
+    ghost use Rattle.std.specs.Prelude.{Ok, Err, MatchResult};
+    ghost use Rattle.redo_record.specs.Packet.{packet_redo};
+    ghost use Rattle.redo_record.specs.Record.{redo_of};
+
+    /// Returns the packet of a record. Takes no memory.
+    pub fn pack(record: &Record) -> Packet
+        ensures { packet_redo result ≡ redo_of «record».now }
+    {
+        Packet {
+            text: spell(record),
+        }
+    }
+
+    /// Returns the packet of these bytes. Takes no memory.
+    ///
+    /// # Errors
+    /// `Short` where there are too few bytes, `BadField` where a number isn't allowed, `Trailing` where there are too many.
+    pub fn from_bytes(bytes: &[u8]) -> Result<Packet, Fault>
+        ensures { MatchResult result (λ packet. decoded bytes.now ≡ Ok (packet_redo packet)) (λ fault. decoded bytes.now ≡ Err fault) }
+    {
+        let _head = checked_head(bytes)?;
+        let mut text = Text::new();
+        text.write(bytes);
+        Ok(Packet { text })
+    }
+
+    /// Returns the record. Takes no memory.
+    pub fn record(&self) -> Record
+        ensures { redo_of result ≡ packet_redo self.now }
+    {
+        let bytes = self.text.as_slice();
+        let (_, written) = bytes.split_at(HEAD_BYTES);
+        record_from(&head_of(bytes), written)
+    }
+
+    /// Returns the bytes: the one spelling of the record.
+    pub fn as_bytes(&self) -> &[u8]
+        ensures spelled { result.now ≡ spelled (packet_redo self.now) }
+        ensures decoded { decoded result.now ≡ Ok (packet_redo self.now) }
+    {
+        self.text.as_slice()
+    }
+}
