@@ -1,0 +1,114 @@
+-- What was written is read again.
+use Rattle.std.proofs.Common.{◌≡◌, ℕ, suc, ◌+◌, ◌^◌, ◌<◌, true, false, nat_lt, List, [], ◌∷◌, ◌++◌, length, map, get_or, take, Ok, refl, sym, ap, ap₂, subst, ◌∙◌, append_assoc, arith}
+use Rattle.std.specs.Int.{w32, w64, to_be_bytes}
+use Rattle.std.proofs.lemmas.Bool.{and_parts, le-ltb}
+use Rattle.std.proofs.lemmas.List.{take_at, drop_at, append-nil, length-append, get_or_append_left, get_or_at, map_more}
+use Rattle.volume_model.specs.Redo.{Redo, spelling, numbers_before}
+use Rattle.volume_model.specs.Lineage.{Entry, Lineage, Contents}
+use Rattle.redo_record.specs.declared.shared_record.SharedRecord.{SharedRecord}
+use Rattle.redo_record.specs.Order.{IsInOrder}
+use Rattle.redo_record.specs.SharedRecord.{shared_redo}
+use Rattle.redo_record.specs.Spelling.{spelled, decoded}
+use Rattle.redo_record.proofs.Again.{length-spelled}
+use Rattle.lineage.specs.Entries.{is_lineage}
+use Rattle.message_bytes.specs.Contents.{redo_at, entry_at, entries_at, is_next, records_at, lineage_at, set_at, contents_at}
+use Rattle.message_bytes.specs.Spelling.{entry_spelled, entries_spelled, lineage_spelled, records_spelled, set_spelled, contents_spelled, IsEntry, AreEntries, AreReadBack}
+use Rattle.message_bytes.proofs.Fields.{wide32, wide64, number_again}
+use Rattle.message_bytes.proofs.Found.{records_spelled-append}
+use Rattle.message_bytes.proofs.Next.{next-at}
+
+pub three : (o a b c : List ℕ) → ((o ++ a) ++ b) ++ c ≡ o ++ (a ++ (b ++ c))
+three o a b c = append_assoc (o ++ a) b c ∙ append_assoc o a (b ++ c)
+
+-- one record more
+pub packets-more : (packets : List SharedRecord) (i : ℕ) (p : SharedRecord) (items more old : List ℕ) → i < length packets → p ≡ get_or packets i p → more ≡ items ++ spelled (shared_redo p) → decoded (spelled (shared_redo p)) ≡ Ok (shared_redo p)
+    → (items ≡ old ++ records_spelled (map shared_redo (take i packets))) × AreReadBack (map shared_redo (take i packets))
+    → (more ≡ old ++ records_spelled (map shared_redo (take (i + 1) packets))) × AreReadBack (map shared_redo (take (i + 1) packets))
+packets-more packets i p items more old within is grown reads (so_far, back) =
+    let r = shared_redo p in
+    let front = map shared_redo (take i packets) in
+    let step : front ++ r ∷ [] ≡ map shared_redo (take (i + 1) packets) = ap (λ (q : SharedRecord). front ++ shared_redo q ∷ []) is ∙ sym (map_more shared_redo packets i p within) in
+    let text : more ≡ old ++ records_spelled (front ++ r ∷ []) =
+    grown ∙ ap (λ (t : List ℕ). t ++ spelled r) so_far ∙ append_assoc old (records_spelled front) (spelled r)
+    ∙ ap (λ (t : List ℕ). old ++ t) (ap (λ (t : List ℕ). records_spelled front ++ t) (sym (append-nil (spelled r))) ∙ sym (records_spelled-append front (r ∷ []))) in
+    (text ∙ ap (λ (rs : List Redo). old ++ records_spelled rs) step, subst AreReadBack step (pushed front back))
+  where
+    pushed : (xs : List Redo) → AreReadBack xs → AreReadBack (xs ++ shared_redo p ∷ [])
+    pushed [] b = (reads, tt)
+    pushed (x ∷ xs) b = (b.0, pushed xs b.1)
+
+length_at : (r : Redo) (rest : List ℕ) → get_or (spelled r ++ rest) 44 0 ≡ length r.bytes
+unfolding spelled
+length_at r rest = refl
+
+pub redo_again : (r : Redo) (rest : List ℕ) → decoded (spelled r) ≡ Ok r → redo_at (spelled r ++ rest) ≡ Ok (r, rest)
+unfolding redo_at
+redo_again r rest reads =
+    let b = spelled r ++ rest in
+    let n : 45 + get_or b 44 0 ≡ length (spelled r) = ap (λ (k : ℕ). 45 + k) (length_at r rest) ∙ sym (length-spelled r) in
+    let t0 : nat_lt (length b) 45 ≡ false = le-ltb (length b) 45 (omega (arith, length-append (spelled r) rest, length-spelled r)) in
+    let t1 : nat_lt (length b) (length (spelled r)) ≡ false = le-ltb (length b) (length (spelled r)) (omega (arith, length-append (spelled r) rest)) in
+    rw (n, t0, t1, take_at (spelled r) rest (length (spelled r)) refl, drop_at (spelled r) rest (length (spelled r)) refl, reads) refl
+
+pub entry_again : (e : Entry) (rest : List ℕ) → IsEntry e → entry_at (entry_spelled e ++ rest) ≡ Ok (e, rest)
+unfolding entry_at
+entry_again e rest fits =
+    let regrouped : entry_spelled e ++ rest ≡ to_be_bytes w32 e.volume ++ (to_be_bytes w64 e.cut ++ (to_be_bytes w64 e.start ++ rest)) =
+    append_assoc (to_be_bytes w32 e.volume) (to_be_bytes w64 e.cut ++ to_be_bytes w64 e.start) rest ∙ ap (λ (t : List ℕ). to_be_bytes w32 e.volume ++ t) (append_assoc (to_be_bytes w64 e.cut) (to_be_bytes w64 e.start) rest) in
+    ap entry_at regrouped
+    ∙ rw (number_again w32 (2 ^ 32) wide32 e.volume (to_be_bytes w64 e.cut ++ (to_be_bytes w64 e.start ++ rest)) fits.volume, number_again w64 (2 ^ 64) wide64 e.cut (to_be_bytes w64 e.start ++ rest) fits.cut, number_again w64 (2 ^ 64) wide64 e.start rest fits.start) refl
+
+pub entries_again : (own : Lineage) (m : ℕ) (rest : List ℕ) → is_lineage own ≡ true → AreEntries own → entries_at (length own + m) [] (entries_spelled own ++ rest) ≡ entries_at m own rest
+unfolding entries_at
+entries_again [] m rest growing fits = ap (λ (k : ℕ). entries_at k [] rest) (omega arith)
+entries_again (e ∷ older) m rest growing fits =
+    let k : length (e ∷ older) + m ≡ length older + suc m = omega arith in
+    let before : is_lineage older ≡ true = (and_parts _ _ growing).1 in
+    ap₂ (λ (k : ℕ) (t : List ℕ). entries_at k [] t) k (append_assoc (entries_spelled older) (entry_spelled e) rest)
+    ∙ entries_again older (suc m) (entry_spelled e ++ rest) before fits.1 ∙ rw (entry_again e rest fits.0, growing) refl
+
+next_passes : (kept : List Redo) (r : Redo) (xs : List Redo) → IsInOrder (kept ++ r ∷ xs) → is_next kept r ≡ true
+next_passes [] r xs order = refl
+next_passes (s ∷ kept) r xs order =
+    let n = length kept in
+    let all = (s ∷ kept) ++ r ∷ xs in
+    next-at (s ∷ kept) n r r refl
+    ∙ subst (λ (x : Redo). numbers_before (spelling x) (spelling r) ≡ true) (get_or_append_left (s ∷ kept) (r ∷ xs) r n (omega arith))
+    (subst (λ (x : Redo). numbers_before (spelling (get_or all n r)) (spelling x) ≡ true) (get_or_at (s ∷ kept) r xs r (suc n) refl)
+    (order n (suc n) r (omega arith) (omega (arith, length-append (s ∷ kept) (r ∷ xs)))))
+
+pub records_again : (xs kept : List Redo) (m : ℕ) (rest : List ℕ) → IsInOrder (kept ++ xs) → AreReadBack xs → records_at (length xs + m) kept (records_spelled xs ++ rest) ≡ records_at m (kept ++ xs) rest
+unfolding records_at
+records_again [] kept m rest order back = ap₂ (λ (k : ℕ) (t : List Redo). records_at k t rest) (omega arith) (sym (append-nil kept))
+records_again (r ∷ xs) kept m rest order back =
+    let k : length (r ∷ xs) + m ≡ suc (length xs + m) = omega arith in
+    let more : (kept ++ r ∷ []) ++ xs ≡ kept ++ r ∷ xs = append_assoc kept (r ∷ []) xs in
+    ap₂ (λ (k : ℕ) (t : List ℕ). records_at k kept t) k (append_assoc (spelled r) (records_spelled xs) rest)
+    ∙ rw (redo_again r (records_spelled xs ++ rest) back.0, next_passes kept r xs order) (records_again xs (kept ++ r ∷ []) m rest (subst IsInOrder (sym more) order) back.1)
+    ∙ ap (λ (t : List Redo). records_at m t rest) more
+
+pub lineage_again : (own : Lineage) (rest : List ℕ) → length own < 2 ^ 32 → is_lineage own ≡ true → AreEntries own → lineage_at (lineage_spelled own ++ rest) ≡ Ok (own, rest)
+unfolding lineage_at entries_at
+lineage_again own rest few growing fits =
+    ap lineage_at (append_assoc (to_be_bytes w32 (length own)) (entries_spelled own) rest)
+    ∙ rw (number_again w32 (2 ^ 32) wide32 (length own) (entries_spelled own ++ rest) few) (ap (λ (k : ℕ). entries_at k [] (entries_spelled own ++ rest)) (omega arith) ∙ entries_again own 0 rest growing fits)
+
+pub set_again : (records : List Redo) (rest : List ℕ) → length records < 2 ^ 32 → IsInOrder records → AreReadBack records → set_at (set_spelled records ++ rest) ≡ Ok (records, rest)
+unfolding set_at records_at
+set_again records rest few order back =
+    ap set_at (append_assoc (to_be_bytes w32 (length records)) (records_spelled records) rest)
+    ∙ rw (number_again w32 (2 ^ 32) wide32 (length records) (records_spelled records ++ rest) few) (ap (λ (k : ℕ). records_at k [] (records_spelled records ++ rest)) (omega arith) ∙ records_again records [] 0 rest order back)
+
+pub contents_again : (c : Contents) (rest : List ℕ)
+    → ((rest : List ℕ) → lineage_at (lineage_spelled c.lineage ++ rest) ≡ Ok (c.lineage, rest))
+    → ((rest : List ℕ) → set_at (set_spelled c.records ++ rest) ≡ Ok (c.records, rest))
+    → contents_at (contents_spelled c ++ rest) ≡ Ok (c, rest)
+unfolding contents_at
+contents_again c rest lineage_back set_back =
+    ap contents_at (append_assoc (lineage_spelled c.lineage) (set_spelled c.records) rest) ∙ rw (lineage_back (set_spelled c.records ++ rest), set_back rest) refl
+
+-- what a CopyReport's fields are written by, one after the other
+pub copied : (o e s p t : List ℕ) (g f : ℕ) → (((((o ++ g ∷ []) ++ e) ++ f ∷ []) ++ s) ++ p) ++ t ≡ o ++ ((g ∷ e) ++ ((f ∷ s) ++ (p ++ t)))
+copied o e s p t g f =
+    let front : (((o ++ g ∷ []) ++ e) ++ f ∷ []) ++ s ≡ (o ++ (g ∷ e)) ++ (f ∷ s) = append_assoc ((o ++ g ∷ []) ++ e) (f ∷ []) s ∙ ap (λ (y : List ℕ). y ++ (f ∷ s)) (append_assoc o (g ∷ []) e) in
+    ap (λ (y : List ℕ). (y ++ p) ++ t) front ∙ append_assoc ((o ++ (g ∷ e)) ++ (f ∷ s)) p t ∙ three o (g ∷ e) (f ∷ s) (p ++ t)

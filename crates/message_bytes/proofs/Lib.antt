@@ -1,0 +1,9 @@
+pub mod Handed
+pub mod Loop
+pub mod Next
+pub mod Fields
+pub mod Found
+pub mod Fielded
+pub mod Messages
+pub mod Again
+pub mod Back

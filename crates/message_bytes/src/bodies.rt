@@ -1,0 +1,185 @@
+//! Writes the fields of each kind of message.
+
+ghost use Rattle.std.specs.Prelude.{◌≡◌, ◌<◌, ◌^◌, ◌++◌, length, map, OnOk};
+ghost use Rattle.wire.specs.Message.{label_of, place_of, message_of};
+ghost use Rattle.wire.specs.Contents.{piece_in};
+ghost use Rattle.message_bytes.specs.Spelling.{labelled_spelled, place_spelled, places_spelled, piece_spelled, body_spelled, ArePlaces, IsReadBack};
+
+use crate::writing::{count_of, put_contents, put_record, put_u16, put_u32, put_u64};
+use std::alloc::{AllocError, Global};
+use volume_model::Fault;
+use wire::{
+    Ack, CopyAsk, CopyReport, Fence, Gossip, Install, Label, Message, Page, PageAsk, Place, Report,
+    StepTo, View, Write,
+};
+
+/// Appends a group and a label.
+fn put_labelled(out: &mut Vec<u8>, group: u8, label: Label) -> Result<(), AllocError>
+    ensures text { OnOk result (out.new.items ≡ out.old.items ++ labelled_spelled group (label_of label)) }
+    ensures volume { label.volume < 2 ^ 32 }
+    ensures member { label.member < 2 ^ 32 }
+{
+    out.push(group)?;
+    put_u32(out, label.volume)?;
+    put_u32(out, label.member)?;
+    Ok(())
+}
+
+/// Appends a configuration and its membership epoch.
+fn put_place(out: &mut Vec<u8>, place: Place) -> Result<(), AllocError>
+    ensures text { OnOk result (out.new.items ≡ out.old.items ++ place_spelled (place_of place)) }
+    ensures fits { place.epoch < 2 ^ 32 }
+{
+    out.push(place.configuration)?;
+    put_u32(out, place.epoch)
+}
+
+/// Appends places.
+fn put_places(out: &mut Vec<u8>, places: &[Place]) -> Result<(), AllocError>
+    ensures text { OnOk result (out.new.items ≡ out.old.items ++ places_spelled (map place_of places.now)) }
+    ensures fits { OnOk result (ArePlaces (map place_of places.now)) }
+{
+    for place in places {
+        put_place(out, *place)?;
+    }
+    Ok(())
+}
+
+/// Appends the number of a piece, and how many there are.
+fn put_piece(out: &mut Vec<u8>, piece: u16, of: u16) -> Result<(), AllocError>
+    ensures text { OnOk result (out.new.items ≡ out.old.items ++ piece_spelled (piece_in piece of)) }
+    ensures number { piece < 2 ^ 16 }
+    ensures count { of < 2 ^ 16 }
+{
+    put_u16(out, piece)?;
+    put_u16(out, of)?;
+    Ok(())
+}
+
+/// Appends the bytes of a page.
+fn put_image(out: &mut Vec<u8>, bytes: [u8; 512]) -> Result<(), AllocError>
+    ensures text { OnOk result (out.new.items ≡ out.old.items ++ bytes) }
+    ensures full { length bytes ≡ 512 }
+{
+    out.extend_from_slice(&bytes)
+}
+
+pub fn put_view(out: &mut Vec<u8>, view: &View) -> Result<(), Fault>
+    ensures text { OnOk result (out.new.items ≡ out.old.items ++ body_spelled (message_of (Message.View view.now))) }
+    ensures reads { OnOk result (IsReadBack (message_of (Message.View view.now))) }
+{
+    let count = count_of(view.places.len())?;
+    put_u32(out, view.volume)?;
+    put_u32(out, count)?;
+    put_places(out, &view.places)?;
+    Ok(())
+}
+
+pub fn put_step(out: &mut Vec<u8>, step: &StepTo) -> Result<(), AllocError>
+    ensures text { OnOk result (out.new.items ≡ out.old.items ++ body_spelled (message_of (Message.StepTo step.now))) }
+    ensures reads { OnOk result (IsReadBack (message_of (Message.StepTo step.now))) }
+{
+    out.push(step.group)?;
+    put_place(out, step.place)?;
+    Ok(())
+}
+
+pub fn put_fence(out: &mut Vec<u8>, fence: &Fence) -> Result<(), AllocError>
+    ensures text { OnOk result (out.new.items ≡ out.old.items ++ body_spelled (message_of (Message.Fence fence.now))) }
+    ensures reads { OnOk result (IsReadBack (message_of (Message.Fence fence.now))) }
+{
+    put_labelled(out, fence.group, fence.label)?;
+    Ok(())
+}
+
+pub fn put_report(alloc: Global, out: &mut Vec<u8>, report: &Report) -> Result<(), Fault>
+    ensures text { OnOk result (out.new.items ≡ out.old.items ++ body_spelled (message_of (Message.Report report.now))) }
+    ensures reads { OnOk result (IsReadBack (message_of (Message.Report report.now))) }
+{
+    put_labelled(out, report.group, report.label)?;
+    out.push(report.from)?;
+    put_contents(alloc, out, &report.contents)?;
+    Ok(())
+}
+
+pub fn put_install(alloc: Global, out: &mut Vec<u8>, install: &Install) -> Result<(), Fault>
+    ensures text { OnOk result (out.new.items ≡ out.old.items ++ body_spelled (message_of (Message.Install install.now))) }
+    ensures reads { OnOk result (IsReadBack (message_of (Message.Install install.now))) }
+{
+    put_labelled(out, install.group, install.label)?;
+    put_piece(out, install.piece, install.of)?;
+    put_contents(alloc, out, &install.contents)?;
+    Ok(())
+}
+
+pub fn put_write(out: &mut Vec<u8>, write: &Write) -> Result<(), AllocError>
+    ensures text { OnOk result (out.new.items ≡ out.old.items ++ body_spelled (message_of (Message.Write write.now))) }
+    ensures reads { OnOk result (IsReadBack (message_of (Message.Write write.now))) }
+{
+    put_labelled(out, write.group, write.label)?;
+    put_record(out, &write.packet)?;
+    Ok(())
+}
+
+pub fn put_gossip(out: &mut Vec<u8>, gossip: &Gossip) -> Result<(), AllocError>
+    ensures text { OnOk result (out.new.items ≡ out.old.items ++ body_spelled (message_of (Message.Gossip gossip.now))) }
+    ensures reads { OnOk result (IsReadBack (message_of (Message.Gossip gossip.now))) }
+{
+    put_labelled(out, gossip.group, gossip.label)?;
+    put_record(out, &gossip.packet)?;
+    Ok(())
+}
+
+pub fn put_ack(out: &mut Vec<u8>, ack: &Ack) -> Result<(), AllocError>
+    ensures text { OnOk result (out.new.items ≡ out.old.items ++ body_spelled (message_of (Message.Ack ack.now))) }
+    ensures reads { OnOk result (IsReadBack (message_of (Message.Ack ack.now))) }
+{
+    put_labelled(out, ack.group, ack.label)?;
+    out.push(ack.from)?;
+    put_u64(out, ack.scl)?;
+    Ok(())
+}
+
+pub fn put_copy_ask(out: &mut Vec<u8>, ask: &CopyAsk) -> Result<(), AllocError>
+    ensures text { OnOk result (out.new.items ≡ out.old.items ++ body_spelled (message_of (Message.CopyAsk ask.now))) }
+    ensures reads { OnOk result (IsReadBack (message_of (Message.CopyAsk ask.now))) }
+{
+    out.push(ask.group)?;
+    put_u32(out, ask.epoch)?;
+    Ok(())
+}
+
+pub fn put_copy_report(alloc: Global, out: &mut Vec<u8>, report: &CopyReport) -> Result<(), Fault>
+    ensures text { OnOk result (out.new.items ≡ out.old.items ++ body_spelled (message_of (Message.CopyReport report.now))) }
+    ensures reads { OnOk result (IsReadBack (message_of (Message.CopyReport report.now))) }
+{
+    out.push(report.group)?;
+    put_u32(out, report.epoch)?;
+    out.push(report.from)?;
+    put_u64(out, report.part.series)?;
+    put_piece(out, report.piece, report.of)?;
+    put_contents(alloc, out, &report.part.contents)?;
+    Ok(())
+}
+
+pub fn put_page_ask(out: &mut Vec<u8>, ask: &PageAsk) -> Result<(), AllocError>
+    ensures text { OnOk result (out.new.items ≡ out.old.items ++ body_spelled (message_of (Message.PageAsk ask.now))) }
+    ensures reads { OnOk result (IsReadBack (message_of (Message.PageAsk ask.now))) }
+{
+    put_labelled(out, ask.group, ask.label)?;
+    put_u32(out, ask.block)?;
+    put_u64(out, ask.point)?;
+    Ok(())
+}
+
+pub fn put_page(out: &mut Vec<u8>, page: &Page) -> Result<(), AllocError>
+    ensures text { OnOk result (out.new.items ≡ out.old.items ++ body_spelled (message_of (Message.Page page.now))) }
+    ensures reads { OnOk result (IsReadBack (message_of (Message.Page page.now))) }
+{
+    put_labelled(out, page.group, page.label)?;
+    out.push(page.from)?;
+    put_u32(out, page.image.block)?;
+    put_u64(out, page.image.point)?;
+    put_image(out, page.image.bytes)?;
+    Ok(())
+}

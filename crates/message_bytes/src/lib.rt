@@ -1,0 +1,19 @@
+//! Messages as bytes, for an engine's own transport.
+//!
+//! A message is a version byte, a kind byte and its fields, big-endian and without gaps; docs/WIRE.md has the layout. Each message has one
+//! spelling: [`decode`] accepts exactly the bytes that [`encode`] gives.
+#![tactic(auto)]
+
+mod bodies;
+mod contents;
+mod decoding;
+mod encoding;
+mod numbers;
+mod places;
+mod reading;
+mod writing;
+
+pub use contents::read_contents;
+pub use decoding::decode;
+pub use encoding::encode;
+pub use writing::put_contents;
