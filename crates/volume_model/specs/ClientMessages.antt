@@ -38,7 +38,7 @@ with_places move groups [] = groups
 with_places move [] (place ∷ places) = move no_group place ∷ with_places move [] places
 with_places move (group ∷ groups) (place ∷ places) = move group place ∷ with_places move groups places
 
--- A View. Groups raised are fenced before the cut, and installed after it; of an open writer those alone that haven't joined, with no records
+-- A View. Groups of a later membership epoch are fenced before the cut, and installed after it; of an open writer those alone that haven't joined, with no records
 abbrev pub viewed : Plan → ℕ → Client → List Place → Stage → ClientStep
 viewed plan volume client places Unborn = born_client volume places
 viewed plan volume client places Reading =
