@@ -37,4 +37,6 @@ mod spent;
 #[cfg(test)]
 mod texts;
 #[cfg(test)]
+mod wires;
+#[cfg(test)]
 mod writers;
