@@ -18,3 +18,5 @@ pub mod GoodParents
 pub mod Rewrites
 pub mod GroupsMore
 pub mod Certifies
+pub mod Admitted
+pub mod KeptValues

@@ -51,7 +51,7 @@ child-claims g c group x y p meets step shape here there parent claim stepped =
 pub claims-more : (i : ℕ) (f : ℕ → Result (List PlacedClaim) PlanFault) (xs ys : List PlacedClaim) → claims_below i f ≡ Ok xs → f i ≡ Ok ys → claims_below (i + 1) f ≡ Ok (xs ++ ys)
 claims-more i f xs ys before here = ap (λ n. claims_below n f) (add-one i) ∙ (λ j. before j >=> λ b. here j >=> λ h. Ok (b ++ h))
 
-claims-fault : (n i : ℕ) (f : ℕ → Result (List PlacedClaim) PlanFault) (xs : List PlacedClaim) (fault : PlanFault) → i < n → claims_below i f ≡ Ok xs → f i ≡ Err fault → claims_below n f ≡ Err fault
+pub claims-fault : (n i : ℕ) (f : ℕ → Result (List PlacedClaim) PlanFault) (xs : List PlacedClaim) (fault : PlanFault) → i < n → claims_below i f ≡ Ok xs → f i ≡ Err fault → claims_below n f ≡ Err fault
 claims-fault zero i f xs fault h before here = absurd (omega arith)
 claims-fault (suc n) i f xs fault h before here =
     elim (cases_lt i n) [

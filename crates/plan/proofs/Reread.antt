@@ -138,7 +138,7 @@ lists_kept : (w : Bool) (f : Fields) (meets step : Data) → lists_of w (record 
 unfolding lists_of
 lists_kept w f meets step = refl
 
-fields_of-object : (f : Fields) (meets step : Data) → fields_of (fields_object f meets step) ≡ Ok (record f { meets = meets; step = step })
+pub fields_of-object : (f : Fields) (meets step : Data) → fields_of (fields_object f meets step) ≡ Ok (record f { meets = meets; step = step })
 unfolding fields_of
 fields_of-object f meets step = refl
 

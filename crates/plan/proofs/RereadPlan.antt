@@ -184,15 +184,15 @@ claims-counted (x ∷ xs) good =
 
 -- ---- groups
 
-group_items-object : (ys : List Data) → is_from_1 64 (items_len (items_of ys)) ≡ true → group_items (group_object ys) ≡ Ok (items_of ys)
+pub group_items-object : (ys : List Data) → is_from_1 64 (items_len (items_of ys)) ≡ true → group_items (group_object ys) ≡ Ok (items_of ys)
 unfolding group_items
 group_items-object ys h = rw h refl
 
-record Grouped (d : Data) (ds : Items) : Type 0 where
-  few : is_from_1 64 (items_len ds) ≡ true
-  nests : suc (items_depth ds) < depth d
+pub record Grouped (d : Data) (ds : Items) : Type 0 where
+  pub few : is_from_1 64 (items_len ds) ≡ true
+  pub nests : suc (items_depth ds) < depth d
 
-group_items-ok : (d : Data) (ds : Items) → group_items d ≡ Ok ds → Grouped d ds
+pub group_items-ok : (d : Data) (ds : Items) → group_items d ≡ Ok ds → Grouped d ds
 unfolding group_items
 group_items-ok d ds h =
     let keys = bind_ok (has_keys 1 d) (λ u. at_key (codes "configurations") d >>= λ cs. array_of cs >>= λ ds. if is_from_1 64 (items_len ds) then Ok ds else Err OverLimit) ds h in
@@ -253,16 +253,16 @@ groups-reread w g (item d ds) (xs ∷ groups) vs rs h good is =
 -- ---- the whole
 
 -- how many of the groups are there at birth, in each format
-abbrev IsBorn : Format → ℕ → ℕ → Type 0
+abbrev pub IsBorn : Format → ℕ → ℕ → Type 0
 IsBorn Plain groups born = groups ≡ born
 IsBorn Weighted groups born = groups ≡ born
 IsBorn Growing groups born = is_from_1 groups born ≡ true
 
-record Headed (d : Data) (h : Header) : Type 0 where
-  lal : is_from_1 10000000 h.lal ≡ true
-  few : is_from_1 16 (items_len h.groups) ≡ true
-  born : IsBorn h.format (items_len h.groups) h.born
-  nests : suc (items_depth h.groups) < depth d
+pub record Headed (d : Data) (h : Header) : Type 0 where
+  pub lal : is_from_1 10000000 h.lal ≡ true
+  pub few : is_from_1 16 (items_len h.groups) ≡ true
+  pub born : IsBorn h.format (items_len h.groups) h.born
+  pub nests : suc (items_depth h.groups) < depth d
 
 lal_of-ok : (d : Data) (n : ℕ) → lal_of d ≡ Ok n → is_from_1 10000000 n ≡ true
 unfolding lal_of
@@ -312,7 +312,7 @@ born_of-ok Growing d (Some v) groups born h k =
     let good = if_ok (is_from_1 groups found.0) found.0 born OverLimit found.2 in
     subst (λ m. is_from_1 groups m ≡ true) good.1 good.0
 
-header_of-ok : (d : Data) (h : Header) → header_of d ≡ Ok h → Headed d h
+pub header_of-ok : (d : Data) (h : Header) → header_of d ≡ Ok h → Headed d h
 unfolding header_of
 header_of-ok d h is =
     let t = bind_ok (top_fields_of d) (λ t. lal_of t.lal >>= λ lal. group_list t.groups >>= λ groups. born_of (items_len groups) t.born >>= λ born. Ok (record { format = t.format; lal = lal; born = born; groups = groups })) h is in
@@ -329,7 +329,7 @@ header_of-ok d h is =
       nests = omega (arith, few.1, top.nests);
     })
 
-header_of-object : (f : Format) (lal born : ℕ) (ys : List Data) → is_from_1 10000000 lal ≡ true → is_from_1 16 (items_len (items_of ys)) ≡ true → IsBorn f (items_len (items_of ys)) born
+pub header_of-object : (f : Format) (lal born : ℕ) (ys : List Data) → is_from_1 10000000 lal ≡ true → is_from_1 16 (items_len (items_of ys)) ≡ true → IsBorn f (items_len (items_of ys)) born
     → header_of (plan_object f lal born ys) ≡ Ok (record { format = f; lal = lal; born = born; groups = items_of ys })
 unfolding header_of top_fields_of format_of lal_of group_list
 header_of-object Plain lal born ys h k b = rw (h, k) (ap (λ n. Ok (record { format = Plain; lal = lal; born = n; groups = items_of ys })) b)

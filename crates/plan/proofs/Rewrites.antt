@@ -60,7 +60,7 @@ are-read values certificates same h = record {
 
 -- ---- texts
 
-value-nests : (text : List ℕ) (d : Data) → value_of text ≡ Ok d → depth d ≤ max_depth
+pub value-nests : (text : List ℕ) (d : Data) → value_of text ≡ Ok d → depth d ≤ max_depth
 unfolding value_of json_of
 value-nests text d h = depth-read text d (found (nat_le (length text) 16777216) (is_utf8 text) h)
   where

@@ -18,3 +18,5 @@ pub mod Rewriting
 pub mod Written
 pub mod Sums
 pub mod Shown
+pub mod Shapes
+pub mod Kept

@@ -1,5 +1,5 @@
 -- The plan that a text spells, or its first fault in reading order.
-use Rattle.std.specs.Prelude.{◌≡◌, ◌≢◌, ℕ, ◌+◌, ◌&&◌, ◌==◌, Bool, true, false, List, [], ◌∷◌, length, Option, Some, None, Result, Ok, Err, nat_le, codes, if◌then◌else◌}
+use Rattle.std.specs.Prelude.{◌≡◌, ◌≢◌, ℕ, ◌≤◌, ◌+◌, ◌&&◌, ◌==◌, Bool, true, false, List, [], ◌∷◌, length, Option, Some, None, Result, Ok, Err, nat_le, codes, if◌then◌else◌}
 use Rattle.std.specs.Str.{is_utf8}
 use Rattle.std.specs.Ordering.{nat_cmp}
 use Rattle.std.specs.FinSet.{FinSet, empty, insert, is_subset}
@@ -208,6 +208,10 @@ plan_in d =
 -- what a text spells as JSON
 unfoldable pub json_of : List ℕ → Result Data Fault
 json_of text = if is_utf8 text then found_or_malformed (read text) else Err Malformed
+
+-- the text has at most 16,777,216 bytes
+abbrev pub IsWithinSize : List ℕ → Type 0
+IsWithinSize text = length text ≤ 16777216
 
 -- the value that a text of at most 16,777,216 bytes spells
 unfoldable pub value_of : List ℕ → Result Data Fault

@@ -13,6 +13,7 @@ mod listing;
 mod parents;
 mod placed;
 mod reading;
+mod shapes;
 mod tree;
 mod writing;
 

@@ -1,6 +1,8 @@
 //! The list of a plan's claims.
 
-ghost use Rattle.std.specs.Prelude.{◌≡◌, ◌<◌, ◌≤◌, Ok, length, map};
+ghost use Rattle.std.specs.Prelude.{◌≡◌, ◌<◌, ◌≤◌, IfErr, IsOk, Ok, length, map};
+ghost use Rattle.volume_model.specs.declared.fault.Fault.TheVariants.{NoMemory};
+ghost use Rattle.plan.specs.FaultKinds.{kind_of};
 ghost use Rattle.plan.specs.Plan.{configuration_data, group_data, plan_data};
 ghost use Rattle.plan.specs.PlanText.{Reads};
 ghost use Rattle.plan.specs.NamedClaims.{all_placed};
@@ -12,6 +14,7 @@ use crate::fault::PlanFault;
 use crate::lent::LentClaim;
 use crate::parents::check_shape;
 use crate::placed::NamedClaim;
+use crate::shapes::check_shapes;
 use std::alloc::Global;
 
 /// The claims of a configuration.
@@ -78,11 +81,14 @@ fn of_groups<'p>(alloc: Global, groups: &'p [Group]) -> Result<Vec<LentClaim<'p>
 /// The claims of a plan by what it lends, in order of group and configuration and that of a step last.
 ///
 /// # Errors
-/// The first [`PlanFault::BadParent`] or [`PlanFault::MemberReused`].
+/// The first [`PlanFault::BadParent`] or [`PlanFault::MemberReused`], which is found before any memory is taken; or else
+/// that memory ran out.
 #[tactic(auto, unfolding(crate::specs::PlanClaims::claims_in))]
 pub fn lent_claims<'p>(alloc: Global, plan: &'p Plan) -> Result<Vec<LentClaim<'p>>, PlanFault>
-    ensures { Reads (λ v. all_lent v.items) result (claims_in (plan_data plan.entry.now)) }
+    ensures claims { Reads (λ v. all_lent v.items) result (claims_in (plan_data plan.entry.now)) }
+    ensures memory { IfErr result (λ e. kind_of e ≡ NoMemory → IsOk (claims_in (plan_data plan.entry.now))) }
 {
+    check_shapes(&plan.groups)?;
     of_groups(alloc, &plan.groups)
 }
 
@@ -105,9 +111,10 @@ fn named(alloc: Global, lent: &[LentClaim<'_>]) -> Result<Vec<NamedClaim>, PlanF
 /// The claims of a plan, in order of group and configuration and that of a step last.
 ///
 /// # Errors
-/// The first [`PlanFault::BadParent`] or [`PlanFault::MemberReused`].
+/// Those of [`lent_claims`].
 pub fn claims(alloc: Global, plan: &Plan) -> Result<Vec<NamedClaim>, PlanFault>
-    ensures { Reads (λ v. all_placed v.items) result (claims_in (plan_data plan.now)) }
+    ensures claims { Reads (λ v. all_placed v.items) result (claims_in (plan_data plan.now)) }
+    ensures memory { IfErr result (λ e. kind_of e ≡ NoMemory → IsOk (claims_in (plan_data plan.now))) }
 {
     let lent = lent_claims(alloc, plan)?;
     named(alloc, lent.as_slice())

@@ -1,6 +1,8 @@
 //! The parents of configurations, and the members that are new to them.
 
-ghost use Rattle.std.specs.Prelude.{◌≡◌, ◌<◌, length, map};
+ghost use Rattle.std.specs.Prelude.{◌≡◌, ◌≢◌, ◌<◌, IfSome, length, map};
+ghost use Rattle.volume_model.specs.declared.fault.Fault.TheVariants.{NoMemory};
+ghost use Rattle.plan.specs.FaultKinds.{kind_of};
 ghost use Rattle.plan.specs.PlanData.{configuration_at, parent_at};
 ghost use Rattle.plan.specs.Plan.{configuration_data};
 ghost use Rattle.plan.specs.PlanFaults.{Finds, is_good_parent, parent_fault, fresh_at, unused_within, reuse_fault, shape_fault};
@@ -19,22 +21,24 @@ fn is_good_parent(configuration: u8, parent: Option<u64>) -> bool
     }
 }
 
-fn check_parent(
+/// The fault of a configuration's parent.
+fn fault_of_parent(
     group: u8,
     configurations: &[Configuration],
     configuration: u8,
-) -> Result<(), PlanFault>
+) -> Option<PlanFault>
     requires { configuration < length configurations.now }
-    ensures { Finds result (parent_fault group (map configuration_data configurations.now) configuration) }
+    ensures fault { result ≡ parent_fault group (map configuration_data configurations.now) configuration }
+    ensures own { IfSome result (λ f. kind_of f ≢ NoMemory) }
 {
     let parent = configurations[usize::from(configuration)].parent;
     if !is_good_parent(configuration, parent) {
-        return Err(PlanFault::BadParent {
+        return Some(PlanFault::BadParent {
             group,
             configuration,
         });
     }
-    Ok(())
+    None
 }
 
 /// The members of the configuration with a number, and none where there is no such configuration.
@@ -85,13 +89,15 @@ fn unused(configurations: &[Configuration], steps: u8, number: u64, set: MemberS
     }
 }
 
-fn check_fresh(
+/// The fault of a configuration's fresh members: the least of them that an ancestor has.
+fn fault_of_fresh(
     group: u8,
     configurations: &[Configuration],
     configuration: u8,
-) -> Result<(), PlanFault>
+) -> Option<PlanFault>
     requires { configuration < length configurations.now }
-    ensures { Finds result (reuse_fault group (map configuration_data configurations.now) configuration) }
+    ensures fault { result ≡ reuse_fault group (map configuration_data configurations.now) configuration }
+    ensures own { IfSome result (λ f. kind_of f ≢ NoMemory) }
 {
     let fresh = fresh_members(configurations, configuration);
     let left = unused(
@@ -101,12 +107,28 @@ fn check_fresh(
         fresh,
     );
     match fresh.difference(left).first() {
-        None => Ok(()),
-        Some(member) => Err(PlanFault::MemberReused {
+        None => None,
+        Some(member) => Some(PlanFault::MemberReused {
             group,
             configuration,
             member,
         }),
+    }
+}
+
+/// The first fault of a configuration's parent and fresh members. Takes no memory.
+pub fn fault_of_shape(
+    group: u8,
+    configurations: &[Configuration],
+    configuration: u8,
+) -> Option<PlanFault>
+    requires { configuration < length configurations.now }
+    ensures fault { result ≡ shape_fault group (map configuration_data configurations.now) configuration }
+    ensures own { IfSome result (λ f. kind_of f ≢ NoMemory) }
+{
+    match fault_of_parent(group, configurations, configuration) {
+        Some(fault) => Some(fault),
+        None => fault_of_fresh(group, configurations, configuration),
     }
 }
 
@@ -119,6 +141,8 @@ pub fn check_shape(
     requires { configuration < length configurations.now }
     ensures { Finds result (shape_fault group (map configuration_data configurations.now) configuration) }
 {
-    check_parent(group, configurations, configuration)?;
-    check_fresh(group, configurations, configuration)
+    match fault_of_shape(group, configurations, configuration) {
+        None => Ok(()),
+        Some(fault) => Err(fault),
+    }
 }

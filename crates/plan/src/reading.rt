@@ -1,11 +1,12 @@
 //! From JSON to plans.
 
-ghost use Rattle.std.specs.Prelude.{◌≡◌, ◌≤◌, ◌<◌, ◌+◌, true, None, Ok, IfOk, length, map, option_map};
+ghost use Rattle.std.specs.Prelude.{◌≡◌, ◌≤◌, ◌<◌, ◌+◌, true, None, Ok, IfOk, IfErr, OnOk, length, map, option_map};
 ghost use Rattle.std.specs.FinSet as set;
 ghost use Rattle.std.specs.FinSet.{is_subset};
 ghost use Rattle.serde_json.specs.View.{view, items_view};
 ghost use Rattle.serde_json.specs.Events.{items_len};
 ghost use Rattle.volume_model.specs.Answer.{Gives};
+ghost use Rattle.volume_model.specs.declared.fault.Fault.TheVariants.{NoMemory};
 ghost use Rattle.quorum_expr.specs.Expr.{formula_of};
 ghost use Rattle.quorum_expr.specs.Valid.{expression_fault};
 ghost use Rattle.quorum_expr.specs.Reading.{expression_in};
@@ -13,7 +14,8 @@ ghost use Rattle.refutation.specs.Certificate.{certificate_rule};
 ghost use Rattle.plan.specs.PlanData.{names_only};
 ghost use Rattle.plan.specs.Plan.{configuration_data, group_data, plan_data};
 ghost use Rattle.plan.specs.TextForms.{fields_data, top_fields_data, header_data};
-ghost use Rattle.plan.specs.PlanText.{Reads, fields_of, parent_of, members_from, members_of, some_members_of, lists_of, expression_error, in_quorum, certificate_or_null, step_of, configuration_in, configurations_in, is_from_1, group_items, group_in, groups_in, group_list, lal_of, format_of, born_field, top_fields_of, born_of, header_of, plan_in, json_of, value_of, plan_of};
+ghost use Rattle.plan.specs.FaultKinds.{kind_of};
+ghost use Rattle.plan.specs.PlanText.{Reads, IsWithinSize, fields_of, parent_of, members_from, members_of, some_members_of, lists_of, expression_error, in_quorum, certificate_or_null, step_of, configuration_in, configurations_in, is_from_1, group_items, group_in, groups_in, group_list, lal_of, format_of, born_field, top_fields_of, born_of, header_of, plan_in, json_of, value_of, plan_of};
 
 use crate::configurations::{Configuration, Group, Plan};
 use crate::fault::{PlanFault, Quorum};
@@ -400,7 +402,9 @@ fn json(alloc: Global, text: &[u8]) -> Result<Value, Fault>
 /// The value that a text spells.
 #[tactic(auto, unfolding(crate::specs::PlanText::value_of))]
 pub(crate) fn value(alloc: Global, text: &[u8]) -> Result<Value, Fault>
-    ensures { Gives view result (value_of text.now) }
+    ensures read { Gives view result (value_of text.now) }
+    ensures within { OnOk result (IsWithinSize text.now) }
+    ensures memory { IfErr result (λ fault. fault ≡ NoMemory → IsWithinSize text.now) }
 {
     if text.len() > MAX_TEXT {
         return Err(Fault::OverLimit);
@@ -414,10 +418,12 @@ pub(crate) fn value(alloc: Global, text: &[u8]) -> Result<Value, Fault>
 /// The first fault in reading order: the text's size, its JSON, the keys and the format, how far numbers may run ahead, the
 /// number of groups, how many of them are there at birth, then group by group the number of its configurations, and for
 /// each of these its keys, parent, members, full members, read and write expression, and the certificates of its claims.
-/// `Malformed` is a value of another shape than a plan's, and `OverLimit` more than a limit.
+/// `Malformed` is a value of another shape than a plan's, and `OverLimit` more than a limit. `NoMemory` is no answer to a
+/// text that is too long.
 #[tactic(auto, unfolding(crate::specs::PlanText::plan_of))]
 pub fn read_plan(alloc: Global, text: &[u8]) -> Result<Plan, PlanFault>
-    ensures { Reads plan_data result (plan_of text.now) }
+    ensures read { Reads plan_data result (plan_of text.now) }
+    ensures memory { IfErr result (λ e. kind_of e ≡ NoMemory → IsWithinSize text.now) }
 {
     let value = value(alloc, text)?;
     plan(alloc, &value)

@@ -1,13 +1,16 @@
 //! From plans to JSON, with other certificates.
 
-ghost use Rattle.std.specs.Prelude.{◌≡◌, ◌-◌, ◌*◌, ◌<◌, ◌≤◌, All, IfOk, Ok, codes, drop, length, map, option_map};
+ghost use Rattle.std.specs.Prelude.{◌≡◌, ◌-◌, ◌*◌, ◌<◌, ◌≤◌, All, IfOk, IfErr, Ok, codes, drop, length, map, option_map};
 ghost use Rattle.serde_json.specs.Data.{depth, member, no_members, put as with_member};
 ghost use Rattle.serde_json.specs.View.{view, items_view, members_view};
 ghost use Rattle.volume_model.specs.Answer.{Gives};
 ghost use Rattle.refutation.specs.Certificate.{certificate_rule};
-ghost use Rattle.plan.specs.PlanText.{certificate_or_null};
+ghost use Rattle.volume_model.specs.declared.fault.Fault.TheVariants.{NoMemory};
+ghost use Rattle.plan.specs.FaultKinds.{kind_of};
+ghost use Rattle.plan.specs.PlanText.{certificate_or_null, IsWithinSize};
 ghost use Rattle.plan.specs.TextForms.{fields_data};
 ghost use Rattle.plan.specs.Rewriting.{value_or_null, fields_object, step_value, configuration_written, configurations_written, group_object, group_written, groups_written, plan_object, plan_written};
+ghost use Rattle.plan.specs.Kept.{KeepsValues};
 ghost use Rattle.plan.specs.Written.{rewritten, HasPlaces, Writes, IsCompact};
 
 use crate::fault::PlanFault;
@@ -230,6 +233,9 @@ pub fn write_plan(
     requires { HasPlaces text.now (length certificates.now) }
     ensures written { Writes result (rewritten text.now (map (option_map certificate_rule) certificates.now)) }
     ensures compact { IfOk result (λ bytes. IsCompact bytes.items) }
+    // Weights and names of lists stay as they are spelled.
+    ensures kept { IfOk result (λ bytes. KeepsValues text.now bytes.items) }
+    ensures memory { IfErr result (λ e. kind_of e ≡ NoMemory → IsWithinSize text.now) }
 {
     let value = value(alloc, text)?;
     let plan = plan(alloc, &value)?;
