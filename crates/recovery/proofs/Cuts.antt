@@ -1,7 +1,8 @@
 -- The cut of the first records of a list.
-use Rattle.std.proofs.Common.{◌≡◌, ℕ, zero, suc, ◌+◌, ◌<◌, ◌≤◌, Bool, true, false, ◌&&◌, ◌||◌, nat_eq, cond, List, [], ◌∷◌, map, take, length, get_or, inl, inr, if◌then◌else◌, refl, sym, ap, ap₂, ◌∙◌, subst, arith}
+use Rattle.std.proofs.Common.{◌≡◌, ℕ, zero, suc, ◌+◌, ◌<◌, ◌≤◌, Bool, true, false, ◌&&◌, ◌||◌, nat_eq, nat_lt, cond, List, [], ◌∷◌, ◌++◌, map, take, length, get_or, inl, inr, if◌then◌else◌, refl, sym, ap, ap₂, ◌∙◌, subst, arith}
 use Rattle.std.specs.Prelude.{◌==◌}
-use Rattle.std.proofs.lemmas.Bool.{cases_Bool, cases_lt, or_right, true≢false, eqb-true}
+use Rattle.std.proofs.lemmas.Bool.{cases_Bool, cases_lt, or_right, and_from, true≢false, eqb-true, eq-eqb, ne_eqb, lt-ltb}
+use Rattle.std.proofs.lemmas.List.{take_more, map-append}
 use Rattle.volume_model.specs.Lists.{added}
 use Rattle.volume_model.specs.Redo.{Redo, last_lsn, cut_of}
 use Rattle.redo_record.specs.declared.shared_record.SharedRecord.{SharedRecord}
@@ -11,7 +12,13 @@ use Rattle.writer_core.specs.Logs.{log_of, is_growing}
 use Rattle.writer_core.proofs.Logs.{log_of-more}
 use Rattle.writer_core.proofs.Growing.{both}
 use Rattle.writer_core.proofs.Finding.{above, all-log}
-use Rattle.recovery.proofs.Links.{IsBack, leads, leads-above, cut-next}
+use Rattle.redo_record.specs.declared.«record».Record.{Record}
+use Rattle.redo_record.specs.Record.{redo_of}
+use Rattle.recovery.specs.Chains.{leads}
+use Rattle.recovery.specs.Cutting.{log_of_records, IsCutOf}
+use Rattle.recovery.specs.Led.{is_led}
+use Rattle.recovery.specs.declared.cutting.Cutting.{Cutting}
+use Rattle.recovery.proofs.Links.{IsBack, leads-above, cut-next}
 
 pub log-back : (records : List SharedRecord) → IsBack (log_of records)
 log-back records = all-log (λ r. r.prev_volume < r.lsn) records (λ k d l. (shared_redo-ranges (get_or records k d)).prev_volume_before)
@@ -26,65 +33,150 @@ front-grows (x ∷ records) (suc i) kept h = front-grows records i (shared_redo 
 pub front-growing : (records : List SharedRecord) (i : ℕ) → is_growing (log_of records) ≡ true → is_growing (log_of (take i records)) ≡ true
 front-growing records i h = front-grows records i [] h
 
-module _ (records : List SharedRecord) (i : ℕ) (p : SharedRecord) (r : Redo) (within : i < length records) (is : p ≡ get_or records i p) (shows : r ≡ shared_redo p) (growing : is_growing (log_of records) ≡ true) where
-  abbrev pub front : List Redo
-  front = log_of (take i records)
+-- the first records and one more
+pub front-more : (records : List SharedRecord) (i : ℕ) (p : SharedRecord) (r : Redo) → i < length records → p ≡ get_or records i p → r ≡ shared_redo p → log_of (take (i + 1) records) ≡ r ∷ log_of (take i records)
+front-more records i p r within is shows = log_of-more records i p within ∙ ap (λ (x : SharedRecord). shared_redo x ∷ log_of (take i records)) (sym is) ∙ ap (λ s. s ∷ log_of (take i records)) (sym shows)
 
-  pub more-is : log_of (take (i + 1) records) ≡ r ∷ front
-  more-is = log_of-more records i p within ∙ ap (λ (x : SharedRecord). shared_redo x ∷ front) (sym is) ∙ ap (λ s. s ∷ front) (sym shows)
+-- each record's number is above those of the records before it, in a list of records
+rises : (records : List Record) (i : ℕ) (kept : List Redo) → is_growing (added (map redo_of records) kept) ≡ true → is_growing (added (map redo_of (take i records)) kept) ≡ true
+rises [] zero kept h = h
+rises [] (suc i) kept h = h
+rises (x ∷ records) zero kept h = falls records (redo_of x) kept h
+  where
+    falls : (xs : List Record) (r : Redo) (older : List Redo) → is_growing (added (map redo_of xs) (r ∷ older)) ≡ true → is_growing older ≡ true
+    falls [] r older g = (both (last_lsn older) r.lsn (is_growing older) g).1
+    falls (y ∷ ys) r older g = (both (last_lsn older) r.lsn (is_growing older) (falls ys (redo_of y) (r ∷ older) g)).1
+rises (x ∷ records) (suc i) kept h = rises records i (redo_of x ∷ kept) h
 
-  pub more-grows : is_growing (r ∷ front) ≡ true
-  more-grows = subst (λ l. is_growing l ≡ true) more-is (front-growing records (i + 1) growing)
+pub records-growing : (records : List Record) (i : ℕ) → is_growing (log_of_records records) ≡ true → is_growing (log_of_records (take i records)) ≡ true
+records-growing records i h = rises records i [] h
 
-  more-back : IsBack (r ∷ front)
-  more-back = subst IsBack more-is (log-back (take (i + 1) records))
+added-last : (xs : List Redo) (r : Redo) (kept : List Redo) → added (xs ++ r ∷ []) kept ≡ r ∷ added xs kept
+added-last [] r kept = refl
+added-last (x ∷ xs) r kept = added-last xs r (x ∷ kept)
 
-  pub cut-more : cut_of (log_of (take (i + 1) records)) ≡ (if leads front r.prev_volume && r.point then r.lsn else cut_of front)
-  cut-more = ap cut_of more-is ∙ cut-next r front more-grows more-back
+pub records-more : (records : List Record) (i : ℕ) (r : Record) → i < length records → r ≡ get_or records i r → log_of_records (take (i + 1) records) ≡ redo_of r ∷ log_of_records (take i records)
+records-more records i r within is =
+    ap log_of_records (take_more records i r within)
+    ∙ ap (λ xs. added xs []) (map-append redo_of (take i records) (get_or records i r ∷ []))
+    ∙ added-last (map redo_of (take i records)) (redo_of (get_or records i r)) []
+    ∙ ap (λ (x : Record). redo_of x ∷ log_of_records (take i records)) (sym is)
 
-  pub leads-more : (n : ℕ) → leads (log_of (take (i + 1) records)) n ≡ (if r.lsn == n then leads front r.prev_volume else leads front n)
-  leads-more n = ap (λ l. leads l n) more-is
+-- the next record of a growing list has a number above those before it
+first-above : (r : Redo) (log : List Redo) → is_growing (r ∷ log) ≡ true → last_lsn log < r.lsn
+first-above r log grows = (both (last_lsn log) r.lsn (is_growing log) grows).0
+
+pub front-above : (records : List SharedRecord) (i : ℕ) (p : SharedRecord) (r : Redo) → i < length records → p ≡ get_or records i p → r ≡ shared_redo p → is_growing (log_of records) ≡ true → last_lsn (log_of (take i records)) < r.lsn
+front-above records i p r within is shows growing =
+    first-above r (log_of (take i records)) (subst (λ l. is_growing l ≡ true) (front-more records i p r within is shows) (front-growing records (i + 1) growing))
+
+pub records-above : (records : List Record) (i : ℕ) (r : Record) → i < length records → r ≡ get_or records i r → is_growing (log_of_records records) ≡ true → last_lsn (log_of_records (take i records)) < r.lsn
+records-above records i r within is growing =
+    first-above (redo_of r) (log_of_records (take i records)) (subst (λ l. is_growing l ≡ true) (records-more records i r within is) (records-growing records (i + 1) growing))
+
+or_true : (b : Bool) → (b || true) ≡ true
+or_true true = refl
+or_true false = refl
+
+-- ---- one record more
+
+module _ (r : Redo) (log : List Redo) (grows : is_growing (r ∷ log) ≡ true) (back : IsBack (r ∷ log)) where
+  cut-more : cut_of (r ∷ log) ≡ (if leads log r.prev_volume && r.point then r.lsn else cut_of log)
+  cut-more = cut-next r log grows back
 
   -- a number that leads nowhere adds nothing
-  pub leads-not : leads front r.prev_volume ≡ false → (n : ℕ) → leads (log_of (take (i + 1) records)) n ≡ leads front n
-  leads-not e n =
-      leads-more n ∙ elim (cases_Bool (nat_eq r.lsn n)) [
-        | inl h ↦ (
-            let (below, rest) = both (last_lsn front) r.lsn (is_growing front) more-grows in
-            let same : r.lsn ≡ n = eqb-true r.lsn n h in
-            rw h (e ∙ sym (leads-above front rest n (omega (arith, same, below)))))
-        | inr h ↦ rw h refl
-      ]
+  pub leads-not : leads log r.prev_volume ≡ false → (n : ℕ) → leads (r ∷ log) n ≡ leads log n
+  leads-not e n = elim (cases_Bool (nat_eq r.lsn n)) [
+    | inl h ↦ (
+        let (below, rest) = both (last_lsn log) r.lsn (is_growing log) grows in
+        let same : r.lsn ≡ n = eqb-true r.lsn n h in
+        rw h (e ∙ sym (leads-above log rest n (omega (arith, same, below)))))
+    | inr h ↦ rw h refl
+  ]
 
   -- the numbers that lead down to 0 are no greater
-  pub led-below : (has : ℕ → Bool) → ((n : ℕ) → (n == 0 || has n) ≡ leads front n) → (n : ℕ) → has n ≡ true → n ≤ r.lsn
-  led-below has before n e =
-      elim (cases_lt r.lsn n) [
-        | inl l ↦ (
-            let (below, rest) = both (last_lsn front) r.lsn (is_growing front) more-grows in
-            absurd (true≢false (sym (or_right (n == 0) (has n) e) ∙ before n ∙ leads-above front rest n (omega (arith, below)))))
-        | inr l ↦ l
-      ]
+  pub led-below : (has : ℕ → Bool) → ((n : ℕ) → (n == 0 || has n) ≡ leads log n) → (n : ℕ) → has n ≡ true → n ≤ r.lsn
+  led-below has before n e = elim (cases_lt r.lsn n) [
+    | inl l ↦ (
+        let (below, rest) = both (last_lsn log) r.lsn (is_growing log) grows in
+        absurd (true≢false (sym (or_right (n == 0) (has n) e) ∙ before n ∙ leads-above log rest n (omega (arith, below)))))
+    | inr l ↦ l
+  ]
 
   -- one that leads down to 0 is added
-  pub led-more : (has has' : ℕ → Bool) → ((n : ℕ) → (n == 0 || has n) ≡ leads front n) → ((q : ℕ) → has' q ≡ (if r.lsn == q then true else has q)) → leads front r.prev_volume ≡ true
-      → (n : ℕ) → (n == 0 || has' n) ≡ leads (log_of (take (i + 1) records)) n
+  pub led-more : (has has' : ℕ → Bool) → ((n : ℕ) → (n == 0 || has n) ≡ leads log n) → ((q : ℕ) → has' q ≡ (if r.lsn == q then true else has q)) → leads log r.prev_volume ≡ true → (n : ℕ) → (n == 0 || has' n) ≡ leads (r ∷ log) n
   led-more has has' before adds led n =
       let now : has' n ≡ cond (nat_eq r.lsn n) true (has n) = adds n in
-      let split : (n == 0 || has' n) ≡ (if r.lsn == n then leads front r.prev_volume else leads front n) =
       elim (cases_Bool (nat_eq r.lsn n)) [
         | inl h ↦ (let e : has' n ≡ true = now ∙ ap (λ b. cond b true (has n)) h in rw (e, h, led) (or_true (n == 0)))
         | inr h ↦ (let e : has' n ≡ has n = now ∙ ap (λ b. cond b true (has n)) h in rw (e, h) (before n))
-      ] in
-      split ∙ sym (leads-more n)
-    where
-      or_true : (b : Bool) → (b || true) ≡ true
-      or_true true = refl
-      or_true false = refl
+      ]
 
   -- the cut, where the record leads down to 0 or not
-  pub cut-led : (b : Bool) → leads front r.prev_volume ≡ true → r.point ≡ b → cut_of (log_of (take (i + 1) records)) ≡ (if b then r.lsn else cut_of front)
-  cut-led b led point = cut-more ∙ ap₂ (λ x y. if x && y then r.lsn else cut_of front) led point
+  pub cut-led : (b : Bool) → leads log r.prev_volume ≡ true → r.point ≡ b → cut_of (r ∷ log) ≡ (if b then r.lsn else cut_of log)
+  cut-led b led point = cut-more ∙ ap₂ (λ x y. if x && y then r.lsn else cut_of log) led point
 
-  pub cut-same : leads front r.prev_volume ≡ false → cut_of (log_of (take (i + 1) records)) ≡ cut_of front
-  cut-same fails = cut-more ∙ ap (λ x. if x && r.point then r.lsn else cut_of front) fails
+  pub cut-same : leads log r.prev_volume ≡ false → cut_of (r ∷ log) ≡ cut_of log
+  cut-same fails = cut-more ∙ ap (λ x. if x && r.point then r.lsn else cut_of log) fails
+
+-- a record more stands in a growing log, and comes after the one that it names
+pub more-grows : (r : Redo) (log : List Redo) → is_growing log ≡ true → last_lsn log < r.lsn → is_growing (r ∷ log) ≡ true
+more-grows r log grows above = and_from (nat_lt (last_lsn log) r.lsn) (is_growing log) (lt-ltb (last_lsn log) r.lsn above) grows
+
+pub more-back : (r : Redo) (log : List Redo) → r.prev_volume < r.lsn → IsBack log → IsBack (r ∷ log)
+more-back r log own back s (inl p) = subst (λ z. z.prev_volume < z.lsn) (sym p) own
+more-back r log own back s (inr i) = back s i
+
+-- ---- what the test of the number before says
+
+or_false : (b : Bool) → (b || false) ≡ b
+or_false true = refl
+or_false false = refl
+
+-- nothing is read
+pub cut-of_none : (cutting : Cutting) → ((n : ℕ) → is_led cutting.led n ≡ false) → cutting.cut ≡ 0 → IsCutOf cutting []
+cut-of_none cutting none cut = record {
+  growing = refl;
+  back = λ r i. absurd i;
+  led = λ n. ap (λ b. n == 0 || b) (none n) ∙ or_false (n == 0);
+  cut = cut;
+}
+
+module _ (old : Cutting) (log : List Redo) (is : IsCutOf old log) (p : ℕ) where
+  pub leads-zero : p ≡ 0 → leads log p ≡ true
+  leads-zero e = sym (is.led p) ∙ ap (λ b. b || is_led old.led p) (eq-eqb p 0 e)
+
+  pub leads-led : is_led old.led p ≡ true → leads log p ≡ true
+  leads-led e = sym (is.led p) ∙ ap (λ b. p == 0 || b) e ∙ or_true (p == 0)
+
+  pub leads-none : (p ≡ 0 → ⊥) → is_led old.led p ≡ false → leads log p ≡ false
+  leads-none ne e = sym (is.led p) ∙ ap (λ b. b || is_led old.led p) (ne_eqb p 0 ne) ∙ e
+
+module _ (old : Cutting) (r : Redo) (log : List Redo) (own : r.prev_volume < r.lsn) (is : IsCutOf old log) (above : last_lsn log < r.lsn) where
+  grows : is_growing (r ∷ log) ≡ true
+  grows = more-grows r log is.growing above
+
+  goes_back : IsBack (r ∷ log)
+  goes_back = more-back r log own is.back
+
+  -- a record is read that leads down to 0
+  pub cut-of_led : (new : Cutting) → leads log r.prev_volume ≡ true → ((n : ℕ) → is_led new.led n ≡ (if r.lsn == n then true else is_led old.led n)) → (b : Bool) → r.point ≡ b → new.cut ≡ (if b then r.lsn else old.cut) → IsCutOf new (r ∷ log)
+  cut-of_led new led adds b point cut = record {
+    growing = grows;
+    back = goes_back;
+    led = led-more r log grows goes_back (is_led old.led) (is_led new.led) is.led adds led;
+    cut = cut ∙ ap (λ (n : ℕ). if b then r.lsn else n) is.cut ∙ sym (cut-led r log grows goes_back b led point);
+  }
+
+  -- a record is read that leads nowhere
+  pub cut-of_same : (new : Cutting) → leads log r.prev_volume ≡ false → ((n : ℕ) → is_led new.led n ≡ is_led old.led n) → new.cut ≡ old.cut → IsCutOf new (r ∷ log)
+  cut-of_same new none keeps cut = record {
+    growing = grows;
+    back = goes_back;
+    led = λ n. ap (λ b. n == 0 || b) (keeps n) ∙ is.led n ∙ sym (leads-not r log grows goes_back none n);
+    cut = cut ∙ is.cut ∙ sym (cut-same r log grows goes_back none);
+  }
+
+  -- the numbers read so far that lead down to 0 are no greater
+  pub below-next : (n : ℕ) → is_led old.led n ≡ true → n ≤ r.lsn
+  below-next n e = led-below r log grows goes_back (is_led old.led) is.led n e

@@ -6,6 +6,7 @@ use Rattle.volume_model.specs.Lists.{IsIn}
 use Rattle.volume_model.specs.Redo.{Redo, record_at, follow, chain_from, ends_at_point, greatest_point, cut_of, last_lsn}
 use Rattle.volume_model.proofs.Chains.{record_at-some, greatest_point-is}
 use Rattle.writer_core.specs.Logs.{is_growing}
+use Rattle.recovery.specs.Chains.{leads}
 use Rattle.writer_core.proofs.Growing.{both}
 use Rattle.writer_core.proofs.Finding.{at_most_last, record_at-none}
 
@@ -17,11 +18,6 @@ IsBack log = (r : Redo) → IsIn r log → r.prev_volume < r.lsn
 abbrev pub chain : List Redo → ℕ → Option (List Redo)
 chain [] n = if n == 0 then Some [] else None
 chain (r ∷ older) n = if r.lsn == n then option_map (λ rest. r ∷ rest) (chain older r.prev_volume) else chain older n
-
--- the number leads down to 0
-abbrev pub leads : List Redo → ℕ → Bool
-leads [] n = n == 0
-leads (r ∷ older) n = if r.lsn == n then leads older r.prev_volume else leads older n
 
 is_some-map : {A B : Type 0} (f : A → B) (o : Option A) → is_some (option_map f o) ≡ is_some o
 is_some-map f None = refl

@@ -4,3 +4,4 @@ pub mod Reported
 pub mod Finds
 pub mod Recoveries
 pub mod Led
+pub mod Cutting

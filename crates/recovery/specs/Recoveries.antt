@@ -1,5 +1,5 @@
 -- What a recovery is, as the model's client, and what it answers.
-use Rattle.std.specs.Prelude.{◌≡◌, ℕ, List, [], Option, Some, None, Result, Ok, Err}
+use Rattle.std.specs.Prelude.{◌≡◌, ℕ, true, List, [], Option, Some, None, Result, Ok, Err}
 use Rattle.std.specs.Prelude.{Vec}
 use Rattle.std.specs.Global.{Global}
 use Rattle.volume_model.specs.declared.fault.Fault.{Fault}
@@ -8,7 +8,7 @@ use Rattle.volume_model.specs.Plan.{Plan}
 use Rattle.volume_model.specs.Message as model
 use Rattle.volume_model.specs.Message.Message.{View, StepTo, Fence, Report, Install, Write, Gossip, Ack, CopyAsk, CopyReport, PageAsk, Page}
 use Rattle.volume_model.specs.Client.{Client, ClientGroup, ClientStep, ClientAnswer, unborn}
-use Rattle.volume_model.specs.ClientRecovery.{cut_step}
+use Rattle.volume_model.specs.ClientRecovery.{cut_step, has_installed}
 use Rattle.volume_model.specs.ClientMessages.{taken}
 use Rattle.volume_model.specs.Client.Stage.{Reading}
 use Rattle.lineage.specs.Lineage.{lineage_of}
@@ -32,6 +32,10 @@ recovery_volume r = r.volume
 -- what it keeps of its groups
 abbrev pub recovery_groups : Recovery → List ClientGroup
 recovery_groups r = groups_in r.standings
+
+-- in each group the members whose acknowledgement is counted are a write set
+abbrev pub HasInstalled : Recovery → Type 0
+HasInstalled r = has_installed (recovery_plan r) (keeping (recovery_groups r)) ≡ true
 
 -- the client that keeps these of its groups: before its cut, and after it
 abbrev pub client_with : List ClientGroup → Option Found → Client

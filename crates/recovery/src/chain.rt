@@ -6,7 +6,7 @@ ghost use Rattle.redo_record.specs.RecordSet.{records_of};
 ghost use Rattle.writer_core.specs.Logs.{log_of, log_of_set, is_growing};
 ghost use Rattle.recovery.specs.Chains.{IsChainTo};
 
-use crate::cutting::is_growing;
+use crate::cutting::are_growing;
 use redo_record::{RecordSet, SharedRecord};
 use std::alloc::{AllocError, Global};
 
@@ -18,7 +18,7 @@ pub fn firsts(alloc: Global, set: &RecordSet) -> Result<RecordSet, AllocError>
     ensures growing { IfOk result (λ firsts. is_growing (log_of_set firsts) ≡ true) }
     ensures same { IfOk result (λ firsts. (n : ℕ) → record_at (log_of_set firsts) n ≡ record_at (records_of set.now) n) }
 {
-    if is_growing(set.as_slice()) {
+    if are_growing(set.as_slice()) {
         return set.clone();
     }
     let mut firsts = RecordSet::new(alloc);

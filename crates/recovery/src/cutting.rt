@@ -4,14 +4,58 @@ ghost use Rattle.std.specs.Prelude.{◌≡◌, true, Ok};
 ghost use Rattle.volume_model.specs.Answer.{Gives};
 ghost use Rattle.volume_model.specs.Redo.{cut_of};
 ghost use Rattle.writer_core.specs.Logs.{log_of, is_growing};
+ghost use Rattle.recovery.specs.Cutting.{log_of_records};
 
 use crate::led::Led;
-use redo_record::SharedRecord;
-use std::alloc::Global;
+use redo_record::{Record, SharedRecord};
+use std::alloc::{AllocError, Global};
 use volume_model::Fault;
 
-/// Whether records stand in growing LSN.
-pub fn is_growing(records: &[SharedRecord]) -> bool
+/// The cut of the records read so far, which stand in growing LSN.
+#[derive(Drop)]
+pub struct Cutting {
+    /// The LSNs from which `prev_volume` leads down to 0.
+    led: Led,
+    cut: u64,
+}
+
+impl Cutting {
+    ghost use Rattle.std.specs.Prelude.{◌≤◌, ℕ, [], OnOk};
+    ghost use Rattle.redo_record.specs.Record.{redo_of};
+    ghost use Rattle.recovery.specs.Led.{is_led};
+    ghost use Rattle.recovery.specs.Cutting.{IsCutOf, ReadsOneMore};
+
+    /// Returns the cut of no records.
+    fn new(alloc: Global) -> Cutting
+        ensures { IsCutOf result [] }
+    {
+        Cutting {
+            led: Led::new(alloc),
+            cut: 0,
+        }
+    }
+
+    /// Reads one record more, whose LSN is above those read so far.
+    ///
+    /// # Errors
+    /// Where a growth was refused.
+    #[inline]
+    fn read(&mut self, record: &Record) -> Result<(), AllocError>
+        requires { (n : ℕ) → is_led self.old.led n ≡ true → n ≤ «record».now.lsn }
+        ensures { OnOk result (ReadsOneMore self.old self.new (redo_of «record».now)) }
+    {
+        if record.prev_volume == 0 || self.led.contains(record.prev_volume) {
+            self.led.push(record.lsn)?;
+            if record.point {
+                self.cut = record.lsn;
+            }
+        }
+        Ok(())
+    }
+}
+
+/// Returns whether shared records stand in growing LSN.
+pub fn are_growing(records: &[SharedRecord]) -> bool
     ensures { result ≡ is_growing (log_of records.now) }
 {
     let mut growing = true;
@@ -23,25 +67,46 @@ pub fn is_growing(records: &[SharedRecord]) -> bool
     growing
 }
 
-/// The cut of records that stand in growing LSN: the greatest consistency point from which `prev_volume` leads through the records
-/// down to 0, else 0.
+/// Returns the cut of shared records, as [`cut_of`] does.
 ///
 /// # Errors
 /// `NoMemory` where a growth was refused.
-pub fn cut_of(alloc: Global, records: &[SharedRecord]) -> Result<u64, Fault>
+pub fn shared_cut_of(alloc: Global, records: &[SharedRecord]) -> Result<u64, Fault>
     requires { is_growing (log_of records.now) ≡ true }
     ensures { Gives (λ cut. cut) result (Ok (cut_of (log_of records.now))) }
 {
-    let mut cut = 0;
-    let mut led = Led::new(alloc);
+    let mut cutting = Cutting::new(alloc);
     for packet in records {
-        let record = packet.record();
-        if record.prev_volume == 0 || led.contains(record.prev_volume) {
-            led.push(record.lsn)?;
-            if record.point {
-                cut = record.lsn;
-            }
-        }
+        cutting.read(packet.record())?;
     }
-    Ok(cut)
+    Ok(cutting.cut)
+}
+
+/// Returns whether records stand in growing LSN.
+pub fn is_growing(records: &[Record]) -> bool
+    ensures { result ≡ is_growing (log_of_records records.now) }
+{
+    let mut growing = true;
+    let mut last = 0;
+    for record in records {
+        growing = last < record.lsn && growing;
+        last = record.lsn;
+    }
+    growing
+}
+
+/// Returns the cut of records that stand in growing LSN: the greatest LSN of a consistency point from which
+/// `prev_volume` leads through the records down to 0, and 0 where there is none.
+///
+/// # Errors
+/// `NoMemory` where a growth was refused.
+pub fn cut_of(alloc: Global, records: &[Record]) -> Result<u64, Fault>
+    requires { is_growing (log_of_records records.now) ≡ true }
+    ensures { Gives (λ cut. cut) result (Ok (cut_of (log_of_records records.now))) }
+{
+    let mut cutting = Cutting::new(alloc);
+    for record in records {
+        cutting.read(record)?;
+    }
+    Ok(cutting.cut)
 }

@@ -12,7 +12,7 @@ ghost use Rattle.recovery.specs.Finds.{live_records};
 ghost use Rattle.recovery.specs.Reported.{reports_in};
 
 use crate::chain::{chain_of, firsts};
-use crate::cutting::cut_of;
+use crate::cutting::shared_cut_of;
 use crate::found::Found;
 use crate::reported::{found_in, newest_lineage};
 use std::alloc::Global;
@@ -33,7 +33,7 @@ pub fn find(alloc: Global, volume: u32, standings: &Standings) -> Result<Found, 
     let parent = newest_lineage(alloc, standings.as_slice())?;
     let records = found_in(alloc, &parent, standings.as_slice())?;
     let records = firsts(alloc, &records)?;
-    let cut = match cut_of(alloc, records.as_slice()) {
+    let cut = match shared_cut_of(alloc, records.as_slice()) {
         Ok(cut) => cut,
         Err(fault) => return Err(fault),
     };

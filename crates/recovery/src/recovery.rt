@@ -37,7 +37,7 @@ impl Recovery {
     ghost use Rattle.plan.specs.CheckedModel.{checked_model};
     ghost use Rattle.wire.specs.Message.{message_of, place_of};
     ghost use Rattle.writer_core.specs.Writers.{writer_plan, writer_volume, acted, silent};
-    ghost use Rattle.recovery.specs.Recoveries.{client_of, recovery_groups, recovery_plan, recovery_volume, admitted, begun, birth_of, found_step, view_volume, Opens};
+    ghost use Rattle.recovery.specs.Recoveries.{client_of, recovery_groups, recovery_plan, recovery_volume, admitted, begun, birth_of, found_step, view_volume, HasInstalled, Opens};
     ghost use Rattle.recovery.specs.Finds.{is_spent, IsFindOf};
 
     /// The View that makes a recovery, refused as [`Recovery::admits_birth`] says.
@@ -306,6 +306,7 @@ impl Recovery {
     pub fn admits_open(&self) -> Result<(), Fault>
         ensures refusal { result ≡ refusal_of (opened (recovery_plan self.now) (client_of self.now)) }
         ensures cut { OnOk result (has_cut (client_of self.now).stage ≡ true) }
+        ensures installed { OnOk result (HasInstalled self.now) }
         ensures own { IfErr result (λ fault. fault ≢ NoMemory) }
     {
         if self.found.is_none() || !self.standings.has_installed() {

@@ -87,7 +87,11 @@ fn records(alloc: Global, log: Log, first: u64, last: u64) -> Result<RecordSet, 
 
 /// The cut of a log, `None` where its records don't stand in growing LSN.
 fn cut(alloc: Global, log: Log, last: u64) -> Result<Option<u64>, Fault> {
-    let records = records(alloc, log, 1, last)?;
+    let mut records: Vec<redo_record::Record> = Vec::new(alloc);
+    for lsn in 1..=last {
+        let shared = packet(alloc, line(log, lsn))?;
+        records.push(*shared.record())?;
+    }
     if !is_growing(records.as_slice()) {
         return Ok(None);
     }

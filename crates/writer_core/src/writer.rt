@@ -53,13 +53,14 @@ impl Writer {
     ghost use Rattle.volume_model.specs.Answer.{Answers, AnswersAlways, AnswersNew, refusal_of};
     ghost use Rattle.volume_model.specs.Client.{first_writer};
     ghost use Rattle.volume_model.specs.ClientPoints.{acknowledged, complete_point, durable_point};
-    ghost use Rattle.volume_model.specs.ClientRecovery.{writing};
+    ghost use Rattle.volume_model.specs.ClientRecovery.{has_installed, writing};
     ghost use Rattle.volume_model.specs.ClientWriter.{issue_step, issued, resent, page_asked};
     ghost use Rattle.volume_model.specs.ClientMessages.{are_places, is_for, taken};
     ghost use Rattle.volume_model.specs.declared.fault.Fault.TheVariants.{NoGroup, NoMemory};
     ghost use Rattle.wire.specs.Message.{message_of, place_of};
     ghost use Rattle.volume_model.specs.Lineage.{last_start};
     ghost use Rattle.writer_core.specs.Changes.{changes_of};
+    ghost use Rattle.writer_core.specs.Groups.{keeping};
     ghost use Rattle.writer_core.specs.Writers.{client_of, writer_plan, writer_volume, installing, CanIssue, acted, answered, silent, asked, sent};
     ghost use Rattle.lineage.specs.Lineage.{lineage_of};
 
@@ -79,10 +80,12 @@ impl Writer {
         })
     }
 
-    /// The writer of a later volume epoch, from what its recovery keeps of the groups, with the recovery's lineage and the log
-    /// that it found. Takes no memory.
+    /// Returns the writer of a later volume epoch, from what its recovery keeps of the groups, with the recovery's lineage and the
+    /// log that it found. In each group a write set must have acknowledged what the recovery installed
+    /// ([`Standings::has_installed`]). Takes no memory.
     pub fn opened(standings: Standings, volume: u32, lineage: Lineage, found: RecordSet) -> Writer
         requires assigned { 1 ≤ volume }
+        requires installed { has_installed (standings_plan standings) (keeping (groups_in standings)) ≡ true }
         requires growing { is_growing (log_of_set found) ≡ true }
         ensures client { client_of result ≡ writing (standings_plan standings) (installing (groups_in standings) (lineage_of lineage) (log_of_set found)) }
         ensures plan { writer_plan result ≡ standings_plan standings }

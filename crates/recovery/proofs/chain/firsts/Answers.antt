@@ -63,16 +63,16 @@ returns-clause-same c n =
     c.loop-packet.invariant.same n ∙ ap (λ l. find l n) (take_all c.loop-packet.packet-index records many) ∙ sym (find-is records c.as_slice-packet-items.ensures.in_order n)
 
 -- no number stands twice
-pub returns-then-is_growing-clause-growing : goal.returns-then-is_growing-clause-growing
-returns-then-is_growing-clause-growing c =
+pub returns-then-are_growing-clause-growing : goal.returns-then-are_growing-clause-growing
+returns-then-are_growing-clause-growing c =
     let set = c.args.set.now in
-    let grows : is_growing (log_of_set set) ≡ true = ap is_growing (sym (log_of-shown c.as_slice.result.now (records_of set) c.as_slice.ensures.records)) ∙ sym c.is_growing.ensures ∙ c.if-is_growing.true in
+    let grows : is_growing (log_of_set set) ≡ true = ap is_growing (sym (log_of-shown c.as_slice.result.now (records_of set) c.as_slice.ensures.records)) ∙ sym c.are_growing.ensures ∙ c.if-are_growing.true in
     copy-grows _ c.clone.result set grows c.clone.ensures.cases
 
-pub returns-then-is_growing-clause-same : goal.returns-then-is_growing-clause-same
-returns-then-is_growing-clause-same c =
+pub returns-then-are_growing-clause-same : goal.returns-then-are_growing-clause-same
+returns-then-are_growing-clause-same c =
     let set = c.args.set.now in
-    let grows : is_growing (log_of_set set) ≡ true = ap is_growing (sym (log_of-shown c.as_slice.result.now (records_of set) c.as_slice.ensures.records)) ∙ sym c.is_growing.ensures ∙ c.if-is_growing.true in
+    let grows : is_growing (log_of_set set) ≡ true = ap is_growing (sym (log_of-shown c.as_slice.result.now (records_of set) c.as_slice.ensures.records)) ∙ sym c.are_growing.ensures ∙ c.if-are_growing.true in
     copy-same _ c.clone.result set grows c.clone.ensures.cases
 
 pub push-requires : goal.push-requires

@@ -1,10 +1,11 @@
 use Rattle.std.proofs.Common.{◌≡◌, take}
 use Rattle.volume_model.specs.Redo.{last_lsn}
-use Rattle.writer_core.specs.Logs.{log_of, is_growing}
+use Rattle.writer_core.specs.Logs.{is_growing}
+use Rattle.recovery.specs.Cutting.{log_of_records}
 use Rattle.recovery.proofs.cutting.is_growing.Given as goal
 
-abbrev pub invariant-loop-packet : goal.invariant-loop-packet
-invariant-loop-packet l = record {
-  growing : l.growing ≡ is_growing (log_of (take l.packet-index l.records));
-  last : l.last ≡ last_lsn (log_of (take l.packet-index l.records));
+abbrev pub invariant-loop-record : goal.invariant-loop-record
+invariant-loop-record l = record {
+  growing : l.growing ≡ is_growing (log_of_records (take l.record-index l.records));
+  last : l.last ≡ last_lsn (log_of_records (take l.record-index l.records));
 }

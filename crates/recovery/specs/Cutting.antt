@@ -1,0 +1,25 @@
+-- The cut of a log, record by record.
+use Rattle.std.specs.Prelude.{◌≡◌, ℕ, ◌<◌, true, ◌||◌, ◌==◌, List, [], ◌∷◌, map}
+use Rattle.volume_model.specs.Lists.{IsIn, added}
+use Rattle.volume_model.specs.Redo.{Redo, cut_of, last_lsn}
+use Rattle.redo_record.specs.declared.«record».Record.{Record}
+use Rattle.redo_record.specs.Record.{redo_of}
+use Rattle.writer_core.specs.Logs.{is_growing}
+use Rattle.recovery.specs.Chains.{leads}
+use Rattle.recovery.specs.Led.{is_led}
+use Rattle.recovery.specs.declared.cutting.Cutting.{Cutting}
+
+-- the log that a list of records is
+abbrev pub log_of_records : List Record → List Redo
+log_of_records records = added (map redo_of records) []
+
+-- of a log whose numbers grow, each record coming after the one that it names: the numbers that lead down to 0, and the cut
+pub record IsCutOf (cutting : Cutting) (log : List Redo) : Type 0 where
+  pub growing : is_growing log ≡ true
+  pub back : (r : Redo) → IsIn r log → r.prev_volume < r.lsn
+  pub led : (n : ℕ) → (n == 0 || is_led cutting.led n) ≡ leads log n
+  pub cut : cutting.cut ≡ cut_of log
+
+-- of whatever log the old one is the cut, the new one is that of the log with this record behind it
+abbrev pub ReadsOneMore : Cutting → Cutting → Redo → Type 0
+ReadsOneMore old new r = (log : List Redo) → IsCutOf old log → last_lsn log < r.lsn → IsCutOf new (r ∷ log)
