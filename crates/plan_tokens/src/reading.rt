@@ -1,12 +1,14 @@
 //! Plans off the tokens.
 
-ghost use Rattle.std.specs.Prelude.{◌≡◌, ◌≤◌, [], IfSome, List, Some, Ok, codes};
+ghost use Rattle.std.specs.Prelude.{◌≡◌, ◌≤◌, [], IfErr, IfSome, List, Some, Ok, codes};
 ghost use Rattle.json.specs.Json.{read_key};
 ghost use Rattle.json.specs.Lex.{tokens};
 ghost use Rattle.json.specs.Token.{Token as SpecToken};
 ghost use Rattle.serde_json.specs.Data.{Data, member, no_members};
 ghost use Rattle.plan.specs.Plan.{plan_data};
-ghost use Rattle.plan.specs.PlanText.{Reads, format_of, plan_in, plan_of};
+ghost use Rattle.volume_model.specs.declared.fault.Fault.TheVariants.{NoMemory};
+ghost use Rattle.plan.specs.FaultKinds.{kind_of};
+ghost use Rattle.plan.specs.PlanText.{Reads, IsWithinSize, format_of, plan_in, plan_of};
 ghost use Rattle.plan_tokens.specs.Plans.{EndsPlan, IsBorn, IsWhole, with_format};
 ghost use Rattle.plan_tokens.specs.Spelled.{SpellsSome};
 
@@ -258,9 +260,11 @@ pub fn read_in_order(alloc: Global, text: &[u8]) -> Option<(Plan, Spelling)>
 /// The first fault in reading order: the text's size, its JSON, the keys and the format, how far numbers may run ahead, the
 /// number of groups, how many of them are there at birth, then group by group the number of its configurations, and for
 /// each of these its keys, parent, members, full members, read and write expression, and the certificates of its claims.
-/// `Malformed` is a value of another shape than a plan's, and `OverLimit` more than a limit.
+/// `Malformed` is a value of another shape than a plan's, and `OverLimit` more than a limit. `NoMemory` is no answer to a
+/// text that is too long.
 pub fn read_spelled(alloc: Global, text: &[u8]) -> Result<(Plan, Option<Spelling>), PlanFault>
-    ensures { Reads (λ read. plan_data read.0) result (plan_of text.now) }
+    ensures read { Reads (λ read. plan_data read.0) result (plan_of text.now) }
+    ensures memory { IfErr result (λ e. kind_of e ≡ NoMemory → IsWithinSize text.now) }
 {
     match read_in_order(alloc, text) {
         Some((plan, spelling)) => Ok((plan, Some(spelling))),
@@ -276,7 +280,8 @@ pub fn read_spelled(alloc: Global, text: &[u8]) -> Result<(Plan, Option<Spelling
 /// # Errors
 /// Those of [`read_spelled`].
 pub fn read_plan(alloc: Global, text: &[u8]) -> Result<Plan, PlanFault>
-    ensures { Reads plan_data result (plan_of text.now) }
+    ensures read { Reads plan_data result (plan_of text.now) }
+    ensures memory { IfErr result (λ e. kind_of e ≡ NoMemory → IsWithinSize text.now) }
 {
     match read_spelled(alloc, text) {
         Ok((plan, _)) => Ok(plan),

@@ -50,6 +50,11 @@ impl<B: Allocator> Search<B> {
             None => false,
         }
     }
+
+    /// Whether a state may be looked at whose tree may have so many levels. Asked before a row is copied for it.
+    fn may_try(&self, levels: u8) -> bool {
+        levels > 0 && self.budget > 0
+    }
 }
 
 /// The first item that asks for all its children.
@@ -128,6 +133,9 @@ fn open<A: Allocator, B: Allocator + Clone>(
     at: usize,
     levels: u8,
 ) -> Result<Option<Refutation<B>>, AllocError> {
+    if !search.may_try(levels) {
+        return Ok(None);
+    }
     let row = state.row(side);
     let Some(Expr::KOf { of, .. }) = row.items.get(at).copied() else {
         return Ok(None);
@@ -167,6 +175,9 @@ fn pick<A: Allocator, B: Allocator + Clone>(
         if missing == 0 {
             break;
         }
+        if !search.may_try(levels) {
+            return Ok(None);
+        }
         let weight = usize::from(*weight);
         let list = row.replaced_by_one(search.arena.clone()?, at, child)?;
         match refute(search, &state.changed(side, &list), levels)? {
@@ -201,6 +212,9 @@ fn match_some<A: Allocator, B: Allocator + Clone>(
 ) -> Result<Option<Refutation<B>>, AllocError> {
     for i in 0..state.left.items.len() {
         for j in 0..state.right.items.len() {
+            if !search.may_try(levels) {
+                return Ok(None);
+            }
             if let Some(tree) = match_two(search, state, i, j, levels)? {
                 return Ok(Some(tree));
             }
@@ -218,6 +232,9 @@ fn pick_some<A: Allocator, B: Allocator + Clone>(
 ) -> Result<Option<Refutation<B>>, AllocError> {
     for side in [Side::Left, Side::Right] {
         for at in 0..state.row(side).items.len() {
+            if !search.may_try(levels) {
+                return Ok(None);
+            }
             if let Some(tree) = pick(search, state, side, at, levels)? {
                 return Ok(Some(tree));
             }
