@@ -1,6 +1,6 @@
 //! The search for all certificates of a plan, by several workers.
 
-ghost use Rattle.std.specs.Prelude.{◌≡◌, ◌≢◌, ◌<◌, ◌≤◌, All, Err, IfOk, IfErr, length, map};
+ghost use Rattle.std.specs.Prelude.{◌≡◌, ◌≢◌, ◌<◌, ◌≤◌, All, Err, IfOk, IfErr, IsOk, length, map};
 ghost use Rattle.volume_model.specs.declared.fault.Fault.TheVariants.{NoMemory};
 ghost use Rattle.plan.specs.LentClaims.{all_lent};
 ghost use Rattle.plan.specs.Plan.{plan_data};
@@ -142,8 +142,8 @@ fn searched<R: Threads + Wait + Sync, G: Gate + Sync>(
 /// none where the search gave up. The budget bounds how many nodes are tried for a claim.
 ///
 /// # Errors
-/// The kind of the first [`BadParent`](plan::PlanFault::BadParent) or [`MemberReused`](plan::PlanFault::MemberReused), or
-/// [`NoMemory`](Fault::NoMemory) once all workers have ended.
+/// The kind of the first [`BadParent`](plan::PlanFault::BadParent) or [`MemberReused`](plan::PlanFault::MemberReused), which is
+/// found before any memory is taken; or else [`NoMemory`](Fault::NoMemory) once all workers have ended.
 pub fn search_all<R: Threads + Wait + Sync, G: Gate + Sync>(
     rt: &R,
     alloc: Global,
@@ -155,6 +155,7 @@ pub fn search_all<R: Threads + Wait + Sync, G: Gate + Sync>(
     requires workers { (0 < workers) × (workers ≤ 16) }
     ensures answers { IfOk result (λ v. AreAnswersOf budget (claims_in (plan_data plan.now)) (map rule_in v.items)) }
     ensures fault { IfErr result (λ e. e ≢ NoMemory → (fault : PlanFault) × (claims_in (plan_data plan.now) ≡ Err fault) × (e ≡ kind_of fault)) }
+    ensures memory { IfErr result (λ e. e ≡ NoMemory → IsOk (claims_in (plan_data plan.now))) }
 {
     let claims = match lent_claims(alloc, plan) {
         Ok(claims) => claims,

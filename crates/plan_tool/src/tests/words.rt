@@ -49,7 +49,13 @@ const TAKEN: &[(&[&str], Action, Option<&str>, u8)] = &[
 
 /// Words that aren't taken, and whether they ask for a text.
 const UNTAKEN: &[(&[&str], bool)] = &[
+    (&[], false),
     (&["plan_tool"], false),
+    (&["plan_tool", ""], false),
+    (&["plan_tool", "prove", "p"], false),
+    (&["plan_tool", "check"], false),
+    (&["plan_tool", "check", "p", "--deep"], false),
+    (&["plan_tool", "run"], false),
     (&["plan_tool", "run", "p"], false),
     (&["plan_tool", "check", "p", "s"], false),
     (&["plan_tool", "check", "p", "-w", "4"], false),
