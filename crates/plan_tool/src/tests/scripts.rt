@@ -56,7 +56,15 @@ fn one_byte_too_long(rt: HostRuntime) -> Result<(), AllocError> {
     let alloc = rt.alloc();
     let comment = "#".repeat(alloc, 16_777_211)?;
     let script = format!(in alloc; "wait\n{comment}")?;
-    assert!(rt; runs_to(&rt, alloc, script.as_bytes(), 0, "1 ok 0\nwriter 1 durable 0 next 1\n"));
+    assert!(rt;
+        runs_to(
+            &rt,
+            alloc,
+            script.as_bytes(),
+            0,
+            "1 ok 0\nwriter 1 durable 0 next 1\n"
+        )
+    );
     let script = format!(in alloc; "{script}#")?;
     assert!(rt; runs_to(&rt, alloc, script.as_bytes(), 2, "input: line 2\n"));
     Ok(())
