@@ -25,7 +25,7 @@ mod records;
 #[cfg(test)]
 mod recoveries;
 #[cfg(test)]
-mod runs;
+mod replays;
 #[cfg(test)]
 mod said;
 #[cfg(test)]
