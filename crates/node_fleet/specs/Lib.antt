@@ -1,4 +1,7 @@
 pub mod Bases
 pub mod Calls
+pub mod Fleets
 pub mod Journals
+pub mod Passes
 pub mod Places
+pub mod Returned

@@ -1,22 +1,27 @@
 //! A new fleet, with its passes.
 
-ghost use Rattle.std.specs.Prelude.{◌≡◌, ◌≤◌, ◌+◌, All, [], IfErr, IfOk, is_some, vec_len};
+ghost use Rattle.std.specs.Prelude.{◌≡◌, ◌≤◌, ◌+◌, All, [], IfErr, IfOk, is_some, length, vec_len};
 ghost use Rattle.std.specs.Arc.{arc_value};
+ghost use Rattle.board.specs.Seats as board;
 ghost use Rattle.board.specs.Seats.{IsSeatIn};
 ghost use Rattle.volume_model.specs.declared.fault.Fault.TheVariants.{NoMemory};
 ghost use Rattle.volume_model.specs.Plan.{is_named};
 ghost use Rattle.plan.specs.CheckedModel.{checked_model};
 ghost use Rattle.journal.specs.Tokens.{ids_of};
 ghost use Rattle.journal.specs.Fronts.{log_of};
-ghost use Rattle.journal.specs.Passes.{notes_of, steps_of};
+ghost use Rattle.mailbox.specs.Mails.{AreSeatsIn, HasNoSteps};
+ghost use Rattle.node_fleet.specs.Passes.{IsFresh};
 ghost use Rattle.node_fleet.specs.Places.{HasEach};
 
 use crate::base::Base;
 use crate::fleet::Fleet;
+use crate::pass::Pass;
+use crate::site::FleetSite;
 use board::BoardSeat;
 use epochs::Authority;
 use fleet_actors::{AuthorityActor, ClientActor, NodeActor};
-use journal::{History, Log, Mark, Pass, Row, Site, Who};
+use journal::{History, Log, Mark, Row, Site, Who};
+use mailbox::MailSeats;
 use plan::CheckedPlan;
 use std::alloc::{AllocError, Global};
 use std::sync::ledger::Share;
@@ -27,24 +32,50 @@ use world::Client;
 /// How many members a group can have.
 const MEMBERS: usize = 64;
 
-// Passes that have made no step, one for each seat of the board, with a part of the ledger each.
-fn passes<'a, L: Site>(
+// A pass that has done nothing.
+fn pass<'a, L: FleetSite>(
     alloc: Global,
-    mut rest: Share<L>,
+    share: Share<L>,
+    history: &mut History<L>,
+    seat: BoardSeat,
+    mail: MailSeats,
+) -> Pass<'a, L>
+    requires share { (share.parts ≡ 1) × (share.amount ≡ 0) }
+    requires history { log_of history.old.opened ≡ [] }
+    requires seat { IsSeatIn L.board seat × (length (board.steps_of seat) ≡ 0) }
+    requires mail { AreSeatsIn L.mail mail × HasNoSteps mail }
+    ensures history { log_of history.new.opened ≡ [] }
+    ensures fresh { IsFresh result }
+{
+    let entered = journal::Pass::new(alloc, share, history, seat);
+    Pass { entered, mail }
+}
+
+// Passes that have made no step, one for each seat of the board, with a part of the ledger each.
+fn passes<'a, L: FleetSite>(
+    alloc: Global,
+    rest: &mut Share<L>,
     history: &mut History<L>,
     mut seats: Vec<BoardSeat>,
+    mut callers: Vec<MailSeats>,
 ) -> Result<Vec<Pass<'a, L>>, AllocError>
-    requires parts { (rest.parts ≡ vec_len seats) × (rest.amount ≡ 0) }
+    requires parts { (rest.old.parts ≡ vec_len seats) × (rest.old.amount ≡ 0) }
     requires history { log_of history.old.opened ≡ [] }
-    requires seats { All (λ s. IsSeatIn L.board s) seats.items }
+    requires seats { All (λ s. IsSeatIn L.board s × (length (board.steps_of s) ≡ 0)) seats.items }
+    requires callers { All (λ s. AreSeatsIn L.mail s × HasNoSteps s) callers.items }
+    requires many { vec_len callers ≡ vec_len seats }
+    ensures parts { IfOk result (λ _. (rest.new.parts ≡ 0) × (rest.new.amount ≡ 0)) }
     ensures history { log_of history.new.opened ≡ [] }
     ensures count { IfOk result (λ made. vec_len made ≡ vec_len seats) }
-    ensures fresh { IfOk result (λ made. All (λ p. (steps_of p ≡ []) × (notes_of p ≡ [])) made.items) }
+    ensures fresh { IfOk result (λ made. All IsFresh made.items) }
 {
     let mut made = Vec::with_capacity(alloc, seats.len())?;
     while let Some(seat) = seats.pop() {
         let share = rest.split_off(1, 0);
-        made.push(Pass::new(alloc, share, history, seat))?;
+        let Some(mail) = callers.pop() else {
+            unreachable!()
+        };
+        made.push(pass(alloc, share, history, seat, mail))?;
     }
     Ok(made)
 }
@@ -132,8 +163,9 @@ fn nodes<L: Site>(
     Ok(made)
 }
 
-impl<'a, L: Site> Fleet<'a, L> {
+impl<'a, L: FleetSite> Fleet<'a, L> {
     ghost use Rattle.node_fleet.specs.Bases.{passes_of, IsBaseOf};
+    ghost use Rattle.node_fleet.specs.Fleets.{passes_in};
 
     /// A fleet of a new volume over a plan, with an empty journal over a row of cells that nobody has written, for
     /// clients of the volume epochs up to that of the last slot; and the passes of its callers. There is at least one
@@ -152,20 +184,22 @@ impl<'a, L: Site> Fleet<'a, L> {
         requires cells { ids_of row.old ≡ L.cells }
         requires slots { slots ≡ L.slots }
         requires first { 1 ≤ slots }
-        requires base { IsBaseOf L.board L.history L.name L.parts base }
-        ensures count { IfOk result (λ f. vec_len f.1 ≡ passes_of base) }
-        ensures fresh { IfOk result (λ f. All (λ p. (steps_of p ≡ []) × (notes_of p ≡ [])) f.1.items) }
+        requires base { IsBaseOf L.plan L.board L.history L.mail L.name L.parts base }
+        ensures count { IfOk result (λ f. (vec_len f.1 ≡ passes_of base) × (passes_in f.0 ≡ passes_of base)) }
+        ensures fresh { IfOk result (λ f. All IsFresh f.1.items) }
         ensures memory { IfErr result (λ fault. fault ≡ NoMemory) }
     {
         let Base {
             board,
             seats,
+            mail,
+            callers,
             opened,
             blank,
         } = base;
-        let (book, rest) = blank.open::<L>();
+        let (book, mut rest) = blank.open::<L>();
         let mut history = opened.named::<L>();
-        let made = passes(alloc, rest, &mut history, seats)?;
+        let made = passes(alloc, &mut rest, &mut history, seats, callers)?;
         let nodes = nodes(alloc, &plan, &mut history)?;
         let clients = clients(alloc, &plan, slots, &mut history)?;
         let authority = Authority::new(alloc, plan.clone()?)?;
@@ -176,6 +210,8 @@ impl<'a, L: Site> Fleet<'a, L> {
             alloc,
             plan,
             board,
+            mail,
+            rest,
             authority: Mutex::new(authority),
             clients,
             nodes,

@@ -4,13 +4,13 @@ ghost use Rattle.std.specs.Prelude.{◌≡◌, ◌<◌, ◌≤◌, vec_len};
 ghost use Rattle.std.specs.Arc.{arc_value};
 ghost use Rattle.plan.specs.CheckedModel.{checked_model};
 ghost use Rattle.journal.specs.Tokens.{ids_of};
-ghost use Rattle.node_fleet.specs.Bases.{passes_of, IsBaseOf};
+ghost use Rattle.node_fleet.specs.Bases.{IsBaseOf};
+ghost use Rattle.node_fleet.specs.Fleets.{passes_in};
 
 use super::super::texts::checked;
 use super::calls::{Step, first_wrong};
 use super::looks::Look;
-use journal::{Pass, Row, Site};
-use node_fleet::{Base, Fleet};
+use node_fleet::{Base, Fleet, FleetSite, Pass, Row};
 use plan::CheckedPlan;
 use std::alloc::Global;
 use std::marker::Brand;
@@ -56,14 +56,14 @@ fn find_of(outcome: &Outcome) -> Option<(u32, u64)> {
 }
 
 /// What a fleet leaves that is closed, where this call of a table was the first to be answered otherwise.
-pub fn ended<'a, L: Site>(
+pub fn ended<'a, L: FleetSite>(
     alloc: Global,
     fleet: Fleet<'a, L>,
     passes: Vec<Pass<'a, L>>,
     plan: &Arc<CheckedPlan>,
     wrong: Option<usize>,
 ) -> Result<Ending, Fault>
-    requires { (vec_len passes ≡ L.parts) × (0 < vec_len passes) }
+    requires { (vec_len passes ≡ L.parts) × (vec_len passes ≡ passes_in fleet) }
 {
     let journal = fleet.close(passes);
     let events = journal.events(alloc)?;
@@ -83,7 +83,7 @@ pub fn ended<'a, L: Site>(
 }
 
 /// What a fleet leaves after the calls of a table, which its passes make in turn.
-fn drive<L: Site, R: Wait>(
+fn drive<L: FleetSite, R: Wait>(
     rt: &R,
     alloc: Global,
     row: &mut Row,
@@ -97,8 +97,7 @@ fn drive<L: Site, R: Wait>(
     requires cells { ids_of row.old ≡ L.cells }
     requires slots { slots ≡ L.slots }
     requires first { 1 ≤ slots }
-    requires base { IsBaseOf L.board L.history L.name L.parts base }
-    requires passes { 0 < passes_of base }
+    requires base { IsBaseOf L.plan L.board L.history L.mail L.name L.parts base }
 {
     let copy = plan.clone()?;
     let (fleet, mut passes) = Fleet::<L>::new(alloc, row, base, copy, slots)?;
@@ -122,6 +121,6 @@ pub fn run_table<R: Wait>(
 {
     let plan = checked(alloc, text)?;
     let mut row = Row::new(alloc, cells)?;
-    let base = Base::new(alloc, passes)?;
+    let base = Base::new(alloc, &plan, passes)?;
     drive::<Brand, R>(rt, alloc, &mut row, base, plan, slots, steps, look)
 }
