@@ -1,4 +1,5 @@
 pub mod Bases
 pub mod Calls
 pub mod Journals
+pub mod Passes
 pub mod Places

@@ -2,7 +2,7 @@
 
 ghost use Rattle.std.specs.Prelude.{◌≡◌, ◌<◌, All, length, vec_len};
 ghost use Rattle.std.proofs.Props.{props};
-ghost use Rattle.board.specs.Seats.{IsSeatOf};
+ghost use Rattle.board.specs.Seats.{steps_of, IsSeatOf};
 ghost use Rattle.journal.specs.Fronts.{log_of};
 
 use board::{Board, BoardSeat};
@@ -18,7 +18,7 @@ pub struct Base {
     pub(crate) seats: Vec<BoardSeat>,
     pub(crate) opened: Opened,
     pub(crate) blank: Blank,
-    ghost seats_of: { All (λ s. IsSeatOf board s) seats.items } by { Prim.hlevel props },
+    ghost seats_are: { All (λ s. IsSeatOf board s × (length (steps_of s) ≡ 0)) seats.items } by { Prim.hlevel props },
     ghost empty: { length (log_of opened) ≡ 0 },
     ghost parts: { blank.parts ≡ vec_len seats },
 }

@@ -1,6 +1,6 @@
 //! The actors of a volume, which threads share, with their journal.
 
-ghost use Rattle.std.specs.Prelude.{◌≡◌};
+ghost use Rattle.std.specs.Prelude.{◌≡◌, ◌+◌, vec_len};
 ghost use Rattle.std.specs.Arc.{arc_value};
 ghost use Rattle.std.specs.Coded.{Coded-set};
 ghost use Rattle.atomic_table.specs.Seated.{table_id_coded};
@@ -36,11 +36,12 @@ pub struct Fleet<'a, L: Site> {
     ghost plan_is: { checked_model (arc_value plan) ≡ L.plan } by { Prim.hlevel Plan-set },
     ghost board_table: { board_table board ≡ L.board } by { Coded-set table_id_coded (board_table board) L.board },
     ghost slots_are: { slots ≡ L.slots },
+    ghost places: { vec_len clients ≡ slots + 1 },
     ghost each: { HasEach L.plan nodes.items } by { Prim.hlevel props },
 }
 
 impl<'a, L: Site> Fleet<'a, L> {
-    ghost use Rattle.std.specs.Prelude.{◌<◌, ◌≤◌, ◌++◌, [], ◌∷◌, All, length, sum_by, vec_len};
+    ghost use Rattle.std.specs.Prelude.{◌<◌, ◌≤◌, ◌++◌, [], ◌∷◌, All, length, sum_by};
     ghost use Rattle.volume_model.specs.Journal.{events, IsRun};
     ghost use Rattle.volume_model.specs.Judging.{IsRefused};
     ghost use Rattle.world.specs.Outcomes.{KeepsPromises};

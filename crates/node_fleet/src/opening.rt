@@ -1,14 +1,15 @@
 //! A new fleet, with its passes.
 
-ghost use Rattle.std.specs.Prelude.{◌≡◌, ◌≤◌, ◌+◌, All, [], IfErr, IfOk, is_some, vec_len};
+ghost use Rattle.std.specs.Prelude.{◌≡◌, ◌≤◌, ◌+◌, All, [], IfErr, IfOk, is_some, length, vec_len};
 ghost use Rattle.std.specs.Arc.{arc_value};
+ghost use Rattle.board.specs.Seats as board;
 ghost use Rattle.board.specs.Seats.{IsSeatIn};
 ghost use Rattle.volume_model.specs.declared.fault.Fault.TheVariants.{NoMemory};
 ghost use Rattle.volume_model.specs.Plan.{is_named};
 ghost use Rattle.plan.specs.CheckedModel.{checked_model};
 ghost use Rattle.journal.specs.Tokens.{ids_of};
 ghost use Rattle.journal.specs.Fronts.{log_of};
-ghost use Rattle.journal.specs.Passes.{notes_of, steps_of};
+ghost use Rattle.node_fleet.specs.Passes.{IsFresh};
 ghost use Rattle.node_fleet.specs.Places.{HasEach};
 
 use crate::base::Base;
@@ -27,7 +28,23 @@ use world::Client;
 /// How many members a group can have.
 const MEMBERS: usize = 64;
 
-// Passes that have made no step, one for each seat of the board, with a part of the ledger each.
+// A pass that has done nothing.
+fn pass<'a, L: Site>(
+    alloc: Global,
+    share: Share<L>,
+    history: &mut History<L>,
+    seat: BoardSeat,
+) -> Pass<'a, L>
+    requires share { (share.parts ≡ 1) × (share.amount ≡ 0) }
+    requires history { log_of history.old.opened ≡ [] }
+    requires seat { IsSeatIn L.board seat × (length (board.steps_of seat) ≡ 0) }
+    ensures history { log_of history.new.opened ≡ [] }
+    ensures fresh { IsFresh result }
+{
+    Pass::new(alloc, share, history, seat)
+}
+
+// Passes that have done nothing, one for each seat of the board, with a part of the ledger each.
 fn passes<'a, L: Site>(
     alloc: Global,
     mut rest: Share<L>,
@@ -36,15 +53,15 @@ fn passes<'a, L: Site>(
 ) -> Result<Vec<Pass<'a, L>>, AllocError>
     requires parts { (rest.parts ≡ vec_len seats) × (rest.amount ≡ 0) }
     requires history { log_of history.old.opened ≡ [] }
-    requires seats { All (λ s. IsSeatIn L.board s) seats.items }
+    requires seats { All (λ s. IsSeatIn L.board s × (length (board.steps_of s) ≡ 0)) seats.items }
     ensures history { log_of history.new.opened ≡ [] }
     ensures count { IfOk result (λ made. vec_len made ≡ vec_len seats) }
-    ensures fresh { IfOk result (λ made. All (λ p. (steps_of p ≡ []) × (notes_of p ≡ [])) made.items) }
+    ensures fresh { IfOk result (λ made. All IsFresh made.items) }
 {
     let mut made = Vec::with_capacity(alloc, seats.len())?;
     while let Some(seat) = seats.pop() {
         let share = rest.split_off(1, 0);
-        made.push(Pass::new(alloc, share, history, seat))?;
+        made.push(pass(alloc, share, history, seat))?;
     }
     Ok(made)
 }
@@ -154,7 +171,7 @@ impl<'a, L: Site> Fleet<'a, L> {
         requires first { 1 ≤ slots }
         requires base { IsBaseOf L.board L.history L.name L.parts base }
         ensures count { IfOk result (λ f. vec_len f.1 ≡ passes_of base) }
-        ensures fresh { IfOk result (λ f. All (λ p. (steps_of p ≡ []) × (notes_of p ≡ [])) f.1.items) }
+        ensures fresh { IfOk result (λ f. All IsFresh f.1.items) }
         ensures memory { IfErr result (λ fault. fault ≡ NoMemory) }
     {
         let Base {
