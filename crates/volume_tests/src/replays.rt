@@ -181,6 +181,11 @@ fn events_of(firsts: &[usize], line: usize) -> (usize, usize) {
     }
 }
 
+/// The index of an event, as orders name it.
+fn index(event: usize) -> u32 {
+    u32::try_from(event).unwrap_or(u32::MAX)
+}
+
 /// An event of a line that names no message.
 fn event(alloc: Global, line: Line) -> Result<Event, Fault> {
     Ok(match line {
@@ -205,7 +210,7 @@ fn push(alloc: Global, orders: &mut Vec<Order>, firsts: &[usize], line: Line) ->
                 orders.push(Order::DeliverFrom {
                     group,
                     member: *member,
-                    event: first as u32,
+                    event: index(first),
                     place,
                 })?;
             }
@@ -215,7 +220,7 @@ fn push(alloc: Global, orders: &mut Vec<Order>, firsts: &[usize], line: Line) ->
             for event in first..first.saturating_add(count) {
                 orders.push(Order::TakeFrom {
                     volume,
-                    event: event as u32,
+                    event: index(event),
                     place: 1,
                 })?;
             }
