@@ -1,22 +1,13 @@
 -- What contracts see of a board and of a seat.
-use Rattle.std.specs.Prelude.{◌≡◌, ℕ, ◌-◌, List, []}
+use Rattle.std.specs.Prelude.{◌≡◌, List, []}
 use Rattle.atomic_table.specs.Seated.{TableId}
 use Rattle.board.specs.declared.BoardStep.{BoardStep}
 use Rattle.board.specs.declared.BoardSeat.{BoardSeat}
 use Rattle.board.specs.declared.Board.{Board}
-use Rattle.board.specs.Shares.{all_shares, first_of}
 
 -- the table in which the board's number stands
 abbrev pub board_table : Board → TableId
 board_table board = board.table.shared.table_id
-
--- how many seats the board has dealt
-abbrev pub seats_of : Board → ℕ
-seats_of board = all_shares - board.root.me.0.0
-
--- the steps of each seat that the board has taken back, the last one first
-abbrev pub returned : Board → List (List BoardStep)
-returned board = board.root.me.0.1
 
 -- the table of which the seat is
 abbrev pub seat_table : BoardSeat → TableId
@@ -32,4 +23,4 @@ IsSeatOf board seat = IsSeatIn (board_table board) seat
 
 -- what the seat did, oldest first
 abbrev pub steps_of : BoardSeat → List BoardStep
-steps_of seat = first_of seat.seat.me.0.1
+steps_of seat = seat.seat.me.0

@@ -1,6 +1,0 @@
-use Rattle.std.proofs.Common.{arith}
-use Rattle.board.proofs.Keeps.{ends}
-use Rattle.board.proofs.Board.close.Goals as goal
-
-pub returns : goal.returns
-returns c = ends _ _ _ _ _ (omega (arith, c.requires, c.args.self.dealt)) c.close_with-closed.ensures.values.2 c.word-number.ensures
