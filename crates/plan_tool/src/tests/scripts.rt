@@ -49,23 +49,3 @@ fn lengths_and_bytes(rt: HostRuntime) -> Result<(), AllocError> {
     }
     Ok(())
 }
-
-/// A line, and a comment behind it, that have as many bytes as a script may have, and one byte more.
-#[test]
-fn one_byte_too_long(rt: HostRuntime) -> Result<(), AllocError> {
-    let alloc = rt.alloc();
-    let comment = "#".repeat(alloc, 16_777_211)?;
-    let script = format!(in alloc; "wait\n{comment}")?;
-    assert!(rt;
-        runs_to(
-            &rt,
-            alloc,
-            script.as_bytes(),
-            0,
-            "1 ok 0\nwriter 1 durable 0 next 1\n"
-        )
-    );
-    let script = format!(in alloc; "{script}#")?;
-    assert!(rt; runs_to(&rt, alloc, script.as_bytes(), 2, "input: line 2\n"));
-    Ok(())
-}
