@@ -28,7 +28,7 @@ fn try_cases<H: Threads + Wait + Sync>(
         }
     }
     if is_right {
-        println!(rt; "{name}: {} cases are answered as is due", cases.len())?;
+        println!(rt; "{name}: {} cases pass", cases.len())?;
     }
     Ok(is_right)
 }

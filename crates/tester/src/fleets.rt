@@ -3,10 +3,15 @@
 use crate::broken::Broken;
 use crate::judge::check_promises;
 use crate::outcome::Outcome;
-use judging::Said;
+use fuzzing::CommandOutput;
 
 /// Whether a fleet's journal is a run of all events, and its status and its recoveries are right.
-pub fn check_fleet(said: &Said, fleet: &Outcome, drivers: u8, events: u64) -> Result<(), Broken> {
+pub fn check_fleet(
+    output: &CommandOutput,
+    fleet: &Outcome,
+    drivers: u8,
+    events: u64,
+) -> Result<(), Broken> {
     if fleet.journal != Some(true) {
         return Err(Broken::Journal { drivers });
     }
@@ -19,7 +24,7 @@ pub fn check_fleet(said: &Said, fleet: &Outcome, drivers: u8, events: u64) -> Re
             what: "events",
         });
     }
-    if (said.status == 0) != (refused == 0) {
+    if (output.status == 0) != (refused == 0) {
         return Err(Broken::Differ {
             drivers,
             what: "status",

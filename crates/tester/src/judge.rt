@@ -3,7 +3,7 @@
 use crate::broken::Broken;
 use crate::outcome::{Find, Outcome, Writer};
 use crate::written::Issue;
-use judging::{is_given, stands};
+use fuzzing::{is_given, is_kept};
 use std::alloc::{AllocError, Global};
 
 /// The last record of a transaction that was issued.
@@ -135,7 +135,7 @@ fn check_points(outcome: &Outcome, writer: Writer) -> Result<(), Broken> {
         });
     }
     let cut = cut_of(outcome, client);
-    if !stands(cut, durable) {
+    if !is_kept(cut, durable) {
         return Err(Broken::Fell {
             recovery: client,
             cut,
@@ -148,7 +148,7 @@ fn check_points(outcome: &Outcome, writer: Writer) -> Result<(), Broken> {
 /// Whether a recovery starts at its cut or above.
 fn check_start(find: Find) -> Result<(), Broken> {
     let Find { client, cut, start } = find;
-    if !stands(cut, start) {
+    if !is_kept(cut, start) {
         return Err(Broken::Start {
             recovery: client,
             cut,
@@ -196,7 +196,7 @@ fn check_cut(ends: &[End], find: Find) -> Result<(), Broken> {
 
 /// Whether a writer's commits stand in a later recovery, which gives none of the writer's numbers again.
 fn check_pair(writer: Writer, find: Find) -> Result<(), Broken> {
-    if !stands(writer.durable, find.cut) {
+    if !is_kept(writer.durable, find.cut) {
         return Err(Broken::Lost {
             writer: writer.client,
             durable: writer.durable,

@@ -18,7 +18,7 @@ impl Schedule {
     fn issue_many(&mut self) -> Result<u64, AllocError> {
         self.written.text.push_str("issue 1")?;
         for _ in 0..CHANGES {
-            let byte = self.dice.below(256);
+            let byte = self.rng.below(256);
             write!(self.written.text, " 0:0:0:{byte:02x}")?;
         }
         let line = self.written.end()?;

@@ -4,13 +4,13 @@
 
 mod books;
 mod broken;
+mod commands;
 mod fleets;
 mod groups;
 mod judge;
 mod long;
 mod outcome;
 mod plans;
-mod said;
 mod schedule;
 mod seeds;
 mod stages;

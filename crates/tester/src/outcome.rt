@@ -1,7 +1,7 @@
 //! What a run or a fleet prints, read back.
 
 use crate::broken::Broken;
-use judging::Said;
+use fuzzing::CommandOutput;
 use std::alloc::{AllocError, Global};
 
 /// What was answered to a line of the script.
@@ -174,12 +174,16 @@ impl Outcome {
     }
 
     /// What a job of this name printed, where it wasn't refused.
-    pub fn of(alloc: Global, said: &Said, name: &'static str) -> Result<Outcome, Broken> {
-        if said.status > 1 || !said.told.is_empty() {
-            let line = String::from_str(alloc, said.told.as_str().trim_end())?;
+    pub fn of(
+        alloc: Global,
+        output: &CommandOutput,
+        name: &'static str,
+    ) -> Result<Outcome, Broken> {
+        if output.status > 1 || !output.stderr.is_empty() {
+            let line = String::from_str(alloc, output.stderr.as_str().trim_end())?;
             return Err(Broken::Told(name, line));
         }
-        let outcome = Outcome::read(alloc, said.printed.as_str())?;
+        let outcome = Outcome::read(alloc, output.stdout.as_str())?;
         if outcome.strange != 0 {
             return Err(Broken::Strange(name));
         }

@@ -1,7 +1,7 @@
 //! Certified plans, and which sets of members read and write in them.
 
 use crate::groups::{FULL_AND_TAIL, LARGE_AND_SMALL, MEMBER_REPLACED, SIX_COPIES, TWO_REPLACED};
-use dice::Dice;
+use fuzzing::Rng;
 use std::alloc::{AllocError, Global};
 
 /// The groups of a plan by what they are about.
@@ -115,8 +115,8 @@ impl Family {
     }
 
     /// Members of which so many read.
-    pub fn read_side(self, configuration: u8, dice: &mut Dice) -> Side {
-        let choice = dice.below(4);
+    pub fn read_side(self, configuration: u8, rng: &mut Rng) -> Side {
+        let choice = rng.below(4);
         if self == Family::LargeAndSmall {
             return Family::weighed_readers(configuration, choice);
         }
@@ -132,11 +132,11 @@ impl Family {
     }
 
     /// Members of which so many write.
-    pub fn write_side(self, configuration: u8, dice: &mut Dice) -> Side {
+    pub fn write_side(self, configuration: u8, rng: &mut Rng) -> Side {
         if self == Family::LargeAndSmall {
-            return Family::weighed_writers(configuration, dice.below(4));
+            return Family::weighed_writers(configuration, rng.below(4));
         }
-        let is_small = dice.chance(40);
+        let is_small = rng.chance(40);
         let (members, least): (&'static [u8], usize) = match (self, configuration) {
             (Family::FullAndTail, _) if is_small => (&[0, 1, 2], 3),
             (Family::MemberReplaced | Family::TwoReplaced, 1) if is_small => (&[0, 1, 2, 3, 4], 4),
@@ -162,23 +162,23 @@ pub struct Plan {
 
 impl Plan {
     /// A plan by chance.
-    pub fn draw(dice: &mut Dice) -> Plan {
-        let family = match dice.below(7) {
+    pub fn draw(rng: &mut Rng) -> Plan {
+        let family = match rng.below(7) {
             0 | 1 => Family::MemberReplaced,
             2 => Family::TwoReplaced,
             3 => Family::FullAndTail,
             4 => Family::LargeAndSmall,
             _ => Family::SixCopies,
         };
-        let groups = if dice.chance(25) { 2 } else { 1 };
+        let groups = if rng.chance(25) { 2 } else { 1 };
         Plan {
             family,
             groups,
-            born: if dice.chance(50) { 1 } else { groups },
-            allowance: if dice.chance(8) {
+            born: if rng.chance(50) { 1 } else { groups },
+            allowance: if rng.chance(8) {
                 LONG
             } else {
-                dice.one_of(&[4, 10, 10, 30]).unwrap_or(10)
+                rng.one_of(&[4, 10, 10, 30]).unwrap_or(10)
             },
         }
     }

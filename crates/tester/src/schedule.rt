@@ -3,7 +3,7 @@
 use crate::plans::{Plan, Side};
 use crate::tasks::{Answered, Stage, Task};
 use crate::written::{Delivery, Message, Receiver, Written};
-use dice::Dice;
+use fuzzing::Rng;
 use std::alloc::{AllocError, Global};
 
 /// The most clients of a script.
@@ -16,7 +16,7 @@ const MOST_TASKS: usize = 3;
 #[derive(Drop)]
 pub struct Schedule {
     pub plan: Plan,
-    pub dice: Dice,
+    pub rng: Rng,
     pub written: Written,
     /// How many clients there are.
     pub clients: u32,
@@ -41,14 +41,14 @@ pub struct Schedule {
 
 impl Schedule {
     /// The beginning of a script over this plan.
-    pub fn new(alloc: Global, plan: Plan, mut dice: Dice) -> Result<Schedule, AllocError> {
-        let favourites = dice.shuffled(alloc, &[0, 1, 2, 3, 4, 5, 6, 7])?;
-        let loss = dice.one_of(&[0, 0, 10, 40]).unwrap_or(0);
+    pub fn new(alloc: Global, plan: Plan, mut rng: Rng) -> Result<Schedule, AllocError> {
+        let favourites = rng.shuffled(alloc, &[0, 1, 2, 3, 4, 5, 6, 7])?;
+        let loss = rng.one_of(&[0, 0, 10, 40]).unwrap_or(0);
         let mut open = Vec::new(alloc);
         open.push(1)?;
         Ok(Schedule {
             plan,
-            dice,
+            rng,
             written: Written::new(alloc),
             clients: 1,
             open,
@@ -81,17 +81,17 @@ impl Schedule {
 
     /// A writer, mostly the newest.
     pub fn writer(&mut self) -> u32 {
-        if self.dice.chance(85) {
+        if self.rng.chance(85) {
             return self.newest();
         }
-        self.dice.one_of(self.open.as_slice()).unwrap_or(1)
+        self.rng.one_of(self.open.as_slice()).unwrap_or(1)
     }
 
     /// Some of these members, at least as many as do.
     fn some_of(&mut self, alloc: Global, side: Side) -> Result<Vec<u8>, AllocError> {
-        let mut members = self.dice.shuffled(alloc, side.members)?;
+        let mut members = self.rng.shuffled(alloc, side.members)?;
         let more = members.len().saturating_sub(side.least);
-        let count = self.dice.from(side.least, more.saturating_add(1));
+        let count = self.rng.from(side.least, more.saturating_add(1));
         members.truncate(count);
         Ok(members)
     }
@@ -111,9 +111,9 @@ impl Schedule {
     fn write_reach(&mut self, alloc: Global, group: u8) -> Result<Vec<u8>, AllocError> {
         let family = self.plan.family;
         let place = self.place(group);
-        let side = family.write_side(place, &mut self.dice);
-        match self.dice.below(10) {
-            0..=4 => self.dice.shuffled(alloc, family.members(place)),
+        let side = family.write_side(place, &mut self.rng);
+        match self.rng.below(10) {
+            0..=4 => self.rng.shuffled(alloc, family.members(place)),
             5..=7 => self.preferred(alloc, side),
             _ => self.some_of(alloc, side),
         }
@@ -123,9 +123,9 @@ impl Schedule {
     fn read_reach(&mut self, alloc: Global, group: u8) -> Result<Vec<u8>, AllocError> {
         let family = self.plan.family;
         let place = self.place(group);
-        let side = family.read_side(place, &mut self.dice);
-        if self.loss > 0 && self.dice.chance(50) {
-            return self.dice.shuffled(alloc, family.members(place));
+        let side = family.read_side(place, &mut self.rng);
+        if self.loss > 0 && self.rng.chance(50) {
+            return self.rng.shuffled(alloc, family.members(place));
         }
         self.some_of(alloc, side)
     }
@@ -216,7 +216,7 @@ impl Schedule {
     /// Delivers a message of a task, unless it is lost.
     fn deliver(&mut self, task: &mut Task, delivery: Delivery) -> Result<(), AllocError> {
         let loss = self.loss;
-        if self.dice.chance(loss) {
+        if self.rng.chance(loss) {
             self.late.push(delivery)?;
             return Ok(());
         }
@@ -227,7 +227,7 @@ impl Schedule {
             Receiver::Nodes(group)
         };
         let line = self.written.deliver(delivery, answer)?;
-        if self.dice.chance(70) {
+        if self.rng.chance(70) {
             task.forget(group, member);
         }
         task.answers.push(Answered {
@@ -241,7 +241,7 @@ impl Schedule {
     /// Has a task's client take an answer, unless it is lost.
     fn take(&mut self, client: u32, answer: Answered) -> Result<(), AllocError> {
         let loss = self.loss / 2;
-        if !self.dice.chance(loss) {
+        if !self.rng.chance(loss) {
             self.written.take(client, answer.line, 1)?;
         }
         Ok(())
@@ -249,12 +249,12 @@ impl Schedule {
 
     /// The next line of a task.
     fn go_on(&mut self, alloc: Global, task: &mut Task) -> Result<(), AllocError> {
-        let chosen = self.dice.below(task.deliveries.len());
+        let chosen = self.rng.below(task.deliveries.len());
         if chosen < task.deliveries.len() {
             let delivery = task.deliveries.swap_remove(chosen);
             return self.deliver(task, delivery);
         }
-        let chosen = self.dice.below(task.answers.len());
+        let chosen = self.rng.below(task.answers.len());
         if task.takes() && chosen < task.answers.len() {
             let answer = task.answers.swap_remove(chosen);
             return self.take(task.client, answer);
@@ -264,7 +264,7 @@ impl Schedule {
 
     /// A task that was begun goes on, or a new one begins.
     fn take_turn(&mut self, alloc: Global) -> Result<(), AllocError> {
-        let chosen = self.dice.below(self.tasks.len());
+        let chosen = self.rng.below(self.tasks.len());
         if chosen < self.tasks.len() {
             let mut task = self.tasks.swap_remove(chosen);
             self.go_on(alloc, &mut task)?;
@@ -283,7 +283,7 @@ impl Schedule {
 
     /// Begins a task.
     fn begin(&mut self, alloc: Global) -> Result<(), AllocError> {
-        match self.dice.below(20) {
+        match self.rng.below(20) {
             0..=3 if self.clients < MOST_CLIENTS => self.begin_recovery(alloc),
             4..=5 => self.begin_step(alloc),
             6..=7 => self.begin_late(alloc),
@@ -297,7 +297,7 @@ impl Schedule {
         let client = self.newest();
         let mut task = Task::new(alloc, Stage::Finished, client);
         for _ in 0..8 {
-            let chosen = self.dice.below(self.late.len());
+            let chosen = self.rng.below(self.late.len());
             if chosen < self.late.len() {
                 task.deliveries.push(self.late.swap_remove(chosen))?;
             }
@@ -307,7 +307,7 @@ impl Schedule {
 
     /// Writes a line, or lets one be lost.
     fn turn(&mut self, alloc: Global) -> Result<(), AllocError> {
-        match self.dice.below(100) {
+        match self.rng.below(100) {
             0..=9 if self.tasks.len() < MOST_TASKS => self.begin(alloc),
             10..=19 => self.stray(alloc),
             _ => self.take_turn(alloc),
@@ -319,8 +319,8 @@ impl Schedule {
         let all = self.written.messages.as_slice();
         let count = all.len();
         let recent = count.saturating_sub(24);
-        let first = if self.dice.chance(70) { recent } else { 0 };
-        let chosen = self.dice.from(first, count.saturating_sub(first));
+        let first = if self.rng.chance(70) { recent } else { 0 };
+        let chosen = self.rng.from(first, count.saturating_sub(first));
         all.get(chosen).copied()
     }
 
@@ -329,10 +329,10 @@ impl Schedule {
     pub fn fill(&mut self, alloc: Global) -> Result<(), AllocError> {
         if self.plan.is_long() {
             self.lengthen()?;
-        } else if self.dice.chance(33) {
+        } else if self.rng.chance(33) {
             self.straggle(alloc)?;
         }
-        let turns = self.dice.from(30, 371).max(self.dice.from(30, 371));
+        let turns = self.rng.from(30, 371).max(self.rng.from(30, 371));
         for _ in 0..turns {
             self.turn(alloc)?;
         }

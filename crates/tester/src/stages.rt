@@ -8,12 +8,12 @@ use std::alloc::{AllocError, Global};
 impl Schedule {
     /// Adds a change by chance to the line of an issue.
     fn add_change(&mut self, group: u8) -> Result<(), AllocError> {
-        let block = self.dice.below(3);
-        let offset = self.dice.below(500);
+        let block = self.rng.below(3);
+        let offset = self.rng.below(500);
         write!(self.written.text, " {group}:{block}:{offset}:")?;
-        let bytes = self.dice.from(1, 8);
+        let bytes = self.rng.from(1, 8);
         for _ in 0..bytes {
-            let byte = self.dice.below(256);
+            let byte = self.rng.below(256);
             write!(self.written.text, "{byte:02x}")?;
         }
         Ok(())
@@ -22,9 +22,9 @@ impl Schedule {
     /// The groups of a transaction's changes.
     fn groups_of_changes(&mut self, alloc: Global) -> Result<Vec<u8>, AllocError> {
         let mut groups = Vec::new(alloc);
-        let changes = self.dice.from(1, 4);
+        let changes = self.rng.from(1, 4);
         for _ in 0..changes {
-            let is_second = self.told == 2 && self.dice.chance(50);
+            let is_second = self.told == 2 && self.rng.chance(50);
             groups.push(u8::from(is_second))?;
         }
         Ok(groups)
@@ -61,13 +61,13 @@ impl Schedule {
 
     /// A group steps to a child of its configuration.
     pub fn begin_step(&mut self, alloc: Global) -> Result<(), AllocError> {
-        let group = if self.joined == 2 && self.dice.chance(50) {
+        let group = if self.joined == 2 && self.rng.chance(50) {
             1
         } else {
             0
         };
         let children = self.plan.family.children(self.place(group));
-        let Some(child) = self.dice.one_of(children) else {
+        let Some(child) = self.rng.one_of(children) else {
             return self.begin_write(alloc);
         };
         let line = self.written.of_node("advance", group, child)?;

@@ -29,7 +29,7 @@ impl Schedule {
         let Some(fresh) = self.plan.family.fresh(1) else {
             return Ok(None);
         };
-        let mut stepped = self.dice.shuffled(alloc, KEPT)?;
+        let mut stepped = self.rng.shuffled(alloc, KEPT)?;
         let mut behind = Vec::new(alloc);
         behind.push(LEAVING)?;
         for member in stepped.iter().skip(3) {
@@ -46,7 +46,7 @@ impl Schedule {
 
     /// The first writer issues a record of a group.
     fn issue_one(&mut self, group: u8) -> Result<u64, AllocError> {
-        let byte = self.dice.below(256);
+        let byte = self.rng.below(256);
         write!(self.written.text, "issue 1 {group}:0:0:{byte:02x}")?;
         let line = self.written.end()?;
         self.written.note(line, 1, Receiver::Nodes(group))?;
@@ -215,11 +215,11 @@ impl Schedule {
 
     /// Begins a script by such a write, where the plan has a step.
     pub fn straggle(&mut self, alloc: Global) -> Result<(), AllocError> {
-        let group = u8::from(self.joined == 2 && self.dice.chance(50));
+        let group = u8::from(self.joined == 2 && self.rng.chance(50));
         let Some(parties) = self.parties(alloc, group)? else {
             return Ok(());
         };
-        let before = self.dice.below(3);
+        let before = self.rng.below(3);
         for _ in 0..before {
             self.commit_one(alloc, group)?;
         }

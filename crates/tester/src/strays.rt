@@ -8,23 +8,23 @@ use std::alloc::{AllocError, Global};
 impl Schedule {
     /// A group by chance.
     fn any_group(&mut self) -> u8 {
-        u8::from(self.plan.groups == 2 && self.dice.chance(50))
+        u8::from(self.plan.groups == 2 && self.rng.chance(50))
     }
 
     /// A member of a group by chance.
     fn any_member(&mut self, group: u8) -> u8 {
         let members = self.members(group);
-        self.dice.one_of(members).unwrap_or(0)
+        self.rng.one_of(members).unwrap_or(0)
     }
 
     /// The number of a record that there may be.
     fn any_record(&mut self) -> usize {
-        self.dice.from(1, 24)
+        self.rng.from(1, 24)
     }
 
     /// A line that belongs to no task.
     pub fn stray(&mut self, alloc: Global) -> Result<(), AllocError> {
-        match self.dice.below(20) {
+        match self.rng.below(20) {
             0..=9 => self.repeat(),
             10..=11 => self.restart(),
             12..=13 => self.offer(),
@@ -96,7 +96,7 @@ impl Schedule {
     fn read(&mut self) -> Result<(), AllocError> {
         let client = self.writer();
         let group = self.any_group();
-        let block = self.dice.below(3);
+        let block = self.rng.below(3);
         write!(self.written.text, "read {client} {group} {block}")?;
         let line = self.written.end()?;
         self.written.note(line, 1, Receiver::Nodes(group))
@@ -112,7 +112,7 @@ impl Schedule {
     /// A line that is wrong on purpose.
     fn mistake(&mut self) -> Result<(), AllocError> {
         let client = self.writer();
-        let line: &str = match self.dice.below(8) {
+        let line: &str = match self.rng.below(8) {
             0 => "issue 1 7:0:0:61",
             1 => "issue 1 0:0:511:6162",
             2 => "advance 0 9",

@@ -1,16 +1,15 @@
 //! One run of a seed: a plan, a script, and what is said of them.
 
 use crate::broken::Broken;
+use crate::commands::{fleet, run, say};
 use crate::fleets::{check_alike, check_fleet};
 use crate::judge::{Shown, check_run};
 use crate::outcome::Outcome;
 use crate::plans::Plan;
-use crate::said::{fleet, run, say};
 use crate::schedule::Schedule;
 use crate::written::Written;
 use command_line::Job;
-use dice::Dice;
-use judging::Said;
+use fuzzing::{CommandOutput, Rng};
 use std::alloc::{AllocError, Global};
 use std::sync::Wait;
 use std::thread::Threads;
@@ -57,10 +56,10 @@ impl Counts {
 impl Trial {
     /// The plan and the script of this seed.
     pub fn new(alloc: Global, seed: u64) -> Result<Trial, AllocError> {
-        let mut dice = Dice::new(seed);
-        let plan = Plan::draw(&mut dice);
+        let mut rng = Rng::new(seed);
+        let plan = Plan::draw(&mut rng);
         let text = plan.text(alloc)?;
-        let mut schedule = Schedule::new(alloc, plan, dice)?;
+        let mut schedule = Schedule::new(alloc, plan, rng)?;
         schedule.fill(alloc)?;
         Ok(Trial {
             plan: text,
@@ -74,17 +73,17 @@ impl Trial {
     }
 
     /// What a job says of the plan and the script.
-    fn said<H: Threads + Wait + Sync>(
+    fn output<H: Threads + Wait + Sync>(
         &self,
         rt: &H,
         alloc: Global,
         job: &Job<'_>,
-    ) -> Result<Said, AllocError> {
+    ) -> Result<CommandOutput, AllocError> {
         let plan = Ok(self.plan.as_bytes());
         say(rt, alloc, job, plan, self.script.text.as_str())
     }
 
-    /// Runs the script on threads by so many drivers, and judges what is said.
+    /// Runs the script on threads by so many drivers, and judges what it prints.
     fn try_fleet<H: Threads + Wait + Sync>(
         &self,
         rt: &H,
@@ -92,16 +91,16 @@ impl Trial {
         run: Option<&Outcome>,
     ) -> Result<(), Broken> {
         let drivers: u8 = if run.is_some() { 1 } else { 4 };
-        let said = self.said(rt, alloc, &fleet(drivers))?;
-        let fleet = Outcome::of(alloc, &said, "fleet")?;
-        check_fleet(&said, &fleet, drivers, self.events())?;
+        let output = self.output(rt, alloc, &fleet(drivers))?;
+        let fleet = Outcome::of(alloc, &output, "fleet")?;
+        check_fleet(&output, &fleet, drivers, self.events())?;
         match run {
             Some(run) => check_alike(run, &fleet),
             None => Ok(()),
         }
     }
 
-    /// Runs the script, judges what is said, and counts it; on several drivers too where that is wanted.
+    /// Runs the script, judges what it prints, and counts it; on several drivers too where that is wanted.
     pub fn try_all<H: Threads + Wait + Sync>(
         &self,
         rt: &H,
@@ -109,15 +108,15 @@ impl Trial {
         several: bool,
         counts: &mut Counts,
     ) -> Result<(), Broken> {
-        let said = self.said(rt, alloc, &run())?;
-        let outcome = Outcome::of(alloc, &said, "run")?;
+        let output = self.output(rt, alloc, &run())?;
+        let outcome = Outcome::of(alloc, &output, "run")?;
         let shown = check_run(
             alloc,
             &outcome,
             self.script.lines,
             self.script.issues.as_slice(),
         )?;
-        if (said.status == 0) != (outcome.refusals() == 0) {
+        if (output.status == 0) != (outcome.refusals() == 0) {
             return Err(Broken::Strange("run"));
         }
         self.try_fleet(rt, alloc, Some(&outcome))?;

@@ -2,9 +2,9 @@
 
 use crate::books::case::{Case, Question};
 use crate::books::wrong::Wrong;
-use crate::said::{check, say};
+use crate::commands::{check, say};
 use command_line::{Job, job};
-use judging::Said;
+use fuzzing::CommandOutput;
 use std::alloc::{AllocError, Global};
 use std::sync::Wait;
 use std::thread::Threads;
@@ -30,8 +30,8 @@ fn prints<H: Threads + Wait + Sync>(
     match question.checked {
         None => Ok(printed == question.printed.as_str()),
         Some(due) => {
-            let said = say(threads, alloc, &check(), Ok(printed.as_bytes()), "")?;
-            Ok(said.printed.as_str().trim_end() == due)
+            let output = say(threads, alloc, &check(), Ok(printed.as_bytes()), "")?;
+            Ok(output.stdout.as_str().trim_end() == due)
         }
     }
 }
@@ -43,20 +43,20 @@ fn try_job<H: Threads + Wait + Sync>(
     question: &Question<'_>,
     job: &Job<'_>,
     texts: &Texts<'_>,
-) -> Result<Said, Wrong> {
+) -> Result<CommandOutput, Wrong> {
     let plan = match texts.plan {
         Ok(text) => Ok(text.as_bytes()),
         Err(error) => Err(*error),
     };
-    let said = say(threads, alloc, job, plan, texts.script)?;
-    let is_told = said.is(question.status, question.told.as_str());
-    if is_told && prints(threads, alloc, question, said.printed.as_str())? {
-        Ok(said)
+    let output = say(threads, alloc, job, plan, texts.script)?;
+    let is_told = output.ended_with(question.status, question.told.as_str());
+    if is_told && prints(threads, alloc, question, output.stdout.as_str())? {
+        Ok(output)
     } else {
         Err(Wrong::Answer {
-            status: said.status,
-            printed: said.printed,
-            told: said.told,
+            status: output.status,
+            printed: output.stdout,
+            told: output.stderr,
         })
     }
 }
@@ -98,7 +98,7 @@ fn try_ends<H: Threads + Wait + Sync>(
             plan,
             script: script.as_str(),
         };
-        printed = try_job(threads, alloc, question, job, &texts)?.printed;
+        printed = try_job(threads, alloc, question, job, &texts)?.stdout;
     }
     Ok(printed)
 }

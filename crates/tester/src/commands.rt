@@ -1,10 +1,10 @@
-//! Jobs on texts in memory, and what they say.
+//! Commands over texts in memory, and what they print.
 
 ghost use Rattle.std.specs.Prelude.{◌≤◌};
 
 use command_line::{Action, Job};
+use fuzzing::CommandOutput;
 use jobs::{Output, Source, perform};
-use judging::Said;
 use std::alloc::{AllocError, Global};
 use std::io;
 use std::sync::Wait;
@@ -43,14 +43,14 @@ pub fn fleet(workers: u8) -> Job<'static>
     }
 }
 
-/// What a job says of a plan's text, which may be one that can't be read, and of a script.
+/// Runs a job over a plan's text, which may be one that can't be read, and a script.
 pub fn say<H: Threads + Wait + Sync>(
     threads: &H,
     alloc: Global,
     job: &Job<'_>,
     plan: io::Result<&[u8]>,
     script: &str,
-) -> Result<Said, AllocError> {
+) -> Result<CommandOutput, AllocError> {
     let mut plan = Source::new(plan);
     let mut script = Source::new(Ok(script.as_bytes()));
     let mut out = Output::new(Vec::new(alloc));
@@ -64,9 +64,9 @@ pub fn say<H: Threads + Wait + Sync>(
         &mut out,
         &mut err,
     );
-    Ok(Said {
+    Ok(CommandOutput {
         status,
-        printed: String::from_utf8_lossy(alloc, out.into_inner().as_slice())?,
-        told: String::from_utf8_lossy(alloc, err.into_inner().as_slice())?,
+        stdout: String::from_utf8_lossy(alloc, out.into_inner().as_slice())?,
+        stderr: String::from_utf8_lossy(alloc, err.into_inner().as_slice())?,
     })
 }
