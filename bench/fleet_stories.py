@@ -11,8 +11,7 @@ ghost use Rattle.node_fleet.specs.Bases.{passes_of, IsBaseOf};
 use crate::Told;
 use crate::texts::{REPLACED, SIX};
 use fleet_actors::{ClientDeed, NodeDeed, StepGate};
-use journal::{Pass, Receipt, Row, Site};
-use node_fleet::{Base, Fleet, Journal};
+use node_fleet::{Base, Fleet, FleetSite, Journal, Pass, Receipt, Row};
 use plan::{CheckedPlan, check_plan, read_plan};
 use std::alloc::{AllocError, Global};
 use std::marker::Brand;
@@ -124,7 +123,7 @@ fn deed(alloc: Global, call: Call) -> Result<ClientDeed, Fault> {
 }
 
 /// Makes a call by a pass.
-fn made<'a, L: Site, R: Wait>(
+fn made<'a, L: FleetSite, R: Wait>(
     rt: &R,
     fleet: &Fleet<'a, L>,
     pass: &mut Pass<'a, L>,
@@ -141,7 +140,7 @@ fn made<'a, L: Site, R: Wait>(
 }
 
 /// Makes all calls, the passes in turn, each that answers want of memory once more.
-fn make_all<'a, L: Site, R: Wait>(
+fn make_all<'a, L: FleetSite, R: Wait>(
     rt: &R,
     alloc: Global,
     fleet: &Fleet<'a, L>,
@@ -210,7 +209,7 @@ fn of_events(
 }
 
 /// What is said of a closed journal.
-fn of_journal<L: Site>(
+fn of_journal<L: FleetSite>(
     alloc: Global,
     journal: &Journal<'_, L>,
     plan: &Arc<CheckedPlan>,
@@ -229,7 +228,7 @@ fn of_journal<L: Site>(
 }
 
 /// What a fleet's calls give.
-fn drive<L: Site, R: Wait>(
+fn drive<L: FleetSite, R: Wait>(
     rt: &R,
     alloc: Global,
     row: &mut Row,
@@ -241,7 +240,7 @@ fn drive<L: Site, R: Wait>(
     requires plan { checked_model (arc_value plan) ≡ L.plan }
     requires cells { ids_of row.old ≡ L.cells }
     requires slots { L.slots ≡ 2 }
-    requires base { IsBaseOf L.board L.history L.name L.parts base }
+    requires base { IsBaseOf L.plan L.board L.history L.mail L.name L.parts base }
     requires passes { 0 < passes_of base }
 {
     let copy = plan.clone()?;
@@ -270,7 +269,7 @@ fn over<R: Wait>(
     };
     let plan = Arc::new(alloc, plan)?;
     let mut row = Row::new(alloc, calls.len())?;
-    let base = Base::new(alloc, passes)?;
+    let base = Base::new(alloc, &plan, passes)?;
     drive::<Brand, R>(rt, alloc, &mut row, base, plan, calls, story)
 }
 
@@ -302,7 +301,7 @@ use Rattle.board.specs.Seats.{board_table}
 use Rattle.plan.specs.CheckedModel.{checked_model}
 use Rattle.journal.specs.Fronts.{book_of}
 use Rattle.journal.specs.Tokens.{ids_of}
-use Rattle.node_fleet.specs.Bases.{passes_of}
+use Rattle.node_fleet.specs.Bases.{mail_in, passes_of}
 use Rattle.fleet_stories.proofs.stories.over.Given as goal
 
 abbrev pub ghosts-drive-L-Ledger : goal.ghosts-drive-L-Ledger
@@ -310,4 +309,7 @@ ghosts-drive-L-Ledger g a = record { name = a.base.blank.name; parts = passes_of
 
 abbrev pub ghosts-drive-L-Site : goal.ghosts-drive-L-Site
 ghosts-drive-L-Site g a = record { plan = checked_model (arc_value a.plan); cells = ids_of a.row.now; board = board_table a.base.board; history = book_of a.base.opened; slots = 2 }
+
+abbrev pub ghosts-drive-L-FleetSite : goal.ghosts-drive-L-FleetSite
+ghosts-drive-L-FleetSite g a = record { mail = mail_in a.base }
 """

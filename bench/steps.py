@@ -32,8 +32,7 @@ ghost use Rattle.journal.specs.Tokens.{ids_of};
 ghost use Rattle.node_fleet.specs.Bases.{passes_of, IsBaseOf};
 
 use fleet_actors::{ClientDeed, NodeDeed, StepGate};
-use journal::{Pass, Row, Site};
-use node_fleet::{Base, Fleet};
+use node_fleet::{Base, Fleet, FleetSite, Pass, Row};
 use plan::{CheckedPlan, check_plan, read_plan};
 use std::alloc::{AllocError, Global};
 use std::marker::Brand;
@@ -71,12 +70,12 @@ impl StepGate for Blind {
 
 /// Passes that make steps in turn.
 #[derive(Drop)]
-struct Callers<'a, L: Site> {
+struct Callers<'a, L: FleetSite> {
     passes: Vec<Pass<'a, L>>,
     at: usize,
 }
 
-impl<'a, L: Site> Callers<'a, L> {
+impl<'a, L: FleetSite> Callers<'a, L> {
     /// The pass whose turn it is.
     fn next(&mut self) -> Option<&mut Pass<'a, L>> {
         self.at = if self.at < 1 {
@@ -156,7 +155,7 @@ fn transactions(alloc: Global, changes: u32) -> Result<Vec<ClientDeed>, AllocErr
 
 /// Issues the transactions of a round.
 #[inline(never)]
-fn issue<'a, L: Site, R: Wait + Clock>(
+fn issue<'a, L: FleetSite, R: Wait + Clock>(
     rt: &R,
     fleet: &Fleet<'a, L>,
     callers: &mut Callers<'a, L>,
@@ -176,7 +175,7 @@ fn issue<'a, L: Site, R: Wait + Clock>(
 
 /// Issues the transactions of a round, which the journal is given.
 #[inline(never)]
-fn give<'a, L: Site, R: Wait + Clock>(
+fn give<'a, L: FleetSite, R: Wait + Clock>(
     rt: &R,
     fleet: &Fleet<'a, L>,
     callers: &mut Callers<'a, L>,
@@ -197,7 +196,7 @@ fn give<'a, L: Site, R: Wait + Clock>(
 
 /// Delivers the records of a round to the nodes.
 #[inline(never)]
-fn deliver<'a, L: Site, R: Wait + Clock>(
+fn deliver<'a, L: FleetSite, R: Wait + Clock>(
     rt: &R,
     fleet: &Fleet<'a, L>,
     callers: &mut Callers<'a, L>,
@@ -217,7 +216,7 @@ fn deliver<'a, L: Site, R: Wait + Clock>(
 
 /// Takes the acknowledgements of a round.
 #[inline(never)]
-fn take<'a, L: Site, R: Wait + Clock>(
+fn take<'a, L: FleetSite, R: Wait + Clock>(
     rt: &R,
     fleet: &Fleet<'a, L>,
     callers: &mut Callers<'a, L>,
@@ -234,7 +233,7 @@ fn take<'a, L: Site, R: Wait + Clock>(
 
 /// Restarts the nodes, so many times in all.
 #[inline(never)]
-fn restart<'a, L: Site, R: Wait + Clock>(
+fn restart<'a, L: FleetSite, R: Wait + Clock>(
     rt: &R,
     fleet: &Fleet<'a, L>,
     callers: &mut Callers<'a, L>,
@@ -251,7 +250,7 @@ fn restart<'a, L: Site, R: Wait + Clock>(
 }
 
 /// One round: its records are issued, delivered and acknowledged, and the nodes are restarted as often.
-fn round<'a, L: Site, R: Wait + Clock>(
+fn round<'a, L: FleetSite, R: Wait + Clock>(
     rt: &R,
     fleet: &Fleet<'a, L>,
     callers: &mut Callers<'a, L>,
@@ -281,7 +280,7 @@ fn round<'a, L: Site, R: Wait + Clock>(
 }
 
 /// All rounds on a fleet, with transactions of so many changes.
-fn rounds<'a, L: Site, R: Wait + Clock>(
+fn rounds<'a, L: FleetSite, R: Wait + Clock>(
     rt: &R,
     alloc: Global,
     fleet: &Fleet<'a, L>,
@@ -310,7 +309,7 @@ fn rounds<'a, L: Site, R: Wait + Clock>(
 }
 
 /// All rounds on a new fleet.
-fn on_fleet<L: Site, R: Wait + Clock>(
+fn on_fleet<L: FleetSite, R: Wait + Clock>(
     rt: &R,
     alloc: Global,
     row: &mut Row,
@@ -322,7 +321,7 @@ fn on_fleet<L: Site, R: Wait + Clock>(
     requires plan { checked_model (arc_value plan) ≡ L.plan }
     requires cells { ids_of row.old ≡ L.cells }
     requires slots { L.slots ≡ 64 }
-    requires base { IsBaseOf L.board L.history L.name L.parts base }
+    requires base { IsBaseOf L.plan L.board L.history L.mail L.name L.parts base }
 {
     let (fleet, passes) = Fleet::<L>::new(alloc, row, base, plan, 64).ok()?;
     rounds(rt, alloc, &fleet, passes, changes, count)
@@ -343,7 +342,7 @@ fn timed<R: Wait + Clock>(
     let plan = Arc::new(alloc, checked).ok()?;
     let cells = 1u64.checked_add(2 * 4 * u64::from(changes))? * 16 + 64;
     let mut row = Row::new(alloc, usize::try_from(cells.checked_mul(u64::from(count))?).ok()?).ok()?;
-    let base = Base::new(alloc, passes).ok()?;
+    let base = Base::new(alloc, &plan, passes).ok()?;
     on_fleet::<Brand, R>(rt, alloc, &mut row, base, plan, changes, count)
 }
 
@@ -385,7 +384,7 @@ use Rattle.board.specs.Seats.{board_table}
 use Rattle.plan.specs.CheckedModel.{checked_model}
 use Rattle.journal.specs.Fronts.{book_of}
 use Rattle.journal.specs.Tokens.{ids_of}
-use Rattle.node_fleet.specs.Bases.{passes_of}
+use Rattle.node_fleet.specs.Bases.{mail_in, passes_of}
 use Rattle.step_work.proofs.timed.Given as goal
 
 abbrev pub ghosts-on_fleet-L-Ledger : goal.ghosts-on_fleet-L-Ledger
@@ -393,6 +392,9 @@ ghosts-on_fleet-L-Ledger g a = record { name = a.base.blank.name; parts = passes
 
 abbrev pub ghosts-on_fleet-L-Site : goal.ghosts-on_fleet-L-Site
 ghosts-on_fleet-L-Site g a = record { plan = checked_model (arc_value a.plan); cells = ids_of a.row.now; board = board_table a.base.board; history = book_of a.base.opened; slots = 64 }
+
+abbrev pub ghosts-on_fleet-L-FleetSite : goal.ghosts-on_fleet-L-FleetSite
+ghosts-on_fleet-L-FleetSite g a = record { mail = mail_in a.base }
 """
 
 CRATES = ["volume_model", "plan", "redo_record", "wire", "epochs", "writer_core", "world", "board", "journal", "fleet_actors", "node_fleet"]

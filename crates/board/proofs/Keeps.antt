@@ -1,16 +1,18 @@
 -- Each step of a seat keeps the rule of the board.
-use Rattle.std.proofs.Common.{◌≡◌, ◌≢◌, ◌⊎◌, ℕ, zero, suc, ◌<◌, ◌≤◌, List, [], ◌∷◌, ◌++◌, length, get_or, set, refl, sym, ap, ◌∙◌, subst, inl, inr, ⊎_elim, arith}
+use Rattle.std.proofs.Common.{◌≡◌, ◌≢◌, ◌⊎◌, ℕ, zero, suc, ◌+◌, ◌-◌, ◌<◌, ◌≤◌, List, [], ◌∷◌, ◌++◌, length, get_or, set, refl, sym, ap, ◌∙◌, subst, inl, inr, ⊎_elim, arith}
 use Rattle.std.specs.Prelude.{max, slice_set, slice_index}
 use Rattle.std.proofs.Common.{lt_of_not-le}
 use mathlib.Core.Logic.{dite}
 use native.Mathlib.Decide.{dec_le, ℕ_discrete}
 use mathlib.Core.Option.{some, some-ne-none, some-injective}
 use lib.ListN.{get_elem?}
-use Rattle.atomic_table.specs.Table.{Me, keeps, Allows, Splits}
-use Rattle.atomic_table.proofs.Lists.{at_set, at_snoc, set_here, set_else, set_again, at_longer, at_last}
+use Rattle.atomic_table.specs.Table.{Me, keeps, Allows, Final, Joins, Seen, Splits}
+use Rattle.atomic_table.proofs.Lists.{at_set, at_snoc, set_here, set_else, at_longer, at_last}
 use Rattle.board.specs.declared.BoardStep.{BoardStep}
 use Rattle.board.specs.declared.BoardStep.TheVariants.{Raised, Read}
 use Rattle.board.specs.Board.{number_of, IsRaised, NeverFalls, IsBoard, IsKept, Stands, Looks, Raises}
+use Rattle.board.specs.Shares.{View, first_of, seats_in, share_of, shares}
+use Rattle.board.proofs.Shares.{Rearranged, at_seat, dealt_seats, dealt_shares, has_all, joined_seats, joined_shares, shares_set}
 
 module _ {A : Type 0} where
   -- what stands in a list one longer stood there before, or is the new one
@@ -109,67 +111,144 @@ module _ (word now : ℕ) (views : List (List BoardStep)) (id : ℕ) (v : List B
   pub kept : IsKept now (v ++ x ∷ [])
   kept = (after, id, here_now, made)
 
+-- a list of one seat
+one_seat : (l : List (List BoardStep)) → length l ≡ 1 → l ≡ first_of l ∷ []
+one_seat [] e = absurd (omega arith)
+one_seat (x ∷ []) e = refl
+one_seat (x ∷ y ∷ l) e = absurd (omega arith)
+
+-- one seat of the views made the step x, and the word is now this
+module _ (word now : ℕ) (views : List (View BoardStep)) (id : ℕ) (m : View BoardStep) (x : BoardStep) (one : length m.1 ≡ 1) (seats : ℕ) (all : shares views ≡ seats) (board : IsBoard word (seats_in views)) (here : get_elem? views id ≡ some m) (le : word ≤ now) (fits : number_of x ≤ now) (top : (now ≡ word) ⊎ (x ≡ Raised now)) (read : (n : ℕ) → x ≡ Read n → n ≡ word) where
+  abbrev v : List BoardStep
+  v = first_of m.1
+
+  abbrev grown_view : View BoardStep
+  grown_view = (m.0, (v ++ x ∷ []) ∷ [])
+
+  one_view : get_elem? views id ≡ some (m.0, v ∷ [])
+  one_view = here ∙ ap (λ (l : List (List BoardStep)). some (m.0, l)) (one_seat m.1 one)
+
+  pub stands : (words : List ℕ) → words ≡ now ∷ [] → Stands seats words (set views id grown_view)
+  stands words is =
+      let place = at_seat views id m.0 v one_view in
+      let same = shares_set views id m grown_view here in (
+        omega (arith, same, one, all),
+        (now, is, subst (IsBoard now) (sym (place.2 (v ++ x ∷ []))) (made word now (seats_in views) place.0 v x board place.1 le fits top read)),
+      )
+
+  pub is_kept : IsKept now (v ++ x ∷ [])
+  is_kept = let place = at_seat views id m.0 v one_view in kept word now (seats_in views) place.0 v x board place.1 le fits top read
+
 -- a raise
-pub raises : (slots id : ℕ) (m : Me (Unit {0}) (List BoardStep)) (k : ℕ) → Allows {S = Unit {0}} (λ s. Stands s.words s.views) slots id m 0 (λ n. max n k) (λ n after. Raises m.0 k after.0 × (after.1 ≡ m.1))
-raises slots id m k s h sized here small =
-    let word = h.0 in
-    let top : (max word k ≡ word) ⊎ (Raised k ≡ Raised (max word k)) =
-    dite (dec_le k word) (λ (le : k ≤ word). inl (omega arith)) (λ (no : k ≤ word → ⊥). inr (ap Raised (let lt = lt_of_not-le no in omega arith))) in (
-      m.0 ++ Raised k ∷ [],
+pub raises : (seats slots id : ℕ) (m : Me (Unit {0}) (View BoardStep)) (k : ℕ) → length m.0.1 ≡ 1 → Allows {S = Unit {0}} (λ s. Stands seats s.words s.views) slots id m 0 (λ n. max n k) (λ n after. Raises m.0 k after.0 × (after.1 ≡ m.1))
+raises seats slots id m k one s h sized here small =
+    let word = h.1.0 in
+    let now = max word k in
+    let top : (now ≡ word) ⊎ (Raised k ≡ Raised now) =
+    dite (dec_le k word) (λ (le : k ≤ word). inl (omega arith)) (λ (no : k ≤ word → ⊥). inr (ap Raised (let lt = lt_of_not-le no in omega arith))) in
+    let is : slice_set s.words 0 (max (slice_index s.words 0) k) ≡ now ∷ [] = ap (λ ws. slice_set ws 0 (max (slice_index ws 0) k)) h.1.1 in (
+      (m.0.0, (first_of m.0.1 ++ Raised k ∷ []) ∷ []),
       keeps,
       tt,
-      (max word k, ap (λ ws. slice_set ws 0 (max (slice_index ws 0) k)) h.1, made word (max word k) s.views id m.0 (Raised k) h.2 here (omega arith) (omega arith) top (λ n e. absurd (cc))),
-      (record { step = refl; kept = (max word k, kept word (max word k) s.views id m.0 (Raised k) h.2 here (omega arith) (omega arith) top (λ n e. absurd (cc))) }, refl),
+      stands word now s.views id m.0 (Raised k) one seats h.0 h.1.2 here (omega arith) (omega arith) top (λ n e. absurd (cc)) (slice_set s.words 0 (max (slice_index s.words 0) k)) is,
+      (record { step = refl; kept = (now, is_kept word now s.views id m.0 (Raised k) one seats h.0 h.1.2 here (omega arith) (omega arith) top (λ n e. absurd (cc))) }, refl),
     )
 
 -- a reading
-pub looks : (slots id : ℕ) (m : Me (Unit {0}) (List BoardStep)) → Allows {S = Unit {0}} (λ s. Stands s.words s.views) slots id m 0 (λ n. n) (λ n after. Looks m.0 n after.0 × (after.1 ≡ m.1))
-looks slots id m s h sized here small =
-    let word = h.0 in
-    let is : slice_index s.words 0 ≡ word = ap (λ ws. slice_index ws 0) h.1 in
-    let w = m.0 ++ Read (slice_index s.words 0) ∷ [] in (
-      w,
+pub looks : (seats slots id : ℕ) (m : Me (Unit {0}) (View BoardStep)) → length m.0.1 ≡ 1 → Allows {S = Unit {0}} (λ s. Stands seats s.words s.views) slots id m 0 (λ n. n) (λ n after. Looks m.0 n after.0 × (after.1 ≡ m.1))
+looks seats slots id m one s h sized here small =
+    let word = h.1.0 in
+    let found = slice_index s.words 0 in
+    let is : found ≡ word = ap (λ ws. slice_index ws 0) h.1.1 in
+    let read : (n : ℕ) → Read found ≡ Read n → n ≡ word = λ n e. let same : found ≡ n = cc in sym same ∙ is in
+    let words_are : slice_set s.words 0 found ≡ word ∷ [] = ap (λ ws. slice_set ws 0 (slice_index ws 0)) h.1.1 in
+    let v = first_of m.0.1 in
+    let place = at_seat s.views id m.0.0 v (here ∙ ap (λ (l : List (List BoardStep)). some (m.0.0, l)) (one_seat m.0.1 one)) in (
+      (m.0.0, (v ++ Read found ∷ []) ∷ []),
       keeps,
       tt,
-      (word, ap (λ ws. slice_set ws 0 (slice_index ws 0)) h.1, made word word s.views id m.0 (Read (slice_index s.words 0)) h.2 here (omega arith) (omega arith) (inl refl) (λ n e. let same : slice_index s.words 0 ≡ n = cc in sym same ∙ is)),
+      stands word word s.views id m.0 (Read found) one seats h.0 h.1.2 here (omega arith) (omega arith) (inl refl) read (slice_set s.words 0 found) words_are,
       (
         record {
           step = refl;
-          at_least = λ k d lt. let a = h.2.above id k m.0 (get_or m.0 k d) here (at_or m.0 k d lt) in omega arith;
-          kept = subst (λ (n : ℕ). IsKept n w) (sym is) (kept word word s.views id m.0 (Read (slice_index s.words 0)) h.2 here (omega arith) (omega arith) (inl refl) (λ n e. let same : slice_index s.words 0 ≡ n = cc in sym same ∙ is));
+          at_least = λ k d lt. let a = h.1.2.above place.0 k v (get_or v k d) place.1 (at_or v k d lt) in omega arith;
+          kept = subst (λ (n : ℕ). IsKept n (v ++ Read found ∷ [])) (sym is) (is_kept word word s.views id m.0 (Read found) one seats h.0 h.1.2 here (omega arith) (omega arith) (inl refl) read);
         },
         refl,
       ),
     )
 
--- a new seat, which has made no step
-pub enters : (id : ℕ) (v : List BoardStep) → Splits {S = Unit {0}} (λ s. Stands s.words s.views) id v v []
-enters id v s h here =
-    subst (λ (l : List (List BoardStep)). Stands s.words (l ++ [] ∷ [])) (sym (set_again s.views id v here))
-    (h.0, h.1, record { above = above; reached = still h.0 h.2.reached; was_raised = was_raised; rising = rising })
+-- one seat more, which has made no step
+new_seat : (word : ℕ) (views : List (List BoardStep)) → IsBoard word views → IsBoard word (views ++ [] ∷ [])
+new_seat word views board = record { above = above; reached = still word board.reached; was_raised = was_raised; rising = rising }
   where
     more : List (List BoardStep)
-    more = s.views ++ [] ∷ []
+    more = views ++ [] ∷ []
 
-    still : (n : ℕ) → (n ≡ 0) ⊎ IsRaised s.views n → (n ≡ 0) ⊎ IsRaised more n
-    still n = ⊎_elim (λ z. inl z) (λ r. inr (r.0, r.1, r.2, at_longer s.views ([] ∷ []) r.0 r.1 r.3, r.4))
+    still : (n : ℕ) → (n ≡ 0) ⊎ IsRaised views n → (n ≡ 0) ⊎ IsRaised more n
+    still n = ⊎_elim (λ z. inl z) (λ r. inr (r.0, r.1, r.2, at_longer views ([] ∷ []) r.0 r.1 r.3, r.4))
 
     nothing : (u : List BoardStep) (i : ℕ) (x : BoardStep) → [] ≡ u → get_elem? u i ≡ some x → ⊥
     nothing u i x is e = some-ne-none x (sym (ap (λ (l : List BoardStep). get_elem? l i) is ∙ e))
 
-    above : (seat at : ℕ) (u : List BoardStep) (x : BoardStep) → get_elem? more seat ≡ some u → get_elem? u at ≡ some x → number_of x ≤ h.0
-    above seat i u x e f = ⊎_elim (λ old. h.2.above seat i u x old f) (λ is. absurd (nothing u i x is f)) (at_snoc s.views [] u seat e)
+    above : (seat at : ℕ) (u : List BoardStep) (x : BoardStep) → get_elem? more seat ≡ some u → get_elem? u at ≡ some x → number_of x ≤ word
+    above seat i u x e f = ⊎_elim (λ old. board.above seat i u x old f) (λ is. absurd (nothing u i x is f)) (at_snoc views [] u seat e)
 
     was_raised : (seat at n : ℕ) (u : List BoardStep) → get_elem? more seat ≡ some u → get_elem? u at ≡ some (Read n) → (n ≡ 0) ⊎ IsRaised more n
-    was_raised seat i n u e f = ⊎_elim (λ old. still n (h.2.was_raised seat i n u old f)) (λ is. absurd (nothing u i (Read n) is f)) (at_snoc s.views [] u seat e)
+    was_raised seat i n u e f = ⊎_elim (λ old. still n (board.was_raised seat i n u old f)) (λ is. absurd (nothing u i (Read n) is f)) (at_snoc views [] u seat e)
 
     rising : (seat : ℕ) (u : List BoardStep) → get_elem? more seat ≡ some u → NeverFalls u
-    rising seat u e = ⊎_elim (λ old. h.2.rising seat u old) (λ is i j n x lt f g. absurd (nothing u i x is f)) (at_snoc s.views [] u seat e)
+    rising seat u e = ⊎_elim (λ old. board.rising seat u old) (λ is i j n x lt f g. absurd (nothing u i x is f)) (at_snoc views [] u seat e)
 
--- a new board
-pub begins : Stands (0 ∷ []) ([] ∷ [])
-begins = (0, refl, record { above = λ seat i u x e f. absurd (nothing seat u i x e f); reached = inl refl; was_raised = λ seat i n u e f. absurd (nothing seat u i (Read n) e f); rising = λ seat u e i j n x lt f g. absurd (nothing seat u i x e f) })
+-- the order of the seats is nothing to the rule
+in_any_order : (word : ℕ) (xs ys : List (List BoardStep)) → Rearranged xs ys → IsBoard word xs → IsBoard word ys
+in_any_order word xs ys r board = record {
+  above = λ seat i u x e f. board.above (r.from seat) i u x (r.was seat u e) f;
+  reached = still word board.reached;
+  was_raised = λ seat i n u e f. still n (board.was_raised (r.from seat) i n u (r.was seat u e) f);
+  rising = λ seat u e. board.rising (r.from seat) u (r.was seat u e);
+}
   where
-    nothing : (seat : ℕ) (u : List BoardStep) (i : ℕ) (x : BoardStep) → get_elem? ([] ∷ []) seat ≡ some u → get_elem? u i ≡ some x → ⊥
-    nothing zero u i x e f = some-ne-none x (sym (ap (λ (l : List BoardStep). get_elem? l i) (some-injective [] u e) ∙ f))
-    nothing (suc seat) u i x e f = some-ne-none u (sym e)
+    still : (n : ℕ) → (n ≡ 0) ⊎ IsRaised xs n → (n ≡ 0) ⊎ IsRaised ys n
+    still n = ⊎_elim (λ z. inl z) (λ a. inr (r.to a.0, a.1, a.2, r.is a.0 a.1 a.3, a.4))
+
+-- a seat is dealt
+pub deals : (seats id : ℕ) (v : View BoardStep) → 0 < v.0 → Splits {S = Unit {0}} (λ s. Stands seats s.words s.views) id v (v.0 - 1, v.1) (0, [] ∷ [])
+deals seats id v some_left s h here = (
+  dealt_shares s.views id v here some_left ∙ h.0,
+  (h.1.0, h.1.1, subst (IsBoard h.1.0) (sym (dealt_seats s.views id v here)) (new_seat h.1.0 (seats_in s.views) h.1.2)),
+)
+
+-- a seat is taken back
+pub returns : (seats id : ℕ) (v : View BoardStep) (other : ℕ) (w : View BoardStep) → Joins {S = Unit {0}} (λ s. Stands seats s.words s.views) id v other w (v.0 + w.0, w.1 ++ v.1) (0, [])
+returns seats id v other w s h here apart there = (
+  joined_shares s.views id other v w here there ∙ h.0,
+  (h.1.0, h.1.1, in_any_order h.1.0 _ _ (joined_seats s.views id other (v.0 + w.0) v w here apart there) h.1.2),
+)
+
+-- a new board, whose seats one view stands for
+pub begins : (seats : ℕ) → 0 < seats → Stands seats (0 ∷ []) ((seats - 1, [] ∷ []) ∷ [])
+begins seats any = (omega arith, (0, refl, record { above = above; reached = inl refl; was_raised = was_raised; rising = rising }))
+  where
+    none : (seat at : ℕ) (u : List BoardStep) (x : BoardStep) → get_elem? ([] ∷ []) seat ≡ some u → get_elem? u at ≡ some x → ⊥
+    none zero i u x e f = some-ne-none x (sym (ap (λ (l : List BoardStep). get_elem? l i) (some-injective [] u e) ∙ f))
+    none (suc seat) i u x e f = some-ne-none u (sym e)
+
+    above : (seat at : ℕ) (u : List BoardStep) (x : BoardStep) → get_elem? ([] ∷ []) seat ≡ some u → get_elem? u at ≡ some x → number_of x ≤ 0
+    above seat i u x e f = absurd (none seat i u x e f)
+
+    was_raised : (seat at n : ℕ) (u : List BoardStep) → get_elem? ([] ∷ []) seat ≡ some u → get_elem? u at ≡ some (Read n) → (n ≡ 0) ⊎ IsRaised ([] ∷ []) n
+    was_raised seat i n u e f = absurd (none seat i u (Read n) e f)
+
+    rising : (seat : ℕ) (u : List BoardStep) → get_elem? ([] ∷ []) seat ≡ some u → NeverFalls u
+    rising seat u e i j n x lt f g = absurd (none seat i u x e f)
+
+-- the board at its end, when one view stands for all seats
+pub ends : (seats : ℕ) (words : List ℕ) (slots : List (Unit {0})) (id number : ℕ) (v : View BoardStep) → share_of v ≡ seats → Final {S = Unit {0}} (Seen (λ s. Stands seats s.words s.views) id v) words slots → get_elem? words 0 ≡ some number → IsBoard number v.1
+ends seats words slots id number v all last is =
+    let s = last.0 in
+    let h = last.1.0 in
+    let there : seats_in s.views ≡ v.1 = has_all s.views id v last.1.1 (h.0 ∙ sym all) in
+    let words_are : words ≡ h.1.0 ∷ [] = sym last.2 ∙ h.1.1 in
+    let same : h.1.0 ≡ number = some-injective h.1.0 number (ap (λ ws. get_elem? ws 0) (sym words_are) ∙ is) in
+    subst (λ (n : ℕ). IsBoard n v.1) same (subst (IsBoard h.1.0) there h.1.2)

@@ -4,6 +4,7 @@ use mathlib.Core.Option.{some}
 use lib.ListN.{get_elem?}
 use Rattle.board.specs.declared.BoardStep.{BoardStep}
 use Rattle.board.specs.declared.BoardStep.TheVariants.{Raised, Read}
+use Rattle.board.specs.Shares.{View, first_of, seats_in, shares}
 
 -- the number that a step raised or read
 abbrev pub number_of : BoardStep → ℕ
@@ -29,17 +30,21 @@ pub record IsBoard (word : ℕ) (views : List (List BoardStep)) : Type 0 where
 abbrev pub IsKept : ℕ → List BoardStep → Type 0
 IsKept word steps = (views : List (List BoardStep)) × (seat : ℕ) × (get_elem? views seat ≡ some steps) × IsBoard word views
 
--- the board has one word, of which this holds
-abbrev pub Stands : List ℕ → List (List BoardStep) → Type 0
-Stands words views = (word : ℕ) × (words ≡ word ∷ []) × IsBoard word views
+-- the views stand for so many seats, and the board has one word, of which the rule holds
+abbrev pub Stands : ℕ → List ℕ → List (View BoardStep) → Type 0
+Stands seats words views = (shares views ≡ seats) × ((word : ℕ) × (words ≡ word ∷ []) × IsBoard word (seats_in views))
+
+-- a view of one seat has one step more
+abbrev pub Adds : View BoardStep → BoardStep → View BoardStep → Type 0
+Adds before step after = after ≡ (before.0, (first_of before.1 ++ step ∷ []) ∷ [])
 
 -- the number was read, is at least all numbers before it, and stands on the board
-pub record Looks (before : List BoardStep) (found : ℕ) (after : List BoardStep) : Type 0 where
-  pub step : after ≡ before ++ Read found ∷ []
-  pub at_least : All (λ s. number_of s ≤ found) before
-  pub kept : IsKept found after
+pub record Looks (before : View BoardStep) (found : ℕ) (after : View BoardStep) : Type 0 where
+  pub step : Adds before (Read found) after
+  pub at_least : All (λ s. number_of s ≤ found) (first_of before.1)
+  pub kept : IsKept found (first_of after.1)
 
 -- the board was raised to this number, and is kept
-pub record Raises (before : List BoardStep) (lsn : ℕ) (after : List BoardStep) : Type 0 where
-  pub step : after ≡ before ++ Raised lsn ∷ []
-  pub kept : (word : ℕ) × IsKept word after
+pub record Raises (before : View BoardStep) (lsn : ℕ) (after : View BoardStep) : Type 0 where
+  pub step : Adds before (Raised lsn) after
+  pub kept : (word : ℕ) × IsKept word (first_of after.1)

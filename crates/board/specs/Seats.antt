@@ -1,13 +1,19 @@
--- What contracts see of a board and of a seat.
-use Rattle.std.specs.Prelude.{◌≡◌, List, []}
+-- What contracts see of a board and of its seats.
+use Rattle.std.specs.Prelude.{◌≡◌, ℕ, List, []}
 use Rattle.atomic_table.specs.Seated.{TableId}
 use Rattle.board.specs.declared.BoardStep.{BoardStep}
 use Rattle.board.specs.declared.BoardSeat.{BoardSeat}
 use Rattle.board.specs.declared.Board.{Board}
+use Rattle.board.specs.declared.ReturnedSeats.{ReturnedSeats}
+use Rattle.board.specs.Shares.{first_of}
 
 -- the table in which the board's number stands
 abbrev pub board_table : Board → TableId
 board_table board = board.table.shared.table_id
+
+-- how many seats the board has
+abbrev pub seats_of : Board → ℕ
+seats_of board = board.table.shared.key
 
 -- the table of which the seat is
 abbrev pub seat_table : BoardSeat → TableId
@@ -23,4 +29,12 @@ IsSeatOf board seat = IsSeatIn (board_table board) seat
 
 -- what the seat did, oldest first
 abbrev pub steps_of : BoardSeat → List BoardStep
-steps_of seat = seat.seat.me.0
+steps_of seat = first_of seat.seat.me.0.1
+
+-- the seats are of the board in this table
+abbrev pub AreReturnedTo : TableId → ReturnedSeats → Type 0
+AreReturnedTo table seats = (seats.all.table_id ≡ table) × (seats.all.me.1 ≡ [])
+
+-- the steps of each seat that was returned, the last one first
+abbrev pub returned : ReturnedSeats → List (List BoardStep)
+returned seats = seats.all.me.0.1

@@ -1,9 +1,9 @@
 //! A number on a board, which threads raise and read with no lock.
 #![tactic(auto)]
 
-ghost use Rattle.std.specs.Prelude.{◌≡◌};
+ghost use Rattle.std.specs.Prelude.{◌≡◌, length};
 
-use atomic_table::{Play, Seat, Split, Table, TableRule};
+use atomic_table::{Join, Play, Seat, Split, Table, TableRule};
 use std::alloc::{AllocError, Global};
 use std::collections::LinkedList;
 
@@ -16,36 +16,48 @@ pub enum BoardStep {
     Read(u64),
 }
 
-// What a seat did, oldest first. In a clause it is a list, and no value of it is made.
-type Steps = LinkedList<BoardStep>;
+// How many seats aren't dealt yet, and the steps of each seat that is there. In a clause these are a number and a list, and
+// no value of it is made.
+type Seats = (u64, LinkedList<LinkedList<BoardStep>>);
 
-/// The rule of the word and the steps of all seats.
+/// The rule of the word and the steps of all seats. Its key is the number of seats.
 pub struct Durable;
 
-impl TableRule<(), Steps, ()> for Durable {
-    ghost use Rattle.std.specs.Prelude.{[]};
+impl TableRule<(), Seats, u64> for Durable {
+    ghost use Rattle.std.specs.Prelude.{◌-◌, [], ◌∷◌};
     ghost use Rattle.board.specs.Board.{Stands};
 
-    ghost holds = { λ _ s. Stands s.words s.views };
+    ghost holds = { λ seats s. Stands seats s.words s.views };
 
-    ghost first = { λ _. [] };
+    ghost first = { λ seats. (seats - 1, [] ∷ []) };
 }
 
-/// The new seat has made no step.
+/// One seat more is dealt, which has made no step.
 pub struct NewSeat;
 
-impl Split<Steps> for NewSeat {
-    ghost use Rattle.std.specs.Prelude.{[]};
+impl Split<Seats> for NewSeat {
+    ghost use Rattle.std.specs.Prelude.{◌-◌, [], ◌∷◌};
 
-    ghost left = { λ v. v };
+    ghost left = { λ v. (v.0 - 1, v.1) };
 
-    ghost right = { λ _. [] };
+    ghost right = { λ _. (0, [] ∷ []) };
+}
+
+/// A seat is returned.
+pub struct Return;
+
+impl Join<Seats> for Return {
+    ghost use Rattle.std.specs.Prelude.{◌+◌, [], ◌++◌};
+
+    ghost both = { λ v w. (v.0 + w.0, w.1 ++ v.1) };
+
+    ghost spent = { (0, []) };
 }
 
 /// A seat raises the number.
 pub struct Raise;
 
-impl Play<(), Steps> for Raise {
+impl Play<(), Seats> for Raise {
     ghost use Rattle.std.specs.Prelude.{◌≡◌};
     ghost use Rattle.board.specs.Board.{Raises};
 
@@ -55,7 +67,7 @@ impl Play<(), Steps> for Raise {
 /// A seat reads the number.
 pub struct Look;
 
-impl Play<(), Steps> for Look {
+impl Play<(), Seats> for Look {
     ghost use Rattle.std.specs.Prelude.{◌≡◌};
     ghost use Rattle.board.specs.Board.{Looks};
 
@@ -65,38 +77,62 @@ impl Play<(), Steps> for Look {
 /// A number that only rises: the greatest that any seat has raised it to, else 0.
 #[derive(Drop)]
 pub struct Board {
-    table: Table<(), Steps, (), Durable, Global>,
+    table: Table<(), Seats, u64, Durable, Global>,
     ghost one_word: { table.shared.table_id.words ≡ 1 },
+    ghost no_slot: { table.shared.table_id.slots ≡ 0 },
 }
 
 /// Where one holder raises and reads the number. Contracts see all its steps.
 #[derive(Drop)]
 pub struct BoardSeat {
-    seat: Seat<(), Steps>,
+    seat: Seat<(), Seats>,
+    ghost one: { (seat.me.0.0 ≡ 0) × (length seat.me.0.1 ≡ 1) },
+}
+
+/// Seats of one board that were returned. Contracts see the steps of each.
+#[derive(Drop)]
+pub struct ReturnedSeats {
+    all: Seat<(), Seats>,
+    ghost dealt: { all.me.0.0 ≡ 0 },
+}
+
+impl BoardSeat {
+    ghost use Rattle.std.specs.Prelude.{[], ◌∷◌};
+    ghost use Rattle.board.specs.Seats.{returned, steps_of, AreReturnedTo, IsSeatIn};
+
+    /// Returns this seat, the first of its board to be returned.
+    pub fn into_returned(self) -> ReturnedSeats
+        ensures same { IsSeatIn self.seat.table_id self → AreReturnedTo self.seat.table_id result }
+        ensures returned { returned result ≡ steps_of self ∷ [] }
+    {
+        let BoardSeat { seat } = self;
+        ReturnedSeats { all: seat }
+    }
 }
 
 impl Board {
-    ghost use Rattle.std.specs.Prelude.{◌≡◌, ◌<◌, ◌≤◌, ◌++◌, [], ◌∷◌, ℕ, All, IfOk, vec_len};
-    ghost use Rattle.board.specs.Board.{number_of, IsKept};
-    ghost use Rattle.board.specs.Seats.{IsSeatOf, steps_of};
+    ghost use Rattle.std.specs.Prelude.{◌<◌, ◌≤◌, ◌++◌, [], ◌∷◌, ℕ, All, IfOk, map, vec_len};
+    ghost use Rattle.board.specs.Board.{number_of, IsBoard, IsKept};
+    ghost use Rattle.board.specs.Seats.{board_table, returned, seats_of, AreReturnedTo, IsSeatOf, steps_of};
 
-    /// A board that reads 0, and so many seats, which have made no step.
+    /// A board that reads 0, and its seats, so many, which have made no step.
     ///
     /// # Errors
     /// Where a growth was refused.
     pub fn new(alloc: Global, seats: usize) -> Result<(Board, Vec<BoardSeat>), AllocError>
         requires { 0 < seats }
-        ensures count { IfOk result (λ b. vec_len b.1 ≡ seats) }
+        ensures count { IfOk result (λ b. (vec_len b.1 ≡ seats) × (seats_of b.0 ≡ seats)) }
         ensures seats { IfOk result (λ b. All (λ s. IsSeatOf b.0 s) b.1.items) }
         ensures fresh { IfOk result (λ b. All (λ s. steps_of s ≡ []) b.1.items) }
     {
         let mut made = Vec::with_capacity(alloc, seats)?;
-        let (table, mut first) = Table::of_words(alloc, &[0], &())?;
+        let count = seats as u64;
+        let (table, mut last) = Table::of_words(alloc, &[0], &count)?;
         for _ in 1..seats {
-            let seat = table.shared.split_seat::<NewSeat>(&mut first);
+            let seat = table.shared.split_seat::<NewSeat>(&mut last);
             made.push(BoardSeat { seat })?;
         }
-        made.push(BoardSeat { seat: first })?;
+        made.push(BoardSeat { seat: last })?;
         Ok((Board { table }, made))
     }
 
@@ -121,5 +157,47 @@ impl Board {
         ensures kept { IsKept result (steps_of seat.new) }
     {
         self.table.shared.load::<Look>(&mut seat.seat, 0)
+    }
+
+    /// Takes one seat more back. Takes no memory.
+    pub fn take_back(&self, seats: &mut ReturnedSeats, seat: BoardSeat)
+        requires { AreReturnedTo (board_table self.now) seats.old × IsSeatOf self.now seat }
+        ensures same { AreReturnedTo (board_table self.now) seats.new }
+        ensures returned { returned seats.new ≡ steps_of seat ∷ returned seats.old }
+    {
+        let BoardSeat { seat } = seat;
+        self.table.shared.join_seat::<Return>(&mut seats.all, seat);
+    }
+
+    /// Ends a board whose seats were all returned, and returns its number. Of the steps of exactly these seats the number is
+    /// the greatest that was raised, else 0, and each number that one of them read is 0 or was raised by one of them. What
+    /// one seat read never fell. Takes no memory.
+    pub fn end(self, seats: ReturnedSeats) -> u64
+        requires seats { AreReturnedTo (board_table self) seats }
+        requires all { length (returned seats) ≡ seats_of self }
+        ensures { IsBoard result (returned seats) }
+    {
+        let ReturnedSeats { all } = seats;
+        let closed = self.table.close_with(all);
+        let number = closed.word(0);
+        closed.free();
+        number
+    }
+
+    /// Takes all seats back, ends the board, and returns its number: by the steps of exactly these seats, as [`Board::end`]
+    /// says. Takes no memory.
+    pub fn close(self, mut seats: Vec<BoardSeat>) -> u64
+        requires of { All (λ s. IsSeatOf self s) seats.items }
+        requires all { (vec_len seats ≡ seats_of self) × (0 < vec_len seats) }
+        ensures { IsBoard result (map steps_of seats.items) }
+    {
+        let Some(last) = seats.pop() else {
+            unreachable!()
+        };
+        let mut returned = last.into_returned();
+        while let Some(seat) = seats.pop() {
+            self.take_back(&mut returned, seat);
+        }
+        self.end(returned)
     }
 }

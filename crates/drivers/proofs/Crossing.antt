@@ -27,6 +27,7 @@ use Rattle.world.specs.contracts.client.Client as Client
 use denote.Ref.{NamedLft}
 use Rattle.std.specs.declared.sync.ledger.Ledger as ledger
 use Rattle.board.proofs.Board.TheSendSync as board
+use Rattle.mailbox.proofs.per_node.Mailboxes.TheSendSync as mailboxes
 use Rattle.journal.specs.declared.row.Site as site
 use Rattle.journal.proofs.mark.Mark.TheSendSync as mark
 use Rattle.journal.proofs.log.Log.TheSendSync as log
@@ -34,6 +35,7 @@ use Rattle.fleet_actors.specs.contracts.authority.AuthorityActor as AuthorityAct
 use Rattle.fleet_actors.specs.contracts.client.ClientActor as ClientActor
 use Rattle.fleet_actors.specs.contracts.node.NodeActor as NodeActor
 use Rattle.node_fleet.specs.contracts.fleet.Fleet as Fleet
+use Rattle.node_fleet.specs.declared.site.FleetSite as fleet_site
 
 ruleset parts = (sendable, crosses, record_type.the_send, record_type.the_field_send, record_type.the_sync, shared_record_type.the_send, shared_record_type.the_field_send, shared_record_type.the_sync, lineage_type.the_send, lineage_type.the_field_send, records.the_send, records.the_field_send, held.the_send, held.the_field_send, assembly.the_send, assembly.the_field_send, hydration_type.the_send, hydration_type.the_field_send, copied.the_send, copied.the_field_send, lasts.the_send, lasts.the_field_send, covered.the_send, covered.the_field_send, standing.the_send, standing.the_field_send, found.the_send, found.the_field_send)
 
@@ -90,17 +92,23 @@ module _ (T : RattleType) (g : site.Ghosts T.Denot) (l : ledger.Ghosts T.Denot) 
   node_actor = recorded_send (NodeActor.the_field T g l).row _ _ (NodeActor.the_type T g l).to_one (struct_send (shape (NodeActor.the_type T g l)) (mark.the_field_send T g l, (segment_field, (search sendable, (search sendable, tt)))))
 
   -- threads may share a fleet
-  pub fleet_sync : (a : NamedLft) → IsSync (Fleet.the_row a T g l)
-  fleet_sync a = recorded_sync (Fleet.the_field a T g l).row _ _ (Fleet.the_type a T g l).to_one (
-      struct_sync (shape (Fleet.the_type a T g l)) (
+  pub fleet_sync : (f : fleet_site.Ghosts T.Denot) (a : NamedLft) → IsSync (Fleet.the_row a T f g l)
+  fleet_sync f a = recorded_sync (Fleet.the_field a T f g l).row _ _ (Fleet.the_type a T f g l).to_one (
+      struct_sync (shape (Fleet.the_type a T f g l)) (
         search (sendable, crosses) depth 20,
         (
           search (sendable, crosses, plan_send, plan_sync) depth 20,
           (
             board.the_field_sync,
             (
-              search (crosses, authority_actor) depth 20,
-              (search (sendable, crosses, client_actor) depth 20, (search (sendable, crosses, node_actor) depth 20, (search (crosses, log.the_send a T g l) depth 20, (search sendable, tt)))),
+              mailboxes.the_field_sync,
+              (
+                search (sendable, crosses) depth 20,
+                (
+                  search (crosses, authority_actor) depth 20,
+                  (search (sendable, crosses, client_actor) depth 20, (search (sendable, crosses, node_actor) depth 20, (search (crosses, log.the_send a T g l) depth 20, (search sendable, tt)))),
+                ),
+              ),
             ),
           ),
         ),

@@ -1,8 +1,7 @@
 //! Events, as calls of the fleet.
 
 use fleet_actors::{ClientDeed, NodeDeed};
-use journal::{Pass, Receipt, Site};
-use node_fleet::Fleet;
+use node_fleet::{Fleet, FleetSite, Pass, Receipt};
 use std::alloc::AllocError;
 use std::sync::Wait;
 use volume_model::Fault;
@@ -66,7 +65,7 @@ fn client_deed(event: &Event) -> Result<Option<(u32, ClientDeed)>, AllocError> {
 ///
 /// # Errors
 /// The refusal of the actor, `NoMemory` where a growth was refused, and `NoMessage` where the event is a delivery.
-pub fn call<'a, L: Site, R: Wait>(
+pub fn call<'a, L: FleetSite, R: Wait>(
     rt: &R,
     fleet: &Fleet<'a, L>,
     pass: &mut Pass<'a, L>,

@@ -1,24 +1,20 @@
 //! A script's run on threads, from the fleet's opening to its end.
 
-ghost use Rattle.std.specs.Prelude.{◌≡◌, ◌≤◌, ◌<◌, ◌+◌, All, IfErr, IfOk, vec_len};
+ghost use Rattle.std.specs.Prelude.{◌≡◌, ◌≤◌, ◌<◌, ◌+◌, IfErr, IfOk, vec_len};
 ghost use Rattle.std.specs.Arc.{arc_value};
 ghost use Rattle.volume_model.specs.declared.fault.Fault.TheVariants.{NoMemory};
 ghost use Rattle.plan.specs.CheckedModel.{checked_model};
 ghost use Rattle.journal.specs.Tokens.{ids_of};
 ghost use Rattle.node_fleet.specs.Bases.{passes_of, IsBaseOf};
-ghost use Rattle.mailboxes.specs.Mails.{AreSeatsOf, HasNodes};
 ghost use Rattle.drivers.specs.Driven.{IsDriven};
 
-use crate::caller::{Caller, callers};
 use crate::desk::Desk;
 use crate::hand::{Hand, Part};
 use crate::nodes::{Node, receivers};
 use crate::run::Run;
 use crate::threads::{Crew, run_all};
 use crate::turns::{Turn, turns};
-use journal::{Pass, Row, Site};
-use mailboxes::{MailSeats, Mailboxes};
-use node_fleet::{Base, Fleet};
+use node_fleet::{Base, Fleet, FleetSite, Pass, Row};
 use plan::CheckedPlan;
 use script::Script;
 use std::alloc::{AllocError, Global};
@@ -63,25 +59,20 @@ fn driver_parts(alloc: Global, workers: u8) -> Result<Vec<Part>, AllocError> {
     Ok(parts)
 }
 
-/// Gives each part a pass and a caller.
-fn hands<'f, 'a, L: Site>(
+/// Gives each part a pass.
+fn hands<'f, 'a, L: FleetSite>(
     alloc: Global,
     run: &Run<'f, 'a, L>,
     parts: Vec<Part>,
     passes: &mut Vec<Pass<'a, L>>,
-    callers: &mut Vec<Caller<'f>>,
 ) -> Result<Vec<Hand<'f, 'a, L>>, AllocError> {
     let mut hands = Vec::with_capacity(alloc, parts.len())?;
     for part in parts {
-        let (Some(pass), Some(caller)) = (passes.pop(), callers.pop()) else {
+        let Some(pass) = passes.pop() else {
             return Err(AllocError);
         };
-        hands.push(Hand {
-            run: run.again(),
-            part,
-            pass,
-            caller,
-        })?;
+        let run = run.again();
+        hands.push(Hand { run, part, pass })?;
     }
     Ok(hands)
 }
@@ -91,50 +82,39 @@ fn hands<'f, 'a, L: Site>(
 struct Stage {
     turns: Vec<Turn>,
     desk: Desk,
-    mail: Mailboxes,
 }
 
-/// Runs so many drivers and these nodes on threads of their own, and takes their passes back. There are seats for one more
-/// than there are threads.
-fn ran<'f, 'a, L: Site + Send + Sync, R: Threads + Wait + Sync>(
+/// Runs so many drivers and these nodes on threads of their own, and takes their passes back.
+fn ran<'f, 'a, L: FleetSite + Send + Sync, R: Threads + Wait + Sync>(
     rt: &'f R,
     alloc: Global,
     fleet: &'f Fleet<'a, L>,
     stage: &'f Stage,
-    plan: &'f CheckedPlan,
     script: &'f Script,
     workers: u8,
     nodes: &'f [Node],
     mut passes: Vec<Pass<'a, L>>,
-    seats: Vec<MailSeats>,
-) -> Result<Vec<Pass<'a, L>>, AllocError>
-    requires nodes { HasNodes (checked_model plan.now) stage.now.mail }
-    requires seats { All (λ s. AreSeatsOf stage.now.mail s) seats.items }
-{
+) -> Result<Vec<Pass<'a, L>>, AllocError> {
     let run = Run {
         fleet,
         orders: &script.orders,
         turns: &stage.turns,
         desk: &stage.desk,
     };
-    let mut callers = callers(alloc, plan, &stage.mail, seats)?;
     let served = node_parts(alloc, nodes)?;
     let driven = driver_parts(alloc, workers)?;
-    let served = hands(alloc, &run, served, &mut passes, &mut callers)?;
-    let drivers = hands(alloc, &run, driven, &mut passes, &mut callers)?;
-    let Some(closer) = callers.pop() else {
-        return Err(AllocError);
-    };
+    let served = hands(alloc, &run, served, &mut passes)?;
+    let drivers = hands(alloc, &run, driven, &mut passes)?;
     let crew = Crew {
         nodes: served,
         drivers,
-        closer,
+        run,
     };
     run_all(rt, alloc, &stage.desk.go, crew, nodes)
 }
 
 /// What a closed fleet leaves of a run in which so many orders were made and refused.
-fn ended<'a, L: Site>(
+fn ended<'a, L: FleetSite>(
     alloc: Global,
     fleet: Fleet<'a, L>,
     passes: Vec<Pass<'a, L>>,
@@ -161,13 +141,11 @@ fn ended<'a, L: Site>(
 }
 
 /// Runs a script on a fleet by these passes, one for each driver and each of these nodes, and closes it.
-fn drive_over<'a, L: Site + Send + Sync, R: Threads + Wait + Sync>(
+fn drive_over<'a, L: FleetSite + Send + Sync, R: Threads + Wait + Sync>(
     rt: &R,
     alloc: Global,
     fleet: Fleet<'a, L>,
     passes: Vec<Pass<'a, L>>,
-    mail: Mailboxes,
-    seats: Vec<MailSeats>,
     plan: &Arc<CheckedPlan>,
     script: &Script,
     workers: u8,
@@ -176,20 +154,15 @@ fn drive_over<'a, L: Site + Send + Sync, R: Threads + Wait + Sync>(
     requires plan { checked_model (arc_value plan.now) ≡ L.plan }
     requires passes { (vec_len passes ≡ L.parts) × (0 < vec_len passes) }
     requires workers { 1 ≤ workers }
-    requires mail { HasNodes (checked_model (arc_value plan.now)) mail }
-    requires seats { All (λ s. AreSeatsOf mail s) seats.items }
     ensures driven { IfOk result (IsDriven (checked_model (arc_value plan.now)) (vec_len script.now.orders)) }
     ensures memory { IfErr result (λ fault. fault ≡ NoMemory) }
 {
     let stage = Stage {
         turns: turns(alloc, script, workers)?,
         desk: Desk::new(alloc, script.orders.len())?,
-        mail,
     };
     let count = passes.len();
-    let passes = ran(
-        rt, alloc, &fleet, &stage, plan, script, workers, nodes, passes, seats,
-    )?;
+    let passes = ran(rt, alloc, &fleet, &stage, script, workers, nodes, passes)?;
     if passes.len() != count {
         return Err(Fault::NoMemory);
     }
@@ -198,7 +171,7 @@ fn drive_over<'a, L: Site + Send + Sync, R: Threads + Wait + Sync>(
 }
 
 /// Runs a script on a new fleet, with a thread for each of these nodes.
-fn drive_fleet<L: Site + Send + Sync, R: Threads + Wait + Sync>(
+fn drive_fleet<L: FleetSite + Send + Sync, R: Threads + Wait + Sync>(
     rt: &R,
     alloc: Global,
     row: &mut Row,
@@ -212,17 +185,13 @@ fn drive_fleet<L: Site + Send + Sync, R: Threads + Wait + Sync>(
     requires plan { checked_model (arc_value plan.now) ≡ L.plan }
     requires cells { ids_of row.old ≡ L.cells }
     requires slots { L.slots ≡ 64 }
-    requires base { IsBaseOf L.board L.history L.name L.parts base }
+    requires base { IsBaseOf L.plan L.board L.history L.mail L.name L.parts base }
     requires passes { 0 < passes_of base }
     ensures driven { IfOk result (IsDriven (checked_model (arc_value plan.now)) (vec_len script.now.orders)) }
     ensures memory { IfErr result (λ fault. fault ≡ NoMemory) }
 {
-    let callers = nodes.len() + usize::from(workers) + 1;
-    let (mail, seats) = Mailboxes::new(alloc, plan, callers)?;
     let (fleet, passes) = Fleet::<L>::new(alloc, row, base, plan.clone()?, SLOTS)?;
-    drive_over(
-        rt, alloc, fleet, passes, mail, seats, plan, script, workers, nodes,
-    )
+    drive_over(rt, alloc, fleet, passes, plan, script, workers, nodes)
 }
 
 /// Runs a script over a checked plan on a fleet with 64 client slots: so many drivers take the lines in turn, a thread for
@@ -244,7 +213,7 @@ pub fn drive<H: Threads + Wait + Sync>(
 {
     let nodes = receivers(alloc, plan, script.orders.as_slice())?;
     let mut row = Row::new(alloc, script.orders.len().max(1))?;
-    let base = Base::new(alloc, usize::from(workers) + nodes.len())?;
+    let base = Base::new(alloc, plan, usize::from(workers) + nodes.len())?;
     drive_fleet::<Brand, H>(
         rt,
         alloc,

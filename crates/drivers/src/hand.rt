@@ -1,9 +1,8 @@
 //! What one thread of a run does.
 
-use crate::caller::Caller;
 use crate::nodes::Node;
 use crate::run::Run;
-use journal::{Pass, Site};
+use node_fleet::{FleetSite, Pass};
 use std::sync::Wait;
 
 /// What a thread is there for.
@@ -15,25 +14,19 @@ pub enum Part {
     Node(Node),
 }
 
-/// A thread's part of a run, with its pass and its seats.
+/// A thread's part of a run, with its pass.
 #[derive(Drop)]
-pub struct Hand<'f, 'a, L: Site> {
+pub struct Hand<'f, 'a, L: FleetSite> {
     pub run: Run<'f, 'a, L>,
     pub part: Part,
     pub pass: Pass<'a, L>,
-    pub caller: Caller<'f>,
 }
 
-impl<'f, 'a, L: Site> Hand<'f, 'a, L> {
+impl<'f, 'a, L: FleetSite> Hand<'f, 'a, L> {
     /// Follows the orders whose turns are this driver's. Before each of them it waits for all that stand before the last
     /// `wait` before it.
     fn drive<R: Wait>(&mut self, rt: &R, number: u8) {
-        let Hand {
-            run,
-            pass,
-            caller,
-            ..
-        } = self;
+        let Hand { run, pass, .. } = self;
         let mut waited = 0;
         for (index, turn) in run.turns.iter().enumerate() {
             if turn.driver == number {
@@ -41,21 +34,16 @@ impl<'f, 'a, L: Site> Hand<'f, 'a, L> {
                     let _ = run.desk.told(rt, earlier);
                 }
                 waited = waited.max(turn.behind);
-                run.follow(rt, pass, caller, index);
+                run.follow(rt, pass, index);
             }
         }
     }
 
     /// Delivers what the letters name that a node is posted, up to the closing letter.
     fn serve<R: Wait>(&mut self, rt: &R, node: Node) {
-        let Hand {
-            run,
-            pass,
-            caller,
-            ..
-        } = self;
+        let Hand { run, pass, .. } = self;
         for _ in rt.forever() {
-            let Some(index) = caller.collect(rt, node) else {
+            let Some(index) = run.collect(rt, pass, node) else {
                 return;
             };
             run.deliver(rt, pass, index, node);

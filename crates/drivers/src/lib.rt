@@ -1,7 +1,6 @@
 //! A script, run on threads: drivers take its lines in turn, and each node takes its messages on a thread of its own.
 #![tactic(auto)]
 
-mod caller;
 mod calls;
 mod desk;
 mod driving;

@@ -1,13 +1,11 @@
 //! What all threads of a run share.
 
-use crate::caller::Caller;
 use crate::calls::call;
 use crate::desk::Desk;
 use crate::nodes::{Node, receiver};
 use crate::turns::Turn;
-use fleet_actors::{ClientDeed, StepGate};
-use journal::{Pass, Site};
-use node_fleet::Fleet;
+use fleet_actors::ClientDeed;
+use node_fleet::{Fleet, FleetSite, Pass, StepGate};
 use std::sync::Wait;
 use tallies::Told;
 use wire::Messages;
@@ -30,7 +28,7 @@ fn message_of(event: &Event) -> u64 {
 
 /// What all threads of a run share.
 #[derive(Drop)]
-pub struct Run<'f, 'a, L: Site> {
+pub struct Run<'f, 'a, L: FleetSite> {
     pub fleet: &'f Fleet<'a, L>,
     pub orders: &'f Vec<Order>,
     /// When each order is followed, and by whom.
@@ -38,7 +36,7 @@ pub struct Run<'f, 'a, L: Site> {
     pub desk: &'f Desk,
 }
 
-impl<'f, 'a, L: Site> Run<'f, 'a, L> {
+impl<'f, 'a, L: FleetSite> Run<'f, 'a, L> {
     /// The same once more.
     pub fn again(&self) -> Run<'f, 'a, L> {
         Run {
@@ -73,35 +71,44 @@ impl<'f, 'a, L: Site> Run<'f, 'a, L> {
 
     /// Has a node's thread deliver the message of the order with an index, and waits until it has. Where the plan names no
     /// such node there is no thread, and the fleet refuses it.
-    fn send<R: Wait>(
-        &self,
-        rt: &R,
-        pass: &mut Pass<'a, L>,
-        caller: &mut Caller<'f>,
-        index: usize,
-        node: Node,
-    ) {
-        if caller.post(rt, node, index) {
+    fn send<R: Wait>(&self, rt: &R, pass: &mut Pass<'a, L>, index: usize, node: Node) {
+        let Node { group, member } = node;
+        if self.fleet.names(group, member) {
+            self.fleet.post(rt, pass, group, member, index as u64);
             let _ = self.desk.told(rt, index);
         } else {
             self.deliver(rt, pass, index, node);
         }
     }
 
+    /// The index of the order that a node was posted longest ago, for which it waits. None at the closing letter, and where
+    /// the plan names no such node.
+    pub fn collect<R: Wait>(&self, rt: &R, pass: &mut Pass<'a, L>, node: Node) -> Option<usize> {
+        let Node { group, member } = node;
+        if !self.fleet.names(group, member) {
+            return None;
+        }
+        let letter = self.fleet.collect(rt, pass, group, member)?;
+        Some(letter as usize)
+    }
+
+    /// Posts the closing letter to each of these nodes.
+    pub fn close_all<R: Wait>(&self, rt: &R, pass: &mut Pass<'a, L>, nodes: &[Node]) {
+        for node in nodes {
+            if self.fleet.names(node.group, node.member) {
+                self.fleet.close_mailbox(rt, pass, node.group, node.member);
+            }
+        }
+    }
+
     /// Follows the order with an index, and tells what it came to. Waits first for the order whose message it names.
-    pub fn follow<R: Wait>(
-        &self,
-        rt: &R,
-        pass: &mut Pass<'a, L>,
-        caller: &mut Caller<'f>,
-        index: usize,
-    ) {
+    pub fn follow<R: Wait>(&self, rt: &R, pass: &mut Pass<'a, L>, index: usize) {
         let Some(order) = self.orders.get(index) else {
             return;
         };
         let message = self.message(rt, index, order);
         if let Some(node) = receiver(order) {
-            self.send(rt, pass, caller, index, node);
+            self.send(rt, pass, index, node);
             return;
         }
         let call = match order {

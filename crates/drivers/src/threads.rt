@@ -1,9 +1,9 @@
 //! The threads of a run, from their start to their end.
 
-use crate::caller::Caller;
 use crate::hand::Hand;
 use crate::nodes::Node;
-use journal::{Pass, Site};
+use crate::run::Run;
+use node_fleet::{FleetSite, Pass};
 use std::alloc::{AllocError, Global};
 use std::sync::{OnceLock, Wait};
 use std::thread;
@@ -11,17 +11,17 @@ use std::thread::{JoinHandle, Scope, Threads};
 
 /// The threads of a run before their start.
 #[derive(Drop)]
-pub struct Crew<'f, 'a, L: Site> {
+pub struct Crew<'f, 'a, L: FleetSite> {
     /// Those of the nodes.
     pub nodes: Vec<Hand<'f, 'a, L>>,
     /// Those of the drivers.
     pub drivers: Vec<Hand<'f, 'a, L>>,
-    /// Who closes the nodes' mailboxes.
-    pub closer: Caller<'f>,
+    /// What they share.
+    pub run: Run<'f, 'a, L>,
 }
 
 /// Starts a thread for each of these. They wait for the word to go.
-fn start<'s, 'f: 's, 'a: 's, E, L: Site + Send + Sync + 's, R: Wait + Sync>(
+fn start<'s, 'f: 's, 'a: 's, E, L: FleetSite + Send + Sync + 's, R: Wait + Sync>(
     scope: &Scope<'s, E>,
     rt: &'f R,
     alloc: Global,
@@ -35,7 +35,7 @@ fn start<'s, 'f: 's, 'a: 's, E, L: Site + Send + Sync + 's, R: Wait + Sync>(
 }
 
 /// Waits for these threads, and adds their passes. False where there was no room for one.
-fn join_all<'a, L: Site, R: Threads + Wait>(
+fn join_all<'a, L: FleetSite, R: Threads + Wait>(
     rt: &R,
     threads: Vec<JoinHandle<Pass<'a, L>>>,
     passes: &mut Vec<Pass<'a, L>>,
@@ -48,17 +48,9 @@ fn join_all<'a, L: Site, R: Threads + Wait>(
     all
 }
 
-/// Posts the closing letter to each of these nodes.
-fn close_all<R: Wait>(rt: &R, closer: Caller<'_>, nodes: &[Node]) {
-    let mut closer = closer;
-    for node in nodes {
-        closer.close(rt, *node);
-    }
-}
-
-/// Starts all threads in a scope, lets them go, closes the mailboxes of these nodes once the drivers have ended, and takes
-/// the passes back. Where one couldn't be started, none goes.
-fn run_in<'s, 'f: 's, 'a: 's, E, L: Site + Send + Sync + 's, R: Threads + Wait + Sync>(
+/// Starts all threads in a scope, lets them go, closes the mailboxes of these nodes once the drivers have ended, by the
+/// pass of one of them, and takes the passes back. Where one couldn't be started, none goes.
+fn run_in<'s, 'f: 's, 'a: 's, E, L: FleetSite + Send + Sync + 's, R: Threads + Wait + Sync>(
     scope: &Scope<'s, E>,
     rt: &'f R,
     alloc: Global,
@@ -69,7 +61,7 @@ fn run_in<'s, 'f: 's, 'a: 's, E, L: Site + Send + Sync + 's, R: Threads + Wait +
     let Crew {
         nodes: served,
         drivers,
-        closer,
+        run,
     } = crew;
     let mut passes = Vec::with_capacity(alloc, served.len() + drivers.len())?;
     let served = start(scope, rt, alloc, served);
@@ -77,7 +69,9 @@ fn run_in<'s, 'f: 's, 'a: 's, E, L: Site + Send + Sync + 's, R: Threads + Wait +
     let _ = go.set(rt, served.is_ok() && drivers.is_ok());
     let (served, drivers) = (served?, drivers?);
     let driven = join_all(rt, drivers, &mut passes);
-    close_all(rt, closer, nodes);
+    if let Some(pass) = passes.as_mut_slice().first_mut() {
+        run.close_all(rt, pass, nodes);
+    }
     if join_all(rt, served, &mut passes) && driven {
         Ok(passes)
     } else {
@@ -89,7 +83,7 @@ fn run_in<'s, 'f: 's, 'a: 's, E, L: Site + Send + Sync + 's, R: Threads + Wait +
 ///
 /// # Errors
 /// Where a growth or a thread was refused; then no thread has made a step.
-pub fn run_all<'f, 'a, L: Site + Send + Sync, R: Threads + Wait + Sync>(
+pub fn run_all<'f, 'a, L: FleetSite + Send + Sync, R: Threads + Wait + Sync>(
     rt: &'f R,
     alloc: Global,
     go: &'f OnceLock<bool>,

@@ -20,11 +20,12 @@ use crate::mark::Mark;
 use crate::pass::{Held, Pass};
 use crate::row::{Row, Site};
 use crate::who::Who;
+use board::BoardSeat;
 use std::alloc::{AllocError, Global};
 use std::marker::PhantomData;
 use std::mem;
 use std::sync::Wait;
-use std::sync::ledger::Book;
+use std::sync::ledger::{Book, Share};
 use volume_model::Fault;
 use wire::Messages;
 use world::Event;
@@ -108,7 +109,7 @@ fn probe(low: usize, high: usize, step: usize, ahead: bool) -> usize
 }
 
 impl<'a, L: Site> Log<'a, L> {
-    ghost use Rattle.std.specs.Prelude.{◌++◌, [], ◌∷◌, ◌^◌, slice_get, None, All, IsSome, IfSome, IfNone, IfOk, MatchBool, sum_by, take};
+    ghost use Rattle.std.specs.Prelude.{◌++◌, [], ◌∷◌, ◌^◌, slice_get, None, All, IsSome, IfSome, IfNone, IfOk, MatchBool, take};
     ghost use Rattle.volume_model.specs.Lists.{numbered};
     ghost use Rattle.volume_model.specs.World.{after, opening, step};
     ghost use Rattle.volume_model.specs.Actor.{actor_of, Agree};
@@ -119,6 +120,8 @@ impl<'a, L: Site> Log<'a, L> {
     ghost use Rattle.wire.specs.Message.{messages_of};
     ghost use Rattle.world.specs.Events.{events_of};
     ghost use Rattle.world.specs.Slots.{members};
+    ghost use Rattle.board.specs.Seats as board;
+    ghost use Rattle.board.specs.Seats.{IsSeatIn};
     ghost use Rattle.journal.specs.Actors.{seen_who};
     ghost use Rattle.journal.specs.Entries.{entry_of};
     ghost use Rattle.wire.specs.Listed.{listed};
@@ -476,32 +479,32 @@ impl<'a, L: Site> Log<'a, L> {
         ensures refused { All (IsRefused L.plan L.slots (length L.cells) (journal_of self.old)) (notes_of pass.old) }
         ensures count { length (steps_of pass.old) ≡ pass.new.share.amount }
         ensures part { pass.new.share.parts ≡ 1 }
+        ensures seat { seat_of pass.new ≡ seat_of pass.old }
     {
         self.settle(pass);
     }
 
-    /// Shows that each step and each note of each pass is told by the journal, which has no other steps.
-    pub fn audit(&mut self, mut passes: Vec<Pass<'a, L>>)
-        requires { (vec_len passes ≡ L.parts) × (0 < vec_len passes) }
+    /// Takes a pass back: the journal has each of its steps and tells each of its notes. Leaves its part of the ledger and its
+    /// seat on the board. Takes no memory.
+    pub fn take_back(&mut self, mut pass: Pass<'a, L>) -> (Share<L>, BoardSeat)
         ensures log { self.new.entries ≡ self.old.entries }
-        ensures stands { All (λ p. All (Stands L.plan (journal_of self.old)) (steps_of p)) passes.entry.items }
-        ensures refused { All (λ p. All (IsRefused L.plan L.slots (length L.cells) (journal_of self.old)) (notes_of p)) passes.entry.items }
-        ensures count { sum_by (λ p. length (steps_of p)) passes.entry.items ≡ length (journal_of self.old) }
+        ensures stands { All (Stands L.plan (journal_of self.old)) (steps_of pass.entry) }
+        ensures refused { All (IsRefused L.plan L.slots (length L.cells) (journal_of self.old)) (notes_of pass.entry) }
+        ensures part { (result.0.parts ≡ 1) × (result.0.amount ≡ length (steps_of pass.entry)) }
+        ensures seat { IsSeatIn L.board result.1 × (board.steps_of result.1 ≡ seat_of pass.entry) }
     {
-        let Some(mut last) = passes.pop() else {
-            unreachable!()
-        };
-        self.check(&mut last);
-        let Pass {
-            share: mut whole,
-            ..
-        } = last;
-        while let Some(mut pass) = passes.pop() {
-            self.check(&mut pass);
-            let Pass { share, .. } = pass;
-            whole.merge(share);
-        }
-        self.book.audit(&mut whole);
+        self.check(&mut pass);
+        let Pass { share, seat, .. } = pass;
+        (share, seat)
+    }
+
+    /// Shows that the journal has as many steps as all passes, which were taken back.
+    pub fn audit(&mut self, whole: &mut Share<L>)
+        requires { whole.old.parts ≡ L.parts }
+        ensures log { self.new.entries ≡ self.old.entries }
+        ensures count { whole.old.amount ≡ length (journal_of self.old) }
+    {
+        self.book.audit(whole);
     }
 
     /// Shows that the journal is a run of the model, and that a message that a step names was made before it.

@@ -1,31 +1,18 @@
 -- Each step of a seat keeps the rule of the places.
-use Rattle.std.proofs.Common.{◌≡◌, ◌⊎◌, ℕ, ◌<◌, List, [], ◌∷◌, ◌++◌, length, set, Option, refl, sym, ap, ◌∙◌, subst, ⊎_elim, append_assoc, arith}
-use mathlib.Core.Option.{some, some-ne-none}
+use Rattle.std.proofs.Common.{◌≡◌, ◌⊎◌, ℕ, zero, suc, ◌+◌, ◌-◌, ◌<◌, List, [], ◌∷◌, ◌++◌, length, set, Option, refl, sym, ap, ◌∙◌, subst, ⊎_elim, append_assoc, arith}
+use Rattle.std.proofs.lemmas.List.{append-nil}
+use mathlib.Core.Option.{some, some-ne-none, some-injective}
 use lib.ListN.{get_elem?}
-use Rattle.atomic_table.proofs.Lists.{at_longer, at_last, set_again}
-use Rattle.crossbeam_channel.specs.Fifo.{Pushes, Pops, Forks, Learns}
+use Rattle.atomic_table.proofs.Lists.{at_longer, at_last}
+use Rattle.crossbeam_channel.specs.Fifo.{Pushes, Pops, Forks, Learns, Merges}
+use Rattle.board.specs.Shares.{first_of, seats_in, share_of, shares}
+use Rattle.board.proofs.Shares.{Rearranged, at_seat, dealt_seats, dealt_shares, has_all, joined_seats, joined_shares, seats_behind, seats_stay, shares_behind, shares_set}
+use Rattle.mailbox.proofs.Knowing.{in_at, in_set, in_both, know_set, know_push, alone_for_all}
 use Rattle.mailbox.specs.declared.MailStep.{MailStep}
 use Rattle.mailbox.specs.declared.MailStep.TheVariants.{Posted, Collected}
 use Rattle.mailbox.specs.Views.{At}
-use Rattle.mailbox.specs.Mail.{Keeps, IsKept, IsMailbox, AddsPosted, AddsCollected}
+use Rattle.mailbox.specs.Mail.{Keeps, Knows, KnowAll, AreKept, IsMailbox, Posts, Collects, views_in}
 use Rattle.mailbox.proofs.Steps.{at_push, in_range, at_new, at_still, at_after, is_before, at_more, at_fewer}
-
--- nobody has made a step
-nothing : (p i : ℕ) (y : MailStep) → At ([] ∷ []) p i y → ⊥
-nothing p i y a = let none = at_more [] p i y a in some-ne-none none.0 (sym none.1)
-
-pub begins : IsMailbox [] ([] ∷ [])
-begins = (
-  [],
-  record {
-    posted = λ p i k x a. absurd (nothing p i (Posted k x) a);
-    posted_once = λ p i q j k x y a b. absurd (nothing p i (Posted k x) a);
-    each_posted = λ k x e. absurd (some-ne-none x (sym e));
-    collected = λ p i k x a. absurd (nothing p i (Collected k x) a);
-    collected_once = λ p i q j k x y a b. absurd (nothing p i (Collected k x) a);
-    in_order = λ p i j k l x y lt a b. absurd (nothing p i (Collected k x) a);
-  },
-)
 
 -- a letter is posted
 module _ (got items : List (Option ℕ)) (views : List (List MailStep)) (id : ℕ) (v : List MailStep) (x : Option ℕ) (kept : Keeps got items views) (here : get_elem? views id ≡ some v) where
@@ -93,9 +80,6 @@ module _ (got items : List (Option ℕ)) (views : List (List MailStep)) (id : �
     in_order = λ p i j k l y z lt a b. kept.in_order p i j k l y z lt (was_collected p i k y a) (was_collected p j l z b);
   }
 
-pub posts : (n id : ℕ) (v : List MailStep) (x : Option ℕ) → Pushes IsMailbox n id v x (AddsPosted v x)
-posts n id v x items views room h here = (v ++ Posted (length (h.0 ++ items)) x ∷ [], (h.0, after_post h.0 items views id v x h.1 here), (length (h.0 ++ items), refl))
-
 -- the oldest letter is collected
 module _ (got items : List (Option ℕ)) (views : List (List MailStep)) (id : ℕ) (v : List MailStep) (x : Option ℕ) (kept : Keeps got (x ∷ items) views) (here : get_elem? views id ≡ some v) where
   abbrev taken : MailStep
@@ -161,31 +145,173 @@ module _ (got items : List (Option ℕ)) (views : List (List MailStep)) (id : �
     in_order = is_in_order;
   }
 
-pub collects : (id : ℕ) (v : List MailStep) → Pops IsMailbox id v (AddsCollected v)
-collects id v x items views h here = (
-  v ++ Collected (length h.0) x ∷ [],
-  (h.0 ++ x ∷ [], after_collect h.0 items views id v x h.1 here),
-  (length h.0, refl, λ i k y e. in_range h.0 k y (h.1.collected id i k y (v, here, e))),
-)
+-- a list of one seat
+one_seat : (l : List (List MailStep)) → length l ≡ 1 → l ≡ first_of l ∷ []
+one_seat [] e = absurd (omega arith)
+one_seat (x ∷ []) e = refl
+one_seat (x ∷ y ∷ l) e = absurd (omega arith)
 
--- a new seat, which has made no step
-pub enters : (id : ℕ) (v : List MailStep) → Forks IsMailbox id v v []
-enters id v items views h here =
-    subst (λ (l : List (List MailStep)). IsMailbox items (l ++ [] ∷ [])) (sym (set_again views id v here)) (
-      h.0,
-      record {
-        posted = λ p i k y a. h.1.posted p i k y (at_more views p i (Posted k y) a);
-        posted_once = λ p i q j k y z a b. h.1.posted_once p i q j k y z (at_more views p i (Posted k y) a) (at_more views q j (Posted k z) b);
-        each_posted = λ k y e. let was = h.1.each_posted k y e in (was.0, was.1, at_fewer views was.0 was.1 (Posted k y) was.2);
-        collected = λ p i k y a. h.1.collected p i k y (at_more views p i (Collected k y) a);
-        collected_once = λ p i q j k y z a b. h.1.collected_once p i q j k y z (at_more views p i (Collected k y) a) (at_more views q j (Collected k z) b);
-        in_order = λ p i j k l y z lt a b. h.1.in_order p i j k l y z lt (at_more views p i (Collected k y) a) (at_more views p j (Collected l z) b);
-      },
+module _ (id : ℕ) (m : Knows MailStep) (one : length m.1.1 ≡ 1) (views : List (Knows MailStep)) (here : get_elem? views id ≡ some m) where
+  abbrev v : List MailStep
+  v = first_of m.1.1
+
+  alone : get_elem? (views_in views) id ≡ some (m.1.0, v ∷ [])
+  alone = in_at views id m here ∙ ap (λ (l : List (List MailStep)). some (m.1.0, l)) (one_seat m.1.1 one)
+
+  -- the view of one seat becomes that of one seat
+  of_one : List MailStep → Knows MailStep
+  of_one w = (m.0, (m.1.0, w ∷ []))
+
+  still_knows : (w : List MailStep) → KnowAll (shares (views_in views)) views → KnowAll (shares (views_in (set views id (of_one w)))) (set views id (of_one w))
+  unfolding of_one
+  still_knows w know =
+      let inner = views_in views in
+      let is = in_set views id (of_one w) in
+      let more = shares_set inner id m.1 (m.1.0, w ∷ []) (in_at views id m here) in
+      let same : shares (views_in (set views id (of_one w))) ≡ shares inner = ap shares is ∙ omega (arith, more, one) in
+      subst (λ (n : ℕ). KnowAll n (set views id (of_one w))) (sym same) (know_set (shares inner) views id (of_one w) know (λ some_seat. know id m here (omega (arith, one))))
+
+-- a letter is posted by one seat
+pub posts : (n id : ℕ) (m : Knows MailStep) (x : Option ℕ) → length m.1.1 ≡ 1 → Pushes IsMailbox n id m x (Posts m x)
+unfolding of_one
+posts n id m x one items views room h here =
+    let v = first_of m.1.1 in
+    let inner = views_in views in
+    let at = at_seat inner id m.1.0 v (alone id m one views here) in
+    let got = h.1.0 in
+    let w = v ++ Posted (length (got ++ items)) x ∷ [] in
+    let kept = after_post got items (seats_in inner) at.0 v x h.1.1 at.1 in
+    let is = ap seats_in (in_set views id (of_one id m one views here w)) ∙ at.2 w in (
+      (m.0, (m.1.0, w ∷ [])),
+      (still_knows id m one views here w h.0, (got, subst (Keeps got (items ++ x ∷ [])) (sym is) kept)),
+      (length (got ++ items), refl),
     )
 
-pub learns : (id : ℕ) (v : List MailStep) → Learns IsMailbox id v (λ _. Unit {0})
+-- the oldest letter is collected by one seat
+pub collects : (id : ℕ) (m : Knows MailStep) → length m.1.1 ≡ 1 → Pops IsMailbox id m (Collects m)
+unfolding of_one
+collects id m one x items views h here =
+    let v = first_of m.1.1 in
+    let inner = views_in views in
+    let at = at_seat inner id m.1.0 v (alone id m one views here) in
+    let got = h.1.0 in
+    let w = v ++ Collected (length got) x ∷ [] in
+    let kept = after_collect got items (seats_in inner) at.0 v x h.1.1 at.1 in
+    let is = ap seats_in (in_set views id (of_one id m one views here w)) ∙ at.2 w in (
+      (m.0, (m.1.0, w ∷ [])),
+      (still_knows id m one views here w h.0, (got ++ x ∷ [], subst (Keeps (got ++ x ∷ []) items) (sym is) kept)),
+      (length got, refl, λ i k y e. in_range got k y (h.1.1.collected at.0 i k y (v, at.1, e))),
+    )
+
+-- one seat more, which has made no step
+new_seat : (got items : List (Option ℕ)) (views : List (List MailStep)) → Keeps got items views → Keeps got items (views ++ [] ∷ [])
+new_seat got items views h = record {
+  posted = λ p i k y a. h.posted p i k y (at_more views p i (Posted k y) a);
+  posted_once = λ p i q j k y z a b. h.posted_once p i q j k y z (at_more views p i (Posted k y) a) (at_more views q j (Posted k z) b);
+  each_posted = λ k y e. let was = h.each_posted k y e in (was.0, was.1, at_fewer views was.0 was.1 (Posted k y) was.2);
+  collected = λ p i k y a. h.collected p i k y (at_more views p i (Collected k y) a);
+  collected_once = λ p i q j k y z a b. h.collected_once p i q j k y z (at_more views p i (Collected k y) a) (at_more views q j (Collected k z) b);
+  in_order = λ p i j k l y z lt a b. h.in_order p i j k l y z lt (at_more views p i (Collected k y) a) (at_more views p j (Collected l z) b);
+}
+
+-- the order of the seats is nothing to the rule
+in_any_order : (got items : List (Option ℕ)) (xs ys : List (List MailStep)) → Rearranged xs ys → Keeps got items xs → Keeps got items ys
+in_any_order got items xs ys r h = record {
+  posted = λ p i k y a. h.posted (r.from p) i k y (was p i (Posted k y) a);
+  posted_once = λ p i q j k y z a b. let same = h.posted_once (r.from p) i (r.from q) j k y z (was p i (Posted k y) a) (was q j (Posted k z) b) in (one_place p q same.0, same.1);
+  each_posted = λ k y e. let at = h.each_posted k y e in (r.to at.0, at.1, (at.2.0, r.is at.0 at.2.0 at.2.1, at.2.2));
+  collected = λ p i k y a. h.collected (r.from p) i k y (was p i (Collected k y) a);
+  collected_once = λ p i q j k y z a b. let same = h.collected_once (r.from p) i (r.from q) j k y z (was p i (Collected k y) a) (was q j (Collected k z) b) in (one_place p q same.0, same.1);
+  in_order = λ p i j k l y z lt a b. h.in_order (r.from p) i j k l y z lt (was p i (Collected k y) a) (was p j (Collected l z) b);
+}
+  where
+    was : (p i : ℕ) (s : MailStep) → At ys p i s → At xs (r.from p) i s
+    was p i s a = (a.0, r.was p a.0 a.1, a.2)
+
+    one_place : (p q : ℕ) → r.from p ≡ r.from q → p ≡ q
+    one_place p q same = sym (r.once p) ∙ ap r.to same ∙ r.once q
+
+-- there is one seat more, where one view stands for all
+pub counts : (id : ℕ) (v : Knows MailStep) → v.0 ≡ share_of v.1 → 0 < v.0 → Forks IsMailbox id v (v.0 + 1, (v.1.0 + 1, v.1.1)) (0, (0, []))
+counts id v all some_seat items views h here =
+    let inner = views_in views in
+    let there = in_at views id v here in
+    let left : Knows MailStep = (v.0 + 1, (v.1.0 + 1, v.1.1)) in
+    let right : Knows MailStep = (0, (0, [])) in
+    let is = in_both views id left right in
+    let known : v.0 ≡ shares inner = h.0 id v here (omega (arith, all, some_seat)) in
+    let more : shares (views_in (set views id left ++ right ∷ [])) ≡ v.0 + 1 =
+    ap shares is ∙ omega (arith, shares_behind (set inner id left.1) (right.1 ∷ []), shares_set inner id v.1 left.1 there, known, all) in
+    let know = alone_for_all views id v left here (sym all ∙ known) (v.0 + 1) (λ _. refl) in
+    let same : seats_in (views_in (set views id left ++ right ∷ [])) ≡ seats_in inner =
+    ap seats_in is ∙ seats_behind (set inner id left.1) (right.1 ∷ []) ∙ append-nil (seats_in (set inner id left.1)) ∙ seats_stay inner id v.1 left.1 there refl in (
+      subst (λ (n : ℕ). KnowAll n (set views id left ++ right ∷ [])) (sym more) (know_push (v.0 + 1) (set views id left) right know (λ e. absurd (omega (arith, e)))),
+      (h.1.0, subst (Keeps h.1.0 items) (sym same) h.1.1),
+    )
+
+-- a seat is dealt
+pub deals : (id : ℕ) (v : Knows MailStep) → 0 < v.1.0 → Forks IsMailbox id v (v.0, (v.1.0 - 1, v.1.1)) (v.0, (0, [] ∷ []))
+deals id v some_left items views h here =
+    let inner = views_in views in
+    let there = in_at views id v here in
+    let left : Knows MailStep = (v.0, (v.1.0 - 1, v.1.1)) in
+    let right : Knows MailStep = (v.0, (0, [] ∷ [])) in
+    let is = in_both views id left right in
+    let known : v.0 ≡ shares inner = h.0 id v here (omega (arith, some_left)) in
+    let same : shares (views_in (set views id left ++ right ∷ [])) ≡ shares inner = ap shares is ∙ dealt_shares inner id v.1 there some_left in
+    let know = know_set (shares inner) views id left h.0 (λ _. known) in
+    let seats : seats_in (views_in (set views id left ++ right ∷ [])) ≡ seats_in inner ++ [] ∷ [] = ap seats_in is ∙ dealt_seats inner id v.1 there in (
+      subst (λ (n : ℕ). KnowAll n (set views id left ++ right ∷ [])) (sym same) (know_push (shares inner) (set views id left) right know (λ _. known)),
+      (h.1.0, subst (Keeps h.1.0 items) (sym seats) (new_seat h.1.0 items (seats_in inner) h.1.1)),
+    )
+
+-- a seat is taken back
+pub returns : (id : ℕ) (v : Knows MailStep) (other : ℕ) (w : Knows MailStep) → 0 < length v.1.1 → Merges IsMailbox id v other w (v.0, (v.1.0 + w.1.0, w.1.1 ++ v.1.1)) (0, (0, []))
+returns id v other w some_seat items views h here apart there =
+    let inner = views_in views in
+    let both : Knows MailStep = (v.0, (v.1.0 + w.1.0, w.1.1 ++ v.1.1)) in
+    let spent : Knows MailStep = (0, (0, [])) in
+    let at = in_at views id v here in
+    let taken = ap (λ l. get_elem? l other) (sym (in_set views id both)) ∙ in_at (set views id both) other w there in
+    let is = in_set (set views id both) other spent ∙ ap (λ l. set l other spent.1) (in_set views id both) in
+    let known : v.0 ≡ shares inner = h.0 id v here (omega (arith, some_seat)) in
+    let same : shares (views_in (set (set views id both) other spent)) ≡ shares inner = ap shares is ∙ joined_shares inner id other v.1 w.1 at taken in
+    let know = know_set (shares inner) (set views id both) other spent (know_set (shares inner) views id both h.0 (λ _. known)) (λ e. absurd (omega (arith, e))) in
+    let kept = in_any_order h.1.0 items _ _ (joined_seats inner id other (v.1.0 + w.1.0) v.1 w.1 at apart taken) h.1.1 in (
+      subst (λ (n : ℕ). KnowAll n (set (set views id both) other spent)) (sym same) know,
+      (h.1.0, subst (Keeps h.1.0 items) (ap seats_in (sym is)) kept),
+    )
+
+pub learns : (id : ℕ) (v : Knows MailStep) → Learns IsMailbox id v (λ _. Unit {0})
 learns id v items views h here = tt
 
--- a seat learns that the steps of all seats keep the rule
-pub recalls : (id : ℕ) (v : List MailStep) → Learns IsMailbox id v (λ _. IsKept v)
-recalls id v items views h here = (h.0, items, views, id, here, h.1)
+-- a view that stands for all seats keeps the rule
+pub ends : (id : ℕ) (v : Knows MailStep) → share_of v.1 ≡ v.0 → 0 < v.0 → Learns IsMailbox id v (λ _. AreKept v.1.1)
+ends id v all some_seat items views h here =
+    let known = h.0 id v here (omega (arith, all, some_seat)) in
+    (h.1.0, items, subst (Keeps h.1.0 items) (has_all (views_in views) id v.1 (in_at views id v here) (sym known ∙ sym all)) h.1.1)
+
+-- nobody has made a step
+nothing : (p i : ℕ) (y : MailStep) → At ([] ∷ []) p i y → ⊥
+nothing zero i y a = some-ne-none y (sym (ap (λ (l : List MailStep). get_elem? l i) (some-injective [] a.0 a.1) ∙ a.2))
+nothing (suc p) i y a = some-ne-none a.0 (sym a.1)
+
+pub begins : IsMailbox [] ((1, (0, [] ∷ [])) ∷ [])
+begins = (
+  know,
+  (
+    [],
+    record {
+      posted = λ p i k x a. absurd (nothing p i (Posted k x) a);
+      posted_once = λ p i q j k x y a b. absurd (nothing p i (Posted k x) a);
+      each_posted = λ k x e. absurd (some-ne-none x (sym e));
+      collected = λ p i k x a. absurd (nothing p i (Collected k x) a);
+      collected_once = λ p i q j k x y a b. absurd (nothing p i (Collected k x) a);
+      in_order = λ p i j k l x y lt a b. absurd (nothing p i (Collected k x) a);
+    },
+  ),
+)
+  where
+    know : KnowAll {A = MailStep} 1 ((1, (0, [] ∷ [])) ∷ [])
+    know zero u e some_seat = ap (λ (k : Knows MailStep). k.0) (sym (some-injective (1, (0, [] ∷ [])) u e))
+    know (suc p) u e some_seat = absurd (some-ne-none u (sym e))

@@ -1,10 +1,11 @@
 -- The letters of a mailbox and their places.
-use Rattle.std.specs.Prelude.{◌≡◌, ℕ, ◌<◌, List, [], ◌∷◌, ◌++◌, Option}
+use Rattle.std.specs.Prelude.{◌≡◌, ℕ, ◌<◌, List, [], ◌∷◌, ◌++◌, map, Option}
 use mathlib.Core.Option.{some}
 use lib.ListN.{get_elem?}
 use Rattle.mailbox.specs.declared.MailStep.{MailStep}
 use Rattle.mailbox.specs.declared.MailStep.TheVariants.{Posted, Collected}
 use Rattle.mailbox.specs.Views.{At}
+use Rattle.board.specs.Shares.{View, first_of, seats_in, share_of, shares}
 
 -- The letters that were collected are `got`, and then `items` wait: a place is a number in this list.
 pub record Keeps (got items : List (Option ℕ)) (views : List (List MailStep)) : Type 0 where
@@ -18,12 +19,24 @@ pub record Keeps (got items : List (Option ℕ)) (views : List (List MailStep)) 
   -- in the order of places
   pub in_order : (p i j k l : ℕ) (x y : Option ℕ) → i < j → At views p i (Collected k x) → At views p j (Collected l y) → k < l
 
-abbrev pub IsMailbox : List (Option ℕ) → List (List MailStep) → Type 0
-IsMailbox items views = (got : List (Option ℕ)) × Keeps got items views
+-- how many seats there are, and a view of some of them
+abbrev pub Knows : Type 0 → Type 0
+Knows A = ℕ × View A
 
--- a seat's steps are among those of all seats of a mailbox, which keep the rule
-abbrev pub IsKept : List MailStep → Type 0
-IsKept steps = (got : List (Option ℕ)) × (items : List (Option ℕ)) × (views : List (List MailStep)) × (seat : ℕ) × (get_elem? views seat ≡ some steps) × Keeps got items views
+abbrev pub views_in : {A : Type 0} → List (Knows A) → List (View A)
+views_in views = map (λ v. v.1) views
+
+-- each view that stands for a seat knows how many there are
+abbrev pub KnowAll : {A : Type 0} → ℕ → List (Knows A) → Type 0
+KnowAll {A} seats views = (p : ℕ) (v : Knows A) → get_elem? views p ≡ some v → 0 < share_of v.1 → v.0 ≡ seats
+
+-- the views know for how many seats they stand together, and the steps of these keep the rule
+abbrev pub IsMailbox : List (Option ℕ) → List (Knows MailStep) → Type 0
+IsMailbox items views = KnowAll (shares (views_in views)) views × ((got : List (Option ℕ)) × Keeps got items (seats_in (views_in views)))
+
+-- the steps of exactly these seats keep the rule of a mailbox: some letters were collected, and some wait
+abbrev pub AreKept : List (List MailStep) → Type 0
+AreKept views = (got : List (Option ℕ)) × (items : List (Option ℕ)) × Keeps got items views
 
 -- one more step: the letter was posted at some place
 abbrev pub AddsPosted : List MailStep → Option ℕ → List MailStep → Type 0
@@ -34,3 +47,17 @@ abbrev pub AddsCollected : List MailStep → Option ℕ → List MailStep → Ty
 AddsCollected before letter after =
     (place : ℕ) × (after ≡ before ++ Collected place letter ∷ [])
     × ((i k : ℕ) (x : Option ℕ) → get_elem? before i ≡ some (Collected k x) → k < place)
+
+-- a view of one seat has one step more
+abbrev pub Adds : Knows MailStep → MailStep → Knows MailStep → Type 0
+Adds before step after = after ≡ (before.0, (before.1.0, (first_of before.1.1 ++ step ∷ []) ∷ []))
+
+-- a seat posts the letter
+abbrev pub Posts : Knows MailStep → Option ℕ → Knows MailStep → Type 0
+Posts before letter after = (place : ℕ) × Adds before (Posted place letter) after
+
+-- a seat collects the letter
+abbrev pub Collects : Knows MailStep → Option ℕ → Knows MailStep → Type 0
+Collects before letter after =
+    (place : ℕ) × Adds before (Collected place letter) after
+    × ((i k : ℕ) (x : Option ℕ) → get_elem? (first_of before.1.1) i ≡ some (Collected k x) → k < place)

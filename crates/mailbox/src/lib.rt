@@ -1,11 +1,15 @@
 //! A mailbox, whose letters stand at places in one order. Any thread posts, and any thread collects.
 #![tactic(auto)]
 
-ghost use Rattle.std.specs.Prelude.{◌≡◌};
+mod per_node;
+
+ghost use Rattle.std.specs.Prelude.{◌≡◌, ◌<◌, length};
+ghost use Rattle.crossbeam_channel.specs.Claims.{view, IsKeyed};
 ghost use Rattle.crossbeam_channel.specs.Ends.{sends_on, receives_on};
 
-use crossbeam_channel::protocol::{Lesson, Outcome, Protocol, Split};
+use crossbeam_channel::protocol::{Join, Lesson, Outcome, Protocol, Split};
 use crossbeam_channel::{Pass, RuledReceiver, RuledSender, bounded_with};
+pub use per_node::{MailSeats, Mailboxes};
 use std::alloc::{AllocError, Global};
 use std::collections::LinkedList;
 use std::sync::Wait;
@@ -27,107 +31,140 @@ pub enum MailStep {
     Collected(u64, Letter),
 }
 
-// What a seat did, oldest first. In a clause it is a list, and no value of it is made.
-type Steps = LinkedList<MailStep>;
+// How many seats there are, how many of them aren't dealt yet, and the steps of each seat that is here. In a clause these are
+// two numbers and a list, and no value of it is made.
+type Seats = (u64, (u64, LinkedList<LinkedList<MailStep>>));
 
 /// The rule of the letters that wait and the steps of all seats.
 pub struct Places;
 
-impl Protocol<Letter, Steps> for Places {
-    ghost use Rattle.std.specs.Prelude.{[]};
+impl Protocol<Letter, Seats> for Places {
+    ghost use Rattle.std.specs.Prelude.{[], ◌∷◌};
     ghost use Rattle.mailbox.specs.Mail.{IsMailbox};
 
     ghost holds = { IsMailbox };
 
-    ghost first = { [] };
+    ghost first = { (1, (0, [] ∷ [])) };
 }
 
-/// The new seat has made no step.
+/// There is one seat more to be dealt. Before any is dealt, one pass stands for all seats, and knows how many there are; who
+/// comes with the count knows nothing, and stands for none.
+pub struct OneMore;
+
+impl Split<Seats> for OneMore {
+    ghost use Rattle.std.specs.Prelude.{◌+◌, []};
+
+    ghost left = { λ v. (v.0 + 1, (v.1.0 + 1, v.1.1)) };
+
+    ghost right = { λ _. (0, (0, [])) };
+}
+
+/// One seat more is dealt, which has made no step.
 pub struct NewSeat;
 
-impl Split<Steps> for NewSeat {
-    ghost use Rattle.std.specs.Prelude.{[]};
+impl Split<Seats> for NewSeat {
+    ghost use Rattle.std.specs.Prelude.{◌-◌, [], ◌∷◌};
 
-    ghost left = { λ v. v };
+    ghost left = { λ v. (v.0, (v.1.0 - 1, v.1.1)) };
 
-    ghost right = { λ _. [] };
+    ghost right = { λ v. (v.0, (0, [] ∷ [])) };
+}
+
+/// A seat is taken back.
+pub struct Return;
+
+impl Join<Seats> for Return {
+    ghost use Rattle.std.specs.Prelude.{◌+◌, [], ◌++◌};
+
+    ghost both = { λ v w. (v.0, (v.1.0 + w.1.0, w.1.1 ++ v.1.1)) };
+
+    ghost spent = { (0, (0, [])) };
 }
 
 /// A seat posts a letter.
 pub struct Posts;
 
-impl Outcome<Letter, Steps> for Posts {
-    ghost use Rattle.mailbox.specs.Mail.{AddsPosted};
+impl Outcome<Letter, Seats> for Posts {
+    ghost use Rattle.mailbox.specs.Mail.{Posts};
 
-    ghost then = { AddsPosted };
+    ghost then = { Posts };
 }
 
-impl Lesson<Letter, Steps> for Posts {
+impl Lesson<Letter, Seats> for Posts {
     ghost fact = { λ _ _. Unit {0} };
 }
 
 /// A seat collects the oldest letter.
 pub struct Collects;
 
-impl Outcome<Letter, Steps> for Collects {
-    ghost use Rattle.mailbox.specs.Mail.{AddsCollected};
+impl Outcome<Letter, Seats> for Collects {
+    ghost use Rattle.mailbox.specs.Mail.{Collects};
 
-    ghost then = { AddsCollected };
+    ghost then = { Collects };
 }
 
-impl Lesson<Letter, Steps> for Collects {
+impl Lesson<Letter, Seats> for Collects {
     ghost fact = { λ _ _. Unit {0} };
 }
 
-/// What a seat learns of the steps of all seats.
-pub struct History;
+/// What the rule tells of the steps of all seats, once they are taken back.
+pub struct Record;
 
-impl Lesson<Letter, Steps> for History {
-    ghost use Rattle.mailbox.specs.Mail.{IsKept};
+impl Lesson<Letter, Seats> for Record {
+    ghost use Rattle.mailbox.specs.Mail.{AreKept};
 
-    ghost fact = { λ steps _. IsKept steps };
+    ghost fact = { λ seats _. AreKept seats.1.1 };
 }
 
 /// Letters that wait, oldest first, up to a capacity.
 #[derive(Drop)]
 pub struct Mailbox {
-    to: RuledSender<Letter, Steps, Places>,
-    from: RuledReceiver<Letter, Steps, Places>,
+    to: RuledSender<Letter, Seats, Places>,
+    from: RuledReceiver<Letter, Seats, Places>,
+    /// How many seats it has.
+    seats: usize,
     ghost one_channel: { receives_on from ≡ sends_on to },
+    ghost keyed: { IsKeyed (sends_on to) },
 }
 
-/// Where one holder posts and collects. Contracts see all its steps.
+/// Where one holder posts and collects, or several such that were taken back. Contracts see all their steps.
 #[derive(Drop)]
 pub struct MailSeat {
-    pass: Pass<Letter, Steps>,
+    pass: Pass<Letter, Seats>,
+    ghost dealt: { (view pass).1.0 ≡ 0 },
+    ghost some: { 0 < length (view pass).1.1 },
 }
 
 impl Mailbox {
-    ghost use Rattle.std.specs.Prelude.{◌≡◌, ◌<◌, ℕ, ◌++◌, [], ◌∷◌, All, IfOk, vec_len, Some, None};
-    ghost use Rattle.mailbox.specs.Mail.{AddsPosted, AddsCollected, IsKept};
-    ghost use Rattle.mailbox.specs.Seats.{IsSeatOf, steps_of};
+    ghost use Rattle.std.specs.Prelude.{[], ◌∷◌, All, IfOk, vec_len, Some, None};
+    ghost use Rattle.mailbox.specs.Mail.{AddsPosted, AddsCollected, AreKept};
+    ghost use Rattle.mailbox.specs.Seats.{capacity_of, id_of, returned, seats_of, steps_of, AreSeatsOf, IsSeatOf};
 
-    /// An empty mailbox for so many letters, and so many seats, which have made no step.
+    /// An empty mailbox for so many letters, and its seats, so many, which have made no step.
     ///
     /// # Errors
-    /// Want of memory.
+    /// Where a growth was refused.
     pub fn new(
         alloc: Global,
         capacity: usize,
         seats: usize,
     ) -> Result<(Mailbox, Vec<MailSeat>), AllocError>
         requires { (0 < capacity) × (0 < seats) }
-        ensures count { IfOk result (λ m. vec_len m.1 ≡ seats) }
+        ensures count { IfOk result (λ m. (vec_len m.1 ≡ seats) × (seats_of m.0 ≡ seats)) }
         ensures seats { IfOk result (λ m. All (λ s. IsSeatOf m.0 s × (steps_of s ≡ [])) m.1.items) }
+        ensures room { IfOk result (λ m. capacity_of m.0 ≡ capacity) }
     {
         let mut made = Vec::with_capacity(alloc, seats)?;
-        let (to, from, mut first) = bounded_with::<Letter, Steps, Places, Global>(alloc, capacity)?;
+        let (to, from, mut last) = bounded_with::<Letter, Seats, Places, Global>(alloc, capacity)?;
         for _ in 1..seats {
-            let pass = to.another::<NewSeat>(&mut first);
+            drop(to.another::<OneMore>(&mut last));
+        }
+        for _ in 1..seats {
+            let pass = to.another::<NewSeat>(&mut last);
             made.push(MailSeat { pass })?;
         }
-        made.push(MailSeat { pass: first })?;
-        Ok((Mailbox { to, from }, made))
+        made.push(MailSeat { pass: last })?;
+        Ok((Mailbox { to, from, seats }, made))
     }
 
     // Puts a letter at the next place, and waits while the mailbox is full.
@@ -187,14 +224,25 @@ impl Mailbox {
         unreachable!()
     }
 
-    /// Tells that the steps of all seats, these among them, keep the rule of the places: each letter that was collected
-    /// was posted at its place, which has one letter and is collected at most once, in the order of places. Takes no
-    /// memory.
-    pub fn recall(&self, seat: &mut MailSeat)
-        requires { IsSeatOf self.now seat.old }
-        ensures same { IsSeatOf self.now seat.new × (steps_of seat.new ≡ steps_of seat.old) }
-        ensures kept { IsKept (steps_of seat.old) }
+    /// Takes a seat back, to others that were. Takes no memory.
+    pub fn take_back(&self, all: &mut MailSeat, seat: MailSeat)
+        requires { AreSeatsOf self.now all.old × IsSeatOf self.now seat }
+        ensures same { AreSeatsOf self.now all.new }
+        ensures returned { returned all.new ≡ steps_of seat ∷ returned all.old }
     {
-        self.to.learn_as::<History>(&mut seat.pass);
+        let MailSeat { pass } = seat;
+        self.to.absorb::<Return>(&mut all.pass, pass);
+    }
+
+    /// Shows, once all seats were taken back, that the steps of exactly these seats keep the rule of the places: each letter
+    /// that was collected was posted at its place, which has one letter and is collected at most once, in the order of places.
+    /// Takes no memory.
+    pub fn recall(&self, all: &mut MailSeat)
+        requires of { AreSeatsOf self.now all.old }
+        requires all { length (returned all.old) ≡ seats_of self.now }
+        ensures same { AreSeatsOf self.now all.new × (returned all.new ≡ returned all.old) }
+        ensures kept { AreKept (returned all.old) }
+    {
+        self.to.learn_as::<Record>(&mut all.pass);
     }
 }

@@ -3,3 +3,4 @@ pub mod Calls
 pub mod Journals
 pub mod Passes
 pub mod Places
+pub mod Returned

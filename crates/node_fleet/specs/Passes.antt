@@ -1,9 +1,41 @@
--- A pass at its birth.
-use Rattle.std.specs.Prelude.{◌≡◌, []}
+-- What contracts see of a pass of a fleet.
+use Rattle.std.specs.Prelude.{◌≡◌, ℕ, List, []}
+use Rattle.volume_model.specs.Judging.{Refusal}
+use Rattle.world.specs.Slots.{slot_of}
+use Rattle.board.specs.declared.BoardStep.{BoardStep}
+use Rattle.mailbox.specs.declared.MailStep.{MailStep}
+use Rattle.mailbox.specs.Mails.{steps_at, HasNoSteps}
 use Rattle.journal.specs.declared.row.Site.{Ghosts as SiteGhosts}
-use Rattle.journal.specs.declared.pass.Pass.{Pass}
-use Rattle.journal.specs.Passes.{notes_of, seat_of, steps_of}
+use Rattle.journal.specs.Passes as journal
+use Rattle.journal.specs.Standing.{Made}
+use Rattle.node_fleet.specs.declared.site.FleetSite.{Ghosts as FleetGhosts}
+use Rattle.node_fleet.specs.declared.pass.Pass.{Pass}
 
--- the pass has made no step, was refused nothing, and has raised and read nothing on the board
-abbrev pub IsFresh : {X : Type 0} {s : SiteGhosts X} → Pass X s → Type 0
-IsFresh pass = (steps_of pass ≡ []) × (notes_of pass ≡ []) × (seat_of pass ≡ [])
+module _ {X : Type 0} {f : FleetGhosts X} {s : SiteGhosts X} where
+  -- the steps of a pass
+  abbrev pub steps_of : Pass X f s → List Made
+  steps_of pass = journal.steps_of pass.entered
+
+  -- what it was refused
+  abbrev pub notes_of : Pass X f s → List Refusal
+  notes_of pass = journal.notes_of pass.entered
+
+  -- what it raised and read on the board
+  abbrev pub seat_of : Pass X f s → List BoardStep
+  seat_of pass = journal.seat_of pass.entered
+
+  -- what it posted and collected at the mailbox of a node
+  abbrev pub mail_of : Pass X f s → ℕ → ℕ → List MailStep
+  mail_of pass group member = steps_at pass.mail (slot_of group member)
+
+  -- it has made no step, was refused nothing, has raised and read nothing, and has posted and collected nothing
+  abbrev pub IsFresh : Pass X f s → Type 0
+  IsFresh pass = (steps_of pass ≡ []) × (notes_of pass ≡ []) × (seat_of pass ≡ []) × HasNoSteps pass.mail
+
+  -- it has posted and collected nothing more
+  abbrev pub IsMailSame : Pass X f s → Pass X f s → Type 0
+  IsMailSame before after = after.mail ≡ before.mail
+
+  -- it has made no step and no note more, and nothing on the board
+  abbrev pub IsEntrySame : Pass X f s → Pass X f s → Type 0
+  IsEntrySame before after = after.entered ≡ before.entered

@@ -7,13 +7,14 @@ ghost use Rattle.fleet_actors.specs.Halts.{Halts};
 ghost use Rattle.node_fleet.specs.Calls.{Tells};
 
 use crate::fleet::Fleet;
+use crate::site::FleetSite;
 use fleet_actors::{Halt, taken};
-use journal::{Pass, Receipt, Site};
+use journal::{Pass, Receipt};
 use std::sync::Wait;
 use volume_model::Fault;
 use world::AuthorityAct;
 
-impl<'a, L: Site> Fleet<'a, L> {
+impl<'a, L: FleetSite> Fleet<'a, L> {
     ghost use Rattle.std.specs.Prelude.{◌≢◌, Err};
     ghost use Rattle.volume_model.specs.declared.fault.Fault.TheVariants.{NoMessage};
     ghost use Rattle.fleet_actors.specs.declared.halt.Halt.TheVariants.{Refused};
@@ -34,14 +35,8 @@ impl<'a, L: Site> Fleet<'a, L> {
         actor.act(rt, self.alloc, &mut log, pass, act, self.slots)
     }
 
-    /// The authority assigns a volume epoch, leads a group to a child of its configuration, or tells a client where the
-    /// groups stand.
-    ///
-    /// # Errors
-    /// The authority's own refusal, as [`AuthorityActor::act`](fleet_actors::AuthorityActor::act) gives it, `NoSlot` where it
-    /// is to assign and the last volume epoch is that of the last slot, and `JournalFull` where no cell is left.
-    /// `NoMemory`, which isn't noted, where a growth was refused.
-    pub fn advance<R: Wait>(
+    // What the authority does, by the journal's pass.
+    pub(crate) fn enter_authority<R: Wait>(
         &self,
         rt: &R,
         pass: &mut Pass<'a, L>,

@@ -2,43 +2,53 @@
 
 ghost use Rattle.std.specs.Prelude.{◌≡◌, ◌<◌, All, length, vec_len};
 ghost use Rattle.std.proofs.Props.{props};
-ghost use Rattle.board.specs.Seats.{steps_of, IsSeatOf};
+ghost use Rattle.board.specs.Seats.{seats_of, steps_of, IsSeatOf};
 ghost use Rattle.journal.specs.Fronts.{log_of};
 
 use board::{Board, BoardSeat};
 use journal::Opened;
+use mailbox::{MailSeats, Mailboxes};
+use plan::CheckedPlan;
 use std::alloc::{AllocError, Global};
 use std::sync::ledger::Blank;
 
-/// The board of a fleet that isn't there yet, its empty history, and the ledger of its steps, with a part and a seat
-/// for each of its passes.
+/// The board of a fleet that isn't there yet, its mailboxes, its empty history, and the ledger of its steps, with a part and
+/// seats for each of its passes.
 #[derive(Drop)]
 pub struct Base {
     pub(crate) board: Board,
     pub(crate) seats: Vec<BoardSeat>,
+    pub(crate) mail: Mailboxes,
+    pub(crate) callers: Vec<MailSeats>,
     pub(crate) opened: Opened,
     pub(crate) blank: Blank,
     ghost seats_are: { All (λ s. IsSeatOf board s × (length (steps_of s) ≡ 0)) seats.items } by { Prim.hlevel props },
+    ghost all_seats: { seats_of board ≡ vec_len seats },
     ghost empty: { length (log_of opened) ≡ 0 },
     ghost parts: { blank.parts ≡ vec_len seats },
 }
 
 impl Base {
     ghost use Rattle.std.specs.Prelude.{IfOk};
-    ghost use Rattle.node_fleet.specs.Bases.{passes_of};
+    ghost use Rattle.plan.specs.CheckedModel.{checked_model};
+    ghost use Rattle.node_fleet.specs.Bases.{passes_of, HasMail};
 
-    /// The base of a fleet with so many passes.
+    /// The base of a fleet over a plan, with so many passes.
     ///
     /// # Errors
     /// Where a growth was refused.
-    pub fn new(alloc: Global, passes: usize) -> Result<Base, AllocError>
+    pub fn new(alloc: Global, plan: &CheckedPlan, passes: usize) -> Result<Base, AllocError>
         requires { 0 < passes }
-        ensures { IfOk result (λ base. passes_of base ≡ passes) }
+        ensures count { IfOk result (λ base. passes_of base ≡ passes) }
+        ensures mail { IfOk result (λ base. HasMail (checked_model plan.now) base) }
     {
         let (board, seats) = Board::new(alloc, passes)?;
+        let (mail, callers) = Mailboxes::new(alloc, plan, passes)?;
         Ok(Base {
             board,
             seats,
+            mail,
+            callers,
             opened: Opened::new(alloc)?,
             blank: Blank::new(passes as u64),
         })

@@ -10,8 +10,9 @@ ghost use Rattle.node_fleet.specs.Calls.{is_moving, NamesElse, Raises, RaisesBy,
 
 use crate::fleet::Fleet;
 use crate::settling::refusal_of;
+use crate::site::FleetSite;
 use fleet_actors::{ClientActor, ClientDeed, Halt, refused, taken, tried};
-use journal::{Log, Pass, Receipt, Site, Who};
+use journal::{Log, Pass, Receipt, Who};
 use std::sync::{Mutex, Wait};
 use volume_model::Fault;
 use wire::Message;
@@ -24,7 +25,7 @@ fn moves(deed: &ClientDeed) -> bool
     matches!(deed, ClientDeed::Take { .. } | ClientDeed::Open)
 }
 
-impl<'a, L: Site> Fleet<'a, L> {
+impl<'a, L: FleetSite> Fleet<'a, L> {
     ghost use Rattle.std.specs.Prelude.{◌≢◌, Err, option_map};
     ghost use Rattle.std.specs.Option.{option_copied};
     ghost use Rattle.volume_model.specs.declared.fault.Fault.TheVariants.{NoMessage};
@@ -203,15 +204,8 @@ impl<'a, L: Site> Fleet<'a, L> {
         }
     }
 
-    /// A client does what it is asked to, which goes into the journal's entry or into the note of a refusal: nothing of it is copied.
-    /// After a message taken or an opening its durable point, 0 before its opening, is raised on the board under the client's lock.
-    ///
-    /// # Errors
-    /// `NoMessage` where no step has made the message that it is to take, which isn't noted; then the client's own
-    /// refusal, as [`ClientActor::act`](fleet_actors::ClientActor::act) gives it, and `JournalFull` where no cell is left. A
-    /// client that has no slot is one that no View has reached. `NoMemory`, which isn't noted, where a growth was
-    /// refused; then what it was asked is gone, and who would ask again calls [`Fleet::client_step`].
-    pub fn client_does<R: Wait>(
+    // What a client is asked to do, by the journal's pass.
+    pub(crate) fn enter_client<R: Wait>(
         &self,
         rt: &R,
         pass: &mut Pass<'a, L>,
@@ -244,14 +238,11 @@ impl<'a, L: Site> Fleet<'a, L> {
         ensures unmade { IfErr result (λ fault. fault ≡ NoMessage → NamesElse (event_by volume deed.now) (steps_of pass.old)) }
     {
         let asked = deed.clone()?;
-        self.client_does(rt, pass, volume, asked)
+        self.enter_client(rt, pass, volume, asked)
     }
 
-    /// A client does what it is asked to, of which a copy goes into the journal: else as [`Fleet::client_does`].
-    ///
-    /// # Errors
-    /// As [`Fleet::client_does`] says.
-    pub fn client_step<R: Wait>(
+    // The same of a copy.
+    pub(crate) fn enter_client_copy<R: Wait>(
         &self,
         rt: &R,
         pass: &mut Pass<'a, L>,

@@ -4,16 +4,22 @@ ghost use Rattle.std.specs.Prelude.{◌≡◌, ◌+◌, vec_len};
 ghost use Rattle.std.specs.Arc.{arc_value};
 ghost use Rattle.std.specs.Coded.{Coded-set};
 ghost use Rattle.atomic_table.specs.Seated.{table_id_coded};
-ghost use Rattle.board.specs.Seats.{board_table};
+ghost use Rattle.board.specs.Seats.{board_table, seats_of};
+ghost use Rattle.mailbox.specs.Mails.{ids_of, AreNew, HasNodes};
+ghost use Rattle.mailbox.proofs.Seats.{new_prop};
 ghost use Rattle.plan.specs.CheckedModel.{checked_model};
 ghost use Rattle.journal.proofs.Plans.{Plan-set};
 ghost use Rattle.std.proofs.Props.{props};
 ghost use Rattle.node_fleet.specs.Places.{HasEach};
 
 use crate::closed::Journal;
+use crate::closing::{TakenBack, take_back};
+use crate::pass::Pass;
+use crate::site::FleetSite;
 use board::Board;
 use fleet_actors::{AuthorityActor, ClientActor, NodeActor};
-use journal::{Log, Pass, Site};
+use journal::Log;
+use mailbox::Mailboxes;
 use plan::CheckedPlan;
 use std::alloc::Global;
 use std::sync::{Arc, Mutex};
@@ -22,10 +28,11 @@ use world::promised;
 /// The authority, clients and nodes of a volume, each under a lock of its own, and their journal under another. A
 /// thread that steps an actor takes the actor's lock and then the journal's.
 #[derive(Drop)]
-pub struct Fleet<'a, L: Site> {
+pub struct Fleet<'a, L: FleetSite> {
     pub(crate) alloc: Global,
     pub(crate) plan: Arc<CheckedPlan>,
     pub(crate) board: Board,
+    pub(crate) mail: Mailboxes,
     pub(crate) authority: Mutex<AuthorityActor<L>>,
     /// Those of the volume epochs from 0 on; nobody is born with 0.
     pub(crate) clients: Vec<Mutex<ClientActor<L>>>,
@@ -35,35 +42,31 @@ pub struct Fleet<'a, L: Site> {
     pub(crate) slots: u32,
     ghost plan_is: { checked_model (arc_value plan) ≡ L.plan } by { Prim.hlevel Plan-set },
     ghost board_table: { board_table board ≡ L.board } by { Coded-set table_id_coded (board_table board) L.board },
+    ghost board_seats: { seats_of board ≡ L.parts },
+    ghost mail_ids: { ids_of mail ≡ L.mail } by { Prim.hlevel props },
+    ghost mail_nodes: { HasNodes L.plan mail } by { Prim.hlevel props },
+    ghost mail_new: { AreNew L.parts mail } by { Prim.hlevel (props, new_prop) },
     ghost slots_are: { slots ≡ L.slots },
     ghost places: { vec_len clients ≡ slots + 1 },
     ghost each: { HasEach L.plan nodes.items } by { Prim.hlevel props },
 }
 
-impl<'a, L: Site> Fleet<'a, L> {
-    ghost use Rattle.std.specs.Prelude.{◌<◌, ◌≤◌, ◌++◌, [], ◌∷◌, All, length, sum_by};
+impl<'a, L: FleetSite> Fleet<'a, L> {
+    ghost use Rattle.std.specs.Prelude.{◌<◌, ℕ, All, length, map, sum_by};
     ghost use Rattle.volume_model.specs.Journal.{events, IsRun};
     ghost use Rattle.volume_model.specs.Judging.{IsRefused};
     ghost use Rattle.world.specs.Outcomes.{KeepsPromises};
-    ghost use Rattle.board.specs.Board.{number_of, IsKept};
-    ghost use Rattle.board.specs.declared.BoardStep.{BoardStep};
-    ghost use Rattle.journal.specs.Passes.{notes_of, seat_of, steps_of};
+    ghost use Rattle.board.specs.Board.{IsBoard};
     ghost use Rattle.journal.specs.Standing.{NamesEarlier, Stands};
     ghost use Rattle.node_fleet.specs.Journals.{entries_in};
-
-    /// The board's number, which is at least all that the pass has raised or read, and is the greatest that any seat has raised
-    /// it to, else 0. Takes no lock and no memory.
-    pub fn durable(&self, pass: &mut Pass<'a, L>) -> u64
-        ensures same { (steps_of pass.new ≡ steps_of pass.old) × (notes_of pass.new ≡ notes_of pass.old) }
-        ensures read { seat_of pass.new ≡ seat_of pass.old ++ BoardStep.Read result ∷ [] }
-        ensures at_least { All (λ s. number_of s ≤ result) (seat_of pass.old) }
-        ensures kept { IsKept result (seat_of pass.new) }
-    {
-        pass.durable(&self.board)
-    }
+    ghost use Rattle.node_fleet.specs.Passes.{notes_of, seat_of, steps_of};
+    ghost use Rattle.node_fleet.specs.Returned.{MailIsKept};
 
     /// Ends the fleet, and leaves its journal: it has all steps of all passes and no others, it tells all that they
-    /// were refused, and of its run every promise of the volume holds. Takes no memory.
+    /// were refused, and of its run every promise of the volume holds. The board's number, and each number that was read, is
+    /// as the board's rule says of what exactly these passes raised and read. At each node's mailbox, of what exactly these
+    /// passes posted and collected one place has one letter, and is collected at most once, in the order of places. Takes no
+    /// memory.
     pub fn close(self, passes: Vec<Pass<'a, L>>) -> Journal<'a, L>
         requires { (vec_len passes ≡ L.parts) × (0 < vec_len passes) }
         ensures run { IsRun L.plan (entries_in result) }
@@ -72,10 +75,25 @@ impl<'a, L: Site> Fleet<'a, L> {
         ensures stands { All (λ p. All (Stands L.plan (entries_in result)) (steps_of p)) passes.entry.items }
         ensures refused { All (λ p. All (IsRefused L.plan L.slots (length L.cells) (entries_in result)) (notes_of p)) passes.entry.items }
         ensures count { sum_by (λ p. length (steps_of p)) passes.entry.items ≡ length (entries_in result) }
+        ensures board { (word : ℕ) × IsBoard word (map seat_of passes.entry.items) }
+        ensures mail { MailIsKept L.plan passes.entry.items }
     {
-        let Fleet { plan, journal, .. } = self;
+        let Fleet {
+            plan,
+            journal,
+            board,
+            mail,
+            ..
+        } = self;
         let mut log = journal.into_inner();
-        log.audit(passes);
+        let TakenBack {
+            mut share,
+            seats,
+            mail: back,
+        } = take_back(&mut log, &board, &mail, passes);
+        log.audit(&mut share);
+        let _ = board.end(seats);
+        mail.end(back);
         log.replays();
         promised(&plan);
         Journal::of(log)

@@ -1,15 +1,24 @@
-//! A fleet: actors under locks of their own, and their journal.
+//! A fleet: actors under locks of their own, their journal, and the mailboxes of its nodes.
 #![tactic(auto)]
 
 mod authority_calls;
 mod base;
+mod calls;
 mod client_calls;
 mod closed;
+mod closing;
 mod fleet;
 mod node_calls;
 mod opening;
+mod pass;
 mod settling;
+mod site;
 
 pub use base::Base;
 pub use closed::Journal;
 pub use fleet::Fleet;
+pub use fleet_actors::StepGate;
+pub use journal::{Receipt, Row};
+pub use mailbox::Letter;
+pub use pass::Pass;
+pub use site::FleetSite;

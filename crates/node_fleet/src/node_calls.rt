@@ -12,13 +12,14 @@ ghost use Rattle.node_fleet.specs.Calls.{IsOfNone, Tells, Unmade};
 
 use crate::fleet::Fleet;
 use crate::settling::refusal_of;
+use crate::site::FleetSite;
 use fleet_actors::{Halt, NodeActor, NodeDeed, StepGate, taken};
-use journal::{Letter, Log, Pass, Receipt, Site};
+use journal::{Letter, Log, Pass, Receipt};
 use std::sync::{Mutex, Wait};
 use volume_model::Fault;
 use world::{Event, slot};
 
-impl<'a, L: Site> Fleet<'a, L> {
+impl<'a, L: FleetSite> Fleet<'a, L> {
     ghost use Rattle.std.specs.Prelude.{◌≢◌, false, IfNone, IfOk, OnOk};
     ghost use Rattle.volume_model.specs.Plan.{is_named};
     ghost use Rattle.volume_model.specs.declared.fault.Fault.TheVariants.{NoMessage};
@@ -115,14 +116,8 @@ impl<'a, L: Site> Fleet<'a, L> {
         actor.react(rt, self.alloc, &self.journal, pass, letter, gate)
     }
 
-    /// Delivers a message to a node: looks it up, makes the node ready under its own lock, lends what it answers to the
-    /// gate while the journal is free, and then makes and enters the step.
-    ///
-    /// # Errors
-    /// `NoActor` where the plan names no such node or its group hasn't joined, `NoMessage` where no step has made the message, which isn't noted,
-    /// then the node's own refusal, as [`NodeActor::react`] gives it, and `JournalFull` where no cell is left.
-    /// `NoMemory`, which isn't noted, where a growth was refused.
-    pub fn deliver<R: Wait, G: StepGate>(
+    // A delivery, by the journal's pass.
+    pub(crate) fn enter_delivery<R: Wait, G: StepGate>(
         &self,
         rt: &R,
         pass: &mut Pass<'a, L>,
@@ -175,12 +170,8 @@ impl<'a, L: Site> Fleet<'a, L> {
         actor.act(rt, self.alloc, &mut log, pass, deed)
     }
 
-    /// A node does what it does of itself.
-    ///
-    /// # Errors
-    /// `NoActor` where the plan names no such node or its group hasn't joined, then the node's own refusal, as [`NodeActor::act`] gives it, and
-    /// `JournalFull` where no cell is left. `NoMemory`, which isn't noted, where a growth was refused.
-    pub fn node_step<R: Wait>(
+    // What a node does of itself, by the journal's pass.
+    pub(crate) fn enter_node<R: Wait>(
         &self,
         rt: &R,
         pass: &mut Pass<'a, L>,

@@ -9,15 +9,19 @@ ghost use Rattle.volume_model.specs.Plan.{is_named};
 ghost use Rattle.plan.specs.CheckedModel.{checked_model};
 ghost use Rattle.journal.specs.Tokens.{ids_of};
 ghost use Rattle.journal.specs.Fronts.{log_of};
+ghost use Rattle.mailbox.specs.Mails.{AreSeatsIn, HasNoSteps};
 ghost use Rattle.node_fleet.specs.Passes.{IsFresh};
 ghost use Rattle.node_fleet.specs.Places.{HasEach};
 
 use crate::base::Base;
 use crate::fleet::Fleet;
+use crate::pass::Pass;
+use crate::site::FleetSite;
 use board::BoardSeat;
 use epochs::Authority;
 use fleet_actors::{AuthorityActor, ClientActor, NodeActor};
-use journal::{History, Log, Mark, Pass, Row, Site, Who};
+use journal::{History, Log, Mark, Row, Site, Who};
+use mailbox::MailSeats;
 use plan::CheckedPlan;
 use std::alloc::{AllocError, Global};
 use std::sync::ledger::Share;
@@ -29,31 +33,37 @@ use world::Client;
 const MEMBERS: usize = 64;
 
 // A pass that has done nothing.
-fn pass<'a, L: Site>(
+fn pass<'a, L: FleetSite>(
     alloc: Global,
     share: Share<L>,
     history: &mut History<L>,
     seat: BoardSeat,
+    mail: MailSeats,
 ) -> Pass<'a, L>
     requires share { (share.parts ≡ 1) × (share.amount ≡ 0) }
     requires history { log_of history.old.opened ≡ [] }
     requires seat { IsSeatIn L.board seat × (length (board.steps_of seat) ≡ 0) }
+    requires mail { AreSeatsIn L.mail mail × HasNoSteps mail }
     ensures history { log_of history.new.opened ≡ [] }
     ensures fresh { IsFresh result }
 {
-    Pass::new(alloc, share, history, seat)
+    let entered = journal::Pass::new(alloc, share, history, seat);
+    Pass { entered, mail }
 }
 
 // Passes that have done nothing, one for each seat of the board, with a part of the ledger each.
-fn passes<'a, L: Site>(
+fn passes<'a, L: FleetSite>(
     alloc: Global,
     mut rest: Share<L>,
     history: &mut History<L>,
     mut seats: Vec<BoardSeat>,
+    mut callers: Vec<MailSeats>,
 ) -> Result<Vec<Pass<'a, L>>, AllocError>
     requires parts { (rest.parts ≡ vec_len seats) × (rest.amount ≡ 0) }
     requires history { log_of history.old.opened ≡ [] }
     requires seats { All (λ s. IsSeatIn L.board s × (length (board.steps_of s) ≡ 0)) seats.items }
+    requires callers { All (λ s. AreSeatsIn L.mail s × HasNoSteps s) callers.items }
+    requires many { vec_len callers ≡ vec_len seats }
     ensures history { log_of history.new.opened ≡ [] }
     ensures count { IfOk result (λ made. vec_len made ≡ vec_len seats) }
     ensures fresh { IfOk result (λ made. All IsFresh made.items) }
@@ -61,7 +71,10 @@ fn passes<'a, L: Site>(
     let mut made = Vec::with_capacity(alloc, seats.len())?;
     while let Some(seat) = seats.pop() {
         let share = rest.split_off(1, 0);
-        made.push(pass(alloc, share, history, seat))?;
+        let Some(mail) = callers.pop() else {
+            unreachable!()
+        };
+        made.push(pass(alloc, share, history, seat, mail))?;
     }
     Ok(made)
 }
@@ -149,7 +162,7 @@ fn nodes<L: Site>(
     Ok(made)
 }
 
-impl<'a, L: Site> Fleet<'a, L> {
+impl<'a, L: FleetSite> Fleet<'a, L> {
     ghost use Rattle.node_fleet.specs.Bases.{passes_of, IsBaseOf};
 
     /// A fleet of a new volume over a plan, with an empty journal over a row of cells that nobody has written, for
@@ -169,7 +182,7 @@ impl<'a, L: Site> Fleet<'a, L> {
         requires cells { ids_of row.old ≡ L.cells }
         requires slots { slots ≡ L.slots }
         requires first { 1 ≤ slots }
-        requires base { IsBaseOf L.board L.history L.name L.parts base }
+        requires base { IsBaseOf L.plan L.board L.history L.mail L.name L.parts base }
         ensures count { IfOk result (λ f. vec_len f.1 ≡ passes_of base) }
         ensures fresh { IfOk result (λ f. All IsFresh f.1.items) }
         ensures memory { IfErr result (λ fault. fault ≡ NoMemory) }
@@ -177,12 +190,14 @@ impl<'a, L: Site> Fleet<'a, L> {
         let Base {
             board,
             seats,
+            mail,
+            callers,
             opened,
             blank,
         } = base;
         let (book, rest) = blank.open::<L>();
         let mut history = opened.named::<L>();
-        let made = passes(alloc, rest, &mut history, seats)?;
+        let made = passes(alloc, rest, &mut history, seats, callers)?;
         let nodes = nodes(alloc, &plan, &mut history)?;
         let clients = clients(alloc, &plan, slots, &mut history)?;
         let authority = Authority::new(alloc, plan.clone()?)?;
@@ -193,6 +208,7 @@ impl<'a, L: Site> Fleet<'a, L> {
             alloc,
             plan,
             board,
+            mail,
             authority: Mutex::new(authority),
             clients,
             nodes,

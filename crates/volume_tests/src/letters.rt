@@ -30,7 +30,6 @@ impl<'m> Desk<'m> {
         let one = mail.collect(rt, &mut seat);
         let other = mail.collect(rt, &mut seat);
         let last = mail.collect(rt, &mut seat);
-        mail.recall(&mut seat);
         one == Some(first) && other == Some(second) && last.is_none()
     }
 }

@@ -1,6 +1,7 @@
 //! Fleets of actors, which calls step by passes.
 
 mod calls;
+mod copies;
 mod drive;
 mod letters;
 mod looks;

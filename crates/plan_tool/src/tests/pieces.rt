@@ -10,7 +10,7 @@ use std::thread::Threads;
 
 /// Three copies, of which two read and two write. In the child of the root member 3 is there too: its read sets are those of 0, 1 and 2 or
 /// those of 0, 1 and 3, its write sets those of both.
-const THREE_COPIES: &str = r#"{"format":1,"lal":1000,"groups":[{"configurations":[
+pub const THREE_COPIES: &str = r#"{"format":1,"lal":1000,"groups":[{"configurations":[
 {"parent":null,"members":[0,1,2],"full":[0,1,2],"read":{"k":2,"of":"all"},"write":{"k":2,"of":"all"},
 "meets":{"rule":"match","left":0,"right":0,"pairs":[[0,0],[1,1],[2,2]],"then":[
 {"rule":"clash","left":0,"right":0},{"rule":"clash","left":0,"right":0},{"rule":"clash","left":0,"right":0}]},"step":null},

@@ -1,9 +1,8 @@
 //! Calls of a fleet, as tables give them.
 
-use super::looks::Look;
+use super::looks::{Lent, Look};
 use fleet_actors::{ClientDeed, NodeDeed};
-use journal::{Pass, Receipt, Site};
-use node_fleet::Fleet;
+use node_fleet::{Fleet, FleetSite, Pass, Receipt};
 use std::alloc::{AllocError, Global};
 use std::sync::Wait;
 use volume_model::Fault;
@@ -59,7 +58,7 @@ fn deed(alloc: Global, call: Call) -> Result<ClientDeed, AllocError> {
 
 impl Call {
     /// Makes it by a pass.
-    fn made<'a, L: Site, R: Wait>(
+    fn made<'a, L: FleetSite, R: Wait>(
         self,
         rt: &R,
         alloc: Global,
@@ -96,9 +95,22 @@ fn told_of(made: &Result<Receipt, Fault>) -> Told {
     }
 }
 
-/// The first place where another thing is told than is to be, or where a step's number isn't above those before it. The
+/// Whether a gate was called by a delivery alone, once, and lent as many messages as the step made. A delivery that is refused
+/// calls it at most where the journal is full.
+fn is_lent(call: Call, made: &Result<Receipt, Fault>, before: Lent, after: Lent) -> bool {
+    let calls = after.calls.saturating_sub(before.calls);
+    let messages = after.messages.saturating_sub(before.messages);
+    match (call, made) {
+        (Call::Deliver(..), Ok(receipt)) => calls == 1 && messages == receipt.made as u64,
+        (Call::Deliver(..), Err(Fault::JournalFull)) => calls <= 1,
+        _ => calls == 0 && messages == 0,
+    }
+}
+
+/// The first place where another thing is told than is to be, where the gate was lent another thing than the step made, or
+/// where a step's number isn't above those before it. The
 /// passes make the calls in turn.
-pub fn first_wrong<'a, L: Site, R: Wait>(
+pub fn first_wrong<'a, L: FleetSite, R: Wait>(
     rt: &R,
     alloc: Global,
     fleet: &Fleet<'a, L>,
@@ -112,8 +124,9 @@ pub fn first_wrong<'a, L: Site, R: Wait>(
     }
     let mut last = 0;
     for (i, (call, told)) in steps.iter().enumerate() {
+        let before = look.lent();
         let made = call.made(rt, alloc, fleet, &mut passes[i % count], look);
-        if told_of(&made) != *told {
+        if told_of(&made) != *told || !is_lent(*call, &made, before, look.lent()) {
             return Some(i);
         }
         let number = made.map_or(0, |receipt| receipt.number);

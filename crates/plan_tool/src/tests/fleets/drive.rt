@@ -9,8 +9,7 @@ ghost use Rattle.node_fleet.specs.Bases.{passes_of, IsBaseOf};
 use super::super::texts::checked;
 use super::calls::{Step, first_wrong};
 use super::looks::Look;
-use journal::{Pass, Row, Site};
-use node_fleet::{Base, Fleet};
+use node_fleet::{Base, Fleet, FleetSite, Pass, Row};
 use plan::CheckedPlan;
 use std::alloc::Global;
 use std::marker::Brand;
@@ -56,7 +55,7 @@ fn find_of(outcome: &Outcome) -> Option<(u32, u64)> {
 }
 
 /// What a fleet leaves that is closed, where this call of a table was the first to be answered otherwise.
-pub fn ended<'a, L: Site>(
+pub fn ended<'a, L: FleetSite>(
     alloc: Global,
     fleet: Fleet<'a, L>,
     passes: Vec<Pass<'a, L>>,
@@ -83,7 +82,7 @@ pub fn ended<'a, L: Site>(
 }
 
 /// What a fleet leaves after the calls of a table, which its passes make in turn.
-fn drive<L: Site, R: Wait>(
+fn drive<L: FleetSite, R: Wait>(
     rt: &R,
     alloc: Global,
     row: &mut Row,
@@ -97,7 +96,7 @@ fn drive<L: Site, R: Wait>(
     requires cells { ids_of row.old ≡ L.cells }
     requires slots { slots ≡ L.slots }
     requires first { 1 ≤ slots }
-    requires base { IsBaseOf L.board L.history L.name L.parts base }
+    requires base { IsBaseOf L.plan L.board L.history L.mail L.name L.parts base }
     requires passes { 0 < passes_of base }
 {
     let copy = plan.clone()?;
@@ -122,6 +121,6 @@ pub fn run_table<R: Wait>(
 {
     let plan = checked(alloc, text)?;
     let mut row = Row::new(alloc, cells)?;
-    let base = Base::new(alloc, passes)?;
+    let base = Base::new(alloc, &plan, passes)?;
     drive::<Brand, R>(rt, alloc, &mut row, base, plan, slots, steps, look)
 }

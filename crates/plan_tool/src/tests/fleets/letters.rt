@@ -1,112 +1,159 @@
-//! Letters that are posted behind the closing letter, and lie in their mailboxes while a fleet is closed.
+//! Letters in a fleet's mailboxes.
 
-ghost use Rattle.std.specs.Prelude.{◌≡◌};
-ghost use Rattle.std.proofs.Props.{props};
+ghost use Rattle.std.specs.Prelude.{◌≡◌, ◌<◌};
+ghost use Rattle.std.specs.Arc.{arc_value};
 ghost use Rattle.plan.specs.CheckedModel.{checked_model};
-ghost use Rattle.mailboxes.specs.Mails.{AreSeatsOf, HasNodes};
-ghost use Rattle.mailboxes.proofs.Seats.{seats_prop};
+ghost use Rattle.journal.specs.Tokens.{ids_of};
+ghost use Rattle.node_fleet.specs.Bases.{passes_of, IsBaseOf};
 
 use super::super::texts::{SIX, checked};
-use super::calls::{Call, Step};
-use super::drive::{Ending, run_table};
+use super::calls::{Call, Step, first_wrong};
+use super::drive::{Ending, ended};
 use super::looks::Look;
 use super::tables::WRITTEN;
-use mailboxes::{MailSeats, Mailboxes};
+use node_fleet::{Base, Fleet, FleetSite, Pass, Row};
 use plan::CheckedPlan;
 use std::alloc::{AllocError, Global};
-use std::sync::Wait;
+use std::marker::Brand;
+use std::sync::{Arc, Wait};
 use std::test::*;
 use volume_model::Fault;
 
-/// The seats of one caller at the mailboxes of group 0.
-#[derive(Drop)]
-struct Desk<'m> {
-    plan: &'m CheckedPlan,
-    mail: &'m Mailboxes,
-    seats: MailSeats,
-    ghost nodes: { HasNodes (checked_model plan.now) mail.now },
-    ghost seats_of: { AreSeatsOf mail.now seats } by { Prim.hlevel (props, seats_prop) },
+/// How many letters a mailbox has room for.
+const ROOM: u64 = 1024;
+
+/// Posts a letter to a member of group 0, None the closing one.
+fn post<'a, L: FleetSite, R: Wait>(
+    rt: &R,
+    fleet: &Fleet<'a, L>,
+    pass: &mut Pass<'a, L>,
+    member: u8,
+    letter: Option<u64>,
+) {
+    if !fleet.names(0, member) {
+        return;
+    }
+    match letter {
+        Some(message) => fleet.post(rt, pass, 0, member, message),
+        None => fleet.close_mailbox(rt, pass, 0, member),
+    }
 }
 
-impl Desk<'_> {
-    /// Posts a letter to a member, None the closing one.
-    fn post<R: Wait>(&mut self, rt: &R, member: u8, letter: Option<u64>) {
-        let Desk { plan, mail, seats } = self;
-        if !plan.names(0, member) {
-            return;
-        }
-        match letter {
-            Some(message) => mail.post(rt, seats, 0, member, message),
-            None => mail.close_mailbox(rt, seats, 0, member),
+/// The letter that a member of group 0 was posted longest ago, for which it waits.
+fn collect<'a, L: FleetSite, R: Wait>(
+    rt: &R,
+    fleet: &Fleet<'a, L>,
+    pass: &mut Pass<'a, L>,
+    member: u8,
+) -> Option<u64> {
+    if !fleet.names(0, member) {
+        return None;
+    }
+    fleet.collect(rt, pass, 0, member)
+}
+
+/// Posts what is delivered by a table, and then to each of four members the closing letter and letter 7. Member 5 is posted as
+/// many letters as its mailbox has room for, and none of them is collected.
+fn post_all<'a, L: FleetSite, R: Wait>(
+    rt: &R,
+    fleet: &Fleet<'a, L>,
+    pass: &mut Pass<'a, L>,
+    steps: &[Step],
+) {
+    for (call, _) in steps {
+        if let Call::Deliver(member, message) = *call {
+            post(rt, fleet, pass, member, Some(message));
         }
     }
-
-    /// The letter that a member was posted longest ago, for which it waits.
-    fn collect<R: Wait>(&mut self, rt: &R, member: u8) -> Option<u64> {
-        let Desk { plan, mail, seats } = self;
-        if !plan.names(0, member) {
-            return None;
-        }
-        mail.collect(rt, seats, 0, member)
+    for member in 0..4 {
+        post(rt, fleet, pass, member, None);
+        post(rt, fleet, pass, member, Some(7));
     }
+    for letter in 0..ROOM {
+        post(rt, fleet, pass, 5, Some(letter));
+    }
+}
 
-    /// Posts what is delivered by a table, and then to each of four members the closing letter and letter 7.
-    fn post_all<R: Wait>(&mut self, rt: &R, steps: &[Step]) {
-        for (call, _) in steps {
-            if let Call::Deliver(member, message) = *call {
-                self.post(rt, member, Some(message));
+/// The calls of a table, where each delivery is that of a letter.
+fn by_letters<'a, L: FleetSite, R: Wait>(
+    rt: &R,
+    alloc: Global,
+    fleet: &Fleet<'a, L>,
+    pass: &mut Pass<'a, L>,
+    steps: &[Step],
+) -> Result<Vec<Step>, AllocError> {
+    let mut calls = Vec::new(alloc);
+    for (call, told) in steps {
+        let call = match *call {
+            Call::Deliver(member, _) => {
+                let letter = collect(rt, fleet, pass, member);
+                Call::Deliver(member, letter.unwrap_or(0))
             }
-        }
-        for member in 0..4 {
-            self.post(rt, member, None);
-            self.post(rt, member, Some(7));
-        }
+            other => other,
+        };
+        calls.push((call, *told))?;
     }
-
-    /// The calls of a table, where each delivery is that of a letter.
-    fn by_letters<R: Wait>(
-        &mut self,
-        rt: &R,
-        alloc: Global,
-        steps: &[Step],
-    ) -> Result<Vec<Step>, AllocError> {
-        let mut calls = Vec::new(alloc);
-        for (call, told) in steps {
-            let call = match *call {
-                Call::Deliver(member, _) => {
-                    Call::Deliver(member, self.collect(rt, member).unwrap_or(0))
-                }
-                other => other,
-            };
-            calls.push((call, *told))?;
-        }
-        Ok(calls)
-    }
+    Ok(calls)
 }
 
-/// What a fleet leaves whose deliveries come by letters, and how many of four members find the closing letter and letter 7 behind these.
-fn left<R: Wait>(rt: &R, alloc: Global) -> Result<(Ending, usize), Fault> {
-    let plan = checked(alloc, SIX)?;
-    let (mail, mut callers) = Mailboxes::new(alloc, &plan, 1)?;
-    let Some(seats) = callers.pop() else {
-        return Err(Fault::NoActor);
-    };
-    let mut desk = Desk {
-        plan: &plan,
-        mail: &mail,
-        seats,
-    };
-    desk.post_all(rt, WRITTEN);
-    let steps = desk.by_letters(rt, alloc, WRITTEN)?;
-    let ending = run_table(rt, alloc, SIX, 1, 1, 17, &steps, &Look::new())?;
+/// How many of four members find the closing letter and letter 7 next.
+fn behind<'a, L: FleetSite, R: Wait>(
+    rt: &R,
+    fleet: &Fleet<'a, L>,
+    pass: &mut Pass<'a, L>,
+) -> usize {
     let mut found = 0usize;
     for member in 0..4 {
-        let is_closed = desk.collect(rt, member).is_none();
-        if is_closed && desk.collect(rt, member) == Some(7) {
+        let is_closed = collect(rt, fleet, pass, member).is_none();
+        if is_closed && collect(rt, fleet, pass, member) == Some(7) {
             found = found.saturating_add(1);
         }
     }
+    found
+}
+
+/// What a fleet of one pass leaves whose deliveries come by letters, and how many of four members find the closing letter and
+/// letter 7 behind these.
+fn left_in<L: FleetSite, R: Wait>(
+    rt: &R,
+    alloc: Global,
+    row: &mut Row,
+    base: Base,
+    plan: Arc<CheckedPlan>,
+) -> Result<(Ending, usize), Fault>
+    requires plan { checked_model (arc_value plan) ≡ L.plan }
+    requires cells { ids_of row.old ≡ L.cells }
+    requires slots { L.slots ≡ 1 }
+    requires base { IsBaseOf L.plan L.board L.history L.mail L.name L.parts base }
+    requires passes { 0 < passes_of base }
+{
+    let copy = plan.clone()?;
+    let (fleet, mut passes) = Fleet::<L>::new(alloc, row, base, copy, 1)?;
+    let Some(pass) = passes.as_mut_slice().first_mut() else {
+        return Err(Fault::NoActor);
+    };
+    post_all(rt, &fleet, pass, WRITTEN);
+    let steps = by_letters(rt, alloc, &fleet, pass, WRITTEN)?;
+    let found = behind(rt, &fleet, pass);
+    let look = Look::new();
+    let wrong = first_wrong(
+        rt,
+        alloc,
+        &fleet,
+        passes.as_mut_slice(),
+        steps.as_slice(),
+        &look,
+    );
+    let ending = ended(alloc, fleet, passes, &plan, wrong)?;
     Ok((ending, found))
+}
+
+/// The same, over the plan of six nodes.
+fn left<R: Wait>(rt: &R, alloc: Global) -> Result<(Ending, usize), Fault> {
+    let plan = checked(alloc, SIX)?;
+    let mut row = Row::new(alloc, 17)?;
+    let base = Base::new(alloc, &plan, 1)?;
+    left_in::<Brand, R>(rt, alloc, &mut row, base, plan)
 }
 
 /// A fleet whose deliveries come by letters is closed while others lie in its members' mailboxes: its journal is as without them.

@@ -1,13 +1,29 @@
-//! Pages that are looked for among what nodes answer.
+//! What nodes answer, as gates are lent it.
 
-use fleet_actors::StepGate;
-use std::sync::atomic::{AtomicBool, Ordering};
-use wire::{Message, Messages};
+use node_fleet::StepGate;
+use std::sync::atomic::{AtomicBool, AtomicU64, Ordering};
+use wire::{Ack, CopyReport, Message, Messages};
 
-/// Whether a node was seen to answer a page that begins with these three bytes and has zeros behind them.
+/// What a gate was lent.
+#[derive(Clone, Copy, Debug, PartialEq, Eq)]
+pub struct Lent {
+    /// How often it was called.
+    pub calls: u64,
+    /// How many messages it was lent in all.
+    pub messages: u64,
+}
+
+/// A gate that counts its calls and notes what it is lent, and whether a node was seen to answer a page that begins with these
+/// three bytes and has zeros behind them.
 #[derive(Drop)]
 pub struct Look {
     seen: AtomicBool,
+    calls: AtomicU64,
+    messages: AtomicU64,
+    from: AtomicU64,
+    scl: AtomicU64,
+    pieces: AtomicU64,
+    records: AtomicU64,
 }
 
 impl Look {
@@ -15,23 +31,82 @@ impl Look {
     pub fn new() -> Look {
         Look {
             seen: AtomicBool::new(false),
+            calls: AtomicU64::new(0),
+            messages: AtomicU64::new(0),
+            from: AtomicU64::new(0),
+            scl: AtomicU64::new(0),
+            pieces: AtomicU64::new(0),
+            records: AtomicU64::new(0),
         }
     }
 
-    /// Whether it was.
+    /// Whether the page was seen.
     pub fn found(&self) -> bool {
         self.seen.load(Ordering::SeqCst)
+    }
+
+    /// What it was lent so far.
+    pub fn lent(&self) -> Lent {
+        Lent {
+            calls: self.calls.load(Ordering::SeqCst),
+            messages: self.messages.load(Ordering::SeqCst),
+        }
+    }
+
+    /// Of the last acknowledgement that it was lent, the member that made it and the complete point.
+    pub fn last_ack(&self) -> (u64, u64) {
+        (
+            self.from.load(Ordering::SeqCst),
+            self.scl.load(Ordering::SeqCst),
+        )
+    }
+
+    /// Of the lists of pieces that it was lent, how many pieces stood at the place of their number, and how many records these
+    /// have.
+    pub fn pieces(&self) -> (u64, u64) {
+        (
+            self.pieces.load(Ordering::SeqCst),
+            self.records.load(Ordering::SeqCst),
+        )
+    }
+
+    /// Notes an acknowledgement.
+    fn note_ack(&self, ack: &Ack) {
+        self.from.store(u64::from(ack.from), Ordering::SeqCst);
+        self.scl.store(ack.scl, Ordering::SeqCst);
+    }
+
+    /// Notes a piece of a copy that stands at a place of a list.
+    fn note_piece(&self, place: usize, piece: &CopyReport) {
+        if usize::from(piece.piece) == place {
+            let records = piece.part.contents.records.len() as u64;
+            self.pieces.fetch_add(1, Ordering::SeqCst);
+            self.records.fetch_add(records, Ordering::SeqCst);
+        }
     }
 }
 
 impl StepGate for Look {
     fn prepared(&self, answers: &Messages) {
-        let Messages::One(Message::Page(page)) = answers else {
-            return;
-        };
-        let bytes = page.image.bytes.as_slice();
-        if bytes.starts_with(b"abc") && bytes.iter().skip(3).all(|byte| *byte == 0) {
-            self.seen.store(true, Ordering::SeqCst);
+        self.calls.fetch_add(1, Ordering::SeqCst);
+        self.messages
+            .fetch_add(answers.len() as u64, Ordering::SeqCst);
+        match answers {
+            Messages::One(Message::Page(page)) => {
+                let bytes = page.image.bytes.as_slice();
+                if bytes.starts_with(b"abc") && bytes.iter().skip(3).all(|byte| *byte == 0) {
+                    self.seen.store(true, Ordering::SeqCst);
+                }
+            }
+            Messages::One(Message::Ack(ack)) => self.note_ack(ack),
+            Messages::Many(list) => {
+                for (place, message) in list.iter().enumerate() {
+                    if let Message::CopyReport(piece) = message {
+                        self.note_piece(place, piece);
+                    }
+                }
+            }
+            _ => {}
         }
     }
 }

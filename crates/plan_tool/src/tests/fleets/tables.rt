@@ -139,6 +139,7 @@ fn three_bytes(rt: HostRuntime) -> Result<(), Fault> {
     let ending = run_table(&rt, rt.alloc(), SIX, 1, 1, 17, WRITTEN, &look)?;
     assert_eq!(rt; ending.counts(), (None, 17, 0));
     assert_eq!(rt; ending.writer, Some((1, 3, 3)));
+    assert_eq!(rt; look.last_ack(), (3, 3));
     assert!(rt; !look.found());
     let ending = run_table(&rt, rt.alloc(), SIX, 3, 1, 20, WRITTEN_AND_READ, &look)?;
     assert_eq!(rt; ending.counts(), (None, 19, 0));

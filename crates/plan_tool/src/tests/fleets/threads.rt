@@ -11,9 +11,8 @@ use super::super::texts::{SIX, checked};
 use super::calls::{Call, Step, first_wrong};
 use super::drive::{Ending, ended};
 use super::looks::Look;
-use fleet_actors::{ClientDeed, NodeDeed, StepGate};
-use journal::{Pass, Row, Site};
-use node_fleet::{Base, Fleet};
+use fleet_actors::{ClientDeed, NodeDeed};
+use node_fleet::{Base, Fleet, FleetSite, Pass, Row, StepGate};
 use plan::CheckedPlan;
 use std::alloc::{AllocError, Global};
 use std::marker::Brand;
@@ -51,13 +50,13 @@ impl StepGate for Meeting {
 
 /// What all threads share, and how often each goes round.
 #[derive(Drop)]
-struct Scene<'f, 'a, L: Site> {
+struct Scene<'f, 'a, L: FleetSite> {
     fleet: &'f Fleet<'a, L>,
     gate: &'f Meeting,
     rounds: u32,
 }
 
-impl<'f, 'a, L: Site> Scene<'f, 'a, L> {
+impl<'f, 'a, L: FleetSite> Scene<'f, 'a, L> {
     /// The same once more.
     fn again(&self) -> Scene<'f, 'a, L> {
         Scene {
@@ -86,13 +85,13 @@ impl<'f, 'a, L: Site> Scene<'f, 'a, L> {
 
 /// A thread's part, with its pass.
 #[derive(Drop)]
-struct Hand<'f, 'a, L: Site> {
+struct Hand<'f, 'a, L: FleetSite> {
     scene: Scene<'f, 'a, L>,
     pass: Pass<'a, L>,
     number: u8,
 }
 
-impl<'f, 'a, L: Site> Hand<'f, 'a, L> {
+impl<'f, 'a, L: FleetSite> Hand<'f, 'a, L> {
     /// Delivers the first message to the member of its own number, goes round over all six, and gives its pass back.
     fn work<R: Wait>(self, rt: &R) -> Pass<'a, L> {
         let Hand {
@@ -110,7 +109,7 @@ impl<'f, 'a, L: Site> Hand<'f, 'a, L> {
 }
 
 /// A part for each pass.
-fn hands<'f, 'a, L: Site>(
+fn hands<'f, 'a, L: FleetSite>(
     alloc: Global,
     scene: &Scene<'f, 'a, L>,
     passes: Vec<Pass<'a, L>>,
@@ -128,7 +127,7 @@ fn hands<'f, 'a, L: Site>(
 }
 
 /// Starts a thread for each part, and takes the passes back.
-fn work_in<'s, 'f: 's, 'a: 's, E, L: Site + Send + Sync + 's, R: Threads + Wait + Sync>(
+fn work_in<'s, 'f: 's, 'a: 's, E, L: FleetSite + Send + Sync + 's, R: Threads + Wait + Sync>(
     scope: &Scope<'s, E>,
     rt: &'f R,
     alloc: Global,
@@ -146,7 +145,7 @@ fn work_in<'s, 'f: 's, 'a: 's, E, L: Site + Send + Sync + 's, R: Threads + Wait 
 }
 
 /// Does all parts on threads, and takes the passes back.
-fn work_all<'f, 'a, L: Site + Send + Sync, R: Threads + Wait + Sync>(
+fn work_all<'f, 'a, L: FleetSite + Send + Sync, R: Threads + Wait + Sync>(
     rt: &'f R,
     alloc: Global,
     hands: Vec<Hand<'f, 'a, L>>,
@@ -157,7 +156,7 @@ fn work_all<'f, 'a, L: Site + Send + Sync, R: Threads + Wait + Sync>(
 }
 
 /// Has the passes work on threads, and takes them back.
-fn worked<'f, 'a, L: Site + Send + Sync, R: Threads + Wait + Sync>(
+fn worked<'f, 'a, L: FleetSite + Send + Sync, R: Threads + Wait + Sync>(
     rt: &'f R,
     alloc: Global,
     fleet: &'f Fleet<'a, L>,
@@ -175,7 +174,7 @@ fn worked<'f, 'a, L: Site + Send + Sync, R: Threads + Wait + Sync>(
 }
 
 /// What a fleet leaves in which one record was issued and its passes worked on threads.
-fn work_over<L: Site + Send + Sync, R: Threads + Wait + Sync>(
+fn work_over<L: FleetSite + Send + Sync, R: Threads + Wait + Sync>(
     rt: &R,
     alloc: Global,
     row: &mut Row,
@@ -187,7 +186,7 @@ fn work_over<L: Site + Send + Sync, R: Threads + Wait + Sync>(
     requires plan { checked_model (arc_value plan) ≡ L.plan }
     requires cells { ids_of row.old ≡ L.cells }
     requires slots { L.slots ≡ 1 }
-    requires base { IsBaseOf L.board L.history L.name L.parts base }
+    requires base { IsBaseOf L.plan L.board L.history L.mail L.name L.parts base }
     requires passes { 0 < passes_of base }
 {
     let copy = plan.clone()?;
@@ -215,7 +214,7 @@ fn run_threads<R: Threads + Wait + Sync>(
 {
     let plan = checked(alloc, SIX)?;
     let mut row = Row::new(alloc, cells)?;
-    let base = Base::new(alloc, passes)?;
+    let base = Base::new(alloc, &plan, passes)?;
     work_over::<Brand, R>(rt, alloc, &mut row, base, plan, gate, rounds)
 }
 

@@ -8,13 +8,13 @@ use Rattle.node_fleet.proofs.fleet.Fleet.copied_step.Goals as goal
 pub returns-clause-told : goal.returns-clause-told
 returns-clause-told g c =
     let first = c.args.pass.now in
-    let new = c.client_does.new.pass in
-    subst (λ (e : Event). Tells e c.client_does.result (steps_of first) (steps_of new) (notes_of first) (notes_of new)) (c.in_ok-asked.ensures.cases c.args.volume) c.client_does.ensures.told
+    let new = c.enter_client.new.pass in
+    subst (λ (e : Event). Tells e c.enter_client.result (steps_of first) (steps_of new) (notes_of first) (notes_of new)) (c.in_ok-asked.ensures.cases c.args.volume) c.enter_client.ensures.told
 
 pub returns-clause-raised : goal.returns-clause-raised
 returns-clause-raised g c =
-    subst (λ (e : Event). IfOk c.client_does.result (λ r. RaisesBy e r.durable (seat_of c.args.pass.now) (seat_of c.client_does.new.pass))) (c.in_ok-asked.ensures.cases c.args.volume) c.client_does.ensures.raised
+    subst (λ (e : Event). IfOk c.enter_client.result (λ r. RaisesBy e r.durable (seat_of c.args.pass.now) (seat_of c.enter_client.new.pass))) (c.in_ok-asked.ensures.cases c.args.volume) c.enter_client.ensures.raised
 
 pub returns-clause-unmade : goal.returns-clause-unmade
 returns-clause-unmade g c =
-    subst (λ (e : Event). IfErr c.client_does.result (λ fault. fault ≡ NoMessage → NamesElse e (steps_of c.args.pass.now))) (c.in_ok-asked.ensures.cases c.args.volume) c.client_does.ensures.unmade
+    subst (λ (e : Event). IfErr c.enter_client.result (λ fault. fault ≡ NoMessage → NamesElse e (steps_of c.args.pass.now))) (c.in_ok-asked.ensures.cases c.args.volume) c.enter_client.ensures.unmade

@@ -1,3 +1,0 @@
-pub mod Homes
-pub mod Mails
-pub mod Seats

@@ -1,0 +1,16 @@
+//! What one caller did in a fleet.
+
+ghost use Rattle.std.proofs.Props.{props};
+ghost use Rattle.mailbox.specs.Mails.{AreSeatsIn};
+ghost use Rattle.mailbox.proofs.Seats.{seats_prop};
+
+use crate::site::FleetSite;
+use mailbox::MailSeats;
+
+/// What one caller did: its steps and notes in the journal, its seat on the board, and its seats at the mailboxes.
+#[derive(Drop)]
+pub struct Pass<'a, L: FleetSite> {
+    pub(crate) entered: journal::Pass<'a, L>,
+    pub(crate) mail: MailSeats,
+    ghost seats_of: { AreSeatsIn L.mail mail } by { Prim.hlevel (props, seats_prop) },
+}
