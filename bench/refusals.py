@@ -15,7 +15,8 @@ proof and with the checks at run time that `rt try` puts in. Each tells a story 
 `check_plan`, `copy_in`, `search_one`, `search_all` by one worker and by three, and `write_plan` answer, over plans of every format, with
 full members and such as keep the log alone, with weights, with certificates of each rule, and over texts with faults; `fleet_stories.py`
 what a fleet's calls give by one pass or three, each step's numbers, the closed journal and how the world's run of it ends, of the same two
-scripts. A growth is refused while it tells the first time. A call that answers want of memory is made once more, on the same values, and
+scripts, and compares its answers with those of a run where a member restarts between lines and between the pieces of a copy. A growth is
+refused while it tells the first time. A call that answers want of memory is made once more, on the same values, and
 the story goes on, with what it answers then; so where such a call had added anything, or changed what a later one sees, or answered another
 fault, the stories would differ.
 """
@@ -137,6 +138,13 @@ FLEET_STORIES = ["one pass", "three passes"]
 CORE_STORIES = ["reading", "claims", "checking", "copying", "searching", "searching by three", "writing"]
 
 PLANS = ["six_copies.json", "member_replaced.json", "every_rule.json", "large_and_small.json", "uncertified.json", "growing.json", "write_three.json", "two_zones.json"]
+
+# What the fleet's program prints of restarts between a script's lines, each step of which is answered as by a run of the same events, and of
+# three passes that take the four acknowledgements of a commit on threads of their own.
+COMPARED = {
+    "restarts": "15 scripts with a restart, 0 answered otherwise than by a run\n",
+    "threads": "a new fleet reads 0; 4 steps on threads, durable 3 in all and 3 of step 17, 9 read by three\n",
+}
 
 # Plans and scripts, and by how many drivers a fleet runs each: what it comes to may not depend on the order of lines that drivers share.
 SCRIPTS = [("six_copies.json", "three_bytes_written.script", ("1", "3")), ("member_replaced.json", "early_acknowledgement.script", ("1",))]
@@ -285,7 +293,7 @@ def core_program():
 
 def fleet_program():
     """The same of a fleet's calls."""
-    shown = {"SIX": example_text("six_copies.json"), "REPLACED": example_text("member_replaced.json")}
+    shown = {"SIX": example_text("six_copies.json"), "REPLACED": example_text("member_replaced.json"), "LONG": example_text("long_log.json")}
     return "fleet_stories", FLEET_CRATES, {"stories/over/Invariants.antt": SITE}, {"stories": FLEETS, "texts": constants(shown, False)}
 
 
@@ -295,8 +303,18 @@ def sweep_calls(refusing, folder):
     for (name, crates, proofs, modules), stories in ((core_program(), CORE_STORIES), (fleet_program(), FLEET_STORIES)):
         work = folder / name
         work.mkdir()
-        right &= sweep_stories(refusing, str(tried(work, name, MAIN, crates, [stories[0]], proofs, modules)), stories)
+        program = str(tried(work, name, MAIN, crates, [stories[0]], proofs, modules))
+        right &= sweep_stories(refusing, program, stories)
+        if name == "fleet_stories":
+            right &= all(compare(program, *one) for one in COMPARED.items())
     return right
+
+
+def compare(program, story, due):
+    """Compares what a program tells of a story with what is due; whether it is that."""
+    said = subprocess.run([program, story, "aloud"], capture_output=True, text=True).stdout
+    print(f"{story}: {said}", end="", flush=True)
+    return said == due
 
 
 def main():

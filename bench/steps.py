@@ -31,7 +31,7 @@ ghost use Rattle.plan.specs.CheckedModel.{checked_model};
 ghost use Rattle.journal.specs.Tokens.{ids_of};
 ghost use Rattle.node_fleet.specs.Bases.{passes_of, IsBaseOf};
 
-use fleet_actors::{ClientDeed, NodeDeed, StepGate};
+use fleet_actors::{ClientAction, NodeAction, StepGate};
 use node_fleet::{Base, Fleet, FleetSite, Pass, Row};
 use plan::{CheckedPlan, check_plan, read_plan};
 use std::alloc::{AllocError, Global};
@@ -135,17 +135,17 @@ struct Made {
 }
 
 /// A transaction of so many changes of 8 bytes, to the blocks from this one on.
-fn transaction(alloc: Global, first: u32, changes: u32) -> Result<ClientDeed, AllocError> {
+fn transaction(alloc: Global, first: u32, changes: u32) -> Result<ClientAction, AllocError> {
     let mut all = Vec::with_capacity(alloc, changes as usize)?;
     for change in 0..changes {
         let block = first.wrapping_add(change) % BLOCKS;
         all.push(Change::new(alloc, 0, block, 0, &[5; 8])?)?;
     }
-    Ok(ClientDeed::Issue(all))
+    Ok(ClientAction::Issue(all))
 }
 
 /// The transactions of a round.
-fn transactions(alloc: Global, changes: u32) -> Result<Vec<ClientDeed>, AllocError> {
+fn transactions(alloc: Global, changes: u32) -> Result<Vec<ClientAction>, AllocError> {
     let mut all = Vec::with_capacity(alloc, ISSUES as usize)?;
     for issue in 0..ISSUES {
         all.push(transaction(alloc, issue.wrapping_mul(changes), changes)?)?;
@@ -159,18 +159,18 @@ fn issue<'a, L: FleetSite, R: Wait + Clock>(
     rt: &R,
     fleet: &Fleet<'a, L>,
     callers: &mut Callers<'a, L>,
-    deeds: &[ClientDeed],
+    actions: &[ClientAction],
     writes: &mut Vec<u64>,
     times: &mut Times,
 ) -> Option<()> {
     let start = Instant::now(rt).ok()?;
-    for deed in deeds {
-        let receipt = fleet.client_step(rt, callers.next()?, 1, deed).ok()?;
+    for action in actions {
+        let receipt = fleet.client_step(rt, callers.next()?, 1, action).ok()?;
         for place in 0..receipt.made as u64 {
             writes.push(receipt.first_message.wrapping_add(place)).ok()?;
         }
     }
-    times.add(rt, start, deeds.len())
+    times.add(rt, start, actions.len())
 }
 
 /// Issues the transactions of a round, which the journal is given.
@@ -179,14 +179,14 @@ fn give<'a, L: FleetSite, R: Wait + Clock>(
     rt: &R,
     fleet: &Fleet<'a, L>,
     callers: &mut Callers<'a, L>,
-    deeds: Vec<ClientDeed>,
+    actions: Vec<ClientAction>,
     writes: &mut Vec<u64>,
     times: &mut Times,
 ) -> Option<()> {
-    let count = deeds.len();
+    let count = actions.len();
     let start = Instant::now(rt).ok()?;
-    for deed in deeds {
-        let receipt = fleet.client_does(rt, callers.next()?, 1, deed).ok()?;
+    for action in actions {
+        let receipt = fleet.client_does(rt, callers.next()?, 1, action).ok()?;
         for place in 0..receipt.made as u64 {
             writes.push(receipt.first_message.wrapping_add(place)).ok()?;
         }
@@ -225,8 +225,8 @@ fn take<'a, L: FleetSite, R: Wait + Clock>(
 ) -> Option<()> {
     let start = Instant::now(rt).ok()?;
     for ack in acks {
-        let deed = ClientDeed::Take { message: *ack };
-        let _ = fleet.client_step(rt, callers.next()?, 1, &deed).ok()?;
+        let action = ClientAction::Take { message: *ack };
+        let _ = fleet.client_step(rt, callers.next()?, 1, &action).ok()?;
     }
     times.add(rt, start, acks.len())
 }
@@ -243,7 +243,7 @@ fn restart<'a, L: FleetSite, R: Wait + Clock>(
     let start = Instant::now(rt).ok()?;
     for _ in 0..count / usize::from(NODES) {
         for node in 0..NODES {
-            let _ = fleet.node_step(rt, callers.next()?, 0, node, NodeDeed::Restart).ok()?;
+            let _ = fleet.node_step(rt, callers.next()?, 0, node, NodeAction::Restart).ok()?;
         }
     }
     times.add(rt, start, count)
@@ -254,7 +254,7 @@ fn round<'a, L: FleetSite, R: Wait + Clock>(
     rt: &R,
     fleet: &Fleet<'a, L>,
     callers: &mut Callers<'a, L>,
-    deeds: &Vec<ClientDeed>,
+    actions: &Vec<ClientAction>,
     gives: bool,
     made: &mut Made,
     table: &mut Table,
@@ -270,9 +270,9 @@ fn round<'a, L: FleetSite, R: Wait + Clock>(
     writes.clear();
     acks.clear();
     if gives {
-        give(rt, fleet, callers, deeds.clone().ok()?, writes, given)?;
+        give(rt, fleet, callers, actions.clone().ok()?, writes, given)?;
     } else {
-        issue(rt, fleet, callers, deeds.as_slice(), writes, issued)?;
+        issue(rt, fleet, callers, actions.as_slice(), writes, issued)?;
     }
     deliver(rt, fleet, callers, writes.as_slice(), acks, delivered)?;
     take(rt, fleet, callers, acks.as_slice(), taken)?;
@@ -300,10 +300,10 @@ fn rounds<'a, L: FleetSite, R: Wait + Clock>(
         writes: Vec::with_capacity(alloc, 4096).ok()?,
         acks: Vec::with_capacity(alloc, 16384).ok()?,
     };
-    let deeds = transactions(alloc, changes).ok()?;
+    let actions = transactions(alloc, changes).ok()?;
     let mut callers = Callers { passes, at: 0 };
     for number in 0..count {
-        round(rt, fleet, &mut callers, &deeds, number % 2 > 0, &mut made, &mut table)?;
+        round(rt, fleet, &mut callers, &actions, number % 2 > 0, &mut made, &mut table)?;
     }
     Some(table)
 }

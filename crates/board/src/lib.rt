@@ -1,4 +1,4 @@
-//! A number on a board, which threads raise and read with no lock.
+//! A number that threads raise and read without a lock.
 #![tactic(auto)]
 
 ghost use Rattle.std.specs.Prelude.{◌≡◌, length};
@@ -7,10 +7,10 @@ use atomic_table::{Join, Play, Seat, Split, Table, TableRule};
 use std::alloc::{AllocError, Global};
 use std::collections::LinkedList;
 
-/// A step of a seat on the board.
+/// A step of a seat.
 #[derive(Clone, Copy)]
 pub enum BoardStep {
-    /// The board was raised to this number, where it was below.
+    /// The number was raised to this one, if it was below.
     Raised(u64),
     /// This number was read.
     Read(u64),
@@ -20,7 +20,7 @@ pub enum BoardStep {
 // no value of it is made.
 type Seats = (u64, LinkedList<LinkedList<BoardStep>>);
 
-/// The rule of the word and the steps of all seats. Its key is the number of seats.
+/// The rule of the number and the steps of all seats. Its key is the number of seats.
 pub struct Durable;
 
 impl TableRule<(), Seats, u64> for Durable {
@@ -32,7 +32,7 @@ impl TableRule<(), Seats, u64> for Durable {
     ghost first = { λ seats. (seats - 1, [] ∷ []) };
 }
 
-/// One seat more is dealt, which has made no step.
+/// One more seat is dealt, which has made no step.
 pub struct NewSeat;
 
 impl Split<Seats> for NewSeat {
@@ -74,7 +74,7 @@ impl Play<(), Seats> for Look {
     ghost then = { λ step before found after. Looks before.0 found after.0 × (after.1 ≡ before.1) };
 }
 
-/// A number that only rises: the greatest that any seat has raised it to, else 0.
+/// A number that only rises: the greatest that any seat has raised it to, 0 at first.
 #[derive(Drop)]
 pub struct Board {
     table: Table<(), Seats, u64, Durable, Global>,
@@ -82,14 +82,14 @@ pub struct Board {
     ghost no_slot: { table.shared.table_id.slots ≡ 0 },
 }
 
-/// Where one holder raises and reads the number. Contracts see all its steps.
+/// One holder's seat at the board. Contracts see all its steps.
 #[derive(Drop)]
 pub struct BoardSeat {
     seat: Seat<(), Seats>,
     ghost one: { (seat.me.0.0 ≡ 0) × (length seat.me.0.1 ≡ 1) },
 }
 
-/// Seats of one board that were returned. Contracts see the steps of each.
+/// Returned seats of one board. Contracts see the steps of each.
 #[derive(Drop)]
 pub struct ReturnedSeats {
     all: Seat<(), Seats>,
@@ -100,7 +100,7 @@ impl BoardSeat {
     ghost use Rattle.std.specs.Prelude.{[], ◌∷◌};
     ghost use Rattle.board.specs.Seats.{returned, steps_of, AreReturnedTo, IsSeatIn};
 
-    /// Returns this seat, the first of its board to be returned.
+    /// Returns this seat, as the first of its board.
     pub fn into_returned(self) -> ReturnedSeats
         ensures same { IsSeatIn self.seat.table_id self → AreReturnedTo self.seat.table_id result }
         ensures returned { returned result ≡ steps_of self ∷ [] }
@@ -115,10 +115,10 @@ impl Board {
     ghost use Rattle.board.specs.Board.{number_of, IsBoard, IsKept};
     ghost use Rattle.board.specs.Seats.{board_table, returned, seats_of, AreReturnedTo, IsSeatOf, steps_of};
 
-    /// A board that reads 0, and its seats, so many, which have made no step.
+    /// Makes a board that reads 0 and its `seats` seats, which have made no step.
     ///
     /// # Errors
-    /// Where a growth was refused.
+    /// `AllocError` if there is no memory for the seats.
     pub fn new(alloc: Global, seats: usize) -> Result<(Board, Vec<BoardSeat>), AllocError>
         requires { 0 < seats }
         ensures count { IfOk result (λ b. (vec_len b.1 ≡ seats) × (seats_of b.0 ≡ seats)) }
@@ -136,8 +136,7 @@ impl Board {
         Ok((Board { table }, made))
     }
 
-    /// Raises the number to this one, where it is below. All seats' steps keep the rule of the board then. Takes no lock and
-    /// no memory.
+    /// Raises the number to `lsn` if it is below. Takes no lock and no memory.
     pub fn raise(&self, seat: &mut BoardSeat, lsn: u64)
         requires { IsSeatOf self.now seat.old }
         ensures same { IsSeatOf self.now seat.new }
@@ -147,8 +146,8 @@ impl Board {
         self.table.shared.fetch_max::<Raise>(&mut seat.seat, 0, lsn);
     }
 
-    /// The number, which is at least all that this seat has raised or read, and is the greatest that any seat has raised it to,
-    /// else 0. Takes no lock and no memory.
+    /// Returns the number: the greatest raised so far (0 if none), at least all that this seat raised or read. Takes
+    /// no lock and no memory.
     pub fn durable(&self, seat: &mut BoardSeat) -> u64
         requires { IsSeatOf self.now seat.old }
         ensures same { IsSeatOf self.now seat.new }
@@ -159,7 +158,7 @@ impl Board {
         self.table.shared.load::<Look>(&mut seat.seat, 0)
     }
 
-    /// Takes one seat more back. Takes no memory.
+    /// Takes one more seat back. Takes no memory.
     pub fn take_back(&self, seats: &mut ReturnedSeats, seat: BoardSeat)
         requires { AreReturnedTo (board_table self.now) seats.old × IsSeatOf self.now seat }
         ensures same { AreReturnedTo (board_table self.now) seats.new }
@@ -169,9 +168,9 @@ impl Board {
         self.table.shared.join_seat::<Return>(&mut seats.all, seat);
     }
 
-    /// Ends a board whose seats were all returned, and returns its number. Of the steps of exactly these seats the number is
-    /// the greatest that was raised, else 0, and each number that one of them read is 0 or was raised by one of them. What
-    /// one seat read never fell. Takes no memory.
+    /// Closes a board whose seats were all returned, and returns its number. By the steps of exactly these seats, the
+    /// number is the greatest raised (0 if none), each number read is 0 or was raised, and no seat's readings fall.
+    /// Takes no memory.
     pub fn end(self, seats: ReturnedSeats) -> u64
         requires seats { AreReturnedTo (board_table self) seats }
         requires all { length (returned seats) ≡ seats_of self }
@@ -184,8 +183,8 @@ impl Board {
         number
     }
 
-    /// Takes all seats back, ends the board, and returns its number: by the steps of exactly these seats, as [`Board::end`]
-    /// says. Takes no memory.
+    /// Takes all seats back, closes the board and returns its number, as [`Board::end`] says of exactly these seats.
+    /// Takes no memory.
     pub fn close(self, mut seats: Vec<BoardSeat>) -> u64
         requires of { All (λ s. IsSeatOf self s) seats.items }
         requires all { (vec_len seats ≡ seats_of self) × (0 < vec_len seats) }

@@ -29,7 +29,7 @@ use Rattle.std.specs.declared.sync.ledger.Ledger as ledger
 use Rattle.board.proofs.Board.TheSendSync as board
 use Rattle.mailbox.proofs.per_node.Mailboxes.TheSendSync as mailboxes
 use Rattle.journal.specs.declared.row.Site as site
-use Rattle.journal.proofs.mark.Mark.TheSendSync as mark
+use Rattle.journal.proofs.cursor.ActorCursor.TheSendSync as cursor
 use Rattle.journal.proofs.log.Log.TheSendSync as log
 use Rattle.fleet_actors.specs.contracts.authority.AuthorityActor as AuthorityActor
 use Rattle.fleet_actors.specs.contracts.client.ClientActor as ClientActor
@@ -83,13 +83,13 @@ client_send = search (sendable, client_field) depth 30
 
 module _ (T : RattleType) (g : site.Ghosts T.Denot) (l : ledger.Ghosts T.Denot) where
   authority_actor : IsSend (AuthorityActor.the_row T g l)
-  authority_actor = recorded_send (AuthorityActor.the_field T g l).row _ _ (AuthorityActor.the_type T g l).to_one (struct_send (shape (AuthorityActor.the_type T g l)) (mark.the_field_send T g l, (authority_field, tt)))
+  authority_actor = recorded_send (AuthorityActor.the_field T g l).row _ _ (AuthorityActor.the_type T g l).to_one (struct_send (shape (AuthorityActor.the_type T g l)) (cursor.the_field_send T g l, (authority_field, tt)))
 
   client_actor : IsSend (ClientActor.the_row T g l)
-  client_actor = recorded_send (ClientActor.the_field T g l).row _ _ (ClientActor.the_type T g l).to_one (struct_send (shape (ClientActor.the_type T g l)) (mark.the_field_send T g l, (client_field, tt)))
+  client_actor = recorded_send (ClientActor.the_field T g l).row _ _ (ClientActor.the_type T g l).to_one (struct_send (shape (ClientActor.the_type T g l)) (cursor.the_field_send T g l, (client_field, tt)))
 
   node_actor : IsSend (NodeActor.the_row T g l)
-  node_actor = recorded_send (NodeActor.the_field T g l).row _ _ (NodeActor.the_type T g l).to_one (struct_send (shape (NodeActor.the_type T g l)) (mark.the_field_send T g l, (segment_field, (search sendable, (search sendable, tt)))))
+  node_actor = recorded_send (NodeActor.the_field T g l).row _ _ (NodeActor.the_type T g l).to_one (struct_send (shape (NodeActor.the_type T g l)) (cursor.the_field_send T g l, (segment_field, (search sendable, (search sendable, tt)))))
 
   -- threads may share a fleet
   pub fleet_sync : (f : fleet_site.Ghosts T.Denot) (a : NamedLft) → IsSync (Fleet.the_row a T f g l)
@@ -103,11 +103,8 @@ module _ (T : RattleType) (g : site.Ghosts T.Denot) (l : ledger.Ghosts T.Denot) 
             (
               mailboxes.the_field_sync,
               (
-                search (sendable, crosses) depth 20,
-                (
-                  search (crosses, authority_actor) depth 20,
-                  (search (sendable, crosses, client_actor) depth 20, (search (sendable, crosses, node_actor) depth 20, (search (crosses, log.the_send a T g l) depth 20, (search sendable, tt)))),
-                ),
+                search (crosses, authority_actor) depth 20,
+                (search (sendable, crosses, client_actor) depth 20, (search (sendable, crosses, node_actor) depth 20, (search (crosses, log.the_send a T g l) depth 20, (search sendable, tt)))),
               ),
             ),
           ),

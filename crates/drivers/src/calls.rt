@@ -1,13 +1,13 @@
-//! Events, as calls of the fleet.
+//! Events as calls of the fleet.
 
-use fleet_actors::{ClientDeed, NodeDeed};
+use fleet_actors::{ClientAction, NodeAction};
 use node_fleet::{Fleet, FleetSite, Pass, Receipt};
 use std::alloc::AllocError;
 use std::sync::Wait;
 use volume_model::Fault;
 use world::{AuthorityAct, Event};
 
-/// What the authority is to do, if the event is its.
+/// Returns the authority's action, if the event is one.
 fn authority_act(event: &Event) -> Option<AuthorityAct> {
     match event {
         Event::Assign => Some(AuthorityAct::Assign),
@@ -24,35 +24,35 @@ fn authority_act(event: &Event) -> Option<AuthorityAct> {
     }
 }
 
-/// The node that is to do something of itself, and what, if the event is such.
-fn node_deed(event: &Event) -> Option<(u8, u8, NodeDeed)> {
+/// Returns the node and its action without a message, if the event is one.
+fn node_action(event: &Event) -> Option<(u8, u8, NodeAction)> {
     match event {
-        Event::Hydrate { group, member } => Some((*group, *member, NodeDeed::Hydrate)),
-        Event::Restart { group, member } => Some((*group, *member, NodeDeed::Restart)),
+        Event::Hydrate { group, member } => Some((*group, *member, NodeAction::Hydrate)),
+        Event::Restart { group, member } => Some((*group, *member, NodeAction::Restart)),
         Event::Offer { group, member, lsn } => {
-            Some((*group, *member, NodeDeed::Offer { lsn: *lsn }))
+            Some((*group, *member, NodeAction::Offer { lsn: *lsn }))
         }
         _ => None,
     }
 }
 
-/// The client that is to do something, and what, if the event is such.
-fn client_deed(event: &Event) -> Result<Option<(u32, ClientDeed)>, AllocError> {
+/// Returns the client and its action, if the event is one.
+fn client_action(event: &Event) -> Result<Option<(u32, ClientAction)>, AllocError> {
     Ok(match event {
-        Event::Issue { volume, changes } => Some((*volume, ClientDeed::Issue(changes.clone()?))),
+        Event::Issue { volume, changes } => Some((*volume, ClientAction::Issue(changes.clone()?))),
         Event::Take { volume, message } => {
-            Some((*volume, ClientDeed::Take { message: *message }))
+            Some((*volume, ClientAction::Take { message: *message }))
         }
-        Event::Cut { volume } => Some((*volume, ClientDeed::Cut)),
-        Event::Open { volume } => Some((*volume, ClientDeed::Open)),
-        Event::Resend { volume, lsn } => Some((*volume, ClientDeed::Resend { lsn: *lsn })),
+        Event::Cut { volume } => Some((*volume, ClientAction::Cut)),
+        Event::Open { volume } => Some((*volume, ClientAction::Open)),
+        Event::Resend { volume, lsn } => Some((*volume, ClientAction::Resend { lsn: *lsn })),
         Event::Read {
             volume,
             group,
             block,
         } => Some((
             *volume,
-            ClientDeed::Read {
+            ClientAction::Read {
                 group: *group,
                 block: *block,
             },
@@ -61,10 +61,10 @@ fn client_deed(event: &Event) -> Result<Option<(u32, ClientDeed)>, AllocError> {
     })
 }
 
-/// Makes an event that isn't a delivery.
+/// Makes the step of an event that isn't a delivery.
 ///
 /// # Errors
-/// The refusal of the actor, `NoMemory` where a growth was refused, and `NoMessage` where the event is a delivery.
+/// The actor's refusal; `NoMemory`; `NoMessage` if the event is a delivery.
 pub fn call<'a, L: FleetSite, R: Wait>(
     rt: &R,
     fleet: &Fleet<'a, L>,
@@ -74,11 +74,11 @@ pub fn call<'a, L: FleetSite, R: Wait>(
     if let Some(act) = authority_act(event) {
         return fleet.advance(rt, pass, act);
     }
-    if let Some((group, member, deed)) = node_deed(event) {
-        return fleet.node_step(rt, pass, group, member, deed);
+    if let Some((group, member, action)) = node_action(event) {
+        return fleet.node_step(rt, pass, group, member, action);
     }
-    match client_deed(event)? {
-        Some((volume, deed)) => fleet.client_does(rt, pass, volume, deed),
+    match client_action(event)? {
+        Some((volume, action)) => fleet.client_does(rt, pass, volume, action),
         None => Err(Fault::NoMessage),
     }
 }

@@ -8,12 +8,12 @@ ghost use Rattle.journal.specs.Tokens.{ids_of};
 ghost use Rattle.node_fleet.specs.Bases.{passes_of, IsBaseOf};
 ghost use Rattle.drivers.specs.Driven.{IsDriven};
 
-use crate::desk::Desk;
-use crate::hand::{Hand, Part};
+use crate::assignments::{Assignment, assignments};
+use crate::completion_table::CompletionTable;
 use crate::nodes::{Node, receivers};
 use crate::run::Run;
-use crate::threads::{Crew, run_all};
-use crate::turns::{Turn, turns};
+use crate::threads::{Workers, run_all};
+use crate::worker::{Part, WorkerContext};
 use node_fleet::{Base, Fleet, FleetSite, Pass, Row};
 use plan::CheckedPlan;
 use script::Script;
@@ -21,27 +21,27 @@ use std::alloc::{AllocError, Global};
 use std::marker::Brand;
 use std::sync::{Arc, Wait};
 use std::thread::Threads;
-use tallies::{Tally, agrees};
+use tallies::{RunCounts, agrees};
 use volume_model::Fault;
 use world::{Outcome, run};
 
-/// How many client slots there are.
+/// The number of client slots.
 const SLOTS: u32 = 64;
 
-/// What a script's run on threads leaves.
+/// The result of a script's run on threads.
 #[derive(Drop)]
 pub struct Driven {
-    /// How many events were made.
+    /// The number of events that were made.
     pub steps: usize,
-    /// How many events were refused.
+    /// The number of events that were refused.
     pub refused: usize,
-    /// Whether the journal that the threads left, run by the world, refuses nothing and has as many steps.
+    /// Whether the journal's run by the world refuses nothing and has `steps` steps.
     pub agrees: bool,
-    /// How that run of the journal ends.
+    /// How that run ends.
     pub outcome: Outcome,
 }
 
-/// The parts of these nodes' threads.
+/// Returns a part for each node's thread.
 fn node_parts(alloc: Global, nodes: &[Node]) -> Result<Vec<Part>, AllocError> {
     let mut parts = Vec::with_capacity(alloc, nodes.len())?;
     for node in nodes {
@@ -50,7 +50,7 @@ fn node_parts(alloc: Global, nodes: &[Node]) -> Result<Vec<Part>, AllocError> {
     Ok(parts)
 }
 
-/// The parts of so many drivers.
+/// Returns a part for each driver.
 fn driver_parts(alloc: Global, workers: u8) -> Result<Vec<Part>, AllocError> {
     let mut parts = Vec::with_capacity(alloc, usize::from(workers))?;
     for number in 0..workers {
@@ -60,31 +60,31 @@ fn driver_parts(alloc: Global, workers: u8) -> Result<Vec<Part>, AllocError> {
 }
 
 /// Gives each part a pass.
-fn hands<'f, 'a, L: FleetSite>(
+fn contexts<'f, 'a, L: FleetSite>(
     alloc: Global,
     run: &Run<'f, 'a, L>,
     parts: Vec<Part>,
     passes: &mut Vec<Pass<'a, L>>,
-) -> Result<Vec<Hand<'f, 'a, L>>, AllocError> {
-    let mut hands = Vec::with_capacity(alloc, parts.len())?;
+) -> Result<Vec<WorkerContext<'f, 'a, L>>, AllocError> {
+    let mut contexts = Vec::with_capacity(alloc, parts.len())?;
     for part in parts {
         let Some(pass) = passes.pop() else {
             return Err(AllocError);
         };
         let run = run.again();
-        hands.push(Hand { run, part, pass })?;
+        contexts.push(WorkerContext { run, part, pass })?;
     }
-    Ok(hands)
+    Ok(contexts)
 }
 
 /// What all threads of a run are lent.
 #[derive(Drop)]
 struct Stage {
-    turns: Vec<Turn>,
-    desk: Desk,
+    assignments: Vec<Assignment>,
+    completions: CompletionTable,
 }
 
-/// Runs so many drivers and these nodes on threads of their own, and takes their passes back.
+/// Runs the drivers and nodes on threads of their own and takes their passes back.
 fn ran<'f, 'a, L: FleetSite + Send + Sync, R: Threads + Wait + Sync>(
     rt: &'f R,
     alloc: Global,
@@ -98,49 +98,49 @@ fn ran<'f, 'a, L: FleetSite + Send + Sync, R: Threads + Wait + Sync>(
     let run = Run {
         fleet,
         orders: &script.orders,
-        turns: &stage.turns,
-        desk: &stage.desk,
+        assignments: &stage.assignments,
+        completions: &stage.completions,
     };
     let served = node_parts(alloc, nodes)?;
     let driven = driver_parts(alloc, workers)?;
-    let served = hands(alloc, &run, served, &mut passes)?;
-    let drivers = hands(alloc, &run, driven, &mut passes)?;
-    let crew = Crew {
+    let served = contexts(alloc, &run, served, &mut passes)?;
+    let drivers = contexts(alloc, &run, driven, &mut passes)?;
+    let run_threads = Workers {
         nodes: served,
         drivers,
         run,
     };
-    run_all(rt, alloc, &stage.desk.go, crew, nodes)
+    run_all(rt, alloc, &stage.completions.go, run_threads, nodes)
 }
 
-/// What a closed fleet leaves of a run in which so many orders were made and refused.
+/// Closes the fleet and returns the result of a run with these counts.
 fn ended<'a, L: FleetSite>(
     alloc: Global,
     fleet: Fleet<'a, L>,
     passes: Vec<Pass<'a, L>>,
     plan: &Arc<CheckedPlan>,
-    tally: Tally,
+    counts: RunCounts,
 ) -> Result<Driven, Fault>
     requires plan { checked_model (arc_value plan.now) ≡ L.plan }
     requires passes { (vec_len passes ≡ L.parts) × (0 < vec_len passes) }
-    ensures driven { IfOk result (IsDriven (checked_model (arc_value plan.now)) (tally.made + tally.refused)) }
-    ensures steps { IfOk result (λ driven. driven.steps ≡ tally.made) }
-    ensures refused { IfOk result (λ driven. driven.refused ≡ tally.refused) }
+    ensures driven { IfOk result (IsDriven (checked_model (arc_value plan.now)) (counts.made + counts.refused)) }
+    ensures steps { IfOk result (λ driven. driven.steps ≡ counts.made) }
+    ensures refused { IfOk result (λ driven. driven.refused ≡ counts.refused) }
     ensures memory { IfErr result (λ fault. fault ≡ NoMemory) }
 {
     let journal = fleet.close(passes);
     let events = journal.events(alloc)?;
     let outcome = run(alloc, plan, events.as_slice())?;
-    let agrees = agrees(&outcome, &events, tally.made);
+    let agrees = agrees(&outcome, &events, counts.made);
     Ok(Driven {
-        steps: tally.made,
-        refused: tally.refused,
+        steps: counts.made,
+        refused: counts.refused,
         agrees,
         outcome,
     })
 }
 
-/// Runs a script on a fleet by these passes, one for each driver and each of these nodes, and closes it.
+/// Runs a script on a fleet, with a pass for each driver and each node, and closes it.
 fn drive_over<'a, L: FleetSite + Send + Sync, R: Threads + Wait + Sync>(
     rt: &R,
     alloc: Global,
@@ -158,16 +158,16 @@ fn drive_over<'a, L: FleetSite + Send + Sync, R: Threads + Wait + Sync>(
     ensures memory { IfErr result (λ fault. fault ≡ NoMemory) }
 {
     let stage = Stage {
-        turns: turns(alloc, script, workers)?,
-        desk: Desk::new(alloc, script.orders.len())?,
+        assignments: assignments(alloc, script, workers)?,
+        completions: CompletionTable::new(alloc, script.orders.len())?,
     };
     let count = passes.len();
     let passes = ran(rt, alloc, &fleet, &stage, script, workers, nodes, passes)?;
     if passes.len() != count {
         return Err(Fault::NoMemory);
     }
-    let tally = stage.desk.counts(rt)?;
-    ended(alloc, fleet, passes, plan, tally)
+    let counts = stage.completions.counts(rt)?;
+    ended(alloc, fleet, passes, plan, counts)
 }
 
 /// Runs a script on a new fleet, with a thread for each of these nodes.
@@ -194,12 +194,12 @@ fn drive_fleet<L: FleetSite + Send + Sync, R: Threads + Wait + Sync>(
     drive_over(rt, alloc, fleet, passes, plan, script, workers, nodes)
 }
 
-/// Runs a script over a checked plan on a fleet with 64 client slots: so many drivers take the lines in turn, a thread for
-/// each node that a line delivers to takes that node's letters, a line that names a message waits for the line that made
-/// it, and no line behind a `wait` starts before all lines before it have ended.
+/// Runs a script over a checked plan on a fleet with 64 client slots. `workers` drivers take the lines in turn; each
+/// node that a line delivers to has a thread; a line that names a message waits for the line that made it; no line
+/// behind a `wait` starts before all lines before it have ended.
 ///
 /// # Errors
-/// `NoMemory` where a growth or a thread was refused.
+/// `NoMemory` if memory ran out or a thread couldn't be started.
 pub fn drive<H: Threads + Wait + Sync>(
     rt: &H,
     alloc: Global,

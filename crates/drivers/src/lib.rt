@@ -1,14 +1,15 @@
-//! A script, run on threads: drivers take its lines in turn, and each node takes its messages on a thread of its own.
+//! Scripts on threads: drivers take a script's lines in turn, and each node takes its messages on a thread of its
+//! own.
 #![tactic(auto)]
 
+mod assignments;
 mod calls;
-mod desk;
+mod completion_slot;
+mod completion_table;
 mod driving;
-mod hand;
 mod nodes;
 mod run;
 mod threads;
-mod turns;
-mod word;
+mod worker;
 
 pub use driving::{Driven, drive};

@@ -1,10 +1,10 @@
-//! The nodes that a script's messages go to.
+//! The nodes that a script delivers to.
 
 use plan::CheckedPlan;
 use std::alloc::{AllocError, Global};
 use world::{Event, Order};
 
-/// How many members a group can have.
+/// The most members of a group.
 const MEMBERS: usize = 64;
 
 /// A member of a group.
@@ -14,7 +14,7 @@ pub struct Node {
     pub member: u8,
 }
 
-/// The node that an event delivers to.
+/// Returns the node that an event delivers to.
 fn receiver_of(event: &Event) -> Option<Node> {
     match event {
         Event::Deliver { group, member, .. } => Some(Node {
@@ -25,7 +25,7 @@ fn receiver_of(event: &Event) -> Option<Node> {
     }
 }
 
-/// The node that an order delivers to.
+/// Returns the node that an order delivers to.
 pub fn receiver(order: &Order) -> Option<Node> {
     match order {
         Order::DeliverFrom { group, member, .. } => Some(Node {
@@ -37,7 +37,7 @@ pub fn receiver(order: &Order) -> Option<Node> {
     }
 }
 
-/// For each member of each group, 64 a group, whether an order delivers to it.
+/// Returns for each member of each group, 64 a group, whether an order delivers to it.
 fn marks(alloc: Global, groups: u8, orders: &[Order]) -> Result<Vec<bool>, AllocError> {
     let mut marks = vec![in alloc; false; usize::from(groups) * MEMBERS]?;
     for order in orders {
@@ -51,10 +51,10 @@ fn marks(alloc: Global, groups: u8, orders: &[Order]) -> Result<Vec<bool>, Alloc
     Ok(marks)
 }
 
-/// The nodes that the plan names and these orders deliver to, each once.
+/// Returns the nodes that the plan names and these orders deliver to, each once.
 ///
 /// # Errors
-/// Where a growth was refused.
+/// `AllocError` if there is no memory for the list.
 pub fn receivers(
     alloc: Global,
     plan: &CheckedPlan,

@@ -1,24 +1,24 @@
 //! What all threads of a run share.
 
+use crate::assignments::Assignment;
 use crate::calls::call;
-use crate::desk::Desk;
+use crate::completion_table::CompletionTable;
 use crate::nodes::{Node, receiver};
-use crate::turns::Turn;
-use fleet_actors::ClientDeed;
+use fleet_actors::ClientAction;
 use node_fleet::{Fleet, FleetSite, Pass, StepGate};
 use std::sync::Wait;
-use tallies::Told;
+use tallies::Completion;
 use wire::Messages;
 use world::{Event, Order};
 
-/// A gate that lets all pass.
+/// A gate that looks at nothing.
 struct Open;
 
 impl StepGate for Open {
     fn prepared(&self, _answers: &Messages) {}
 }
 
-/// The number of the message that an event delivers, 0 where it delivers none.
+/// Returns the number of the message that an event delivers, 0 if it delivers none.
 fn message_of(event: &Event) -> u64 {
     match event {
         Event::Deliver { message, .. } => *message,
@@ -31,33 +31,33 @@ fn message_of(event: &Event) -> u64 {
 pub struct Run<'f, 'a, L: FleetSite> {
     pub fleet: &'f Fleet<'a, L>,
     pub orders: &'f Vec<Order>,
-    /// When each order is followed, and by whom.
-    pub turns: &'f Vec<Turn>,
-    pub desk: &'f Desk,
+    /// The assignment of each order.
+    pub assignments: &'f Vec<Assignment>,
+    pub completions: &'f CompletionTable,
 }
 
 impl<'f, 'a, L: FleetSite> Run<'f, 'a, L> {
-    /// The same once more.
+    /// Returns a copy of these references.
     pub fn again(&self) -> Run<'f, 'a, L> {
         Run {
             fleet: self.fleet,
             orders: self.orders,
-            turns: self.turns,
-            desk: self.desk,
+            assignments: self.assignments,
+            completions: self.completions,
         }
     }
 
-    /// The number of the message that an order delivers, whose index this is.
+    /// Returns the number of the message that order `index` delivers.
     fn message<R: Wait>(&self, rt: &R, index: usize, order: &Order) -> u64 {
         match order {
             Order::DeliverFrom { event, place, .. } | Order::TakeFrom { event, place, .. } => {
-                self.desk.message(rt, index, *event as usize, *place)
+                self.completions.message(rt, index, *event as usize, *place)
             }
             Order::Event(event) => message_of(event),
         }
     }
 
-    /// Delivers the message of the order with an index to a node, and tells what it came to.
+    /// Delivers the message of order `index` to a node and sets its completion.
     pub fn deliver<R: Wait>(&self, rt: &R, pass: &mut Pass<'a, L>, index: usize, node: Node) {
         let Some(order) = self.orders.get(index) else {
             return;
@@ -66,23 +66,23 @@ impl<'f, 'a, L: FleetSite> Run<'f, 'a, L> {
         let call = self
             .fleet
             .deliver(rt, pass, node.group, node.member, message, &Open);
-        self.desk.tell(index, Told::of(call));
+        self.completions.set(index, Completion::of(call));
     }
 
-    /// Has a node's thread deliver the message of the order with an index, and waits until it has. Where the plan names no
-    /// such node there is no thread, and the fleet refuses it.
+    /// Posts order `index` to a node's thread and waits for its completion. If the plan names no such node, the fleet
+    /// refuses it.
     fn send<R: Wait>(&self, rt: &R, pass: &mut Pass<'a, L>, index: usize, node: Node) {
         let Node { group, member } = node;
         if self.fleet.names(group, member) {
             self.fleet.post(rt, pass, group, member, index as u64);
-            let _ = self.desk.told(rt, index);
+            let _ = self.completions.wait(rt, index);
         } else {
             self.deliver(rt, pass, index, node);
         }
     }
 
-    /// The index of the order that a node was posted longest ago, for which it waits. None at the closing letter, and where
-    /// the plan names no such node.
+    /// Returns the oldest order's index that was posted to a node; waits while there is none. Returns `None` at the
+    /// closing letter, or if the plan names no such node.
     pub fn collect<R: Wait>(&self, rt: &R, pass: &mut Pass<'a, L>, node: Node) -> Option<usize> {
         let Node { group, member } = node;
         if !self.fleet.names(group, member) {
@@ -101,7 +101,7 @@ impl<'f, 'a, L: FleetSite> Run<'f, 'a, L> {
         }
     }
 
-    /// Follows the order with an index, and tells what it came to. Waits first for the order whose message it names.
+    /// Follows order `index` and sets its completion. Waits first for the order whose message it names.
     pub fn follow<R: Wait>(&self, rt: &R, pass: &mut Pass<'a, L>, index: usize) {
         let Some(order) = self.orders.get(index) else {
             return;
@@ -113,12 +113,12 @@ impl<'f, 'a, L: FleetSite> Run<'f, 'a, L> {
         }
         let call = match order {
             Order::TakeFrom { volume, .. } => {
-                let deed = ClientDeed::Take { message };
-                self.fleet.client_does(rt, pass, *volume, deed)
+                let action = ClientAction::Take { message };
+                self.fleet.client_does(rt, pass, *volume, action)
             }
             Order::Event(event) => call(rt, self.fleet, pass, event),
             Order::DeliverFrom { .. } => return,
         };
-        self.desk.tell(index, Told::of(call));
+        self.completions.set(index, Completion::of(call));
     }
 }

@@ -1,8 +1,8 @@
 //! The threads of a run, from their start to their end.
 
-use crate::hand::Hand;
 use crate::nodes::Node;
 use crate::run::Run;
+use crate::worker::WorkerContext;
 use node_fleet::{FleetSite, Pass};
 use std::alloc::{AllocError, Global};
 use std::sync::{OnceLock, Wait};
@@ -11,30 +11,30 @@ use std::thread::{JoinHandle, Scope, Threads};
 
 /// The threads of a run before their start.
 #[derive(Drop)]
-pub struct Crew<'f, 'a, L: FleetSite> {
-    /// Those of the nodes.
-    pub nodes: Vec<Hand<'f, 'a, L>>,
-    /// Those of the drivers.
-    pub drivers: Vec<Hand<'f, 'a, L>>,
-    /// What they share.
+pub struct Workers<'f, 'a, L: FleetSite> {
+    /// The nodes' threads.
+    pub nodes: Vec<WorkerContext<'f, 'a, L>>,
+    /// The drivers' threads.
+    pub drivers: Vec<WorkerContext<'f, 'a, L>>,
+    /// What all threads share.
     pub run: Run<'f, 'a, L>,
 }
 
-/// Starts a thread for each of these. They wait for the word to go.
+/// Starts a thread for each of these. They wait for the signal to go.
 fn start<'s, 'f: 's, 'a: 's, E, L: FleetSite + Send + Sync + 's, R: Wait + Sync>(
     scope: &Scope<'s, E>,
     rt: &'f R,
     alloc: Global,
-    hands: Vec<Hand<'f, 'a, L>>,
+    contexts: Vec<WorkerContext<'f, 'a, L>>,
 ) -> Result<Vec<JoinHandle<Pass<'a, L>>>, AllocError> {
-    let mut threads = Vec::with_capacity(alloc, hands.len())?;
-    for hand in hands {
-        threads.push(scope.spawn(move || hand.work(rt))?)?;
+    let mut threads = Vec::with_capacity(alloc, contexts.len())?;
+    for worker in contexts {
+        threads.push(scope.spawn(move || worker.work(rt))?)?;
     }
     Ok(threads)
 }
 
-/// Waits for these threads, and adds their passes. False where there was no room for one.
+/// Joins these threads and collects their passes. Returns false if there was no room for one.
 fn join_all<'a, L: FleetSite, R: Threads + Wait>(
     rt: &R,
     threads: Vec<JoinHandle<Pass<'a, L>>>,
@@ -48,21 +48,21 @@ fn join_all<'a, L: FleetSite, R: Threads + Wait>(
     all
 }
 
-/// Starts all threads in a scope, lets them go, closes the mailboxes of these nodes once the drivers have ended, by the
-/// pass of one of them, and takes the passes back. Where one couldn't be started, none goes.
+/// Starts all threads in a scope, lets them go, closes the nodes' mailboxes by the pass of a driver once the drivers
+/// have ended, and takes the passes back. If one couldn't be started, none goes.
 fn run_in<'s, 'f: 's, 'a: 's, E, L: FleetSite + Send + Sync + 's, R: Threads + Wait + Sync>(
     scope: &Scope<'s, E>,
     rt: &'f R,
     alloc: Global,
     go: &OnceLock<bool>,
-    crew: Crew<'f, 'a, L>,
+    run_threads: Workers<'f, 'a, L>,
     nodes: &[Node],
 ) -> Result<Vec<Pass<'a, L>>, AllocError> {
-    let Crew {
+    let Workers {
         nodes: served,
         drivers,
         run,
-    } = crew;
+    } = run_threads;
     let mut passes = Vec::with_capacity(alloc, served.len() + drivers.len())?;
     let served = start(scope, rt, alloc, served);
     let drivers = start(scope, rt, alloc, drivers);
@@ -79,18 +79,18 @@ fn run_in<'s, 'f: 's, 'a: 's, E, L: FleetSite + Send + Sync + 's, R: Threads + W
     }
 }
 
-/// Runs all threads, and takes their passes back.
+/// Runs all threads and takes their passes back.
 ///
 /// # Errors
-/// Where a growth or a thread was refused; then no thread has made a step.
+/// `AllocError` if memory ran out or a thread couldn't be started; then no thread has made a step.
 pub fn run_all<'f, 'a, L: FleetSite + Send + Sync, R: Threads + Wait + Sync>(
     rt: &'f R,
     alloc: Global,
     go: &'f OnceLock<bool>,
-    crew: Crew<'f, 'a, L>,
+    run_threads: Workers<'f, 'a, L>,
     nodes: &'f [Node],
 ) -> Result<Vec<Pass<'a, L>>, AllocError> {
     thread::scope(thread::scope_env(), rt, move |scope| {
-        run_in(scope, rt, alloc, go, crew, nodes)
+        run_in(scope, rt, alloc, go, run_threads, nodes)
     })
 }

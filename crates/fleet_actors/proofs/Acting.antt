@@ -14,9 +14,9 @@ use Rattle.wire.specs.declared.messages.Messages.{Messages}
 use Rattle.wire.specs.Listed.{listed}
 use Rattle.wire.specs.Message.{messages_of}
 use Rattle.writer_core.specs.Writers.{answered}
-use Rattle.fleet_actors.specs.declared.client_deed.ClientDeed.{ClientDeed}
-use Rattle.fleet_actors.specs.declared.client_deed.ClientDeed.TheVariants as deed
-use Rattle.fleet_actors.specs.Deeds.{deed_acted, event_by, HasFound, IsFound}
+use Rattle.fleet_actors.specs.declared.client_action.ClientAction.{ClientAction}
+use Rattle.fleet_actors.specs.declared.client_action.ClientAction.TheVariants as action
+use Rattle.fleet_actors.specs.Actions.{action_acted, event_by, HasFound, IsFound}
 
 -- the refusal of a client's step is the client's
 of_client-refusal : (w : World) (volume : ℕ) (answer : ClientAnswer) → refusal (of_client w volume answer) ≡ refusal answer
@@ -31,40 +31,40 @@ pub client_here : (actor : Actor) (volume : ℕ) (w v : World) (now : Client) �
 client_here actor volume w v now is agree seen = sym (seen ∙ subst (λ (a : Actor). Agree a w v) is agree)
 
 -- whose step it is
-pub event_of_client : (volume : ℕ) (asked : ClientDeed) → actor_of (event_by volume asked) ≡ Actor.Client volume
-event_of_client volume (deed.Issue changes) = refl
-event_of_client volume (deed.Take message) = refl
-event_of_client volume deed.Cut = refl
-event_of_client volume deed.Open = refl
-event_of_client volume (deed.Resend lsn) = refl
-event_of_client volume (deed.Read group block) = refl
+pub event_of_client : (volume : ℕ) (asked : ClientAction) → actor_of (event_by volume asked) ≡ Actor.Client volume
+event_of_client volume (action.Issue changes) = refl
+event_of_client volume (action.Take message) = refl
+event_of_client volume action.Cut = refl
+event_of_client volume action.Open = refl
+event_of_client volume (action.Resend lsn) = refl
+event_of_client volume (action.Read group block) = refl
 
 -- what was found is there
-pub found_there : (made : List model.Message) (asked : ClientDeed) (found : Option model.Message) → IsFound made asked found → HasFound asked found
-found_there made (deed.Issue changes) found is = tt
-found_there made (deed.Take message) found is = is.0
-found_there made deed.Cut found is = tt
-found_there made deed.Open found is = tt
-found_there made (deed.Resend lsn) found is = tt
-found_there made (deed.Read group block) found is = tt
+pub found_there : (made : List model.Message) (asked : ClientAction) (found : Option model.Message) → IsFound made asked found → HasFound asked found
+found_there made (action.Issue changes) found is = tt
+found_there made (action.Take message) found is = is.0
+found_there made action.Cut found is = tt
+found_there made action.Open found is = tt
+found_there made (action.Resend lsn) found is = tt
+found_there made (action.Read group block) found is = tt
 
 -- the step of a deed is that of the client's answer
-deed_step : (plan : Plan) (w : World) (volume : ℕ) (asked : ClientDeed) (found : Option model.Message) → IsFound w.messages asked found
-    → step plan w (event_by volume asked) ≡ of_client w volume (deed_acted found asked plan volume (w.clients volume))
-deed_step plan w volume (deed.Issue changes) found is = refl
-deed_step plan w volume (deed.Take message) found is = ap (λ (o : Option model.Message). of_client w volume (take plan volume (w.clients volume) o)) is.1
-deed_step plan w volume deed.Cut found is = refl
-deed_step plan w volume deed.Open found is = refl
-deed_step plan w volume (deed.Resend lsn) found is = refl
-deed_step plan w volume (deed.Read group block) found is = refl
+deed_step : (plan : Plan) (w : World) (volume : ℕ) (asked : ClientAction) (found : Option model.Message) → IsFound w.messages asked found
+    → step plan w (event_by volume asked) ≡ of_client w volume (action_acted found asked plan volume (w.clients volume))
+deed_step plan w volume (action.Issue changes) found is = refl
+deed_step plan w volume (action.Take message) found is = ap (λ (o : Option model.Message). of_client w volume (take plan volume (w.clients volume) o)) is.1
+deed_step plan w volume action.Cut found is = refl
+deed_step plan w volume action.Open found is = refl
+deed_step plan w volume (action.Resend lsn) found is = refl
+deed_step plan w volume (action.Read group block) found is = refl
 
 -- a client that was old, of this plan, does what it is asked to, in a world that has it
-module _ (plan own : Plan) (of : own ≡ plan) (w : World) (volume : ℕ) (asked : ClientDeed) (found : Option model.Message) (old new : Client) (event : Event) (here : w.clients volume ≡ old) (is : event ≡ event_by volume asked) (heard : IsFound w.messages asked found) where
+module _ (plan own : Plan) (of : own ≡ plan) (w : World) (volume : ℕ) (asked : ClientAction) (found : Option model.Message) (old new : Client) (event : Event) (here : w.clients volume ≡ old) (is : event ≡ event_by volume asked) (heard : IsFound w.messages asked found) where
   abbrev pub answer : ClientAnswer
-  answer = deed_acted found asked own volume old
+  answer = action_acted found asked own volume old
 
   whole : step plan w event ≡ of_client w volume answer
-  whole = ap (step plan w) is ∙ deed_step plan w volume asked found heard ∙ λ i. of_client w volume (deed_acted found asked (sym of i) volume (here i))
+  whole = ap (step plan w) is ∙ deed_step plan w volume asked found heard ∙ λ i. of_client w volume (action_acted found asked (sym of i) volume (here i))
 
   pub refuses_alike : refusal (step plan w event) ≡ refusal answer
   refuses_alike = ap refusal whole ∙ of_client-refusal w volume answer
@@ -79,12 +79,12 @@ module _ (plan own : Plan) (of : own ≡ plan) (w : World) (volume : ℕ) (asked
     client_after : (after plan w event).clients volume ≡ new
     client_after = ap (λ (s : Result Step Fault). (after_step w s).clients volume) stepped ∙ put-here w.clients volume new
 
-  pub tried_makes : (tried : Result Messages Fault) → IfOk tried (λ made. answer ≡ Ok (answered made new)) → IfOk tried (λ made. makes (step plan w event) ≡ Some (messages_of (listed made)))
+  pub tried_makes : (attempt : Result Messages Fault) → IfOk attempt (λ made. answer ≡ Ok (answered made new)) → IfOk attempt (λ made. makes (step plan w event) ≡ Some (messages_of (listed made)))
   tried_makes (Ok made) done = client_makes made done
   tried_makes (Err fault) done = tt
 
   -- what the actor's mark has seen then has the client as it is
-  pub tried_state : (tried : Result Messages Fault) → IfOk tried (λ made. answer ≡ Ok (answered made new)) → OnErr tried (new ≡ old) → (seen now : List Entry) → old ≡ (world_at plan seen).clients volume
-      → MatchResult tried (λ made. world_at plan now ≡ after plan w event) (λ fault. now ≡ seen) → new ≡ (world_at plan now).clients volume
+  pub tried_state : (attempt : Result Messages Fault) → IfOk attempt (λ made. answer ≡ Ok (answered made new)) → OnErr attempt (new ≡ old) → (seen now : List Entry) → old ≡ (world_at plan seen).clients volume
+      → MatchResult attempt (λ made. world_at plan now ≡ after plan w event) (λ fault. now ≡ seen) → new ≡ (world_at plan now).clients volume
   tried_state (Ok made) done still seen now was stands = sym (ap (λ (v : World). v.clients volume) stands ∙ client_after made done)
   tried_state (Err fault) done still seen now was stands = still ∙ was ∙ ap (λ (es : List Entry). (world_at plan es).clients volume) (sym stands)

@@ -8,7 +8,7 @@ use Rattle.volume_model.specs.Plan.{Plan}
 use Rattle.volume_model.specs.World.{Event, step}
 use Rattle.volume_model.specs.Journal.{Entry, world_at}
 use Rattle.volume_model.specs.Judging.{Exact}
-use Rattle.fleet_actors.specs.Tried.{Judged}
+use Rattle.fleet_actors.specs.Attempts.{Judged}
 
 -- what is not refused
 not_refused : {T : Type 0} (r : Result T Fault) → refusal_of r ≡ Ok tt → refusal r ≡ 0
@@ -31,6 +31,6 @@ module _ (plan : Plan) (slots cells : ℕ) (es : List Entry) (event : Event) whe
 
 -- the refusal of a try is the model's
 pub tried_exact : {A T : Type 0} (plan : Plan) (slots cells : ℕ) (es : List Entry) (event : Event) (spent : Type 0) (full : Bool) (defined : Result T Fault) → (spent → (event ≡ Event.Assign) × ((world_at plan es).authority.last_volume ≡ slots))
-    → MatchBool full (length es ≡ cells) (length es < cells) → refusal (step plan (world_at plan es) event) ≡ refusal defined → (tried : Result A Fault) → IfErr tried (λ fault. Judged spent full defined fault) → IfErr tried (λ fault. Exact plan slots cells es event fault)
+    → MatchBool full (length es ≡ cells) (length es < cells) → refusal (step plan (world_at plan es) event) ≡ refusal defined → (attempt : Result A Fault) → IfErr attempt (λ fault. Judged spent full defined fault) → IfErr attempt (λ fault. Exact plan slots cells es event fault)
 tried_exact plan slots cells es event spent full defined spends cell same (Ok made) h = tt
 tried_exact plan slots cells es event spent full defined spends cell same (Err fault) h = exact_of plan slots cells es event spent full defined spends cell same fault h

@@ -10,20 +10,20 @@ use Rattle.volume_model.specs.Told.{Refuses, IsOwnOfClient}
 use Rattle.volume_model.proofs.Own.{issued_own, taken_own, cut_own, opened_own, resent_own, page_asked_own}
 use Rattle.recovery.specs.Recoveries.{admitted}
 use Rattle.writer_core.specs.Changes.{changes_of}
-use Rattle.fleet_actors.specs.declared.client_deed.ClientDeed.{ClientDeed}
-use Rattle.fleet_actors.specs.declared.client_deed.ClientDeed.TheVariants as deed
-use Rattle.fleet_actors.specs.Deeds.{deed_acted, HasFound}
-use Rattle.fleet_actors.specs.Tried.{JudgedOf}
+use Rattle.fleet_actors.specs.declared.client_action.ClientAction.{ClientAction}
+use Rattle.fleet_actors.specs.declared.client_action.ClientAction.TheVariants as action
+use Rattle.fleet_actors.specs.Actions.{action_acted, HasFound}
+use Rattle.fleet_actors.specs.Attempts.{JudgedOf}
 
 -- a client finds its refusals by itself
-pub deed_own : (asked : ClientDeed) (found : Option Message) (plan : Plan) (volume : ℕ) (now : Client) → HasFound asked found → Refuses IsOwnOfClient (deed_acted found asked plan volume now)
-deed_own (deed.Issue changes) found plan volume now has = issued_own plan volume now (changes_of changes.items)
-deed_own (deed.Take message) None plan volume now has = absurd cc
-deed_own (deed.Take message) (Some m) plan volume now has = taken_own plan volume now m
-deed_own deed.Cut found plan volume now has = cut_own plan volume now
-deed_own deed.Open found plan volume now has = opened_own plan now
-deed_own (deed.Resend lsn) found plan volume now has = resent_own volume now lsn
-deed_own (deed.Read group block) found plan volume now has = page_asked_own volume now group block
+pub deed_own : (asked : ClientAction) (found : Option Message) (plan : Plan) (volume : ℕ) (now : Client) → HasFound asked found → Refuses IsOwnOfClient (action_acted found asked plan volume now)
+deed_own (action.Issue changes) found plan volume now has = issued_own plan volume now (changes_of changes.items)
+deed_own (action.Take message) None plan volume now has = absurd cc
+deed_own (action.Take message) (Some m) plan volume now has = taken_own plan volume now m
+deed_own action.Cut found plan volume now has = cut_own plan volume now
+deed_own action.Open found plan volume now has = opened_own plan now
+deed_own (action.Resend lsn) found plan volume now has = resent_own volume now lsn
+deed_own (action.Read group block) found plan volume now has = page_asked_own volume now group block
 
 module _ {T : Type 0} (full : Bool) (defined : Result T Fault) (own : Refuses IsOwnOfClient defined) where
   is_own : (fault : Fault) → defined ≡ Err fault → IsOwnOfClient fault

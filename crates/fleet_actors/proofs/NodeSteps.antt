@@ -25,8 +25,8 @@ use Rattle.segment_core.specs.Prepared.{step_of}
 use Rattle.segment_core.specs.Segment.{act_of, node_of, IsSameActor, IsSegmentOf}
 use Rattle.wire.specs.declared.message.Message as wire
 use Rattle.wire.specs.Message.{message_of}
-use Rattle.fleet_actors.specs.declared.deed.NodeDeed.{NodeDeed}
-use Rattle.fleet_actors.specs.declared.deed.NodeDeed.TheVariants as deed
+use Rattle.fleet_actors.specs.declared.action.NodeAction.{NodeAction}
+use Rattle.fleet_actors.specs.declared.action.NodeAction.TheVariants as action
 use Rattle.fleet_actors.specs.Nodes.{done_by, event_by}
 
 -- a node that the plan names, and whose group has joined, isn't refused for that
@@ -47,10 +47,10 @@ not_joined w g from joined j f h = omega (arith, h, j, f)
 pub unjoined_delivery : (plan : Plan) (w : World) (g m number : ℕ) → groups_joined w.authority ≤ g → refusal (step plan w (Event.Deliver g m number)) ≡ 82
 unjoined_delivery plan w g m number h = absent plan w g m (deliver plan g m (w.nodes g m) (numbered w.messages number)) h
 
-pub unjoined_deed : (plan : Plan) (w : World) (g m : ℕ) (what : NodeDeed) → groups_joined w.authority ≤ g → refusal (step plan w (event_by g m what)) ≡ 82
-unjoined_deed plan w g m deed.Hydrate h = absent plan w g m (hydrated plan g m (w.nodes g m)) h
-unjoined_deed plan w g m deed.Restart h = absent plan w g m (Ok (record { made = []; node = restarted (w.nodes g m) })) h
-unjoined_deed plan w g m (deed.Offer lsn) h = absent plan w g m (offered g (w.nodes g m) lsn) h
+pub unjoined_deed : (plan : Plan) (w : World) (g m : ℕ) (what : NodeAction) → groups_joined w.authority ≤ g → refusal (step plan w (event_by g m what)) ≡ 82
+unjoined_deed plan w g m action.Hydrate h = absent plan w g m (hydrated plan g m (w.nodes g m)) h
+unjoined_deed plan w g m action.Restart h = absent plan w g m (Ok (record { made = []; node = restarted (w.nodes g m) })) h
+unjoined_deed plan w g m (action.Offer lsn) h = absent plan w g m (offered g (w.nodes g m) lsn) h
 
 module _ (plan : Plan) (w : World) (g m : ℕ) (joined : nat_lt g (groups_joined w.authority) ≡ true) (named : is_named plan g m ≡ true) (now : Node) (here : now ≡ w.nodes g m) where
   -- a delivery is the node's own step, of the message that was found
@@ -61,13 +61,13 @@ module _ (plan : Plan) (w : World) (g m : ℕ) (joined : nat_lt g (groups_joined
       ∙ ap (λ (o : Option Message). of_node w g m (deliver plan g m now o)) is
 
   -- so is what it does of itself
-  does : (what : NodeDeed) → step plan w (event_by g m what) ≡ of_node w g m (done_by plan g m now what)
-  does deed.Hydrate =
+  does : (what : NodeAction) → step plan w (event_by g m what) ≡ of_node w g m (done_by plan g m now what)
+  does action.Hydrate =
       ap (of_node w g m) (there_is plan (groups_joined w.authority) g m (hydrated plan g m (w.nodes g m)) joined named) ∙ ap (λ (n : Node). of_node w g m (hydrated plan g m n)) (sym here)
-  does deed.Restart =
+  does action.Restart =
       ap (of_node w g m) (there_is plan (groups_joined w.authority) g m (Ok (record { made = []; node = restarted (w.nodes g m) })) joined named)
       ∙ ap (λ (n : Node). of_node w g m (Ok (record { made = []; node = restarted n }))) (sym here)
-  does (deed.Offer lsn) =
+  does (action.Offer lsn) =
       ap (of_node w g m) (there_is plan (groups_joined w.authority) g m (offered g (w.nodes g m) lsn) joined named) ∙ ap (λ (n : Node). of_node w g m (offered g n lsn)) (sym here)
 
 -- the refusal of a node is the one of the model
@@ -97,15 +97,15 @@ letter_own plan g m now made index inside =
     delivery_own plan g m now (option_map message_of (slice_get made index)) (message_of x.0) (ap (option_map message_of) x.1)
 
 -- which actor does it
-pub deed_actor : (g m : ℕ) (what : NodeDeed) → actor_of (event_by g m what) ≡ Actor.Node g m
-deed_actor g m deed.Hydrate = refl
-deed_actor g m deed.Restart = refl
-deed_actor g m (deed.Offer lsn) = refl
+pub action_actor : (g m : ℕ) (what : NodeAction) → actor_of (event_by g m what) ≡ Actor.Node g m
+action_actor g m action.Hydrate = refl
+action_actor g m action.Restart = refl
+action_actor g m (action.Offer lsn) = refl
 
-pub deed_own : (plan : Plan) (g m : ℕ) (now : Node) (what : NodeDeed) → Refuses IsOwn (done_by plan g m now what)
-deed_own plan g m now deed.Hydrate = hydrated_own plan g m now
-deed_own plan g m now deed.Restart = tt
-deed_own plan g m now (deed.Offer lsn) = offered_own g now lsn
+pub deed_own : (plan : Plan) (g m : ℕ) (now : Node) (what : NodeAction) → Refuses IsOwn (done_by plan g m now what)
+deed_own plan g m now action.Hydrate = hydrated_own plan g m now
+deed_own plan g m now action.Restart = tt
+deed_own plan g m now (action.Offer lsn) = offered_own g now lsn
 
 -- A node that stands in the journal as at its mark: what it refuses, the model refuses.
 module _ (plan : Plan) (slots cells : ℕ) (es : List Entry) (seen : World) (actor : Actor) (g m : ℕ) (now : Node) (who : actor ≡ Actor.Node g m) (named : is_named plan g m ≡ true) (state : now ≡ seen.nodes g m) (agree : Agree actor seen (world_at plan es)) (joined : nat_lt g (groups_joined (world_at plan es).authority) ≡ true) where
@@ -118,7 +118,7 @@ module _ (plan : Plan) (slots cells : ℕ) (es : List Entry) (seen : World) (act
       exact plan slots cells es g m (Event.Deliver g m asked) (deliver plan g m now found) (delivers plan (world_at plan es) g m joined named now here asked found (ap (numbered (world_at plan es).messages) same ∙ is)) own fault fails
 
   -- what it does of itself
-  pub denies : (what : NodeDeed) (fault : Fault) → Fails fault (done_by plan g m now what) → Exact plan slots cells es (event_by g m what) fault
+  pub denies : (what : NodeAction) (fault : Fault) → Fails fault (done_by plan g m now what) → Exact plan slots cells es (event_by g m what) fault
   denies what fault fails =
       exact plan slots cells es g m (event_by g m what) (done_by plan g m now what) (does plan (world_at plan es) g m joined named now here what) (deed_own plan g m now what) fault fails
 
@@ -134,16 +134,16 @@ module _ (plan : Plan) (slots cells : ℕ) (es : List Entry) (seen : World) (act
       ∙ put_at_here (world_at plan es).nodes g m s.node
 
   -- what it does of itself isn't refused where the node does it
-  pub grants : (what : NodeDeed) (s : NodeStep) → done_by plan g m now what ≡ Ok s → refusal (step plan (world_at plan es) (event_by g m what)) ≡ 0
+  pub grants : (what : NodeAction) (s : NodeStep) → done_by plan g m now what ≡ Ok s → refusal (step plan (world_at plan es) (event_by g m what)) ≡ 0
   grants what s ok = ap refusal (does plan (world_at plan es) g m joined named now here what ∙ ap (of_node (world_at plan es) g m) ok)
 
   -- so are those that it makes of itself
-  pub tells : (what : NodeDeed) (s : NodeStep) → done_by plan g m now what ≡ Ok s → (made : List Message) → made ≡ s.made → makes (step plan (world_at plan es) (event_by g m what)) ≡ Some made
+  pub tells : (what : NodeAction) (s : NodeStep) → done_by plan g m now what ≡ Ok s → (made : List Message) → made ≡ s.made → makes (step plan (world_at plan es) (event_by g m what)) ≡ Some made
   tells what s ok made are =
       ap makes (does plan (world_at plan es) g m joined named now here what ∙ ap (of_node (world_at plan es) g m) ok) ∙ ap (λ (ms : List Message). Some ms) (sym are)
 
   -- and it is then the model's node
-  pub done : (what : NodeDeed) (s : NodeStep) → done_by plan g m now what ≡ Ok s → (after plan (world_at plan es) (event_by g m what)).nodes g m ≡ s.node
+  pub done : (what : NodeAction) (s : NodeStep) → done_by plan g m now what ≡ Ok s → (after plan (world_at plan es) (event_by g m what)).nodes g m ≡ s.node
   done what s ok =
       ap (λ (r : Result Step Fault). (after_step (world_at plan es) r).nodes g m) (does plan (world_at plan es) g m joined named now here what ∙ ap (of_node (world_at plan es) g m) ok) ∙ put_at_here (world_at plan es).nodes g m s.node
 
@@ -158,7 +158,7 @@ late_fails late step defined old new NoMemory h = tt
 late_fails late step defined old new fault h = h.0
 
 -- a segment does what it is asked to as the node that it is
-module _ (plan : Plan) (g m : ℕ) (s : Segment) (is : IsSegmentOf plan g m s) (what : NodeDeed) (act : NodeAct) (same : (plan : Plan) (g m : ℕ) (now : Node) → acted act plan g m now ≡ done_by plan g m now what) where
+module _ (plan : Plan) (g m : ℕ) (s : Segment) (is : IsSegmentOf plan g m s) (what : NodeAction) (act : NodeAct) (same : (plan : Plan) (g m : ℕ) (now : Node) → acted act plan g m now ≡ done_by plan g m now what) where
   same_act : act_of s act ≡ done_by plan g m (node_of s) what
   same_act = (λ i. acted act (is.plan_is i) (is.group_is i) (is.member_is i) (node_of s)) ∙ same plan g m (node_of s)
 

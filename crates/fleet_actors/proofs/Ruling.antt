@@ -13,7 +13,7 @@ use Rattle.world.specs.declared.acts.AuthorityAct.{AuthorityAct}
 use Rattle.world.specs.declared.acts.AuthorityAct.TheVariants as act
 use Rattle.world.specs.Acts.{authority_acted}
 use Rattle.fleet_actors.specs.Acts.{event_by, IsSpent}
-use Rattle.fleet_actors.specs.Tried.{IsDone}
+use Rattle.fleet_actors.specs.Attempts.{IsDone}
 
 of_authority-refusal : (w : World) (answer : Result AuthorityStep Fault) → refusal (of_authority w answer) ≡ refusal answer
 of_authority-refusal w (Err fault) = refl
@@ -43,9 +43,9 @@ slots_spent w (act.Refresh volume) old event given slots here is same spent = ab
 slots_spent w act.Grow old event given slots here is same spent = absurd spent
 
 -- what the actor's mark has seen then has the authority as it is
-pub ruled_state : (plan own : Plan) → own ≡ plan → (w : World) (asked : AuthorityAct) (old new : Authority) (event : Event) → w.authority ≡ old → event ≡ event_by asked → (tried : Result Messages Fault)
-    → IfOk tried (λ made. IsDone (authority_acted own old asked) (messages_of (listed made)) new) → OnErr tried (new ≡ old) → (seen now : List Entry) → old ≡ (world_at plan seen).authority
-    → MatchResult tried (λ made. world_at plan now ≡ after plan w event) (λ fault. now ≡ seen) → new ≡ (world_at plan now).authority
+pub ruled_state : (plan own : Plan) → own ≡ plan → (w : World) (asked : AuthorityAct) (old new : Authority) (event : Event) → w.authority ≡ old → event ≡ event_by asked → (attempt : Result Messages Fault)
+    → IfOk attempt (λ made. IsDone (authority_acted own old asked) (messages_of (listed made)) new) → OnErr attempt (new ≡ old) → (seen now : List Entry) → old ≡ (world_at plan seen).authority
+    → MatchResult attempt (λ made. world_at plan now ≡ after plan w event) (λ fault. now ≡ seen) → new ≡ (world_at plan now).authority
 ruled_state plan own of w asked old new event here is (Ok made) done still seen now was stands =
     let acted : authority_acted plan w.authority asked ≡ Ok done.step = (λ i. authority_acted (sym of i) (here i) asked) ∙ done.is in
     let whole : step plan w event ≡ of_authority w (Ok done.step) = ap (step plan w) is ∙ act_step plan w asked ∙ ap (of_authority w) acted in

@@ -9,7 +9,7 @@ use Rattle.journal.specs.declared.entry.Receipt.{Receipt}
 use Rattle.journal.specs.Passes.{AddsStep, AddsRefusal}
 use Rattle.journal.specs.Standing.{Made}
 use Rattle.fleet_actors.specs.declared.halt.Halt.{Halt}
-use Rattle.fleet_actors.specs.declared.halt.Halt.TheVariants.{Again, Refused}
+use Rattle.fleet_actors.specs.declared.halt.Halt.TheVariants.{StaleCursor, Refused}
 
 -- what a refusal adds to the notes: nothing where it is want of memory or of a message
 pub record AddsNote (event : Event) (fault : Fault) (steps : List Made) (before after : List Refusal) : Type 0 where
@@ -19,13 +19,13 @@ pub record AddsNote (event : Event) (fault : Fault) (steps : List Made) (before 
 -- what a step under both locks does to a pass
 abbrev pub Halts : Event → Result Receipt Halt → List Made → List Made → List Refusal → List Refusal → Type 0
 Halts event (Ok r) steps steps' notes notes' = AddsStep event r steps steps' × (notes' ≡ notes)
-Halts event (Err Again) steps steps' notes notes' = (steps' ≡ steps) × (notes' ≡ notes)
+Halts event (Err StaleCursor) steps steps' notes notes' = (steps' ≡ steps) × (notes' ≡ notes)
 Halts event (Err (Refused fault)) steps steps' notes notes' = (steps' ≡ steps) × AddsNote event fault steps notes notes'
 
 -- the refusal is the one of the model
 abbrev pub IsExact : Plan → ℕ → ℕ → List Entry → Event → Result Receipt Halt → Type 0
 IsExact plan slots cells es event (Ok r) = Unit {0}
-IsExact plan slots cells es event (Err Again) = Unit {0}
+IsExact plan slots cells es event (Err StaleCursor) = Unit {0}
 IsExact plan slots cells es event (Err (Refused fault)) = Exact plan slots cells es event fault
 
 -- what it does to the journal: its last entry is the step's, or it is what it was

@@ -1,8 +1,8 @@
 pub mod Acts
 pub mod Authorities
-pub mod Deeds
+pub mod Actions
 pub mod Halts
 pub mod Nodes
 pub mod Ready
-pub mod Tried
+pub mod Attempts
 pub mod Volumes

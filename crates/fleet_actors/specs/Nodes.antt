@@ -7,21 +7,21 @@ use Rattle.volume_model.specs.Node.{Node, NodeAnswer, hydrated, offered, restart
 use Rattle.volume_model.specs.World.{Event, deliver}
 use Rattle.segment_core.specs.Segment.{node_of}
 use Rattle.journal.specs.declared.row.Site.{Ghosts as SiteGhosts}
-use Rattle.fleet_actors.specs.declared.deed.NodeDeed.{NodeDeed}
-use Rattle.fleet_actors.specs.declared.deed.NodeDeed.TheVariants as deed
+use Rattle.fleet_actors.specs.declared.action.NodeAction.{NodeAction}
+use Rattle.fleet_actors.specs.declared.action.NodeAction.TheVariants as action
 use Rattle.fleet_actors.specs.declared.node.NodeActor.{NodeActor}
 
 -- the event that a node's deed is
-abbrev pub event_by : ℕ → ℕ → NodeDeed → Event
-event_by group member deed.Hydrate = Event.Hydrate group member
-event_by group member deed.Restart = Event.Restart group member
-event_by group member (deed.Offer lsn) = Event.Offer group member lsn
+abbrev pub event_by : ℕ → ℕ → NodeAction → Event
+event_by group member action.Hydrate = Event.Hydrate group member
+event_by group member action.Restart = Event.Restart group member
+event_by group member (action.Offer lsn) = Event.Offer group member lsn
 
 -- what the node of a member of a group does of itself
-abbrev pub done_by : Plan → ℕ → ℕ → Node → NodeDeed → NodeAnswer
-done_by plan group member now deed.Hydrate = hydrated plan group member now
-done_by plan group member now deed.Restart = Ok (record { made = []; node = restarted now })
-done_by plan group member now (deed.Offer lsn) = offered group now lsn
+abbrev pub done_by : Plan → ℕ → ℕ → Node → NodeAction → NodeAnswer
+done_by plan group member now action.Hydrate = hydrated plan group member now
+done_by plan group member now action.Restart = Ok (record { made = []; node = restarted now })
+done_by plan group member now (action.Offer lsn) = offered group now lsn
 
 module _ {X : Type 0} {s : SiteGhosts X} {l : LedgerGhosts X} where
   -- its group

@@ -9,8 +9,8 @@ use Rattle.journal.specs.declared.entry.Receipt.{Receipt}
 use Rattle.journal.specs.Standing.{IsElse, Made}
 use Rattle.fleet_actors.specs.declared.halt.Halt.{Halt}
 use Rattle.fleet_actors.specs.declared.halt.Halt.TheVariants.{Refused}
-use Rattle.fleet_actors.specs.declared.client_deed.ClientDeed.{ClientDeed}
-use Rattle.fleet_actors.specs.declared.client_deed.ClientDeed.TheVariants as deed
+use Rattle.fleet_actors.specs.declared.client_action.ClientAction.{ClientAction}
+use Rattle.fleet_actors.specs.declared.client_action.ClientAction.TheVariants as action
 use Rattle.fleet_actors.specs.declared.client.ClientActor.{ClientActor}
 
 -- its volume epoch
@@ -22,10 +22,10 @@ abbrev pub actor_client : {X : Type 0} {s : SiteGhosts X} {l : LedgerGhosts X} �
 actor_client actor = seen_client actor.client
 
 -- a message is to be taken, and was made by none of these steps
-abbrev pub IsElsewhere : ClientDeed → List Made → Type 0
-IsElsewhere (deed.Take message) steps = All (IsElse message) steps
+abbrev pub IsElsewhere : ClientAction → List Made → Type 0
+IsElsewhere (action.Take message) steps = All (IsElse message) steps
 IsElsewhere other steps = ⊥
 
 -- where a message is said not to be there, one is to be taken, and none of these steps made it
-abbrev pub IsUnmade : ClientDeed → List Made → Result Receipt Halt → Type 0
-IsUnmade deed steps result = result ≡ Err (Refused NoMessage) → IsElsewhere deed steps
+abbrev pub IsUnmade : ClientAction → List Made → Result Receipt Halt → Type 0
+IsUnmade action steps result = result ≡ Err (Refused NoMessage) → IsElsewhere action steps

@@ -1,10 +1,10 @@
-//! Who sees what a node answers before it is entered.
+//! A view of a node's answers before they are entered.
 
 use wire::Messages;
 
-/// Is lent what a node answers, with the node's lock held and the journal's free, before the step is entered. What was
-/// lent may still not be entered: the journal may have no cell left.
+/// Sees a node's answers before the step is entered, with the node's lock held and the journal's free. The step may
+/// still not be entered, if the journal has no cell left.
 pub trait StepGate {
-    /// The messages that the step makes, if it is entered.
+    /// Is lent the messages that the step will make.
     fn prepared(&self, answers: &Messages);
 }

@@ -1,4 +1,4 @@
-//! Why a step under both locks was not made.
+//! Why a step under both locks wasn't made.
 
 ghost use Rattle.std.specs.Prelude.{◌≡◌};
 ghost use Rattle.volume_model.specs.declared.fault.Fault.TheVariants.{NoMemory};
@@ -7,11 +7,11 @@ ghost use Rattle.fleet_actors.specs.declared.halt.Halt.TheVariants.{Refused};
 use std::alloc::AllocError;
 use volume_model::Fault;
 
-/// Why a step under both locks was not made.
+/// Why a step under both locks wasn't made.
 #[derive(Clone, Copy, PartialEq, Eq, Debug)]
 pub enum Halt {
-    /// The locks did not agree, which no step brings about.
-    Again,
+    /// The cursor isn't the actor's last entry, which no step brings about.
+    StaleCursor,
     /// The step was refused.
     Refused(Fault),
 }

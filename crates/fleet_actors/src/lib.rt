@@ -1,12 +1,12 @@
-//! The actors of a fleet, each of which is stepped under its own lock and the journal's.
+//! The actors of a fleet. Each makes its steps under its own lock and the journal's.
 #![tactic(auto)]
 
+mod action;
 mod authority;
-mod authority_tried;
+mod authority_attempt;
 mod client;
-mod client_deed;
-mod client_tried;
-mod deed;
+mod client_action;
+mod client_attempt;
 mod gate;
 mod halt;
 mod locking;
@@ -14,13 +14,13 @@ mod node;
 mod reaction;
 mod step;
 
+pub use action::NodeAction;
 pub use authority::AuthorityActor;
 pub use client::ClientActor;
-pub use client_deed::ClientDeed;
-pub use client_tried::tried;
-pub use deed::NodeDeed;
+pub use client_action::ClientAction;
+pub use client_attempt::try_step;
 pub use gate::StepGate;
 pub use halt::Halt;
-pub use locking::taken;
+pub use locking::lock_spinning;
 pub use node::NodeActor;
 pub use step::refused;

@@ -1,20 +1,20 @@
-//! How a lock is waited for.
+//! Locks that are polled before a thread sleeps on them.
 
 use std::hint::spin_loop;
 use std::sync::{Mutex, MutexGuard, Wait};
 use std::thread::yield_now;
 
-/// How often a thread looks whether a lock is free before it lets another one run, which may be the one that has it.
-const LOOKS: u32 = 20;
+/// The number of polls of a lock before the thread yields.
+const POLLS: u32 = 20;
 
-/// How often it lets another thread run before it sleeps.
-const TURNS: u32 = 20;
+/// The number of yields before the thread sleeps.
+const YIELDS: u32 = 20;
 
-/// Waits for a lock that was found taken, and takes it.
+/// Waits for a lock that another thread holds, and takes it.
 #[inline(never)]
 fn waited<'m, T, R: Wait>(rt: &R, lock: &'m Mutex<T>) -> MutexGuard<'m, T> {
-    for _ in 0..TURNS {
-        for _ in 0..LOOKS {
+    for _ in 0..YIELDS {
+        for _ in 0..POLLS {
             if let Some(guard) = lock.try_lock() {
                 return guard;
             }
@@ -25,9 +25,9 @@ fn waited<'m, T, R: Wait>(rt: &R, lock: &'m Mutex<T>) -> MutexGuard<'m, T> {
     lock.lock(rt)
 }
 
-/// Takes a lock, for which it waits.
+/// Takes a lock: polls it, yields in between, then sleeps on it.
 #[inline(always)]
-pub fn taken<'m, T, R: Wait>(rt: &R, lock: &'m Mutex<T>) -> MutexGuard<'m, T> {
+pub fn lock_spinning<'m, T, R: Wait>(rt: &R, lock: &'m Mutex<T>) -> MutexGuard<'m, T> {
     match lock.try_lock() {
         Some(guard) => guard,
         None => waited(rt, lock),

@@ -1,4 +1,4 @@
-//! A node, and where it stands in the history.
+//! A node of a fleet.
 
 ghost use Rattle.std.specs.Prelude.{◌≡◌, true};
 ghost use Rattle.std.proofs.Props.{props};
@@ -9,24 +9,24 @@ ghost use Rattle.segment_core.specs.Segment.{node_of, IsSegmentOf};
 ghost use Rattle.journal.specs.Passes.{marked, seen_at};
 ghost use Rattle.journal.proofs.Plans.{Plan-set};
 
-use journal::{History, Mark, Site, Who};
+use journal::{ActorCursor, ActorName, History, Site};
 use plan::CheckedPlan;
 use segment_core::Segment;
 use std::alloc::Global;
 use std::sync::Arc;
 use volume_model::Fault;
 
-/// The node of a member of a group, and where it stands in the history.
+/// The node of a member of a group and its cursor.
 #[derive(Drop)]
 pub struct NodeActor<L: Site> {
-    pub(crate) mark: Mark<L>,
+    pub(crate) cursor: ActorCursor<L>,
     pub(crate) segment: Segment,
     pub(crate) group: u8,
     pub(crate) member: u8,
-    ghost who: { marked mark ≡ Node group member } by { Prim.hlevel props },
+    ghost who: { marked cursor ≡ Node group member } by { Prim.hlevel props },
     ghost of: { IsSegmentOf L.plan group member segment } by { Prim.hlevel (props, Plan-set) },
     ghost named: { is_named L.plan group member ≡ true },
-    ghost state: { node_of segment ≡ (world_at L.plan (seen_at mark)).nodes group member } by { Prim.hlevel props },
+    ghost state: { node_of segment ≡ (world_at L.plan (seen_at cursor)).nodes group member } by { Prim.hlevel props },
 }
 
 impl<L: Site> NodeActor<L> {
@@ -38,27 +38,27 @@ impl<L: Site> NodeActor<L> {
     ghost use Rattle.journal.specs.Fronts.{log_of};
     ghost use Rattle.fleet_actors.specs.Nodes.{actor_group, actor_member, actor_node};
 
-    /// The node of a member of a group, as it stands at its mark.
-    pub fn new(mark: Mark<L>, segment: Segment, group: u8, member: u8) -> NodeActor<L>
-        requires who { marked mark ≡ Node group member }
+    /// Makes the actor of a member's node at its cursor.
+    pub fn new(cursor: ActorCursor<L>, segment: Segment, group: u8, member: u8) -> NodeActor<L>
+        requires who { marked cursor ≡ Node group member }
         requires of { IsSegmentOf L.plan group member segment }
         requires named { is_named L.plan group member ≡ true }
-        requires state { node_of segment ≡ (world_at L.plan (seen_at mark)).nodes group member }
+        requires state { node_of segment ≡ (world_at L.plan (seen_at cursor)).nodes group member }
         ensures of { (actor_group result ≡ group) × (actor_member result ≡ member) }
         ensures node { actor_node result ≡ node_of segment }
     {
         NodeActor {
-            mark,
+            cursor,
             segment,
             group,
             member,
         }
     }
 
-    /// The node of a member of a group, as it is born with a new volume.
+    /// Makes the actor of a member's node of a new volume.
     ///
     /// # Errors
-    /// `NoActor` where the plan names no such member, and `NoMemory`.
+    /// `NoActor` if the plan names no such member; `NoMemory`.
     pub fn born(
         alloc: Global,
         plan: Arc<CheckedPlan>,
@@ -74,21 +74,21 @@ impl<L: Site> NodeActor<L> {
     {
         match Segment::new(alloc, plan, group, member) {
             Ok(segment) => {
-                let mark = Mark::new(Who::Node { group, member }, history);
-                Ok(NodeActor::new(mark, segment, group, member))
+                let cursor = ActorCursor::new(ActorName::Node { group, member }, history);
+                Ok(NodeActor::new(cursor, segment, group, member))
             }
             Err(fault) => Err(fault),
         }
     }
 
-    /// Its group.
+    /// Returns the node's group.
     pub fn group(&self) -> u8
         ensures { result ≡ actor_group self.now }
     {
         self.group
     }
 
-    /// The member whose node it is.
+    /// Returns the node's member number.
     pub fn member(&self) -> u8
         ensures { result ≡ actor_member self.now }
     {

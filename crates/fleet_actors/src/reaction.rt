@@ -1,13 +1,13 @@
-//! How a node takes a message.
+//! How a node of a fleet takes a message.
 
 ghost use Rattle.std.specs.Prelude.{◌≡◌};
 
 use crate::gate::StepGate;
 use crate::halt::Halt;
-use crate::locking::taken;
+use crate::locking::lock_spinning;
 use crate::node::NodeActor;
-use crate::step::{ready, refused};
-use journal::{Letter, Log, Pass, Receipt, Site};
+use crate::step::{catch_up_and_reserve, refused};
+use journal::{Log, MessageRef, Pass, Receipt, Site};
 use segment_core::Prepared;
 use std::alloc::Global;
 use std::sync::{Mutex, Wait};
@@ -23,23 +23,27 @@ impl<L: Site> NodeActor<L> {
     ghost use Rattle.wire.specs.Message.{message_of};
     ghost use Rattle.segment_core.specs.Prepared.{step_of};
     ghost use Rattle.segment_core.specs.Segment.{node_of, IsReady};
-    ghost use Rattle.journal.specs.Passes.{journal_of, letter_message, letter_number, notes_of, seat_of, steps_of};
+    ghost use Rattle.journal.specs.Passes.{journal_of, message_ref_message, message_ref_number, notes_of, seat_of, steps_of};
     ghost use Rattle.fleet_actors.specs.declared.halt.Halt.TheVariants.{Refused};
     ghost use Rattle.fleet_actors.specs.Halts.{Enters, Halts, IsExact};
     ghost use Rattle.fleet_actors.specs.Nodes.{actor_group, actor_member, actor_node, delivery_of};
 
-    /// Makes ready to take a letter, under the node's lock alone: gives every refusal, makes every growth, and works
-    /// out the answers. Nothing that the node holds has changed.
-    fn prepare<'a>(&mut self, alloc: Global, letter: &Letter<'a, L>) -> Result<Prepared, Fault>
+    /// Prepares the reaction to a message under the node's lock alone: finds every refusal, makes every growth and
+    /// works out the answers. The node is unchanged.
+    fn prepare<'a>(
+        &mut self,
+        alloc: Global,
+        message_ref: &MessageRef<'a, L>,
+    ) -> Result<Prepared, Fault>
         ensures ready { IfOk result (λ prepared. IsReady self.new.segment prepared) }
-        ensures step { IfOk result (λ prepared. delivery_of self.new (letter_message letter.now) ≡ Ok (step_of prepared (node_of self.new.segment))) }
-        ensures fails { IfErr result (λ fault. Fails fault (delivery_of self.new (letter_message letter.now))) }
+        ensures step { IfOk result (λ prepared. delivery_of self.new (message_ref_message message_ref.now) ≡ Ok (step_of prepared (node_of self.new.segment))) }
+        ensures fails { IfErr result (λ fault. Fails fault (delivery_of self.new (message_ref_message message_ref.now))) }
         ensures same { (self.new.group ≡ self.old.group) × (self.new.member ≡ self.old.member) × (actor_node self.new ≡ actor_node self.old) }
     {
-        self.segment.prepare(alloc, letter.message())
+        self.segment.prepare(alloc, message_ref.message())
     }
 
-    /// Makes ready to take a record that a client writes, as [`prepare`](NodeActor::prepare) does its letter.
+    /// Prepares the reaction to a client's Write, as [`prepare`](NodeActor::prepare) does for its message.
     #[inline(always)]
     fn prepare_write(&mut self, alloc: Global, write: &Write) -> Result<Prepared, Fault>
         ensures ready { IfOk result (λ prepared. IsReady self.new.segment prepared) }
@@ -50,39 +54,38 @@ impl<L: Site> NodeActor<L> {
         self.segment.prepare_write(alloc, write)
     }
 
-    /// Takes a letter that the node was made ready for, and enters the step. Its caller holds the node's lock and the
-    /// journal's.
+    /// Applies a prepared reaction and enters the step. The caller holds the node's lock and the journal's.
     #[inline(always)]
     fn receive<'a, R: Wait>(
         &mut self,
         rt: &R,
         log: &mut Log<'a, L>,
         pass: &mut Pass<'a, L>,
-        letter: &mut Letter<'a, L>,
+        message_ref: &mut MessageRef<'a, L>,
         prepared: Prepared,
     ) -> Result<Receipt, Halt>
         requires ready { IsReady self.old.segment prepared }
-        requires step { delivery_of self.old (letter_message letter.old) ≡ Ok (step_of prepared (node_of self.old.segment)) }
-        ensures told { Halts (Deliver self.old.group self.old.member (letter_number letter.old)) result (steps_of pass.old) (steps_of pass.new) (notes_of pass.old) (notes_of pass.new) }
-        ensures exact { IsExact L.plan L.slots (length L.cells) (journal_of log.old) (Deliver self.old.group self.old.member (letter_number letter.old)) result }
-        ensures entered { Enters (Deliver self.old.group self.old.member (letter_number letter.old)) (journal_of log.old) (journal_of log.new) result }
+        requires step { delivery_of self.old (message_ref_message message_ref.old) ≡ Ok (step_of prepared (node_of self.old.segment)) }
+        ensures told { Halts (Deliver self.old.group self.old.member (message_ref_number message_ref.old)) result (steps_of pass.old) (steps_of pass.new) (notes_of pass.old) (notes_of pass.new) }
+        ensures exact { IsExact L.plan L.slots (length L.cells) (journal_of log.old) (Deliver self.old.group self.old.member (message_ref_number message_ref.old)) result }
+        ensures entered { Enters (Deliver self.old.group self.old.member (message_ref_number message_ref.old)) (journal_of log.old) (journal_of log.new) result }
         ensures seat { seat_of pass.new ≡ seat_of pass.old }
         ensures found { IfErr result (λ halt. halt ≢ Refused NoMessage) }
         ensures same { (self.new.group ≡ self.old.group) × (self.new.member ≡ self.old.member) }
         ensures still { OnErr result (actor_node self.new ≡ actor_node self.old) }
     {
         let NodeActor {
-            mark,
+            cursor,
             segment,
             group,
             member,
         } = self;
-        log.has(letter);
-        ready(log, pass, mark)?;
+        log.has(message_ref);
+        catch_up_and_reserve(log, pass, cursor)?;
         let event = Event::Deliver {
             group: *group,
             member: *member,
-            message: letter.number(),
+            message: message_ref.number(),
         };
         if u64::from(*group) >= log.joined() {
             return Err(refused(log, pass, event, Fault::NoActor));
@@ -91,32 +94,32 @@ impl<L: Site> NodeActor<L> {
             return Err(refused(log, pass, event, Fault::JournalFull));
         }
         let made = segment.apply(prepared);
-        Ok(log.enter(rt, mark, pass, event, made, 0))
+        Ok(log.enter(rt, cursor, pass, event, made, 0))
     }
 
-    /// Notes that the node refuses a letter. Its caller holds the node's lock and the journal's.
+    /// Notes that the node refuses a message. The caller holds the node's lock and the journal's.
     fn decline<'a>(
         &mut self,
         log: &mut Log<'a, L>,
         pass: &mut Pass<'a, L>,
-        letter: &mut Letter<'a, L>,
+        message_ref: &mut MessageRef<'a, L>,
         fault: Fault,
     ) -> Result<Receipt, Halt>
-        requires fails { Fails fault (delivery_of self.old (letter_message letter.old)) }
-        ensures told { Halts (Deliver self.old.group self.old.member (letter_number letter.old)) result (steps_of pass.old) (steps_of pass.new) (notes_of pass.old) (notes_of pass.new) }
-        ensures exact { IsExact L.plan L.slots (length L.cells) (journal_of log.old) (Deliver self.old.group self.old.member (letter_number letter.old)) result }
-        ensures entered { Enters (Deliver self.old.group self.old.member (letter_number letter.old)) (journal_of log.old) (journal_of log.new) result }
+        requires fails { Fails fault (delivery_of self.old (message_ref_message message_ref.old)) }
+        ensures told { Halts (Deliver self.old.group self.old.member (message_ref_number message_ref.old)) result (steps_of pass.old) (steps_of pass.new) (notes_of pass.old) (notes_of pass.new) }
+        ensures exact { IsExact L.plan L.slots (length L.cells) (journal_of log.old) (Deliver self.old.group self.old.member (message_ref_number message_ref.old)) result }
+        ensures entered { Enters (Deliver self.old.group self.old.member (message_ref_number message_ref.old)) (journal_of log.old) (journal_of log.new) result }
         ensures seat { seat_of pass.new ≡ seat_of pass.old }
         ensures found { IfErr result (λ halt. halt ≢ Refused NoMessage) }
         ensures same { (self.new.group ≡ self.old.group) × (self.new.member ≡ self.old.member) }
         ensures still { actor_node self.new ≡ actor_node self.old }
     {
-        log.has(letter);
-        ready(log, pass, &mut self.mark)?;
+        log.has(message_ref);
+        catch_up_and_reserve(log, pass, &mut self.cursor)?;
         let event = Event::Deliver {
             group: self.group,
             member: self.member,
-            message: letter.number(),
+            message: message_ref.number(),
         };
         if u64::from(self.group) >= log.joined() {
             return Err(refused(log, pass, event, Fault::NoActor));
@@ -124,52 +127,52 @@ impl<L: Site> NodeActor<L> {
         Err(refused(log, pass, event, fault))
     }
 
-    /// Lends the answers of what was made ready to the gate, then takes the journal's lock and the letter.
+    /// Lends the prepared answers to the gate, then takes the journal's lock and applies the reaction.
     #[inline(always)]
     fn accept<'a, R: Wait, G: StepGate>(
         &mut self,
         rt: &R,
         journal: &Mutex<Log<'a, L>>,
         pass: &mut Pass<'a, L>,
-        letter: &mut Letter<'a, L>,
+        message_ref: &mut MessageRef<'a, L>,
         gate: &G,
         prepared: Prepared,
     ) -> Result<Receipt, Halt>
         requires ready { IsReady self.old.segment prepared }
-        requires step { delivery_of self.old (letter_message letter.old) ≡ Ok (step_of prepared (node_of self.old.segment)) }
-        ensures told { Halts (Deliver (actor_group self.old) (actor_member self.old) (letter_number letter.old)) result (steps_of pass.old) (steps_of pass.new) (notes_of pass.old) (notes_of pass.new) }
+        requires step { delivery_of self.old (message_ref_message message_ref.old) ≡ Ok (step_of prepared (node_of self.old.segment)) }
+        ensures told { Halts (Deliver (actor_group self.old) (actor_member self.old) (message_ref_number message_ref.old)) result (steps_of pass.old) (steps_of pass.new) (notes_of pass.old) (notes_of pass.new) }
         ensures seat { seat_of pass.new ≡ seat_of pass.old }
         ensures found { IfErr result (λ halt. halt ≢ Refused NoMessage) }
         ensures same { (actor_group self.new ≡ actor_group self.old) × (actor_member self.new ≡ actor_member self.old) }
         ensures still { OnErr result (actor_node self.new ≡ actor_node self.old) }
     {
         gate.prepared(prepared.answers());
-        let mut log = taken(rt, journal);
-        self.receive(rt, &mut log, pass, letter, prepared)
+        let mut log = lock_spinning(rt, journal);
+        self.receive(rt, &mut log, pass, message_ref, prepared)
     }
 
-    /// Takes the journal's lock and notes that the node refuses a letter: apart, since few are refused.
+    /// Takes the journal's lock and notes that the node refuses a message. Out of line, since refusals are rare.
     #[inline(never)]
     fn reject<'a, R: Wait>(
         &mut self,
         rt: &R,
         journal: &Mutex<Log<'a, L>>,
         pass: &mut Pass<'a, L>,
-        letter: &mut Letter<'a, L>,
+        message_ref: &mut MessageRef<'a, L>,
         fault: Fault,
     ) -> Result<Receipt, Halt>
-        requires fails { Fails fault (delivery_of self.old (letter_message letter.old)) }
-        ensures told { Halts (Deliver (actor_group self.old) (actor_member self.old) (letter_number letter.old)) result (steps_of pass.old) (steps_of pass.new) (notes_of pass.old) (notes_of pass.new) }
+        requires fails { Fails fault (delivery_of self.old (message_ref_message message_ref.old)) }
+        ensures told { Halts (Deliver (actor_group self.old) (actor_member self.old) (message_ref_number message_ref.old)) result (steps_of pass.old) (steps_of pass.new) (notes_of pass.old) (notes_of pass.new) }
         ensures seat { seat_of pass.new ≡ seat_of pass.old }
         ensures found { IfErr result (λ halt. halt ≢ Refused NoMessage) }
         ensures same { (actor_group self.new ≡ actor_group self.old) × (actor_member self.new ≡ actor_member self.old) }
         ensures still { OnErr result (actor_node self.new ≡ actor_node self.old) }
     {
-        let mut log = taken(rt, journal);
-        self.decline(&mut log, pass, letter, fault)
+        let mut log = lock_spinning(rt, journal);
+        self.decline(&mut log, pass, message_ref, fault)
     }
 
-    /// Delivers a letter, as [`react`](NodeActor::react) does: apart from it, so that the short way's results stay small.
+    /// The general case of [`react`](NodeActor::react), out of line so that the write path keeps a small stack frame.
     #[inline(never)]
     fn react_at_large<'a, R: Wait, G: StepGate>(
         &mut self,
@@ -177,57 +180,56 @@ impl<L: Site> NodeActor<L> {
         alloc: Global,
         journal: &Mutex<Log<'a, L>>,
         pass: &mut Pass<'a, L>,
-        letter: &mut Letter<'a, L>,
+        message_ref: &mut MessageRef<'a, L>,
         gate: &G,
     ) -> Result<Receipt, Halt>
-        ensures told { Halts (Deliver (actor_group self.old) (actor_member self.old) (letter_number letter.old)) result (steps_of pass.old) (steps_of pass.new) (notes_of pass.old) (notes_of pass.new) }
+        ensures told { Halts (Deliver (actor_group self.old) (actor_member self.old) (message_ref_number message_ref.old)) result (steps_of pass.old) (steps_of pass.new) (notes_of pass.old) (notes_of pass.new) }
         ensures seat { seat_of pass.new ≡ seat_of pass.old }
         ensures found { IfErr result (λ halt. halt ≢ Refused NoMessage) }
         ensures same { (actor_group self.new ≡ actor_group self.old) × (actor_member self.new ≡ actor_member self.old) }
         ensures still { OnErr result (actor_node self.new ≡ actor_node self.old) }
     {
-        match self.prepare(alloc, letter) {
-            Ok(prepared) => self.accept(rt, journal, pass, letter, gate, prepared),
-            Err(fault) => self.reject(rt, journal, pass, letter, fault),
+        match self.prepare(alloc, message_ref) {
+            Ok(prepared) => self.accept(rt, journal, pass, message_ref, gate, prepared),
+            Err(fault) => self.reject(rt, journal, pass, message_ref, fault),
         }
     }
 
-    /// Delivers a letter to the node, whose lock the caller holds: makes ready, lends the answers to the gate while the
-    /// journal is free, then takes the letter and enters the step.
+    /// Delivers a message to the node, whose lock the caller holds: prepares the reaction, lends the answers to the
+    /// gate while the journal is free, then applies the reaction and enters the step.
     ///
     /// # Errors
-    /// [`Again`](Halt::Again) where the journal doesn't have the node as it stands here. Else, and these are noted:
-    /// `NoActor` where the node's group hasn't joined; the first that applies to a message of its kind, as
-    /// [`Segment::prepare`](segment_core::Segment::prepare) gives it: `NotAddressed` where it isn't for this node,
-    /// `AlreadyWhole` of a copy where the node is whole, `StaleMember` and `AheadMember` where it is at a later or an earlier membership
-    /// epoch, `NotWhole` where it isn't whole yet, `StaleVolume` where it has promised a later volume epoch, `NotInstalled` where its
-    /// lineage isn't that of the volume epoch, `Full` where it would hold more records than it may, or an Install has too many pieces,
-    /// `BadPiece` where it can't be a piece beside those that are kept, `NotInPlan` of a step to a place that the plan doesn't have,
-    /// `SeriesSpent` where it has told as many copies as it may, `TailSegment` where it keeps no whole pages, and `PointAhead` where it
-    /// isn't complete up to the point; then `JournalFull` where no cell is left. And `NoMemory`, which isn't noted. The node is then
-    /// what it was. It is never `NoMessage`.
+    /// The node is unchanged. [`StaleCursor`](Halt::StaleCursor) if the cursor isn't the node's last entry. Else, and
+    /// noted: `NoActor` if the group hasn't joined; the first refusal of the message, as
+    /// [`Segment::prepare`](segment_core::Segment::prepare) gives it (`NotAddressed` if it isn't for this node;
+    /// `AlreadyWhole` of a copy to a whole node; `StaleMember` or `AheadMember` of another membership epoch;
+    /// `NotWhole` of a node that isn't whole; `StaleVolume` below the promised volume epoch; `NotInstalled` if the
+    /// lineage isn't that of the volume epoch; `Full` of too many records or pieces; `BadPiece` if it can't be a
+    /// piece beside those kept; `NotInPlan` of a step to a place that the plan lacks; `SeriesSpent` if no number of a
+    /// copy is left; `TailSegment` if the node keeps no pages; `PointAhead` if it isn't complete up to the point);
+    /// `JournalFull` if no cell is left. `NoMemory`, which isn't noted. Never `NoMessage`.
     pub fn react<'a, R: Wait, G: StepGate>(
         &mut self,
         rt: &R,
         alloc: Global,
         journal: &Mutex<Log<'a, L>>,
         pass: &mut Pass<'a, L>,
-        letter: &mut Letter<'a, L>,
+        message_ref: &mut MessageRef<'a, L>,
         gate: &G,
     ) -> Result<Receipt, Halt>
-        ensures told { Halts (Deliver (actor_group self.old) (actor_member self.old) (letter_number letter.old)) result (steps_of pass.old) (steps_of pass.new) (notes_of pass.old) (notes_of pass.new) }
+        ensures told { Halts (Deliver (actor_group self.old) (actor_member self.old) (message_ref_number message_ref.old)) result (steps_of pass.old) (steps_of pass.new) (notes_of pass.old) (notes_of pass.new) }
         ensures seat { seat_of pass.new ≡ seat_of pass.old }
         ensures found { IfErr result (λ halt. halt ≢ Refused NoMessage) }
         ensures same { (actor_group self.new ≡ actor_group self.old) × (actor_member self.new ≡ actor_member self.old) }
         ensures still { OnErr result (actor_node self.new ≡ actor_node self.old) }
     {
         // Most letters are records that a client writes, so these have a short way of their own.
-        if let Message::Write(write) = letter.message() {
+        if let Message::Write(write) = message_ref.message() {
             return match self.prepare_write(alloc, write) {
-                Ok(prepared) => self.accept(rt, journal, pass, letter, gate, prepared),
-                Err(fault) => self.reject(rt, journal, pass, letter, fault),
+                Ok(prepared) => self.accept(rt, journal, pass, message_ref, gate, prepared),
+                Err(fault) => self.reject(rt, journal, pass, message_ref, fault),
             };
         }
-        self.react_at_large(rt, alloc, journal, pass, letter, gate)
+        self.react_at_large(rt, alloc, journal, pass, message_ref, gate)
     }
 }

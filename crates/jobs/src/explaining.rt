@@ -1,4 +1,4 @@
-//! What is said where the words of the command line name no job.
+//! What is printed if the words of the command line name no job.
 
 ghost use Rattle.std.specs.Prelude.{◌≤◌};
 ghost use Rattle.jobs.specs.Streams.{Ends};
@@ -9,11 +9,11 @@ use command_line::Usage;
 use std::alloc::Global;
 use std::io::Write;
 
-/// What is said where memory ran out.
+/// The line that is printed if memory ran out.
 pub const NO_MEMORY: &str = "input: 9 NoMemory\n";
 
-/// Says what is to be known of the words: the help or the version where they ask for it, to standard output with status 0, else the
-/// mistake, to standard error with status 2; want of memory is told there too.
+/// Prints the help or the version if the words ask for it, to standard output with status 0; else the mistake, or
+/// that memory ran out, to standard error with status 2.
 pub fn explain<O: Write, E: Write>(
     alloc: Global,
     usage: &Usage,

@@ -1,4 +1,4 @@
-//! Readers and writers of which a contract can say that a call of theirs failed.
+//! Readers and writers whose contracts say whether a call failed.
 
 ghost use Rattle.std.specs.Prelude.{ℕ, List, IsErr, IsTrue, Result, ⊤};
 ghost use Rattle.std.specs.Io.{ReadsAtMost, WritesAtMost};
@@ -8,19 +8,19 @@ ghost use Rattle.std.specs.declared.io.Error.{Error};
 use std::io;
 use std::io::{ErrorKind, Read, Write};
 
-/// Whether a call that answered this is to be made again.
+/// Returns whether a call with this result is to be made again.
 pub(crate) fn is_interrupted(answer: &io::Result<usize>) -> bool
     ensures { IsTrue result → IsErr answer.now }
 {
     matches!(answer, Err(error) if error.kind() == ErrorKind::Interrupted)
 }
 
-/// A reader that tells contracts what its reads answered.
+/// A reader whose contract records the results of its reads.
 pub trait FallibleRead: Read {
     // A read of a reader in this state answered this.
     ghost answers: { Self → Result ℕ Error → Type 0 };
 
-    /// One read, as [`Read::read`] makes it.
+    /// Makes one read, as [`Read::read`] does.
     fn read_some(&mut self, buf: &mut [u8]) -> io::Result<usize>
         ensures bound { ReadsAtMost result buf.new }
         ensures bytes { ReadConsumes (Self.remaining self.old) (Self.remaining self.new) result buf.new }
@@ -35,12 +35,12 @@ impl<R: Read> FallibleRead for R {
     }
 }
 
-/// A writer that tells contracts what its writes answered.
+/// A writer whose contract records the results of its writes.
 pub trait FallibleWrite: Write {
     // A write of these bytes to a writer in this state answered this.
     ghost answers: { Self → List ℕ → Result ℕ Error → Type 0 };
 
-    /// One write, as [`Write::write`] makes it.
+    /// Makes one write, as [`Write::write`] does.
     fn write_some(&mut self, bytes: &[u8]) -> io::Result<usize>
         ensures bound { WritesAtMost result bytes.now }
         ensures bytes { WriteAppends (Self.contents self.old) (Self.contents self.new) result bytes.now }

@@ -13,7 +13,7 @@ use std::io::{ErrorKind, Read};
 use std::rt::Files;
 use std::{fs, io};
 
-/// How many bytes are asked of a reader at a time.
+/// The number of bytes asked of a reader at a time.
 const CHUNK: usize = 16_384;
 
 /// A file to be read, or why it can't be opened; and whether a read of it has failed.
@@ -28,7 +28,7 @@ pub struct Source<R> {
 pub enum ReadFault {
     /// It can't be opened, or a read of it has failed.
     Unreadable,
-    /// A growth was refused.
+    /// Memory ran out.
     NoMemory,
 }
 
@@ -42,7 +42,7 @@ impl From<AllocError> for ReadFault {
     }
 }
 
-/// Why a file isn't read whose open or read answered this error: want of memory is want of memory, whoever tells it.
+/// Returns the fault of a file whose open or read gave this error: the kind OutOfMemory is `NoMemory`.
 fn fault_of(error: &io::Error) -> ReadFault {
     if error.kind() == ErrorKind::OutOfMemory {
         return ReadFault::NoMemory;
@@ -51,7 +51,7 @@ fn fault_of(error: &io::Error) -> ReadFault {
 }
 
 impl<R: Read> Source<R> {
-    /// A file as it was opened, of which nothing was read.
+    /// Makes the source of a file as it was opened, of which nothing was read.
     pub fn new(file: io::Result<R>) -> Source<R>
         ensures left { left_of R.remaining result ≡ left_in R.remaining file }
         ensures whole { is_unread result ≡ false }
@@ -63,7 +63,7 @@ impl<R: Read> Source<R> {
     }
 }
 
-/// The file with a name, of which nothing was read; where the job has no such file, it is one that can't be opened.
+/// Opens the file with a name. If the job has no such file, it is one that can't be opened.
 pub fn opened<R: Files>(rt: &R, name: Option<&str>) -> Source<R::File>
     ensures whole { is_unread result ≡ false }
     ensures absent { name.entry ≡ None → left_of R.File.remaining result ≡ None }
@@ -77,11 +77,11 @@ pub fn opened<R: Files>(rt: &R, name: Option<&str>) -> Source<R::File>
 impl<R: FallibleRead> Source<R> {
     ghost use Rattle.jobs.specs.Streams.{FailsByRead};
 
-    /// The bytes that the file has left, but no more than `most` of them.
+    /// Reads the rest of the file, `most` bytes at most.
     ///
     /// # Errors
-    /// [`Unreadable`](ReadFault::Unreadable) once the file couldn't be opened or a read of it failed, and
-    /// [`NoMemory`](ReadFault::NoMemory), also where a read was refused for want of memory.
+    /// [`Unreadable`](ReadFault::Unreadable) once the file couldn't be opened or a read of it failed;
+    /// [`NoMemory`](ReadFault::NoMemory) if memory ran out, also in a read.
     pub fn read_all(&mut self, alloc: Global, most: u64) -> Result<Vec<u8>, ReadFault>
         ensures bytes { IfOk result (λ v. IfSome (left_of R.remaining self.old) (λ bytes. v.items ≡ take most bytes)) }
         ensures whole { OnOk result (is_unread self.new ≡ false) }
@@ -101,7 +101,7 @@ impl<R: FallibleRead> Source<R> {
     }
 }
 
-/// One read, made again where it is interrupted.
+/// Makes one read, again if it is interrupted.
 fn read_on<R: FallibleRead>(reader: &mut R, buf: &mut [u8]) -> io::Result<usize>
     ensures bound { ReadsAtMost result buf.new }
     ensures bytes { ReadConsumes (R.remaining reader.old) (R.remaining reader.new) result buf.new }
@@ -117,8 +117,7 @@ fn read_on<R: FallibleRead>(reader: &mut R, buf: &mut [u8]) -> io::Result<usize>
     last
 }
 
-/// Reads on into `all`, and says whether there may be more: not where the reader is at its end, nor where so many bytes are
-/// there.
+/// Reads on into `all`. Returns whether there may be more: false at the reader's end, or once `most` bytes are there.
 fn read_more<R: FallibleRead>(
     reader: &mut R,
     chunk: &mut [u8],
@@ -143,14 +142,14 @@ fn read_more<R: FallibleRead>(
     Ok(count > 0)
 }
 
-/// So many bytes, for a reader to write.
+/// Makes a buffer of `size` bytes.
 fn buffer(alloc: Global, size: usize) -> Result<Vec<u8>, AllocError>
     ensures { IfOk result (λ v. vec_len v ≡ size) }
 {
     vec![in alloc; 0; size]
 }
 
-/// The bytes that a reader has left, but no more than `most` of them.
+/// Reads the rest of a reader, `most` bytes at most.
 fn read_front<R: FallibleRead>(
     alloc: Global,
     reader: &mut R,
@@ -168,7 +167,7 @@ fn read_front<R: FallibleRead>(
     }
 }
 
-/// The same of a file, where it was opened.
+/// Reads the rest of a file, if it was opened.
 fn read_file<R: FallibleRead>(
     alloc: Global,
     file: &mut io::Result<R>,

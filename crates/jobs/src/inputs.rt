@@ -1,4 +1,4 @@
-//! What is read of a job's files: their texts, the plan and the script.
+//! The texts of a job's files: the plan and the script.
 
 ghost use Rattle.std.specs.Prelude.{◌≡◌, Err, IfErr, IfOk, None, Ok, Some};
 ghost use Rattle.std.specs.Arc.{arc_value};
@@ -23,10 +23,10 @@ use script::{Script, read_script};
 use std::alloc::Global;
 use std::sync::Arc;
 
-/// The most bytes that are read of a file: one more than a plan's text or a script may have.
+/// The most bytes read of a file: one more than a plan's text or a script may have.
 const FILE_BYTES: u64 = 16_777_217;
 
-/// The text of a file with this name.
+/// Reads the text of a file.
 pub fn contents<'a, R: FallibleRead>(
     alloc: Global,
     name: &'a str,
@@ -43,7 +43,7 @@ pub fn contents<'a, R: FallibleRead>(
     }
 }
 
-/// The plan that a text spells.
+/// Reads the plan of a text.
 fn plan_in(alloc: Global, text: &[u8]) -> Result<Plan, Stop<'static>>
     ensures plan { IfOk result (λ plan. plan_of text.now ≡ Ok (plan_data plan)) }
     ensures stop { IfErr result (StopsBy (λ fault. plan_of text.now ≡ Err fault)) }
@@ -54,7 +54,7 @@ fn plan_in(alloc: Global, text: &[u8]) -> Result<Plan, Stop<'static>>
     }
 }
 
-/// The same, and how its thresholds are spelled where that is known.
+/// Reads the plan of a text, and how its thresholds are spelled if that is known.
 pub fn spelled_plan_in(
     alloc: Global,
     text: &[u8],
@@ -68,7 +68,7 @@ pub fn spelled_plan_in(
     }
 }
 
-/// The plan, where it has no fault.
+/// Checks a plan.
 fn checked_plan(alloc: Global, plan: Plan) -> Result<CheckedPlan, Stop<'static>>
     ensures plan { IfOk result (λ checked. checked.plan ≡ plan) }
     ensures faultless { IfOk result (λ checked. plan_fault (plan_data plan) ≡ None) }
@@ -84,7 +84,7 @@ fn checked_plan(alloc: Global, plan: Plan) -> Result<CheckedPlan, Stop<'static>>
     }
 }
 
-/// The plan that a text spells, where it has no fault.
+/// Reads and checks the plan of a text.
 fn checked_text(alloc: Global, text: &[u8]) -> Result<CheckedPlan, Stop<'static>>
     ensures plan { IfOk result (IsPlanOf text.now) }
     ensures stop { IfErr result (StopsBy (λ fault. text_fault text.now ≡ Some fault)) }
@@ -93,7 +93,7 @@ fn checked_text(alloc: Global, text: &[u8]) -> Result<CheckedPlan, Stop<'static>
     checked_plan(alloc, plan)
 }
 
-/// The plan of a file, where it is read and has no fault.
+/// Reads and checks the plan of a file.
 pub fn checked<'a, P: FallibleRead>(
     alloc: Global,
     name: &'a str,
@@ -107,7 +107,7 @@ pub fn checked<'a, P: FallibleRead>(
     checked_text(alloc, text.as_slice())
 }
 
-/// The script that a text spells.
+/// Reads the script of a text.
 fn script_in(alloc: Global, text: &[u8]) -> Result<Script, Stop<'static>>
     ensures script { IfOk result (IsScriptOf text.now) }
     ensures stop { IfErr result (StopsAtLine text.now) }
@@ -118,7 +118,7 @@ fn script_in(alloc: Global, text: &[u8]) -> Result<Script, Stop<'static>>
     }
 }
 
-/// The script of a file, where it is read and is one.
+/// Reads the script of a file.
 fn script_of<'a, S: FallibleRead>(
     alloc: Global,
     name: &'a str,
@@ -132,14 +132,14 @@ fn script_of<'a, S: FallibleRead>(
     script_in(alloc, text.as_slice())
 }
 
-/// A plan without a fault, and a script to be run over it.
+/// A checked plan, and a script to run over it.
 #[derive(Drop)]
 pub struct PlanAndScript {
     pub plan: Arc<CheckedPlan>,
     pub script: Script,
 }
 
-/// The name of the script's file, empty where the job has none.
+/// Returns the name of the script's file, empty if the job has none.
 fn script_name<'a>(job: &Job<'a>) -> &'a str
     ensures { result.now ≡ script_name job.now }
 {
@@ -149,7 +149,7 @@ fn script_name<'a>(job: &Job<'a>) -> &'a str
     }
 }
 
-/// The script of a job's file, where it is read and is one, with its plan.
+/// Reads the script of a job's file, beside its plan.
 fn with_script<'a, S: FallibleRead>(
     alloc: Global,
     plan: CheckedPlan,
@@ -166,7 +166,7 @@ fn with_script<'a, S: FallibleRead>(
     Ok(PlanAndScript { plan, script })
 }
 
-/// The plan of a job's file, where it is read and has no fault, and then the script of the other, where it is read and is one.
+/// Reads and checks the plan of a job's file, then reads the script of the other.
 pub fn plan_and_script<'a, P: FallibleRead, S: FallibleRead>(
     alloc: Global,
     job: &Job<'a>,

@@ -2,9 +2,9 @@
 
 use std::mem;
 
-/// Leaves a value's memory to the end of the process, which gives back all of it at once. A program ends behind its job, and a plan, or
-/// what is told of a run, is in many pieces, which take time to drop one by one. Where a process does one job after another, it keeps
-/// what was left by each.
+/// Leaks a value to the end of the process, which frees all memory at once. Dropping a plan or a run's outcome piece
+/// by piece takes time, and the program ends after its job. A process that does many jobs keeps what each of them
+/// leaked.
 pub(crate) fn leave<T: Drop>(value: T) {
     mem::forget(value);
 }

@@ -1,4 +1,4 @@
-//! A job, done on the contents of its files: what is answered to it, printed and told.
+//! Commands on the contents of their files: what they answer and print.
 #![tactic(auto)]
 
 mod explaining;

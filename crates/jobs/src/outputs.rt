@@ -1,4 +1,4 @@
-//! What is written.
+//! Outputs.
 
 ghost use Rattle.std.specs.Prelude.{◌≡◌, ◌⊎◌, ◌<◌, ◌≤◌, true, IfOk, OnErr, OnOk, length, take};
 ghost use Rattle.std.specs.Io.{WritesAtMost};
@@ -24,7 +24,7 @@ pub struct WriteFailed;
 impl<W> Output<W> {
     ghost use Rattle.std.specs.Prelude.{false};
 
-    /// A writer to which nothing was written.
+    /// Makes the output of a writer.
     pub fn new(writer: W) -> Output<W>
         ensures writer { writer_of result ≡ writer }
         ensures whole { is_broken result ≡ false }
@@ -35,7 +35,7 @@ impl<W> Output<W> {
         }
     }
 
-    /// The writer, with what was written to it.
+    /// Returns the writer.
     pub fn into_inner(self) -> W
         ensures { result ≡ writer_of self }
     {
@@ -44,7 +44,7 @@ impl<W> Output<W> {
     }
 }
 
-/// One write, made again where it is interrupted.
+/// Makes one write, again if it is interrupted.
 fn write_on<W: FallibleWrite>(writer: &mut W, bytes: &[u8]) -> io::Result<usize>
     ensures bound { WritesAtMost result bytes.now }
     ensures bytes { WriteAppends (W.contents writer.old) (W.contents writer.new) result bytes.now }
@@ -60,10 +60,10 @@ fn write_on<W: FallibleWrite>(writer: &mut W, bytes: &[u8]) -> io::Result<usize>
     last
 }
 
-/// How many of these bytes a writer takes now, one at least.
+/// Writes some of these bytes; returns how many, one at least.
 ///
 /// # Errors
-/// Where the writer fails, or takes none.
+/// The writer fails, or takes none.
 fn write_part<W: FallibleWrite>(writer: &mut W, bytes: &[u8]) -> Result<usize, WriteFailed>
     requires { 0 < length bytes.now }
     ensures taken { IfOk result (λ count. (0 < count) × (count ≤ length bytes.now)) }
@@ -93,10 +93,10 @@ fn write_whole<W: FallibleWrite>(writer: &mut W, bytes: &[u8]) -> Result<(), Wri
 }
 
 impl<W: FallibleWrite> Output<W> {
-    /// Writes these bytes at the end.
+    /// Writes these bytes.
     ///
     /// # Errors
-    /// [`WriteFailed`] where the writer didn't take them all.
+    /// [`WriteFailed`] if the writer didn't take them all.
     pub fn emit(&mut self, bytes: &[u8]) -> Result<(), WriteFailed>
         ensures written { OnOk result (Gets W.contents self.old self.new bytes.now) }
         ensures failed { OnErr result (is_broken self.new ≡ true) }
@@ -113,7 +113,7 @@ impl<W: FallibleWrite> Output<W> {
     }
 }
 
-/// Says of an output that it can't be written.
+/// Prints that an output can't be written.
 fn complain<E: FallibleWrite>(err: &mut Output<E>)
     ensures line { Gets E.contents err.old err.new unwritten_line ⊎ (is_broken err.new ≡ true) }
     ensures reason { FailsByWrite E.answers err.old err.new }
@@ -121,7 +121,7 @@ fn complain<E: FallibleWrite>(err: &mut Output<E>)
     let _ = err.emit(b"output: cannot write\n");
 }
 
-/// Writes what is printed, and gives the exit status: 2 where it can't be written.
+/// Writes a text to standard output. Returns the exit status, 2 if it can't be written.
 fn print<O: FallibleWrite, E: FallibleWrite>(
     status: u8,
     printed: &[u8],
@@ -141,7 +141,8 @@ fn print<O: FallibleWrite, E: FallibleWrite>(
     }
 }
 
-/// Writes an answer, what is told to `err` and what is printed to `out`, and gives its exit status: 2 where it can't be written.
+/// Writes an answer, first its text on standard error, then that on standard output. Returns the exit status, 2 if
+/// one can't be written.
 pub fn deliver<O: FallibleWrite, E: FallibleWrite>(
     status: u8,
     printed: &[u8],

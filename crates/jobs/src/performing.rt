@@ -27,7 +27,7 @@ use std::alloc::Global;
 use std::sync::Wait;
 use std::thread::Threads;
 
-/// What is told of a checked plan.
+/// Returns the answer to the check of a plan without a fault.
 fn plan_told(alloc: Global, plan: &CheckedPlan) -> Result<Reply, Stop<'static>>
     ensures yes { IfOk result (λ reply. reply.status ≡ 0) }
     ensures line { IfOk result (λ reply. string_bytes reply.text ≡ plan_line (checked_model plan.now)) }
@@ -37,7 +37,7 @@ fn plan_told(alloc: Global, plan: &CheckedPlan) -> Result<Reply, Stop<'static>>
     Ok(Reply { status: 0, text })
 }
 
-/// What `check` says.
+/// Returns the answer of `check`.
 fn check<'a, P: FallibleRead>(
     alloc: Global,
     name: &'a str,
@@ -56,7 +56,7 @@ fn check<'a, P: FallibleRead>(
     }
 }
 
-/// Says why a job ends before its own answer.
+/// Prints why a job ends before its own answer.
 fn refuse<O: FallibleWrite, E: FallibleWrite>(
     alloc: Global,
     stop: &Stop<'_>,
@@ -75,7 +75,7 @@ fn refuse<O: FallibleWrite, E: FallibleWrite>(
     }
 }
 
-/// Says what a job answers, or why it ends before.
+/// Prints a job's answer, or why it ends before it.
 fn finish<O: FallibleWrite, E: FallibleWrite>(
     alloc: Global,
     answer: &Result<Reply, Stop<'_>>,
@@ -93,7 +93,7 @@ fn finish<O: FallibleWrite, E: FallibleWrite>(
     }
 }
 
-/// Does a check, as [`perform`] does.
+/// Performs a check, as [`perform`] does.
 fn perform_check<P: FallibleRead, O: FallibleWrite, E: FallibleWrite>(
     alloc: Global,
     job: &Job<'_>,
@@ -114,7 +114,7 @@ fn perform_check<P: FallibleRead, O: FallibleWrite, E: FallibleWrite>(
     finish(alloc, &answer, out, err)
 }
 
-/// Runs a script, as [`perform`] does.
+/// Performs a run, as [`perform`] does.
 fn perform_run<P: FallibleRead, S: FallibleRead, O: FallibleWrite, E: FallibleWrite>(
     alloc: Global,
     job: &Job<'_>,
@@ -136,7 +136,7 @@ fn perform_run<P: FallibleRead, S: FallibleRead, O: FallibleWrite, E: FallibleWr
     finish(alloc, &answer, out, err)
 }
 
-/// Runs a script on threads, as [`perform`] does.
+/// Performs a run on threads, as [`perform`] does.
 fn perform_fleet<
     H: Threads + Wait + Sync,
     P: FallibleRead,
@@ -165,7 +165,7 @@ fn perform_fleet<
     finish(alloc, &answer, out, err)
 }
 
-/// Searches for certificates, as [`perform`] does.
+/// Performs a search, as [`perform`] does.
 fn perform_search<H: Threads + Wait + Sync, P: FallibleRead, O: FallibleWrite, E: FallibleWrite>(
     rt: &H,
     alloc: Global,
@@ -193,9 +193,10 @@ fn perform_search<H: Threads + Wait + Sync, P: FallibleRead, O: FallibleWrite, E
     }
 }
 
-/// Does a job on the contents of its files, writes what it says, and gives the exit status: 0 for yes, 1 for a refusal, 2 for
-/// an input that can't be used, which is written to `err` alone, or an output that can't be written. The script is read by `run`
-/// and `fleet` alone, and `fleet` and `search` alone start threads. Memory that it takes may be left to the end of the process.
+/// Performs a job on the contents of its files, prints its answer, and returns the exit status: 0 for yes, 1 for a
+/// refusal, 2 for an input that can't be used (printed to `err` alone) or an output that can't be written. Only `run`
+/// and `fleet` read the script; only `fleet` and `search` start threads. It may leak memory to the end of the
+/// process.
 pub fn perform<
     H: Threads + Wait + Sync,
     P: FallibleRead,

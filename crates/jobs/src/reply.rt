@@ -1,4 +1,4 @@
-//! What the program answers.
+//! The answers of the program.
 
 ghost use Rattle.std.specs.Prelude.{◌≤◌};
 
@@ -8,7 +8,7 @@ use std::alloc::{AllocError, AllocFailed};
 use std::fmt;
 use volume_model::Fault;
 
-/// An exit status, and what is printed.
+/// An exit status and a text for standard output.
 #[derive(Drop)]
 pub struct Reply {
     pub status: u8,
@@ -16,7 +16,8 @@ pub struct Reply {
     ghost known: { status ≤ 2 },
 }
 
-/// What a search says: its exit status, the line of the plan with what was found, and a line for each claim for which nothing was.
+/// The answer of a search: the exit status, the plan's line with what was found, and a line for each claim without a
+/// certificate.
 #[derive(Drop)]
 pub struct Found {
     pub status: u8,
@@ -30,15 +31,15 @@ pub struct Found {
 pub enum Stop<'a> {
     /// The file with this name can't be read.
     Unreadable(&'a str),
-    /// The plan has this fault, or its text isn't one of a plan.
+    /// The plan has this fault, or its text isn't a plan's.
     Plan(PlanFault),
-    /// The line of the script with this number isn't one.
+    /// The script's line with this number is bad.
     Line(usize),
-    /// A growth was refused.
+    /// Memory ran out.
     NoMemory,
 }
 
-/// The line that is written of it.
+/// Writes its line.
 impl fmt::Display for Stop<'_> {
     ghost use Rattle.std.specs.Prelude.{Some};
     ghost use Rattle.jobs.specs.Stops.{stop_line};
@@ -83,7 +84,7 @@ impl Stop<'_> {
     ghost use Rattle.plan.specs.declared.fault.PlanFault.TheVariants.{Text};
     ghost use Rattle.jobs.specs.Stops.{StopsBy, is_input_stop, plan_stop, script_stop};
 
-    /// Why a job ends whose plan has a fault, or for whose plan memory ran out.
+    /// Returns the stop of a plan's fault.
     pub fn of_plan(fault: PlanFault) -> Self
         ensures exact { result ≡ plan_stop fault }
         ensures told { StopsBy (λ told. (told ≡ fault) × (fault ≢ Text NoMemory)) result }
@@ -94,7 +95,7 @@ impl Stop<'_> {
         Stop::Plan(fault)
     }
 
-    /// Why a job ends whose script can't be run.
+    /// Returns the stop of a script's fault.
     pub fn of_script(fault: ScriptFault) -> Self
         ensures { result ≡ script_stop fault }
     {
@@ -104,7 +105,7 @@ impl Stop<'_> {
         }
     }
 
-    /// Whether an input can't be used; else the plan is one, and has a fault.
+    /// Returns whether an input can't be used. Otherwise the plan was read and has a fault.
     pub fn is_input(&self) -> bool
         ensures { result ≡ is_input_stop self.now }
     {

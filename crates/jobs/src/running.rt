@@ -24,7 +24,7 @@ use std::sync::{Arc, Wait};
 use std::thread::Threads;
 use world::run_orders;
 
-/// What is told of a script's run over a plan.
+/// Returns the answer of a script's run over a plan.
 fn ran(alloc: Global, both: PlanAndScript) -> Result<Reply, Stop<'static>>
     ensures told { IfOk result (λ reply. TellsOrders (checked_model (arc_value both.plan)) both.script.steps.items both.script.orders.items reply.status (string_bytes reply.text)) }
     ensures stop { IfErr result (λ stop. stop ≡ NoMemory) }
@@ -43,7 +43,7 @@ fn ran(alloc: Global, both: PlanAndScript) -> Result<Reply, Stop<'static>>
     }
 }
 
-/// What `run` says: the plan is checked, then the whole script is read, then it is run.
+/// Returns the answer of `run`: checks the plan, reads the whole script, then runs it.
 pub fn run<'a, P: FallibleRead, S: FallibleRead>(
     alloc: Global,
     job: &Job<'a>,
@@ -60,7 +60,7 @@ pub fn run<'a, P: FallibleRead, S: FallibleRead>(
     }
 }
 
-/// What is told of a script's run on threads, with so many drivers.
+/// Returns the answer of a script's run on threads by `workers` drivers.
 fn driven<H: Threads + Wait + Sync>(
     rt: &H,
     alloc: Global,
@@ -82,7 +82,7 @@ fn driven<H: Threads + Wait + Sync>(
     }
 }
 
-/// What `fleet` says: the plan is checked, then the whole script is read, then it is run on threads.
+/// Returns the answer of `fleet`: checks the plan, reads the whole script, then runs it on threads.
 pub fn fleet<'a, H: Threads + Wait + Sync, P: FallibleRead, S: FallibleRead>(
     rt: &H,
     alloc: Global,

@@ -32,13 +32,13 @@ use std::alloc::{AllocError, Global};
 use std::sync::Wait;
 use std::thread::Threads;
 
-/// How many nodes are tried for a claim at most.
+/// The budget of a claim: the most nodes that are tried.
 const BUDGET: u64 = 100_000;
 
-/// How many bytes a plan's text may have.
+/// The most bytes of a plan's text.
 const PLAN_BYTES: usize = 16_777_216;
 
-/// Lets the search go on, and tells nobody of it.
+/// A gate that does nothing.
 struct NoGate;
 
 impl Gate for NoGate {
@@ -47,7 +47,7 @@ impl Gate for NoGate {
     fn finished(&self, _claim: usize) {}
 }
 
-/// The claims of a plan.
+/// Returns the claims of a plan.
 fn claims_of<'p>(alloc: Global, plan: &'p Plan) -> Result<Vec<LentClaim<'p>>, Stop<'static>>
     ensures claims { IfOk result (λ v. claims_in (plan_data plan.entry.now) ≡ Ok (all_lent v.items)) }
     ensures stop { IfErr result (StopsBy (λ fault. claims_in (plan_data plan.entry.now) ≡ Err fault)) }
@@ -58,7 +58,7 @@ fn claims_of<'p>(alloc: Global, plan: &'p Plan) -> Result<Vec<LentClaim<'p>>, St
     }
 }
 
-/// What the search answers to the claims of a plan that has them, so that memory alone can be missing.
+/// Searches the claims of a plan that has them; fails only with `NoMemory`.
 fn answers<H: Threads + Wait + Sync>(
     rt: &H,
     alloc: Global,
@@ -75,7 +75,7 @@ fn answers<H: Threads + Wait + Sync>(
     }
 }
 
-/// The line of a text's plan with these certificates.
+/// Writes a text's plan with these certificates as a line.
 fn plan_line(
     alloc: Global,
     text: &[u8],
@@ -97,7 +97,7 @@ fn plan_line(
     }
 }
 
-/// The line of a text's plan with these certificates, or with smaller ones in their places where the line would be too long.
+/// Writes a text's plan with these certificates as a line, or with smaller ones if the line would be too long.
 fn fitting_line(
     alloc: Global,
     text: &[u8],
@@ -125,7 +125,7 @@ fn fitting_line(
     }
 }
 
-/// Adds the line of a claim without a certificate.
+/// Appends the line of a claim without a certificate.
 fn add_claim(text: &mut String, claim: &LentClaim<'_>) -> Result<(), AllocError>
     ensures { OnOk result (string_bytes text.new ≡ string_bytes text.old ++ claim_line (lent_placed claim.now)) }
 {
@@ -138,7 +138,7 @@ fn add_claim(text: &mut String, claim: &LentClaim<'_>) -> Result<(), AllocError>
     )
 }
 
-/// Adds the line of a claim, where it has no certificate.
+/// Appends the line of a claim if it has no certificate.
 fn add_unfound(
     text: &mut String,
     claim: &LentClaim<'_>,
@@ -152,7 +152,7 @@ fn add_unfound(
     }
 }
 
-/// A line for each claim without a certificate.
+/// Returns a line for each claim without a certificate.
 fn unfound(
     alloc: Global,
     claims: &[LentClaim<'_>],
@@ -172,14 +172,14 @@ fn unfound(
     Ok(text)
 }
 
-/// Whether a claim has no certificate.
+/// Returns whether a claim has no certificate.
 fn has_gap(certificates: &[Option<Certificate<Global>>]) -> bool
     ensures { result ≡ list_any (λ certificate. is_none certificate) certificates.now }
 {
     certificates.iter().any(|certificate| certificate.is_none())
 }
 
-/// What a search for the certificates of a text's plan says.
+/// Returns the answer of a search over a text's plan.
 fn searched<H: Threads + Wait + Sync>(
     rt: &H,
     alloc: Global,
@@ -208,7 +208,7 @@ fn searched<H: Threads + Wait + Sync>(
     })
 }
 
-/// What `search` says.
+/// Returns the answer of `search`.
 pub fn search<'a, H: Threads + Wait + Sync, P: FallibleRead>(
     rt: &H,
     alloc: Global,

@@ -19,19 +19,19 @@ use std::alloc::{AllocError, Global};
 use volume_model::Fault;
 use world::{FindEnd, Outcome, WriterEnd};
 
-/// As many bytes as most lines of steps have.
+/// The bytes of most lines of steps.
 const LINE_BYTES: usize = 12;
 
-/// As many bytes as most lines of writers and recoveries have.
+/// The bytes of most lines of writers and recoveries.
 const END_BYTES: usize = 40;
 
-/// For how many bytes room is made for the lines of so many steps, writers and recoveries.
+/// Returns how many bytes to reserve for the lines of so many steps, writers and recoveries.
 fn room_for(steps: usize, ends: usize) -> usize {
     let lines = steps.saturating_mul(LINE_BYTES);
     lines.saturating_add(ends.saturating_mul(END_BYTES))
 }
 
-/// How many configurations the groups have together.
+/// Returns the number of configurations of all groups.
 fn configurations(plan: &CheckedPlan) -> u64
     ensures counted { result ≡ sum_below (checked_model plan.now).configurations (checked_model plan.now).groups }
     ensures few { result ≤ 4080 }
@@ -43,7 +43,8 @@ fn configurations(plan: &CheckedPlan) -> u64
     count
 }
 
-/// What is said of a plan without a fault: it has a certificate a configuration, and one more for each that has a parent.
+/// Returns the line of a plan without a fault. It has a certificate a configuration, and one more for each that has a
+/// parent.
 pub fn checked_line(alloc: Global, plan: &CheckedPlan) -> Result<String, AllocError>
     ensures { IfOk result (λ text. string_bytes text ≡ plan_line (checked_model plan.now)) }
 {
@@ -53,7 +54,7 @@ pub fn checked_line(alloc: Global, plan: &CheckedPlan) -> Result<String, AllocEr
     counts_line(alloc, groups, configurations, certificates)
 }
 
-/// The line of a plan without a fault that has so many groups, configurations and certificates.
+/// Returns the line of a plan with these counts.
 fn counts_line(
     alloc: Global,
     groups: u64,
@@ -70,14 +71,14 @@ fn counts_line(
     Ok(text)
 }
 
-/// Whether an event was refused.
+/// Returns whether an event was refused.
 fn has_refusal(results: &[Result<u32, Fault>]) -> bool
     ensures { result ≡ list_any (λ told. is_err told) results.now }
 {
     results.iter().any(|told| told.is_err())
 }
 
-/// What is told of a step's event, if it has one, and what is told of the later ones.
+/// Returns the result of a step's event, if it has one, and the results of the later ones.
 fn first_told(
     has_event: bool,
     results: &[Result<u32, Fault>],
@@ -94,14 +95,14 @@ fn first_told(
     }
 }
 
-/// Adds the line of a step whose event was refused.
+/// Appends the line of a step whose event was refused.
 fn add_refusal(text: &mut String, line: u32, fault: Fault) -> Result<(), AllocError>
     ensures { OnOk result (string_bytes text.new ≡ string_bytes text.old ++ refused_line line fault) }
 {
     write!(text, "{line} refused {fault}\n")
 }
 
-/// Adds a number in decimal.
+/// Appends a number in decimal.
 fn add_number(text: &mut String, number: u64) -> Result<(), AllocError>
     ensures { OnOk result (string_bytes text.new ≡ string_bytes text.old ++ decimal number) }
 {
@@ -109,7 +110,7 @@ fn add_number(text: &mut String, number: u64) -> Result<(), AllocError>
     text.push_str(digits.format(number))
 }
 
-/// Adds how many messages an event made.
+/// Appends how many messages an event made.
 fn add_count(text: &mut String, made: u64) -> Result<(), AllocError>
     ensures { OnOk result (string_bytes text.new ≡ string_bytes text.old ++ (codes " ok " ++ decimal made ++ codes "\n")) }
 {
@@ -125,7 +126,7 @@ fn add_count(text: &mut String, made: u64) -> Result<(), AllocError>
     }
 }
 
-/// Adds the line of a step whose event made so many messages.
+/// Appends the line of a step whose event made this many messages.
 fn add_made(text: &mut String, line: u32, made: u64) -> Result<(), AllocError>
     ensures { OnOk result (string_bytes text.new ≡ string_bytes text.old ++ (decimal line ++ codes " ok " ++ decimal made ++ codes "\n")) }
 {
@@ -133,7 +134,7 @@ fn add_made(text: &mut String, line: u32, made: u64) -> Result<(), AllocError>
     add_count(text, made)
 }
 
-/// Adds the line of a step that has no event.
+/// Appends the line of a step without an event.
 fn add_wait(text: &mut String, line: u32) -> Result<(), AllocError>
     ensures { OnOk result (string_bytes text.new ≡ string_bytes text.old ++ (decimal line ++ codes " ok 0\n")) }
 {
@@ -141,7 +142,7 @@ fn add_wait(text: &mut String, line: u32) -> Result<(), AllocError>
     text.push_str(" ok 0\n")
 }
 
-/// Adds what is told of a step's event.
+/// Appends the line of a step's event.
 fn add_told(text: &mut String, line: u32, told: &Result<u32, Fault>) -> Result<(), AllocError>
     ensures { OnOk result (AppendsLine line (Some told.now) (string_bytes text.old) (string_bytes text.new)) }
 {
@@ -151,7 +152,7 @@ fn add_told(text: &mut String, line: u32, told: &Result<u32, Fault>) -> Result<(
     }
 }
 
-/// Adds a step's line.
+/// Appends a step's line.
 fn add_step(
     text: &mut String,
     line: u32,
@@ -165,7 +166,7 @@ fn add_step(
     }
 }
 
-/// Adds a line for each step.
+/// Appends a line for each step.
 fn add_steps(
     text: &mut String,
     steps: &[Step],
@@ -182,14 +183,15 @@ fn add_steps(
     Ok(())
 }
 
-/// The LSN of the writer's next record: one above the greater of its log's last LSN, else 0, and its span's start.
+/// Returns the LSN of the writer's next record: one above the greater of its log's last LSN (0 if empty) and its
+/// start.
 fn next_lsn(writer: &WriterEnd) -> u64
     ensures { result ≡ next_lsn (opened_of writer.now) }
 {
     writer.log.last_lsn().max(writer.start).saturating_add(1)
 }
 
-/// Adds the line of an opened writer.
+/// Appends the line of an opened writer.
 fn add_writer(text: &mut String, writer: &WriterEnd) -> Result<(), AllocError>
     ensures { OnOk result (string_bytes text.new ≡ string_bytes text.old ++ writer_line (opened_of writer.now)) }
 {
@@ -199,7 +201,7 @@ fn add_writer(text: &mut String, writer: &WriterEnd) -> Result<(), AllocError>
     write!(text, "writer {volume} durable {durable} next {next}\n")
 }
 
-/// Adds the line of a recovery that has cut.
+/// Appends the line of a recovery that has cut.
 fn add_find(text: &mut String, find: &FindEnd) -> Result<(), AllocError>
     ensures { OnOk result (string_bytes text.new ≡ string_bytes text.old ++ find_line (find_of find.now)) }
 {
@@ -209,7 +211,7 @@ fn add_find(text: &mut String, find: &FindEnd) -> Result<(), AllocError>
     write!(text, "recovery {volume} cut {cut} start {start}\n")
 }
 
-/// Adds a line for each recovery that has cut.
+/// Appends a line for each recovery that has cut.
 fn add_finds(text: &mut String, finds: &[FindEnd]) -> Result<(), AllocError>
     ensures { OnOk result (string_bytes text.new ≡ string_bytes text.old ++ each_line find_line (map find_of finds.now)) }
 {
@@ -219,7 +221,7 @@ fn add_finds(text: &mut String, finds: &[FindEnd]) -> Result<(), AllocError>
     Ok(())
 }
 
-/// Adds a line for each opened writer.
+/// Appends a line for each opened writer.
 fn add_writers(text: &mut String, writers: &[WriterEnd]) -> Result<(), AllocError>
     ensures { OnOk result (string_bytes text.new ≡ string_bytes text.old ++ each_line writer_line (map opened_of writers.now)) }
 {
@@ -229,8 +231,8 @@ fn add_writers(text: &mut String, writers: &[WriterEnd]) -> Result<(), AllocErro
     Ok(())
 }
 
-/// A line for each step of a script, then one for each opened writer, then one for each recovery that has cut. The status is 1 where a
-/// step was refused.
+/// Returns a line for each step of a script, for each opened writer, and for each recovery that has cut. The status
+/// is 1 if a step was refused.
 pub fn run_lines(alloc: Global, steps: &[Step], outcome: &Outcome) -> Result<Reply, AllocError>
     ensures { IfOk result (λ reply. TellsOf steps.now outcome.now.results.items (map opened_of outcome.now.writers.items) (map find_of outcome.now.finds.items) reply.status (string_bytes reply.text)) }
 {
@@ -243,7 +245,7 @@ pub fn run_lines(alloc: Global, steps: &[Step], outcome: &Outcome) -> Result<Rep
     Ok(Reply { status, text })
 }
 
-/// The lines of how many events were made and refused.
+/// Returns the lines of how many events were made and refused.
 fn numbers(alloc: Global, steps: usize, refused: usize) -> Result<String, AllocError>
     ensures { IfOk result (λ text. string_bytes text ≡ numbers_lines steps refused) }
 {
@@ -252,7 +254,7 @@ fn numbers(alloc: Global, steps: usize, refused: usize) -> Result<String, AllocE
     Ok(text)
 }
 
-/// The line of whether the journal, run again, refuses nothing and has as many steps.
+/// Returns the line that says whether the journal's run refuses nothing and has as many steps.
 fn journal_line(agrees: bool) -> &'static str
     ensures { result.now ≡ journal_line agrees }
 {
@@ -263,8 +265,9 @@ fn journal_line(agrees: bool) -> &'static str
     }
 }
 
-/// What is told of a script's run on threads: how many events were made and refused, a line for each opened writer, then one for
-/// each recovery that has cut, and whether the journal agrees. The status is 0 where no event was refused and it does, else 1.
+/// Returns the lines of a script's run on threads: how many events were made and refused, a line for each opened
+/// writer and each recovery that has cut, and whether the journal agrees. The status is 0 if no event was refused and
+/// it agrees, else 1.
 pub fn fleet_lines(alloc: Global, driven: &Driven) -> Result<Reply, AllocError>
     ensures { IfOk result (λ reply. TellsDriven driven.now reply.status (string_bytes reply.text)) }
 {

@@ -3,7 +3,7 @@ use Rattle.std.specs.Prelude.{List}
 use Rattle.atomic_table.specs.Seated.{TableId}
 use Rattle.journal.specs.declared.entry.Entry.{Entry}
 use Rattle.journal.specs.declared.history.Opened.{Opened}
-use Rattle.journal.specs.declared.history.Front.{Front}
+use Rattle.journal.specs.declared.history.LogPrefix.{LogPrefix}
 
 -- which history it is
 abbrev pub book_of : Opened → TableId
@@ -14,9 +14,9 @@ abbrev pub log_of : Opened → List Entry
 log_of h = h.seat.me.0.log
 
 -- which history it is of
-abbrev pub front_book : Front → TableId
+abbrev pub front_book : LogPrefix → TableId
 front_book f = f.seat.table_id
 
 -- the entries that were seen, in their order
-abbrev pub front_log : Front → List Entry
+abbrev pub front_log : LogPrefix → List Entry
 front_log f = f.seat.me.0.log

@@ -16,8 +16,8 @@ use Rattle.journal.specs.declared.entry.Entry.{Entry}
 use Rattle.journal.specs.declared.entry.Receipt.{Receipt}
 use Rattle.journal.specs.declared.pass.Held.{Held}
 use Rattle.journal.specs.declared.pass.Pass.{Pass}
-use Rattle.journal.specs.declared.mark.Mark.{Mark}
-use Rattle.journal.specs.declared.letter.Letter.{Letter}
+use Rattle.journal.specs.declared.cursor.ActorCursor.{ActorCursor}
+use Rattle.journal.specs.declared.message_ref.MessageRef.{MessageRef}
 use Rattle.journal.specs.declared.log.Log.{Log}
 use Rattle.journal.specs.Actors.{seen_who}
 use Rattle.journal.specs.Entries.{entry_of, entries_of, note_of}
@@ -74,28 +74,28 @@ module _ {X : Type 0} {s : SiteGhosts X} {l : LedgerGhosts X} where
   SeesAll pass log = front_log pass.seen ≡ kept_in log
 
   -- the actor of a mark
-  abbrev pub marked : Mark X s l → Actor
-  marked mark = seen_who mark.who
+  abbrev pub marked : ActorCursor X s l → Actor
+  marked cursor = seen_who cursor.who
 
   -- the number of the actor's last entry, as its mark says
-  abbrev pub mark_number : Mark X s l → ℕ
-  mark_number mark = mark.number
+  abbrev pub cursor_number : ActorCursor X s l → ℕ
+  cursor_number cursor = cursor.number
 
   -- the entries up to the actor's last one
-  abbrev pub seen_at : Mark X s l → List model.Entry
-  seen_at mark = entries_of (front_log mark.seen)
+  abbrev pub seen_at : ActorCursor X s l → List model.Entry
+  seen_at cursor = entries_of (front_log cursor.seen)
 
   -- the number of a letter's message
-  abbrev pub letter_number : Letter X s l → ℕ
-  letter_number letter = letter.number
+  abbrev pub message_ref_number : MessageRef X s l → ℕ
+  message_ref_number message_ref = message_ref.number
 
   -- the place of the step that made it
-  abbrev pub letter_step : Letter X s l → ℕ
-  letter_step letter = letter.cell
+  abbrev pub letter_step : MessageRef X s l → ℕ
+  letter_step message_ref = message_ref.cell
 
   -- the message that a letter is
-  abbrev pub letter_message : Letter X s l → Option Message
-  letter_message letter = option_map message_of (slice_get (listed letter.entry.now.made) letter.index)
+  abbrev pub message_ref_message : MessageRef X s l → Option Message
+  message_ref_message message_ref = option_map message_of (slice_get (listed message_ref.entry.now.made) message_ref.index)
 
 -- each of these steps has at most this number
 abbrev pub AtMost : ℕ → List Made → Type 0

@@ -1,45 +1,45 @@
-//! What is entered of a step, and what its caller is told.
+//! The entry of a step, the note of a refusal, and the receipt that a caller gets.
 
 use volume_model::Fault;
 use wire::Messages;
 use world::Event;
 
-/// One step: what happened, the messages that it made, what was made before, and the durable point that it shows.
+/// One entry of the journal: the event, its messages, the counts before it, and the durable point after it.
 #[derive(Drop)]
 pub struct Entry {
-    /// What happened.
+    /// The event.
     pub event: Event,
-    /// The messages that it made, in their order.
+    /// The messages that the event made, in order.
     pub made: Messages,
-    /// How many messages were made before.
+    /// The number of messages made by earlier entries.
     pub first: u64,
-    /// How many steps were entered before.
+    /// The number of earlier entries.
     pub cell: usize,
-    /// The client's durable point after the step, where it may move that; else 0.
+    /// The client's durable point after a step that may move it (an LSN), else 0.
     pub durable: u64,
 }
 
-/// A refusal: of which event, why, and how long the journal was then.
+/// A refused event, with its fault and the journal's length at the refusal.
 #[derive(Drop)]
 pub struct Note {
-    /// What was refused.
+    /// The refused event.
     pub event: Event,
-    /// Why it was refused.
+    /// The fault.
     pub fault: Fault,
-    /// How many entries the journal had: the actor, which had made no step since its last one among them, refuses the event with
-    /// this fault after so many.
+    /// The journal's length at the refusal. In its state after that many entries the actor refuses the event with
+    /// this fault.
     pub number: usize,
 }
 
-/// What the caller of a step is told.
+/// The result of a step for its caller.
 #[derive(Clone, Copy, PartialEq, Eq, Debug)]
 pub struct Receipt {
-    /// The number of the step, from 1.
+    /// The step's number in the journal, from 1.
     pub number: usize,
-    /// The number that the first of its messages has, or would have.
+    /// The number of its first message, or of the next message if it made none.
     pub first_message: u64,
-    /// How many messages it made.
+    /// The number of messages that it made.
     pub made: usize,
-    /// The client's durable point after the step, where it may move that; else 0.
+    /// The client's durable point after a step that may move it (an LSN), else 0.
     pub durable: u64,
 }

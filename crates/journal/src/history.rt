@@ -1,4 +1,5 @@
-//! The history of all steps, which exists in proofs alone: its one keeper adds to it, and what others saw of it are its beginnings.
+//! The history of all steps, which exists in proofs alone: its one keeper appends to it, and others know prefixes of
+//! it.
 
 ghost use Rattle.std.specs.Prelude.{◌≡◌, true, [], length};
 ghost use Rattle.std.specs.Coded.{Coded-set};
@@ -12,14 +13,15 @@ use std::collections::LinkedList;
 use std::marker::{Brand, PhantomData};
 use std::mem;
 
-/// What a seat knows: whether it keeps the history, a beginning of it, and one that it compares. No value of it is made.
+/// What a seat knows: whether it keeps the history, a prefix of it, and a prefix to compare. No value of this type is
+/// made.
 pub struct Line {
     pub keeps: bool,
     pub log: LinkedList<Entry>,
     pub claim: LinkedList<Entry>,
 }
 
-/// The rule: what seats know are beginnings of what the keeper knows.
+/// The rule: what seats know are prefixes of what the keeper knows.
 pub struct Begun;
 
 impl TableRule<(), Line, ()> for Begun {
@@ -31,7 +33,7 @@ impl TableRule<(), Line, ()> for Begun {
     ghost first = { λ _. line true [] [] };
 }
 
-/// A new seat knows what its maker does.
+/// A new seat knows the prefix that its maker knows.
 pub struct Fronts;
 
 impl Split<Line> for Fronts {
@@ -43,7 +45,7 @@ impl Split<Line> for Fronts {
     ghost right = { λ v. line false v.log [] };
 }
 
-/// A seat compares what another knows, and gives it back.
+/// A seat takes another's prefix for a comparison and gives it back.
 pub struct Claims;
 
 impl Join<Line> for Claims {
@@ -64,7 +66,7 @@ impl Split<Line> for Claims {
     ghost right = { λ v. line false v.claim [] };
 }
 
-/// Names an entry. Each call picks it.
+/// Names an entry; each call picks one.
 pub trait Named {
     ghost use Rattle.journal.specs.declared.entry.Entry.{Entry};
 
@@ -78,7 +80,7 @@ impl Named for Brand {
     ghost entry = { no_entry };
 }
 
-/// The keeper adds an entry.
+/// The keeper appends an entry.
 pub struct Extend<N: Named> {
     marker: PhantomData<N>,
 }
@@ -90,7 +92,7 @@ impl<N: Named> Play<(), Line> for Extend<N> {
     ghost then = { λ step before found after. (after.0 ≡ line before.0.keeps (before.0.log ++ N.entry ∷ []) []) × (after.1 ≡ before.1) };
 }
 
-/// The keeper finds that what it compares is a beginning.
+/// The keeper finds that the prefix which it compares is one of its history.
 pub struct Compare;
 
 impl Play<(), Line> for Compare {
@@ -100,14 +102,14 @@ impl Play<(), Line> for Compare {
     ghost then = { λ step before found after. IsPrefix before.0.claim before.0.log × (after.0 ≡ before.0) × (after.1 ≡ before.1) };
 }
 
-/// A beginning of the history that was seen.
+/// A prefix of the history.
 #[derive(Drop)]
-pub struct Front {
+pub struct LogPrefix {
     seat: Seat<(), Line>,
     ghost no_slot: { seat.me.1 ≡ [] },
 }
 
-/// A history, as its one keeper has it.
+/// The history as its keeper has it, before it has a name.
 #[derive(Drop)]
 pub struct Opened {
     table: Table<(), Line, (), Begun, Global>,
@@ -118,7 +120,7 @@ pub struct Opened {
     ghost no_slot: { seat.me.1 ≡ [] },
 }
 
-/// The history under a name, as its one keeper has it.
+/// The history as its keeper has it, under a name.
 #[derive(Drop)]
 pub struct History<L: Site> {
     pub(crate) opened: Opened,
@@ -131,10 +133,10 @@ impl Opened {
     ghost use mathlib.Core.List.{IsPrefix};
     ghost use Rattle.journal.specs.Fronts.{book_of, front_book, front_log, log_of};
 
-    /// An empty history.
+    /// Makes an empty history.
     ///
     /// # Errors
-    /// Where a growth was refused.
+    /// `AllocError` if there is no memory for it.
     pub fn new(alloc: Global) -> Result<Opened, AllocError>
         ensures { IfOk result (λ h. log_of h ≡ []) }
     {
@@ -153,7 +155,7 @@ impl Opened {
         table.shared.load::<Extend<N>>(seat, 0);
     }
 
-    /// Adds an entry.
+    /// Appends an entry.
     #[inline(always)]
     pub(crate) fn add(&mut self, entry: &Entry)
         ensures { (log_of self.new ≡ log_of self.old ++ entry.now ∷ []) × (book_of self.new ≡ book_of self.old) }
@@ -161,50 +163,50 @@ impl Opened {
         self.extend::<Brand>(entry);
     }
 
-    /// All of it.
+    /// Returns the whole history as a prefix.
     #[inline(always)]
-    pub(crate) fn front(&mut self) -> Front
+    pub(crate) fn front(&mut self) -> LogPrefix
         ensures same { (log_of self.new ≡ log_of self.old) × (book_of self.new ≡ book_of self.old) }
         ensures front { (front_log result ≡ log_of self.old) × (front_book result ≡ book_of self.old) }
     {
         let Opened { table, seat } = self;
         let seat = table.shared.split_seat::<Fronts>(seat);
-        Front { seat }
+        LogPrefix { seat }
     }
 
-    /// Shows that what was seen is a beginning of it.
+    /// Shows that `front` is a prefix of the history.
     #[inline(always)]
-    pub(crate) fn compare(&mut self, front: &mut Front)
+    pub(crate) fn compare(&mut self, front: &mut LogPrefix)
         requires { front_book front.old ≡ book_of self.old }
         ensures same { (log_of self.new ≡ log_of self.old) × (book_of self.new ≡ book_of self.old) }
         ensures front { (front_log front.new ≡ front_log front.old) × (front_book front.new ≡ front_book front.old) }
         ensures begins { IsPrefix (front_log front.old) (log_of self.old) }
     {
         let fresh = self.front();
-        let Front { seat: other } = mem::replace(front, fresh);
+        let LogPrefix { seat: other } = mem::replace(front, fresh);
         let Opened { table, seat } = self;
         table.shared.join_seat::<Claims>(seat, other);
         table.shared.load::<Compare>(seat, 0);
         let seat = table.shared.split_seat::<Claims>(seat);
-        *front = Front { seat };
+        *front = LogPrefix { seat };
     }
 
-    /// Shows that what was seen is a beginning of it. From then on it is all of it.
+    /// Shows that `front` is a prefix of the history, and extends it to the whole.
     #[inline(always)]
-    pub(crate) fn meet(&mut self, front: &mut Front)
+    pub(crate) fn meet(&mut self, front: &mut LogPrefix)
         requires { front_book front.old ≡ book_of self.old }
         ensures same { (log_of self.new ≡ log_of self.old) × (book_of self.new ≡ book_of self.old) }
         ensures front { (front_log front.new ≡ log_of self.old) × (front_book front.new ≡ front_book front.old) }
         ensures begins { IsPrefix (front_log front.old) (log_of self.old) }
     {
         let fresh = self.front();
-        let Front { seat: other } = mem::replace(front, fresh);
+        let LogPrefix { seat: other } = mem::replace(front, fresh);
         let Opened { table, seat } = self;
         table.shared.join_seat::<Claims>(seat, other);
         table.shared.load::<Compare>(seat, 0);
     }
 
-    /// The history under a name.
+    /// Gives the history a name.
     pub fn named<L: Site>(self) -> History<L>
         requires { book_of self ≡ L.history }
         ensures { log_of result.opened ≡ log_of self }

@@ -1,22 +1,22 @@
-//! The number of each actor's last step.
+//! The number of each actor's last entry.
 
 ghost use Rattle.std.specs.Prelude.{◌≡◌, option_copied, IfOk, replicate};
 ghost use Rattle.world.specs.Slots.{slot_of};
 
-use crate::who::Who;
+use crate::actor_name::ActorName;
 use std::alloc::{AllocError, Global};
 
-/// How many members a group can have.
+/// The most members of a group.
 const MEMBERS: usize = 64;
 
-/// The number of each actor's last step, 0 where it has made none.
+/// The number of each actor's last entry, 0 if it has none.
 #[derive(Drop)]
 pub struct Lasts {
-    /// The authority's.
+    /// The authority's number.
     authority: usize,
-    /// Each client's, by its volume epoch; nobody has volume epoch 0.
+    /// Each client's number, by volume epoch. No client has volume epoch 0.
     clients: Vec<usize>,
-    /// Each node's: 64 a group, one a member.
+    /// Each node's number: 64 a group, one a member.
     nodes: Vec<usize>,
 }
 
@@ -46,8 +46,7 @@ impl Lasts {
     ghost use Rattle.journal.specs.Actors.{seen_who};
     ghost use Rattle.journal.specs.Lasts.{last_in, last_known};
 
-    /// Of the clients of the volume epochs up to that of the last slot, and the nodes of so many groups. None has made a
-    /// step.
+    /// Makes a table for clients of volume epochs up to `slots` and for the nodes of `groups` groups, all numbers 0.
     pub(crate) fn new(alloc: Global, slots: u32, groups: u8) -> Result<Lasts, AllocError>
         ensures clients { IfOk result (λ l. (volume : ℕ) → volume ≤ slots → last_in l (Client volume) ≡ Some 0) }
         ensures nodes { IfOk result (λ l. (group member : ℕ) → group < groups → member < members → last_in l (Node group member) ≡ Some 0) }
@@ -60,14 +59,14 @@ impl Lasts {
         })
     }
 
-    /// The last number of an actor, if there is such an actor.
-    pub(crate) fn get(&self, who: Who) -> Option<usize>
+    /// Returns an actor's number, or `None` if the table has no place for it.
+    pub(crate) fn get(&self, who: ActorName) -> Option<usize>
         ensures { result ≡ last_in self.now (seen_who who) }
     {
         match who {
-            Who::TheAuthority => Some(self.authority),
-            Who::Client(volume) => self.clients.get(volume as usize).copied(),
-            Who::Node { group, member } => {
+            ActorName::TheAuthority => Some(self.authority),
+            ActorName::Client(volume) => self.clients.get(volume as usize).copied(),
+            ActorName::Node { group, member } => {
                 if usize::from(member) >= MEMBERS {
                     return None;
                 }
@@ -76,15 +75,15 @@ impl Lasts {
         }
     }
 
-    /// The actor has made a step, of this number.
-    pub(crate) fn set(&mut self, who: Who, number: usize)
+    /// Sets an actor's number.
+    pub(crate) fn set(&mut self, who: ActorName, number: usize)
         requires { IsSome (last_in self.old (seen_who who)) }
         ensures { (other : Actor) → MatchBool (same_actor (seen_who who) other) (last_in self.new other ≡ Some number) (last_in self.new other ≡ last_in self.old other) }
     {
         match who {
-            Who::TheAuthority => self.authority = number,
-            Who::Client(volume) => self.clients[volume as usize] = number,
-            Who::Node { group, member } => self.nodes[place(group, member)] = number,
+            ActorName::TheAuthority => self.authority = number,
+            ActorName::Client(volume) => self.clients[volume as usize] = number,
+            ActorName::Node { group, member } => self.nodes[place(group, member)] = number,
         }
     }
 }

@@ -1,22 +1,22 @@
-//! A journal of the steps of many actors, each under a lock of its own: whoever makes a step enters it by a pass. The
-//! journal is a run of the model.
+//! The journal of the steps of many actors, each under its own lock. Callers enter their steps by passes; the journal
+//! is a run of the model.
 #![tactic(auto)]
 
+mod actor_name;
+mod cursor;
 mod entry;
 mod history;
 mod lasts;
-mod letter;
 mod log;
-mod mark;
+mod message_ref;
 mod pass;
 mod row;
-mod who;
 
+pub use actor_name::ActorName;
+pub use cursor::ActorCursor;
 pub use entry::{Entry, Receipt};
 pub use history::{History, Opened};
-pub use letter::Letter;
 pub use log::Log;
-pub use mark::Mark;
+pub use message_ref::MessageRef;
 pub use pass::Pass;
 pub use row::{Row, Site};
-pub use who::Who;

@@ -12,14 +12,14 @@ ghost use Rattle.journal.specs.Fronts.{front_book, front_log, log_of};
 ghost use Rattle.journal.specs.Lasts.{last_in, last_known};
 ghost use Rattle.journal.specs.Tokens.{ids_of, shown};
 
+use crate::actor_name::ActorName;
+use crate::cursor::ActorCursor;
 use crate::entry::{Entry, Receipt};
-use crate::history::{Front, History};
+use crate::history::{History, LogPrefix};
 use crate::lasts::Lasts;
-use crate::letter::Letter;
-use crate::mark::Mark;
+use crate::message_ref::MessageRef;
 use crate::pass::{Held, Pass};
 use crate::row::{Row, Site};
-use crate::who::Who;
 use board::BoardSeat;
 use std::alloc::{AllocError, Global};
 use std::marker::PhantomData;
@@ -30,8 +30,8 @@ use volume_model::Fault;
 use wire::Messages;
 use world::Event;
 
-/// The cells that aren't written, the entries so far, how many messages were made before each, the last entry of each actor, and how many
-/// groups have joined. The lists have room for all cells from the start.
+/// The journal: unwritten cells, entries, the number of messages before each, each actor's last entry, and the number
+/// of joined groups. Its lists have room for all cells from the start.
 #[derive(Drop)]
 pub struct Log<'a, L: Site> {
     rest: &'a mut [Option<Entry>],
@@ -126,13 +126,13 @@ impl<'a, L: Site> Log<'a, L> {
     ghost use Rattle.journal.specs.Entries.{entry_of};
     ghost use Rattle.wire.specs.Listed.{listed};
     ghost use Rattle.journal.specs.Standing.{durable_in, made, IsElse, NamesEarlier, Stands};
-    ghost use Rattle.journal.specs.Passes.{journal_of, kept_in, letter_message, letter_number, letter_step, mark_number, marked, notes_of, seat_of, seen_at, steps_of, world_of, AddsRefusal, AddsStep, HasNoteRoom, HasPlace, HasStepRoom, SeesAll};
+    ghost use Rattle.journal.specs.Passes.{journal_of, kept_in, message_ref_message, message_ref_number, letter_step, cursor_number, marked, notes_of, seat_of, seen_at, steps_of, world_of, AddsRefusal, AddsStep, HasNoteRoom, HasPlace, HasStepRoom, SeesAll};
 
-    /// An empty journal over a row of cells that nobody has written, for the clients of the volume epochs up to that of
-    /// the last slot and the nodes of so many groups, of which so many are there when the volume is born.
+    /// Makes an empty journal over a row of unwritten cells, for clients of volume epochs up to the last slot's and
+    /// the nodes of `groups` groups, of which `born` are there at birth.
     ///
     /// # Errors
-    /// Where a growth was refused.
+    /// `AllocError` if there is no memory for its lists.
     pub fn new(
         alloc: Global,
         row: &'a mut Row,
@@ -163,34 +163,34 @@ impl<'a, L: Site> Log<'a, L> {
         })
     }
 
-    /// Whether the actor stands here as it stands under its own lock, as it always does where the journal keeps its last
-    /// number. Then it is in the state that the journal says.
+    /// Returns whether the cursor is the actor's last entry here. If so, the actor is in the state that the journal's
+    /// run gives it. Of an actor that the journal has a place for it always is.
     #[inline(always)]
-    pub fn compare(&mut self, mark: &mut Mark<L>) -> bool
+    pub fn compare(&mut self, cursor: &mut ActorCursor<L>) -> bool
         ensures log { (self.new.entries ≡ self.old.entries) × (self.new.firsts ≡ self.old.firsts) × (self.new.lasts ≡ self.old.lasts) }
-        ensures mark { (marked mark.new ≡ marked mark.old) × (mark_number mark.new ≡ mark_number mark.old) × (seen_at mark.new ≡ seen_at mark.old) }
-        ensures agree { MatchBool result (Agree (marked mark.old) (world_at L.plan (seen_at mark.old)) (world_of self.old)) (Unit {0}) }
-        ensures last { MatchBool result ((mark_number mark.old ≡ last_of (marked mark.old) (journal_of self.old)) × HasPlace self.old (marked mark.old)) (HasPlace self.old (marked mark.old) → mark_number mark.old ≡ last_of (marked mark.old) (journal_of self.old) → ⊥) }
-        ensures seen { MatchBool result (take (mark_number mark.old) (journal_of self.old) ≡ seen_at mark.old) (Unit {0}) }
+        ensures cursor { (marked cursor.new ≡ marked cursor.old) × (cursor_number cursor.new ≡ cursor_number cursor.old) × (seen_at cursor.new ≡ seen_at cursor.old) }
+        ensures agree { MatchBool result (Agree (marked cursor.old) (world_at L.plan (seen_at cursor.old)) (world_of self.old)) (Unit {0}) }
+        ensures last { MatchBool result ((cursor_number cursor.old ≡ last_of (marked cursor.old) (journal_of self.old)) × HasPlace self.old (marked cursor.old)) (HasPlace self.old (marked cursor.old) → cursor_number cursor.old ≡ last_of (marked cursor.old) (journal_of self.old) → ⊥) }
+        ensures seen { MatchBool result (take (cursor_number cursor.old) (journal_of self.old) ≡ seen_at cursor.old) (Unit {0}) }
     {
-        if self.lasts.get(mark.who) != Some(mark.number) {
+        if self.lasts.get(cursor.who) != Some(cursor.number) {
             return false;
         }
         let Log { history, .. } = self;
-        history.opened.compare(&mut mark.seen);
+        history.opened.compare(&mut cursor.seen);
         true
     }
 
-    /// Whether the journal keeps the number of the actor's last step. Where it doesn't, the actor has made none.
-    pub fn has_place(&self, who: Who) -> bool
+    /// Returns whether the journal keeps the actor's last number. If it doesn't, the actor has made no step.
+    pub fn has_place(&self, who: ActorName) -> bool
         ensures { MatchBool result (HasPlace self.now (seen_who who)) (Agree (seen_who who) (opening L.plan) (world_of self.now)) }
     {
         self.lasts.get(who).is_some()
     }
 
-    /// Shows that the journal has come past all that the pass has seen. From then on the pass has seen the whole of it.
+    /// Brings the pass up to the whole journal.
     #[inline(always)]
-    pub fn settle(&mut self, pass: &mut Pass<'a, L>)
+    pub fn catch_up(&mut self, pass: &mut Pass<'a, L>)
         ensures log { (self.new.entries ≡ self.old.entries) × (self.new.firsts ≡ self.old.firsts) × (self.new.lasts ≡ self.old.lasts) }
         ensures seen { SeesAll pass.new self.new }
         ensures pass { (pass.new.steps ≡ pass.old.steps) × (pass.new.notes ≡ pass.old.notes) × (seat_of pass.new ≡ seat_of pass.old) }
@@ -199,21 +199,21 @@ impl<'a, L: Site> Log<'a, L> {
         history.opened.meet(&mut pass.seen);
     }
 
-    /// Whether every cell of the row is written.
+    /// Returns whether every cell of the row is written.
     pub fn is_full(&self) -> bool
         ensures { MatchBool result (length (journal_of self.now) ≡ length L.cells) (length (journal_of self.now) < length L.cells) }
     {
         self.rest.is_empty()
     }
 
-    /// How many entries the journal has, which is the number of the last one.
+    /// Returns the number of entries, which is the number of the last one.
     pub fn len(&self) -> usize
         ensures { result ≡ length (journal_of self.now) }
     {
         self.entries.len()
     }
 
-    /// How many groups have joined.
+    /// Returns how many groups have joined.
     pub fn joined(&self) -> u64
         ensures { result ≡ groups_joined (world_of self.now).authority }
     {
@@ -222,7 +222,7 @@ impl<'a, L: Site> Log<'a, L> {
 
     // Enters an entry, and answers what was seen then.
     #[inline(always)]
-    fn append<R: Wait>(&mut self, rt: &R, entry: Entry, pass: &mut Pass<'a, L>) -> Front
+    fn append<R: Wait>(&mut self, rt: &R, entry: Entry, pass: &mut Pass<'a, L>) -> LogPrefix
         requires cell { 0 < length self.old.rest.now }
         requires settled { SeesAll pass.old self.old }
         requires who { IsSome (last_in self.old.lasts (actor_of (event_of entry.event))) }
@@ -256,7 +256,7 @@ impl<'a, L: Site> Log<'a, L> {
             seat: _,
         } = pass;
         let cell = entries.len();
-        let who = Who::of(&entry.event);
+        let who = ActorName::of(&entry.event);
         let grown = joined_after(rt, *joined, &entry.event);
         let count = entry.made.len();
         let entry = write(rest, entry);
@@ -276,20 +276,20 @@ impl<'a, L: Site> Log<'a, L> {
         whole
     }
 
-    /// Enters a step of an actor, whose lock the caller holds, and answers what is told of it.
+    /// Enters the step of an actor whose lock the caller holds, and returns its receipt.
     #[inline(always)]
     pub fn enter<R: Wait>(
         &mut self,
         rt: &R,
-        mark: &mut Mark<L>,
+        cursor: &mut ActorCursor<L>,
         pass: &mut Pass<'a, L>,
         event: Event,
         made: Messages,
         durable: u64,
     ) -> Receipt
         requires settled { SeesAll pass.old self.old }
-        requires who { actor_of (event_of event) ≡ marked mark.old }
-        requires there { HasPlace self.old (marked mark.old) }
+        requires who { actor_of (event_of event) ≡ marked cursor.old }
+        requires there { HasPlace self.old (marked cursor.old) }
         requires goes { makes (step L.plan (world_of self.old) (event_of event)) ≡ Some (messages_of (listed made)) }
         requires durable { durable ≡ durable_in (after L.plan (world_of self.old) (event_of event)) (event_of event) }
         requires cell { length (journal_of self.old) < length L.cells }
@@ -299,7 +299,7 @@ impl<'a, L: Site> Log<'a, L> {
         ensures receipt { (result.number ≡ length (journal_of self.new)) × (result.durable ≡ durable) }
         ensures entry { journal_of self.new ≡ journal_of self.old ++ record { event = event_of event; made = messages_of (listed made); first = length (world_of self.old).messages } ∷ [] }
         ensures world { world_of self.new ≡ after L.plan (world_of self.old) (event_of event) }
-        ensures mark { (marked mark.new ≡ marked mark.old) × (seen_at mark.new ≡ journal_of self.new) }
+        ensures cursor { (marked cursor.new ≡ marked cursor.old) × (seen_at cursor.new ≡ journal_of self.new) }
         ensures seen { SeesAll pass.new self.new }
     {
         let cell = self.entries.len();
@@ -313,7 +313,7 @@ impl<'a, L: Site> Log<'a, L> {
             durable,
         };
         let seen = self.append(rt, entry, pass);
-        mark.advance(seen, self.entries.len());
+        cursor.advance(seen, self.entries.len());
         Receipt {
             number: cell + 1,
             first_message: total(rt, first, 1),
@@ -330,10 +330,10 @@ impl<'a, L: Site> Log<'a, L> {
         self.entries[cell]
     }
 
-    /// A copy of what happened, in order.
+    /// Returns a copy of the events, in order.
     ///
     /// # Errors
-    /// Where a growth was refused.
+    /// `AllocError` if there is no memory for the copy.
     pub fn events(&self, alloc: Global) -> Result<Vec<Event>, AllocError>
         ensures { IfOk result (λ made. events_of made.items ≡ events (journal_of self.now)) }
     {
@@ -404,11 +404,11 @@ impl<'a, L: Site> Log<'a, L> {
 
     // Looks a message up by its number, beginning near this place. None where no step has made it.
     #[inline(always)]
-    fn find_near(&mut self, near: usize, number: u64) -> Option<Letter<'a, L>>
+    fn find_near(&mut self, near: usize, number: u64) -> Option<MessageRef<'a, L>>
         ensures log { (self.new.entries ≡ self.old.entries) × (self.new.firsts ≡ self.old.firsts) × (self.new.lasts ≡ self.old.lasts) }
         ensures history { log_of self.new.history.opened ≡ log_of self.old.history.opened }
-        ensures some { IfSome result (λ l. letter_number l ≡ number) }
-        ensures is { IfSome result (λ l. numbered (world_of self.old).messages number ≡ letter_message l) }
+        ensures some { IfSome result (λ l. message_ref_number l ≡ number) }
+        ensures is { IfSome result (λ l. numbered (world_of self.old).messages number ≡ message_ref_message l) }
         ensures none { IfNone result (numbered (world_of self.old).messages number ≡ None) }
     {
         if number == 0 || number > self.messages {
@@ -418,7 +418,7 @@ impl<'a, L: Site> Log<'a, L> {
         let entry = self.entry(cell);
         let Log { history, .. } = self;
         let seen = history.opened.front();
-        Some(Letter {
+        Some(MessageRef {
             number,
             cell,
             index: (number - 1 - entry.first) as usize,
@@ -428,39 +428,39 @@ impl<'a, L: Site> Log<'a, L> {
         })
     }
 
-    /// Shows that the journal has a letter that was found before: its message has the letter's number.
+    /// Shows that a message found before still has its number.
     #[inline(always)]
-    pub fn has(&mut self, letter: &mut Letter<'a, L>)
+    pub fn has(&mut self, message_ref: &mut MessageRef<'a, L>)
         ensures log { journal_of self.new ≡ journal_of self.old }
-        ensures letter { (letter_number letter.new ≡ letter_number letter.old) × (letter_message letter.new ≡ letter_message letter.old) }
-        ensures is { numbered (world_of self.old).messages (letter_number letter.old) ≡ letter_message letter.old }
+        ensures message_ref { (message_ref_number message_ref.new ≡ message_ref_number message_ref.old) × (message_ref_message message_ref.new ≡ message_ref_message message_ref.old) }
+        ensures is { numbered (world_of self.old).messages (message_ref_number message_ref.old) ≡ message_ref_message message_ref.old }
     {
         let Log { history, .. } = self;
-        history.opened.compare(&mut letter.seen);
+        history.opened.compare(&mut message_ref.seen);
     }
 
-    /// Looks a message up for a pass, which from then on has seen the whole journal. None where no step has made it; then
-    /// no step of the pass did.
+    /// Looks a message up by its number and brings the pass up to the whole journal. Returns `None` if no step has
+    /// made it.
     #[inline(always)]
-    pub fn seek(&mut self, pass: &mut Pass<'a, L>, number: u64) -> Option<Letter<'a, L>>
+    pub fn seek(&mut self, pass: &mut Pass<'a, L>, number: u64) -> Option<MessageRef<'a, L>>
         ensures log { (self.new.entries ≡ self.old.entries) × (self.new.firsts ≡ self.old.firsts) × (self.new.lasts ≡ self.old.lasts) }
         ensures seen { SeesAll pass.new self.new }
         ensures pass { (pass.new.steps ≡ pass.old.steps) × (pass.new.notes ≡ pass.old.notes) × (seat_of pass.new ≡ seat_of pass.old) }
-        ensures some { IfSome result (λ l. letter_number l ≡ number) }
-        ensures is { IfSome result (λ l. numbered (world_of self.old).messages number ≡ letter_message l) }
+        ensures some { IfSome result (λ l. message_ref_number l ≡ number) }
+        ensures is { IfSome result (λ l. numbered (world_of self.old).messages number ≡ message_ref_message l) }
         ensures none { IfNone result (numbered (world_of self.old).messages number ≡ None) }
         ensures own { IfNone result (All (IsElse number) (steps_of pass.old)) }
     {
-        self.settle(pass);
+        self.catch_up(pass);
         let found = self.find_near(pass.near, number);
         let near = found
             .as_ref()
-            .map_or(self.entries.len(), |letter| letter.cell);
+            .map_or(self.entries.len(), |message_ref| message_ref.cell);
         pass.stay(near);
         found
     }
 
-    /// Notes a refusal, after as many entries as the journal has: it is the model's.
+    /// Notes the model's refusal of an event, with the journal's length.
     pub fn refuse(&self, pass: &mut Pass<'a, L>, event: Event, fault: Fault)
         requires settled { SeesAll pass.old self.now }
         requires noted { IsNoted fault }
@@ -481,11 +481,11 @@ impl<'a, L: Site> Log<'a, L> {
         ensures part { pass.new.share.parts ≡ 1 }
         ensures seat { seat_of pass.new ≡ seat_of pass.old }
     {
-        self.settle(pass);
+        self.catch_up(pass);
     }
 
-    /// Takes a pass back: the journal has each of its steps and tells each of its notes. Leaves its part of the ledger and its
-    /// seat on the board. Takes no memory.
+    /// Takes a pass back: each of its steps stands in the journal, and each of its notes is true of it. Returns its
+    /// part of the ledger and its seat on the board. Takes no memory.
     pub fn take_back(&mut self, mut pass: Pass<'a, L>) -> (Share<L>, BoardSeat)
         ensures log { self.new.entries ≡ self.old.entries }
         ensures stands { All (Stands L.plan (journal_of self.old)) (steps_of pass.entry) }
@@ -498,7 +498,7 @@ impl<'a, L: Site> Log<'a, L> {
         (share, seat)
     }
 
-    /// Shows that the journal has as many steps as all passes, which were taken back.
+    /// Shows that the journal has as many steps as all passes had together.
     pub fn audit(&mut self, whole: &mut Share<L>)
         requires { whole.old.parts ≡ L.parts }
         ensures log { self.new.entries ≡ self.old.entries }
@@ -507,7 +507,8 @@ impl<'a, L: Site> Log<'a, L> {
         self.book.audit(whole);
     }
 
-    /// Shows that the journal is a run of the model, and that a message that a step names was made before it.
+    /// Shows that the journal is a run of the model, and that each step stands behind the one that made the message
+    /// it names.
     pub fn replays(&self)
         ensures run { IsRun L.plan (journal_of self.now) }
         ensures before { NamesEarlier L.plan (journal_of self.now) }

@@ -11,7 +11,7 @@ ghost use Rattle.journal.specs.Entries.{entry_of, entries_of, note_of};
 ghost use Rattle.journal.specs.Standing.{made, Stands};
 
 use crate::entry::{Entry, Note};
-use crate::history::{Front, History};
+use crate::history::{History, LogPrefix};
 use crate::row::Site;
 use board::{Board, BoardSeat, BoardStep};
 use std::alloc::{AllocError, Global};
@@ -20,22 +20,22 @@ use std::sync::ledger::Share;
 use volume_model::Fault;
 use world::Event;
 
-/// A step that a pass made: its entry.
+/// A step of a pass: its entry.
 #[derive(Drop)]
 pub struct Held<'a, L: Site> {
     pub(crate) entry: &'a Entry,
     pub(crate) site: PhantomData<L>,
 }
 
-/// What one caller did, and was refused. All of it is told by a beginning of the history.
+/// The steps, notes and board readings of one caller.
 #[derive(Drop)]
 pub struct Pass<'a, L: Site> {
     pub(crate) share: Share<L>,
     pub(crate) steps: Vec<Held<'a, L>>,
     pub(crate) notes: Vec<Note>,
-    /// Where the step stands that made the message which was found last.
+    /// The entry that made the last message found; the next search starts there.
     pub(crate) near: usize,
-    pub(crate) seen: Front,
+    pub(crate) seen: LogPrefix,
     pub(crate) seat: BoardSeat,
     ghost board: { seat_table seat ≡ L.board } by { Coded-set table_id_coded (seat_table seat) L.board },
     ghost no_slot: { seat.seat.me.1 ≡ [] },
@@ -55,7 +55,7 @@ impl<'a, L: Site> Pass<'a, L> {
     ghost use Rattle.board.specs.Seats.{board_table, IsSeatIn};
     ghost use Rattle.journal.specs.Passes.{steps_of, notes_of, seat_of, HasNoteRoom, HasStepRoom};
 
-    /// A pass that has made no step, of an empty journal.
+    /// Makes a pass without steps, of an empty journal.
     pub fn new(
         alloc: Global,
         share: Share<L>,
@@ -79,10 +79,10 @@ impl<'a, L: Site> Pass<'a, L> {
         }
     }
 
-    /// Makes room for a step and for a note.
+    /// Reserves room for a step and a note.
     ///
     /// # Errors
-    /// Where a growth was refused; what the pass did and was refused is what it was.
+    /// `AllocError` if there is no memory; the pass is unchanged.
     #[inline(always)]
     pub fn reserve(&mut self) -> Result<(), AllocError>
         ensures same { (steps_of self.new ≡ steps_of self.old) × (notes_of self.new ≡ notes_of self.old) × (seat_of self.new ≡ seat_of self.old) × (front_log self.new.seen ≡ front_log self.old.seen) }
@@ -126,7 +126,7 @@ impl<'a, L: Site> Pass<'a, L> {
         });
     }
 
-    /// Raises the board's number by the seat of the pass. All seats' steps keep the rule of the board then.
+    /// Raises the board's number to `durable` by the pass's seat.
     pub fn raise(&mut self, board: &Board, durable: u64)
         requires { board_table board.now ≡ L.board }
         ensures same { (steps_of self.new ≡ steps_of self.old) × (notes_of self.new ≡ notes_of self.old) }
@@ -136,8 +136,8 @@ impl<'a, L: Site> Pass<'a, L> {
         board.raise(&mut self.seat, durable);
     }
 
-    /// The board's number, which is at least all that the pass has raised or read, and is the greatest that any seat has raised
-    /// it to, else 0.
+    /// Returns the board's number, the greatest raised so far (0 if none), which is at least all that the pass raised
+    /// or read.
     pub fn durable(&mut self, board: &Board) -> u64
         requires { board_table board.now ≡ L.board }
         ensures same { (steps_of self.new ≡ steps_of self.old) × (notes_of self.new ≡ notes_of self.old) }

@@ -5,8 +5,7 @@ use std::alloc::{AllocError, Global};
 use std::marker::Brand;
 use std::sync::ledger::Ledger;
 
-/// Names a journal: its row of cells, the ledger of its steps, and the plan over which it runs. Each call of a program
-/// picks it.
+/// Names a journal: its row of cells, its ledger and its plan. Each call of a program picks one.
 pub trait Site: Ledger {
     ghost use Rattle.std.specs.Prelude.{ℕ, List};
     ghost use Rattle.atomic_table.specs.Seated.{TableId};
@@ -52,10 +51,10 @@ pub struct Row {
 impl Row {
     ghost use Rattle.std.specs.Prelude.{◌≡◌, IfOk, vec_len};
 
-    /// So many cells, none of them written.
+    /// Makes a row of `cells` unwritten cells.
     ///
     /// # Errors
-    /// Where a growth was refused.
+    /// `AllocError` if there is no memory for them.
     pub fn new(alloc: Global, cells: usize) -> Result<Row, AllocError>
         ensures { IfOk result (λ row. vec_len row.cells ≡ cells) }
     {

@@ -1,4 +1,4 @@
-//! A mailbox, whose letters stand at places in one order. Any thread posts, and any thread collects.
+//! A mailbox whose letters have places in one order. Any thread posts, and any thread collects.
 #![tactic(auto)]
 
 mod per_node;
@@ -15,19 +15,18 @@ use std::collections::LinkedList;
 use std::sync::Wait;
 use std::thread::yield_now;
 
-/// How often a thread looks for a letter before it sleeps. Between two looks it lets another thread run, which may be the one
-/// that posts.
-const LOOKS: u32 = 20;
+/// The number of polls for a letter, with a yield between two, before the thread sleeps.
+const POLLS: u32 = 20;
 
-/// A message's number, or None, the closing letter.
+/// A message's number, or `None`, the closing letter.
 pub type Letter = Option<u64>;
 
 /// A step of a seat at a mailbox.
 #[derive(Clone, Copy)]
 pub enum MailStep {
-    /// At this place this letter was posted.
+    /// This letter was posted at this place.
     Posted(u64, Letter),
-    /// From this place this letter was collected.
+    /// This letter was collected from this place.
     Collected(u64, Letter),
 }
 
@@ -35,7 +34,7 @@ pub enum MailStep {
 // two numbers and a list, and no value of it is made.
 type Seats = (u64, (u64, LinkedList<LinkedList<MailStep>>));
 
-/// The rule of the letters that wait and the steps of all seats.
+/// The rule of the queued letters and the steps of all seats.
 pub struct Places;
 
 impl Protocol<Letter, Seats> for Places {
@@ -47,8 +46,8 @@ impl Protocol<Letter, Seats> for Places {
     ghost first = { (1, (0, [] ∷ [])) };
 }
 
-/// There is one seat more to be dealt. Before any is dealt, one pass stands for all seats, and knows how many there are; who
-/// comes with the count knows nothing, and stands for none.
+/// One more seat is to be dealt. Before any is dealt, one pass stands for all seats and knows how many there are; the
+/// one split off by the count stands for none.
 pub struct OneMore;
 
 impl Split<Seats> for OneMore {
@@ -59,7 +58,7 @@ impl Split<Seats> for OneMore {
     ghost right = { λ _. (0, (0, [])) };
 }
 
-/// One seat more is dealt, which has made no step.
+/// One more seat is dealt, which has made no step.
 pub struct NewSeat;
 
 impl Split<Seats> for NewSeat {
@@ -107,7 +106,7 @@ impl Lesson<Letter, Seats> for Collects {
     ghost fact = { λ _ _. Unit {0} };
 }
 
-/// What the rule tells of the steps of all seats, once they are taken back.
+/// What the rule says of the steps of all seats, once they are taken back.
 pub struct Record;
 
 impl Lesson<Letter, Seats> for Record {
@@ -116,18 +115,18 @@ impl Lesson<Letter, Seats> for Record {
     ghost fact = { λ seats _. AreKept seats.1.1 };
 }
 
-/// Letters that wait, oldest first, up to a capacity.
+/// Queued letters, oldest first, up to a capacity.
 #[derive(Drop)]
 pub struct Mailbox {
     to: RuledSender<Letter, Seats, Places>,
     from: RuledReceiver<Letter, Seats, Places>,
-    /// How many seats it has.
+    /// The number of seats.
     seats: usize,
     ghost one_channel: { receives_on from ≡ sends_on to },
     ghost keyed: { IsKeyed (sends_on to) },
 }
 
-/// Where one holder posts and collects, or several such that were taken back. Contracts see all their steps.
+/// One holder's seat at a mailbox, or several that were taken back. Contracts see all their steps.
 #[derive(Drop)]
 pub struct MailSeat {
     pass: Pass<Letter, Seats>,
@@ -140,10 +139,10 @@ impl Mailbox {
     ghost use Rattle.mailbox.specs.Mail.{AddsPosted, AddsCollected, AreKept};
     ghost use Rattle.mailbox.specs.Seats.{capacity_of, id_of, returned, seats_of, steps_of, AreSeatsOf, IsSeatOf};
 
-    /// An empty mailbox for so many letters, and its seats, so many, which have made no step.
+    /// Makes an empty mailbox for `capacity` letters and its `seats` seats, which have made no step.
     ///
     /// # Errors
-    /// Where a growth was refused.
+    /// `AllocError` if there is no memory for them.
     pub fn new(
         alloc: Global,
         capacity: usize,
@@ -185,7 +184,7 @@ impl Mailbox {
         unreachable!()
     }
 
-    /// Posts the number of a message, and waits while the mailbox is full. Takes no memory.
+    /// Posts a message's number; waits while the mailbox is full. Takes no memory.
     pub fn post<R: Wait>(&self, rt: &R, seat: &mut MailSeat, message: u64)
         requires { IsSeatOf self.now seat.old }
         ensures same { IsSeatOf self.now seat.new }
@@ -194,7 +193,7 @@ impl Mailbox {
         self.put(rt, seat, Some(message));
     }
 
-    /// Posts the closing letter, and waits while the mailbox is full. Takes no memory.
+    /// Posts the closing letter; waits while the mailbox is full. Takes no memory.
     pub fn close<R: Wait>(&self, rt: &R, seat: &mut MailSeat)
         requires { IsSeatOf self.now seat.old }
         ensures same { IsSeatOf self.now seat.new }
@@ -203,14 +202,14 @@ impl Mailbox {
         self.put(rt, seat, None);
     }
 
-    /// Takes the oldest letter, which stands above all that this seat has collected, and waits while there is none. None
-    /// is the closing letter. Takes no memory.
+    /// Takes the oldest letter; waits while there is none. Its place is above all that this seat has collected.
+    /// `None` is the closing letter. Takes no memory.
     pub fn collect<R: Wait>(&self, rt: &R, seat: &mut MailSeat) -> Letter
         requires { IsSeatOf self.now seat.old }
         ensures same { IsSeatOf self.now seat.new }
         ensures step { AddsCollected (steps_of seat.old) result (steps_of seat.new) }
     {
-        for _ in 0..LOOKS {
+        for _ in 0..POLLS {
             if let Ok(found) = self.from.try_recv_as::<Collects, R>(rt, &mut seat.pass) {
                 return found;
             }
@@ -224,7 +223,7 @@ impl Mailbox {
         unreachable!()
     }
 
-    /// Takes a seat back, to others that were. Takes no memory.
+    /// Takes a seat back, beside others. Takes no memory.
     pub fn take_back(&self, all: &mut MailSeat, seat: MailSeat)
         requires { AreSeatsOf self.now all.old × IsSeatOf self.now seat }
         ensures same { AreSeatsOf self.now all.new }
@@ -234,9 +233,8 @@ impl Mailbox {
         self.to.absorb::<Return>(&mut all.pass, pass);
     }
 
-    /// Shows, once all seats were taken back, that the steps of exactly these seats keep the rule of the places: each letter
-    /// that was collected was posted at its place, which has one letter and is collected at most once, in the order of places.
-    /// Takes no memory.
+    /// Shows of exactly these seats, once all were taken back, that each collected letter was posted at its place,
+    /// which has one letter and is collected at most once, in the order of places. Takes no memory.
     pub fn recall(&self, all: &mut MailSeat)
         requires of { AreSeatsOf self.now all.old }
         requires all { length (returned all.old) ≡ seats_of self.now }

@@ -13,23 +13,23 @@ use plan::CheckedPlan;
 use std::alloc::{AllocError, Global};
 use std::sync::Wait;
 
-/// How many members a group can have.
+/// The most members of a group.
 const MEMBERS: usize = 64;
 
-/// How many letters a node's mailbox has room for.
+/// The capacity of a node's mailbox.
 const CAPACITY: usize = 1024;
 
 /// A mailbox for each node that a plan names.
 #[derive(Drop)]
 pub struct Mailboxes {
-    /// 64 a group, one a member, where the plan names it.
+    /// 64 a group, one for each member that the plan names.
     boxes: Vec<Option<Mailbox>>,
 }
 
 /// One caller's seats, or those of several that were taken back: one at each mailbox. Contracts see all their steps.
 #[derive(Drop)]
 pub struct MailSeats {
-    /// Each at the place of its mailbox.
+    /// The seats, each at the place of its mailbox.
     seats: Vec<Option<MailSeat>>,
 }
 
@@ -97,11 +97,11 @@ impl Mailboxes {
         Ok(given)
     }
 
-    /// A mailbox for each node that the plan names, with room for 1,024 letters, and the seats of so many callers, which
+    /// Makes a mailbox of 1,024 letters for each node that the plan names, and the seats of `callers` callers, which
     /// have made no step.
     ///
     /// # Errors
-    /// Where a growth was refused.
+    /// `AllocError` if there is no memory for them.
     pub fn new(
         alloc: Global,
         plan: &CheckedPlan,
@@ -124,7 +124,7 @@ impl Mailboxes {
         Ok((mailboxes, seats))
     }
 
-    /// Posts the number of a message to a node, and waits while its mailbox is full. Takes no memory.
+    /// Posts a message's number to a node; waits while its mailbox is full. Takes no memory.
     pub fn post<R: Wait>(&self, rt: &R, seats: &mut MailSeats, group: u8, member: u8, message: u64)
         requires node { has_mailbox self.now group member ≡ true }
         requires seats { AreSeatsOf self.now seats.old }
@@ -141,7 +141,7 @@ impl Mailboxes {
         mailbox.post(rt, seat, message);
     }
 
-    /// Posts the closing letter to a node, and waits while its mailbox is full. Takes no memory.
+    /// Posts the closing letter to a node; waits while its mailbox is full. Takes no memory.
     pub fn close_mailbox<R: Wait>(&self, rt: &R, seats: &mut MailSeats, group: u8, member: u8)
         requires node { has_mailbox self.now group member ≡ true }
         requires seats { AreSeatsOf self.now seats.old }
@@ -158,8 +158,8 @@ impl Mailboxes {
         mailbox.close(rt, seat);
     }
 
-    /// Takes the oldest letter of a node, which stands above all that these seats have collected there, and waits while
-    /// there is none. None is the closing letter. Takes no memory.
+    /// Takes a node's oldest letter; waits while there is none. Its place is above all that this caller has collected
+    /// there. `None` is the closing letter. Takes no memory.
     pub fn collect<R: Wait>(&self, rt: &R, seats: &mut MailSeats, group: u8, member: u8) -> Letter
         requires node { has_mailbox self.now group member ≡ true }
         requires seats { AreSeatsOf self.now seats.old }
@@ -194,7 +194,7 @@ impl Mailboxes {
         mailbox.take_back(back, seat);
     }
 
-    /// Takes a caller's seats back, to those of others. Takes no memory.
+    /// Takes a caller's seats back, beside those of others. Takes no memory.
     pub fn take_back(&self, all: &mut MailSeats, seats: MailSeats)
         requires seats { AreSeatsOf self.now seats }
         requires back { AreBack self.now all.old }
@@ -225,8 +225,8 @@ impl Mailboxes {
         mailbox.recall(back);
     }
 
-    /// Ends mailboxes whose seats were all taken back: at each, the steps of exactly these seats keep the rule of its places.
-    /// Takes no memory.
+    /// Closes mailboxes whose seats were all taken back: at each, the steps of exactly these seats keep the rule of
+    /// its places. Takes no memory.
     pub fn end(self, mut all: MailSeats)
         requires back { AreBack self all }
         requires whole { AreWhole self all }

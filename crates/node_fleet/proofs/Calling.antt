@@ -8,13 +8,13 @@ use Rattle.board.specs.declared.BoardStep.{BoardStep}
 use Rattle.journal.specs.declared.entry.Receipt.{Receipt}
 use Rattle.journal.specs.Passes.{AddsStep}
 use Rattle.journal.specs.Standing.{Made}
-use Rattle.fleet_actors.specs.declared.client_deed.ClientDeed.{ClientDeed}
-use Rattle.fleet_actors.specs.declared.client_deed.ClientDeed.TheVariants as deed
+use Rattle.fleet_actors.specs.declared.client_action.ClientAction.{ClientAction}
+use Rattle.fleet_actors.specs.declared.client_action.ClientAction.TheVariants as action
 use Rattle.fleet_actors.specs.declared.halt.Halt.{Halt}
 use Rattle.fleet_actors.specs.declared.halt.Halt.TheVariants.{Refused}
 use Rattle.fleet_actors.specs.Halts.{Halts}
 use Rattle.node_fleet.specs.Calls.{NamesElse, Raises, RaisesBy, Tells}
-use Rattle.fleet_actors.specs.Deeds.{event_by}
+use Rattle.fleet_actors.specs.Actions.{event_by}
 use Rattle.fleet_actors.specs.Volumes.{IsElsewhere, IsUnmade}
 
 -- a step of the last try, before which the pass was as at first
@@ -24,22 +24,22 @@ adds_first event asked r first steps steps' notes notes' before is same kept tol
     (subst (λ (e : Event). AddsStep e r first steps') is (subst (λ (s : List Made). AddsStep asked r s steps') same told.0), told.1 ∙ kept)
 
 -- what a deed raises
-pub raises_by : (volume : ℕ) (asked : ClientDeed) (durable : ℕ) (seat seat' : List BoardStep) → Raises asked durable seat seat' → RaisesBy (event_by volume asked) durable seat seat'
-raises_by volume (deed.Issue changes) durable seat seat' h = h
-raises_by volume (deed.Take message) durable seat seat' h = h
-raises_by volume deed.Cut durable seat seat' h = h
-raises_by volume deed.Open durable seat seat' h = h
-raises_by volume (deed.Resend lsn) durable seat seat' h = h
-raises_by volume (deed.Read group block) durable seat seat' h = h
+pub raises_by : (volume : ℕ) (asked : ClientAction) (durable : ℕ) (seat seat' : List BoardStep) → Raises asked durable seat seat' → RaisesBy (event_by volume asked) durable seat seat'
+raises_by volume (action.Issue changes) durable seat seat' h = h
+raises_by volume (action.Take message) durable seat seat' h = h
+raises_by volume action.Cut durable seat seat' h = h
+raises_by volume action.Open durable seat seat' h = h
+raises_by volume (action.Resend lsn) durable seat seat' h = h
+raises_by volume (action.Read group block) durable seat seat' h = h
 
 -- a message that is not there
-pub names_else : (volume : ℕ) (asked : ClientDeed) (steps : List Made) → IsElsewhere asked steps → NamesElse (event_by volume asked) steps
-names_else volume (deed.Take message) steps h = (message, refl, h)
-names_else volume (deed.Issue changes) steps h = absurd h
-names_else volume deed.Cut steps h = absurd h
-names_else volume deed.Open steps h = absurd h
-names_else volume (deed.Resend lsn) steps h = absurd h
-names_else volume (deed.Read group block) steps h = absurd h
+pub names_else : (volume : ℕ) (asked : ClientAction) (steps : List Made) → IsElsewhere asked steps → NamesElse (event_by volume asked) steps
+names_else volume (action.Take message) steps h = (message, refl, h)
+names_else volume (action.Issue changes) steps h = absurd h
+names_else volume action.Cut steps h = absurd h
+names_else volume action.Open steps h = absurd h
+names_else volume (action.Resend lsn) steps h = absurd h
+names_else volume (action.Read group block) steps h = absurd h
 
 -- a try that was refused
 pub tells_refused : (event : Event) (halt : Halt) (fault : Fault) (steps steps' : List Made) (notes notes' : List Refusal) → halt ≡ Refused fault → Halts event (Err halt) steps steps' notes notes' → Tells event (Err fault) steps steps' notes notes'
@@ -50,5 +50,5 @@ pub lost_halt : (halt : Halt) (fault : Fault) → halt ≡ Refused fault → fau
 lost_halt halt fault is lost = is ∙ ap Refused lost
 
 -- what is told of a message that is not there
-pub unmade_names : (volume : ℕ) (asked : ClientDeed) (steps : List Made) (halt : Halt) → IsUnmade asked steps (Err halt) → halt ≡ Refused NoMessage → NamesElse (event_by volume asked) steps
+pub unmade_names : (volume : ℕ) (asked : ClientAction) (steps : List Made) (halt : Halt) → IsUnmade asked steps (Err halt) → halt ≡ Refused NoMessage → NamesElse (event_by volume asked) steps
 unmade_names volume asked steps halt unmade is = names_else volume asked steps (unmade (ap (λ (h : Halt). let r : Result Receipt Halt = Err h in r) is))

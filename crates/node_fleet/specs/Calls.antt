@@ -12,8 +12,8 @@ use Rattle.board.specs.declared.BoardStep.TheVariants.{Raised}
 use Rattle.journal.specs.declared.entry.Receipt.{Receipt}
 use Rattle.journal.specs.Passes.{AddsStep}
 use Rattle.journal.specs.Standing.{IsElse, Made}
-use Rattle.fleet_actors.specs.declared.client_deed.ClientDeed.{ClientDeed}
-use Rattle.fleet_actors.specs.declared.client_deed.ClientDeed.TheVariants as deed
+use Rattle.fleet_actors.specs.declared.client_action.ClientAction.{ClientAction}
+use Rattle.fleet_actors.specs.declared.client_action.ClientAction.TheVariants as action
 use Rattle.fleet_actors.specs.Halts.{AddsNote}
 
 -- the pass has the step of this event more, as its receipt says, or a note of the refusal
@@ -34,15 +34,15 @@ IsOfNone plan (Offer group member lsn) = is_named plan group member ≡ false
 IsOfNone plan event = ⊥
 
 -- whether a deed may move the durable point of its client
-abbrev pub is_moving : ClientDeed → Bool
-is_moving (deed.Take message) = true
-is_moving deed.Open = true
+abbrev pub is_moving : ClientAction → Bool
+is_moving (action.Take message) = true
+is_moving action.Open = true
 is_moving other = false
 
 -- what a step of a client does on the board: its durable point is raised, where the step may move it
-abbrev pub Raises : ClientDeed → ℕ → List BoardStep → List BoardStep → Type 0
-Raises (deed.Take message) durable seat seat' = seat' ≡ seat ++ Raised durable ∷ []
-Raises deed.Open durable seat seat' = seat' ≡ seat ++ Raised durable ∷ []
+abbrev pub Raises : ClientAction → ℕ → List BoardStep → List BoardStep → Type 0
+Raises (action.Take message) durable seat seat' = seat' ≡ seat ++ Raised durable ∷ []
+Raises action.Open durable seat seat' = seat' ≡ seat ++ Raised durable ∷ []
 Raises other durable seat seat' = seat' ≡ seat
 
 -- the same of the event that the step is

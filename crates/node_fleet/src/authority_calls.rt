@@ -1,4 +1,4 @@
-//! What the authority does in a fleet.
+//! The authority's calls of a fleet.
 
 ghost use Rattle.std.specs.Prelude.{◌≡◌, IfErr};
 ghost use Rattle.journal.specs.Passes.{notes_of, seat_of, steps_of};
@@ -8,7 +8,7 @@ ghost use Rattle.node_fleet.specs.Calls.{Tells};
 
 use crate::fleet::Fleet;
 use crate::site::FleetSite;
-use fleet_actors::{Halt, taken};
+use fleet_actors::{Halt, lock_spinning};
 use journal::{Pass, Receipt};
 use std::sync::Wait;
 use volume_model::Fault;
@@ -30,8 +30,8 @@ impl<'a, L: FleetSite> Fleet<'a, L> {
         ensures seat { seat_of pass.new ≡ seat_of pass.old }
         ensures found { result ≢ Err (Refused NoMessage) }
     {
-        let mut actor = taken(rt, &self.authority);
-        let mut log = taken(rt, &self.journal);
+        let mut actor = lock_spinning(rt, &self.authority);
+        let mut log = lock_spinning(rt, &self.journal);
         actor.act(rt, self.alloc, &mut log, pass, act, self.slots)
     }
 
@@ -49,7 +49,7 @@ impl<'a, L: FleetSite> Fleet<'a, L> {
         for _ in rt.forever() {
             match self.try_authority(rt, pass, act) {
                 Ok(receipt) => return Ok(receipt),
-                Err(Halt::Again) => {}
+                Err(Halt::StaleCursor) => {}
                 Err(Halt::Refused(fault)) => return Err(fault),
             }
         }

@@ -12,8 +12,8 @@ use plan::CheckedPlan;
 use std::alloc::{AllocError, Global};
 use std::sync::ledger::Blank;
 
-/// The board of a fleet that isn't there yet, its mailboxes, its empty history, and the ledger of its steps, with a part and
-/// seats for each of its passes.
+/// The board, the mailboxes, the empty history and the ledger of a fleet that is still to be made, with a part and
+/// seats for each pass.
 #[derive(Drop)]
 pub struct Base {
     pub(crate) board: Board,
@@ -33,10 +33,10 @@ impl Base {
     ghost use Rattle.plan.specs.CheckedModel.{checked_model};
     ghost use Rattle.node_fleet.specs.Bases.{passes_of, HasMail};
 
-    /// The base of a fleet over a plan, with so many passes.
+    /// Makes the base of a fleet over a plan, with `passes` passes.
     ///
     /// # Errors
-    /// Where a growth was refused.
+    /// `AllocError` if there is no memory for it.
     pub fn new(alloc: Global, plan: &CheckedPlan, passes: usize) -> Result<Base, AllocError>
         requires { 0 < passes }
         ensures count { IfOk result (λ base. passes_of base ≡ passes) }

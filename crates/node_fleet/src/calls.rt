@@ -1,9 +1,9 @@
-//! What callers ask of a fleet.
+//! The public calls of a fleet.
 
 ghost use Rattle.std.specs.Prelude.{◌≡◌, IfErr, IfOk, OnErr};
 ghost use Rattle.volume_model.specs.World.Event.{Deliver};
 ghost use Rattle.fleet_actors.specs.Acts as acts;
-ghost use Rattle.fleet_actors.specs.Deeds as deeds;
+ghost use Rattle.fleet_actors.specs.Actions as actions;
 ghost use Rattle.fleet_actors.specs.Nodes as nodes;
 ghost use Rattle.node_fleet.specs.Calls.{NamesElse, RaisesBy, Tells, Unmade};
 ghost use Rattle.node_fleet.specs.Passes.{notes_of, seat_of, steps_of, IsEntrySame, IsMailSame};
@@ -11,7 +11,7 @@ ghost use Rattle.node_fleet.specs.Passes.{notes_of, seat_of, steps_of, IsEntrySa
 use crate::fleet::Fleet;
 use crate::pass::Pass;
 use crate::site::FleetSite;
-use fleet_actors::{ClientDeed, NodeDeed, StepGate};
+use fleet_actors::{ClientAction, NodeAction, StepGate};
 use journal::Receipt;
 use mailbox::Letter;
 use std::sync::Wait;
@@ -28,13 +28,12 @@ impl<'a, L: FleetSite> Fleet<'a, L> {
     ghost use Rattle.mailbox.specs.Mail.{AddsCollected, AddsPosted};
     ghost use Rattle.mailbox.specs.Mails.{ChangesAt};
 
-    /// The authority assigns a volume epoch, leads a group to a child of its configuration, or tells a client where the
-    /// groups stand.
+    /// Makes a step of the authority: assigns a volume epoch, advances a group to a child of its configuration, makes
+    /// a View for a client, or lets the next group join.
     ///
     /// # Errors
-    /// The authority's own refusal, as [`AuthorityActor::act`](fleet_actors::AuthorityActor::act) gives it, `NoSlot` where it
-    /// is to assign and the last volume epoch is that of the last slot, and `JournalFull` where no cell is left.
-    /// `NoMemory`, which isn't noted, where a growth was refused.
+    /// The authority's refusal, as [`AuthorityActor::act`](fleet_actors::AuthorityActor::act) gives it; `NoSlot` of
+    /// an assignment beyond the last slot; `JournalFull` if no cell is left; `NoMemory`, which isn't noted.
     pub fn advance<R: Wait>(
         &self,
         rt: &R,
@@ -49,58 +48,57 @@ impl<'a, L: FleetSite> Fleet<'a, L> {
         self.enter_authority(rt, &mut pass.entered, act)
     }
 
-    /// A client does what it is asked to, which goes into the journal's entry or into the note of a refusal: nothing of it is copied.
-    /// After a message taken or an opening its durable point, 0 before its opening, is raised on the board under the client's lock.
+    /// Makes a step of a client. The action moves into the journal's entry or into the note of a refusal, without a
+    /// copy. After a Take or an Open the board is raised to the client's durable point under the client's lock.
     ///
     /// # Errors
-    /// `NoMessage` where no step has made the message that it is to take, which isn't noted; then the client's own
-    /// refusal, as [`ClientActor::act`](fleet_actors::ClientActor::act) gives it, and `JournalFull` where no cell is left. A
-    /// client that has no slot is one that no View has reached. `NoMemory`, which isn't noted, where a growth was
-    /// refused; then what it was asked is gone, and who would ask again calls [`Fleet::client_step`].
+    /// `NoMessage` if no step has made the message to take; it isn't noted. The client's refusal, as
+    /// [`ClientActor::act`](fleet_actors::ClientActor::act) gives it; a client without a slot is one that no View has
+    /// reached. `JournalFull` if no cell is left. `NoMemory`, which isn't noted; the action is gone then, so a caller
+    /// that wants to try again calls [`Fleet::client_step`].
     pub fn client_does<R: Wait>(
         &self,
         rt: &R,
         pass: &mut Pass<'a, L>,
         volume: u32,
-        deed: ClientDeed,
+        action: ClientAction,
     ) -> Result<Receipt, Fault>
-        ensures told { Tells (deeds.event_by volume deed) result (steps_of pass.old) (steps_of pass.new) (notes_of pass.old) (notes_of pass.new) }
-        ensures raised { IfOk result (λ r. RaisesBy (deeds.event_by volume deed) r.durable (seat_of pass.old) (seat_of pass.new)) }
+        ensures told { Tells (actions.event_by volume action) result (steps_of pass.old) (steps_of pass.new) (notes_of pass.old) (notes_of pass.new) }
+        ensures raised { IfOk result (λ r. RaisesBy (actions.event_by volume action) r.durable (seat_of pass.old) (seat_of pass.new)) }
         ensures still { OnErr result (seat_of pass.new ≡ seat_of pass.old) }
         ensures mail { IsMailSame pass.old pass.new }
-        ensures unmade { IfErr result (λ fault. fault ≡ NoMessage → NamesElse (deeds.event_by volume deed) (steps_of pass.old)) }
+        ensures unmade { IfErr result (λ fault. fault ≡ NoMessage → NamesElse (actions.event_by volume action) (steps_of pass.old)) }
     {
-        self.enter_client(rt, &mut pass.entered, volume, deed)
+        self.enter_client(rt, &mut pass.entered, volume, action)
     }
 
-    /// A client does what it is asked to, of which a copy goes into the journal: else as [`Fleet::client_does`].
+    /// Makes a step of a client by a copy of the action: otherwise as [`Fleet::client_does`].
     ///
     /// # Errors
-    /// As [`Fleet::client_does`] says.
+    /// Those of [`Fleet::client_does`].
     pub fn client_step<R: Wait>(
         &self,
         rt: &R,
         pass: &mut Pass<'a, L>,
         volume: u32,
-        deed: &ClientDeed,
+        action: &ClientAction,
     ) -> Result<Receipt, Fault>
-        ensures told { Tells (deeds.event_by volume deed.now) result (steps_of pass.old) (steps_of pass.new) (notes_of pass.old) (notes_of pass.new) }
-        ensures raised { IfOk result (λ r. RaisesBy (deeds.event_by volume deed.now) r.durable (seat_of pass.old) (seat_of pass.new)) }
+        ensures told { Tells (actions.event_by volume action.now) result (steps_of pass.old) (steps_of pass.new) (notes_of pass.old) (notes_of pass.new) }
+        ensures raised { IfOk result (λ r. RaisesBy (actions.event_by volume action.now) r.durable (seat_of pass.old) (seat_of pass.new)) }
         ensures still { OnErr result (seat_of pass.new ≡ seat_of pass.old) }
         ensures mail { IsMailSame pass.old pass.new }
-        ensures unmade { IfErr result (λ fault. fault ≡ NoMessage → NamesElse (deeds.event_by volume deed.now) (steps_of pass.old)) }
+        ensures unmade { IfErr result (λ fault. fault ≡ NoMessage → NamesElse (actions.event_by volume action.now) (steps_of pass.old)) }
     {
-        self.enter_client_copy(rt, &mut pass.entered, volume, deed)
+        self.enter_client_copy(rt, &mut pass.entered, volume, action)
     }
 
-    /// Delivers a message to a node: looks it up, makes the node ready under its own lock, lends what it answers to the
-    /// gate while the journal is free, and then makes and enters the step.
+    /// Delivers a message to a node: looks it up, prepares the reaction under the node's lock alone, lends the
+    /// answers to the gate while the journal is free, then makes and enters the step.
     ///
     /// # Errors
-    /// `NoActor` where the plan names no such node or its group hasn't joined, `NoMessage` where no step has made the
-    /// message, which isn't noted, then the node's own refusal, as
-    /// [`NodeActor::react`](fleet_actors::NodeActor::react) gives it, and `JournalFull` where no cell is left. `NoMemory`,
-    /// which isn't noted, where a growth was refused.
+    /// `NoActor` if the plan names no such node or its group hasn't joined. `NoMessage` if no step has made the
+    /// message; it isn't noted. The node's refusal, as [`NodeActor::react`](fleet_actors::NodeActor::react) gives it.
+    /// `JournalFull` if no cell is left. `NoMemory`, which isn't noted.
     pub fn deliver<R: Wait, G: StepGate>(
         &self,
         rt: &R,
@@ -118,30 +116,30 @@ impl<'a, L: FleetSite> Fleet<'a, L> {
         self.enter_delivery(rt, &mut pass.entered, group, member, message, gate)
     }
 
-    /// A node does what it does of itself.
+    /// Makes a step of a node without a message: hydrates, restarts or offers a record.
     ///
     /// # Errors
-    /// `NoActor` where the plan names no such node or its group hasn't joined, then the node's own refusal, as
-    /// [`NodeActor::act`](fleet_actors::NodeActor::act) gives it, and `JournalFull` where no cell is left. `NoMemory`,
-    /// which isn't noted, where a growth was refused.
+    /// `NoActor` if the plan names no such node or its group hasn't joined. The node's refusal, as
+    /// [`NodeActor::act`](fleet_actors::NodeActor::act) gives it. `JournalFull` if no cell is left. `NoMemory`, which
+    /// isn't noted.
     pub fn node_step<R: Wait>(
         &self,
         rt: &R,
         pass: &mut Pass<'a, L>,
         group: u8,
         member: u8,
-        deed: NodeDeed,
+        action: NodeAction,
     ) -> Result<Receipt, Fault>
-        ensures told { Tells (nodes.event_by group member deed) result (steps_of pass.old) (steps_of pass.new) (notes_of pass.old) (notes_of pass.new) }
+        ensures told { Tells (nodes.event_by group member action) result (steps_of pass.old) (steps_of pass.new) (notes_of pass.old) (notes_of pass.new) }
         ensures found { IfErr result (λ fault. fault ≢ NoMessage) }
         ensures seat { seat_of pass.new ≡ seat_of pass.old }
         ensures mail { IsMailSame pass.old pass.new }
     {
-        self.enter_node(rt, &mut pass.entered, group, member, deed)
+        self.enter_node(rt, &mut pass.entered, group, member, action)
     }
 
-    /// The board's number, which is at least all that the pass has raised or read, and is the greatest that any pass has
-    /// raised it to, else 0. Takes no lock and no memory.
+    /// Returns the board's number: the greatest that any pass has raised so far (0 if none), at least all that this
+    /// pass raised or read. Takes no lock and no memory.
     pub fn durable(&self, pass: &mut Pass<'a, L>) -> u64
         ensures same { (steps_of pass.new ≡ steps_of pass.old) × (notes_of pass.new ≡ notes_of pass.old) }
         ensures read { seat_of pass.new ≡ seat_of pass.old ++ BoardStep.Read result ∷ [] }
@@ -152,15 +150,14 @@ impl<'a, L: FleetSite> Fleet<'a, L> {
         pass.entered.durable(&self.board)
     }
 
-    /// Whether the plan names this member of this group. Such a node has a mailbox.
+    /// Returns whether the plan names this member of this group. Such a node has a mailbox.
     pub fn names(&self, group: u8, member: u8) -> bool
         ensures { result ≡ is_named L.plan group member }
     {
         self.plan.names(group, member)
     }
 
-    /// Posts the number of a message to a node, and waits while its mailbox, which has room for 1,024 letters, is full. Takes
-    /// no memory.
+    /// Posts a message's number to a node; waits while its mailbox of 1,024 letters is full. Takes no memory.
     pub fn post<R: Wait>(&self, rt: &R, pass: &mut Pass<'a, L>, group: u8, member: u8, message: u64)
         requires { is_named L.plan group member ≡ true }
         ensures same { IsEntrySame pass.old pass.new }
@@ -169,8 +166,8 @@ impl<'a, L: FleetSite> Fleet<'a, L> {
         self.mail.post(rt, &mut pass.mail, group, member, message);
     }
 
-    /// Takes the oldest letter of a node, which stands above all that the pass has collected there, and waits while there is
-    /// none. None is the closing letter. Takes no memory.
+    /// Takes a node's oldest letter; waits while there is none. Its place is above all that the pass has collected
+    /// there. `None` is the closing letter. Takes no memory.
     pub fn collect<R: Wait>(&self, rt: &R, pass: &mut Pass<'a, L>, group: u8, member: u8) -> Letter
         requires { is_named L.plan group member ≡ true }
         ensures same { IsEntrySame pass.old pass.new }
@@ -179,7 +176,7 @@ impl<'a, L: FleetSite> Fleet<'a, L> {
         self.mail.collect(rt, &mut pass.mail, group, member)
     }
 
-    /// Posts the closing letter to a node, and waits while its mailbox is full. Takes no memory.
+    /// Posts the closing letter to a node; waits while its mailbox is full. Takes no memory.
     pub fn close_mailbox<R: Wait>(&self, rt: &R, pass: &mut Pass<'a, L>, group: u8, member: u8)
         requires { is_named L.plan group member ≡ true }
         ensures same { IsEntrySame pass.old pass.new }

@@ -1,9 +1,9 @@
-//! What clients do in a fleet.
+//! The clients' calls of a fleet.
 
 ghost use Rattle.std.specs.Prelude.{◌≡◌, IfErr, IfOk, OnErr};
 ghost use Rattle.volume_model.specs.World.Event.{Take};
 ghost use Rattle.journal.specs.Passes.{notes_of, seat_of, steps_of};
-ghost use Rattle.fleet_actors.specs.Deeds.{event_by};
+ghost use Rattle.fleet_actors.specs.Actions.{event_by};
 ghost use Rattle.fleet_actors.specs.Halts.{Halts};
 ghost use Rattle.fleet_actors.specs.Volumes.{IsUnmade};
 ghost use Rattle.node_fleet.specs.Calls.{is_moving, NamesElse, Raises, RaisesBy, Tells};
@@ -11,18 +11,18 @@ ghost use Rattle.node_fleet.specs.Calls.{is_moving, NamesElse, Raises, RaisesBy,
 use crate::fleet::Fleet;
 use crate::settling::refusal_of;
 use crate::site::FleetSite;
-use fleet_actors::{ClientActor, ClientDeed, Halt, refused, taken, tried};
-use journal::{Log, Pass, Receipt, Who};
+use fleet_actors::{ClientAction, ClientActor, Halt, lock_spinning, refused, try_step};
+use journal::{ActorName, Log, Pass, Receipt};
 use std::sync::{Mutex, Wait};
 use volume_model::Fault;
 use wire::Message;
 use world::Client;
 
-// Whether a deed may move the durable point of its client.
-fn moves(deed: &ClientDeed) -> bool
-    ensures { result ≡ is_moving deed.now }
+// Whether an action may move the durable point of its client.
+fn moves(action: &ClientAction) -> bool
+    ensures { result ≡ is_moving action.now }
 {
-    matches!(deed, ClientDeed::Take { .. } | ClientDeed::Open)
+    matches!(action, ClientAction::Take { .. } | ClientAction::Open)
 }
 
 impl<'a, L: FleetSite> Fleet<'a, L> {
@@ -32,7 +32,7 @@ impl<'a, L: FleetSite> Fleet<'a, L> {
     ghost use Rattle.volume_model.specs.Client.{unborn};
     ghost use Rattle.wire.specs.Message.{message_of};
     ghost use Rattle.journal.specs.Passes.{world_of, HasNoteRoom, SeesAll};
-    ghost use Rattle.fleet_actors.specs.Deeds.{IsFound};
+    ghost use Rattle.fleet_actors.specs.Actions.{IsFound};
     ghost use Rattle.fleet_actors.specs.declared.halt.Halt.TheVariants.{Refused};
 
     // The client of a volume epoch, if it has a slot.
@@ -47,14 +47,14 @@ impl<'a, L: FleetSite> Fleet<'a, L> {
         log: &Log<'a, L>,
         pass: &mut Pass<'a, L>,
         volume: u32,
-        deed: ClientDeed,
+        action: ClientAction,
         found: Option<&Message>,
     ) -> Halt
         requires unborn { (world_of log.now).clients volume ≡ unborn }
-        requires found { IsFound (world_of log.now).messages deed (option_map message_of (option_copied found)) }
+        requires found { IsFound (world_of log.now).messages action (option_map message_of (option_copied found)) }
         requires settled { SeesAll pass.old log.now }
         requires room { HasNoteRoom pass.old }
-        ensures told { Halts (event_by volume deed) (Err result) (steps_of pass.old) (steps_of pass.new) (notes_of pass.old) (notes_of pass.new) }
+        ensures told { Halts (event_by volume action) (Err result) (steps_of pass.old) (steps_of pass.new) (notes_of pass.old) (notes_of pass.new) }
         ensures seat { seat_of pass.new ≡ seat_of pass.old }
         ensures found { result ≢ Refused NoMessage }
     {
@@ -62,9 +62,9 @@ impl<'a, L: FleetSite> Fleet<'a, L> {
             Ok(plan) => Client::unborn(plan, volume),
             Err(_) => return Halt::Refused(Fault::NoMemory),
         };
-        match tried(self.alloc, &mut client, log.is_full(), &deed, found) {
-            Ok(_) => Halt::Again,
-            Err(fault) => refused(log, pass, deed.event(volume), fault),
+        match try_step(self.alloc, &mut client, log.is_full(), &action, found) {
+            Ok(_) => Halt::StaleCursor,
+            Err(fault) => refused(log, pass, action.event(volume), fault),
         }
     }
 
@@ -74,59 +74,59 @@ impl<'a, L: FleetSite> Fleet<'a, L> {
         rt: &R,
         pass: &mut Pass<'a, L>,
         volume: u32,
-        deed: ClientDeed,
+        action: ClientAction,
     ) -> Halt
-        ensures told { Halts (event_by volume deed) (Err result) (steps_of pass.old) (steps_of pass.new) (notes_of pass.old) (notes_of pass.new) }
+        ensures told { Halts (event_by volume action) (Err result) (steps_of pass.old) (steps_of pass.new) (notes_of pass.old) (notes_of pass.new) }
         ensures seat { seat_of pass.new ≡ seat_of pass.old }
-        ensures unmade { IsUnmade deed (steps_of pass.old) (Err result) }
+        ensures unmade { IsUnmade action (steps_of pass.old) (Err result) }
     {
         if pass.reserve().is_err() {
             return Halt::Refused(Fault::NoMemory);
         }
-        let mut log = taken(rt, &self.journal);
-        if volume == 1 || log.has_place(Who::Client(volume)) {
-            return Halt::Again;
+        let mut log = lock_spinning(rt, &self.journal);
+        if volume == 1 || log.has_place(ActorName::Client(volume)) {
+            return Halt::StaleCursor;
         }
-        match deed {
-            ClientDeed::Take { message } => match log.seek(pass, message) {
+        match action {
+            ClientAction::Take { message } => match log.seek(pass, message) {
                 None => Halt::Refused(Fault::NoMessage),
-                Some(letter) => {
-                    let found = letter.message();
-                    self.refuse_unborn(&log, pass, volume, deed, Some(found))
+                Some(message_ref) => {
+                    let found = message_ref.message();
+                    self.refuse_unborn(&log, pass, volume, action, Some(found))
                 }
             },
             other => {
-                log.settle(pass);
+                log.catch_up(pass);
                 self.refuse_unborn(&log, pass, volume, other, None)
             }
         }
     }
 
-    // One try of what a client does. Its durable point is raised on the board, where the deed may move it.
+    // Attempts a client's action. Its durable point is raised on the board if the action may move it.
     #[inline(always)]
     fn try_client<R: Wait>(
         &self,
         rt: &R,
         pass: &mut Pass<'a, L>,
         volume: u32,
-        deed: ClientDeed,
+        action: ClientAction,
     ) -> Result<Receipt, Halt>
-        ensures told { Halts (event_by volume deed) result (steps_of pass.old) (steps_of pass.new) (notes_of pass.old) (notes_of pass.new) }
-        ensures raised { IfOk result (λ r. Raises deed r.durable (seat_of pass.old) (seat_of pass.new)) }
+        ensures told { Halts (event_by volume action) result (steps_of pass.old) (steps_of pass.new) (notes_of pass.old) (notes_of pass.new) }
+        ensures raised { IfOk result (λ r. Raises action r.durable (seat_of pass.old) (seat_of pass.new)) }
         ensures still { OnErr result (seat_of pass.new ≡ seat_of pass.old) }
-        ensures unmade { IsUnmade deed (steps_of pass.old) result }
+        ensures unmade { IsUnmade action (steps_of pass.old) result }
     {
         let Some(client) = self.client(volume) else {
-            return Err(self.refuse_slotless(rt, pass, volume, deed));
+            return Err(self.refuse_slotless(rt, pass, volume, action));
         };
-        let mut actor = taken(rt, client);
+        let mut actor = lock_spinning(rt, client);
         if actor.volume() != volume {
-            return Err(Halt::Again);
+            return Err(Halt::StaleCursor);
         }
-        let raises = moves(&deed);
+        let raises = moves(&action);
         let receipt = {
-            let mut log = taken(rt, &self.journal);
-            actor.act(rt, self.alloc, &mut log, pass, deed)?
+            let mut log = lock_spinning(rt, &self.journal);
+            actor.act(rt, self.alloc, &mut log, pass, action)?
         };
         if raises {
             pass.raise(&self.board, receipt.durable);
@@ -141,14 +141,14 @@ impl<'a, L: FleetSite> Fleet<'a, L> {
         rt: &R,
         pass: &mut Pass<'a, L>,
         volume: u32,
-        deed: ClientDeed,
+        action: ClientAction,
     ) -> Result<Receipt, Fault>
-        ensures told { Tells (event_by volume deed) result (steps_of pass.old) (steps_of pass.new) (notes_of pass.old) (notes_of pass.new) }
-        ensures raised { IfOk result (λ r. RaisesBy (event_by volume deed) r.durable (seat_of pass.old) (seat_of pass.new)) }
+        ensures told { Tells (event_by volume action) result (steps_of pass.old) (steps_of pass.new) (notes_of pass.old) (notes_of pass.new) }
+        ensures raised { IfOk result (λ r. RaisesBy (event_by volume action) r.durable (seat_of pass.old) (seat_of pass.new)) }
         ensures still { OnErr result (seat_of pass.new ≡ seat_of pass.old) }
-        ensures unmade { IfErr result (λ fault. fault ≡ NoMessage → NamesElse (event_by volume deed) (steps_of pass.old)) }
+        ensures unmade { IfErr result (λ fault. fault ≡ NoMessage → NamesElse (event_by volume action) (steps_of pass.old)) }
     {
-        match self.try_client(rt, pass, volume, deed) {
+        match self.try_client(rt, pass, volume, action) {
             Ok(receipt) => Ok(receipt),
             Err(halt) => Err(refusal_of(rt, halt)),
         }
@@ -164,20 +164,20 @@ impl<'a, L: FleetSite> Fleet<'a, L> {
         message: u64,
     ) -> Result<Receipt, Halt>
         ensures told { Halts (Take volume message) result (steps_of pass.old) (steps_of pass.new) (notes_of pass.old) (notes_of pass.new) }
-        ensures raised { IfOk result (λ r. Raises (ClientDeed.Take message) r.durable (seat_of pass.old) (seat_of pass.new)) }
+        ensures raised { IfOk result (λ r. Raises (ClientAction.Take message) r.durable (seat_of pass.old) (seat_of pass.new)) }
         ensures still { OnErr result (seat_of pass.new ≡ seat_of pass.old) }
-        ensures unmade { IsUnmade (ClientDeed.Take message) (steps_of pass.old) result }
+        ensures unmade { IsUnmade (ClientAction.Take message) (steps_of pass.old) result }
     {
         let Some(client) = self.client(volume) else {
-            let deed = ClientDeed::Take { message };
-            return Err(self.refuse_slotless(rt, pass, volume, deed));
+            let action = ClientAction::Take { message };
+            return Err(self.refuse_slotless(rt, pass, volume, action));
         };
-        let mut actor = taken(rt, client);
+        let mut actor = lock_spinning(rt, client);
         if actor.volume() != volume {
-            return Err(Halt::Again);
+            return Err(Halt::StaleCursor);
         }
         let receipt = {
-            let mut log = taken(rt, &self.journal);
+            let mut log = lock_spinning(rt, &self.journal);
             actor.take(rt, self.alloc, &mut log, pass, message)?
         };
         pass.raise(&self.board, receipt.durable);
@@ -210,15 +210,15 @@ impl<'a, L: FleetSite> Fleet<'a, L> {
         rt: &R,
         pass: &mut Pass<'a, L>,
         volume: u32,
-        deed: ClientDeed,
+        action: ClientAction,
     ) -> Result<Receipt, Fault>
-        ensures told { Tells (event_by volume deed) result (steps_of pass.old) (steps_of pass.new) (notes_of pass.old) (notes_of pass.new) }
-        ensures raised { IfOk result (λ r. RaisesBy (event_by volume deed) r.durable (seat_of pass.old) (seat_of pass.new)) }
+        ensures told { Tells (event_by volume action) result (steps_of pass.old) (steps_of pass.new) (notes_of pass.old) (notes_of pass.new) }
+        ensures raised { IfOk result (λ r. RaisesBy (event_by volume action) r.durable (seat_of pass.old) (seat_of pass.new)) }
         ensures still { OnErr result (seat_of pass.new ≡ seat_of pass.old) }
-        ensures unmade { IfErr result (λ fault. fault ≡ NoMessage → NamesElse (event_by volume deed) (steps_of pass.old)) }
+        ensures unmade { IfErr result (λ fault. fault ≡ NoMessage → NamesElse (event_by volume action) (steps_of pass.old)) }
     {
-        match deed {
-            ClientDeed::Take { message } => self.take(rt, pass, volume, message),
+        match action {
+            ClientAction::Take { message } => self.take(rt, pass, volume, message),
             other => self.does(rt, pass, volume, other),
         }
     }
@@ -230,14 +230,14 @@ impl<'a, L: FleetSite> Fleet<'a, L> {
         rt: &R,
         pass: &mut Pass<'a, L>,
         volume: u32,
-        deed: &ClientDeed,
+        action: &ClientAction,
     ) -> Result<Receipt, Fault>
-        ensures told { Tells (event_by volume deed.now) result (steps_of pass.old) (steps_of pass.new) (notes_of pass.old) (notes_of pass.new) }
-        ensures raised { IfOk result (λ r. RaisesBy (event_by volume deed.now) r.durable (seat_of pass.old) (seat_of pass.new)) }
+        ensures told { Tells (event_by volume action.now) result (steps_of pass.old) (steps_of pass.new) (notes_of pass.old) (notes_of pass.new) }
+        ensures raised { IfOk result (λ r. RaisesBy (event_by volume action.now) r.durable (seat_of pass.old) (seat_of pass.new)) }
         ensures still { OnErr result (seat_of pass.new ≡ seat_of pass.old) }
-        ensures unmade { IfErr result (λ fault. fault ≡ NoMessage → NamesElse (event_by volume deed.now) (steps_of pass.old)) }
+        ensures unmade { IfErr result (λ fault. fault ≡ NoMessage → NamesElse (event_by volume action.now) (steps_of pass.old)) }
     {
-        let asked = deed.clone()?;
+        let asked = action.clone()?;
         self.enter_client(rt, pass, volume, asked)
     }
 
@@ -247,16 +247,16 @@ impl<'a, L: FleetSite> Fleet<'a, L> {
         rt: &R,
         pass: &mut Pass<'a, L>,
         volume: u32,
-        deed: &ClientDeed,
+        action: &ClientAction,
     ) -> Result<Receipt, Fault>
-        ensures told { Tells (event_by volume deed.now) result (steps_of pass.old) (steps_of pass.new) (notes_of pass.old) (notes_of pass.new) }
-        ensures raised { IfOk result (λ r. RaisesBy (event_by volume deed.now) r.durable (seat_of pass.old) (seat_of pass.new)) }
+        ensures told { Tells (event_by volume action.now) result (steps_of pass.old) (steps_of pass.new) (notes_of pass.old) (notes_of pass.new) }
+        ensures raised { IfOk result (λ r. RaisesBy (event_by volume action.now) r.durable (seat_of pass.old) (seat_of pass.new)) }
         ensures still { OnErr result (seat_of pass.new ≡ seat_of pass.old) }
-        ensures unmade { IfErr result (λ fault. fault ≡ NoMessage → NamesElse (event_by volume deed.now) (steps_of pass.old)) }
+        ensures unmade { IfErr result (λ fault. fault ≡ NoMessage → NamesElse (event_by volume action.now) (steps_of pass.old)) }
     {
-        if let ClientDeed::Take { message } = deed {
+        if let ClientAction::Take { message } = action {
             return self.take(rt, pass, volume, *message);
         }
-        self.copied_step(rt, pass, volume, deed)
+        self.copied_step(rt, pass, volume, action)
     }
 }

@@ -1,11 +1,11 @@
-//! What a closed fleet leaves.
+//! The journal of a closed fleet.
 
 use journal::{Log, Site};
 use std::alloc::Global;
 use volume_model::Fault;
 use world::Event;
 
-/// The steps that the actors of a fleet made, in order.
+/// The steps of a closed fleet, in order.
 #[derive(Drop)]
 pub struct Journal<'a, L: Site> {
     log: Log<'a, L>,
@@ -26,17 +26,17 @@ impl<'a, L: Site> Journal<'a, L> {
         Journal { log }
     }
 
-    /// How many steps it has.
+    /// Returns the number of steps.
     pub fn len(&self) -> usize
         ensures { result ≡ length (entries_in self.now) }
     {
         self.log.len()
     }
 
-    /// A copy of its events, in order.
+    /// Returns a copy of the events, in order.
     ///
     /// # Errors
-    /// `NoMemory` where a growth was refused.
+    /// `NoMemory` if there is no memory for the copy.
     pub fn events(&self, alloc: Global) -> Result<Vec<Event>, Fault>
         ensures events { IfOk result (λ made. events_of made.items ≡ events (entries_in self.now)) }
         ensures memory { IfErr result (λ fault. fault ≡ NoMemory) }

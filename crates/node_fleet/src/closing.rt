@@ -1,4 +1,4 @@
-//! The end of a fleet's passes.
+//! Taking back the passes of a fleet.
 
 ghost use Rattle.std.specs.Prelude.{◌≡◌, ◌<◌, All, length, map, sum_by, vec_len};
 ghost use Rattle.volume_model.specs.Judging.{IsRefused};
@@ -16,7 +16,8 @@ use journal::Log;
 use mailbox::{MailSeats, Mailboxes};
 use std::sync::ledger::Share;
 
-/// What passes leave that are taken back: their parts of the ledger, and their seats on the board and at the mailboxes.
+/// What passes leave when they are taken back: their parts of the ledger, and their seats on the board and at the
+/// mailboxes.
 #[derive(Drop)]
 pub(crate) struct TakenBack<L: FleetSite> {
     pub(crate) share: Share<L>,
@@ -24,7 +25,7 @@ pub(crate) struct TakenBack<L: FleetSite> {
     pub(crate) mail: MailSeats,
 }
 
-/// Takes passes back: the journal has each of their steps and tells each of their notes.
+/// Takes passes back: each of their steps stands in the journal, and each of their notes is true of it.
 pub(crate) fn take_back<'a, L: FleetSite>(
     log: &mut Log<'a, L>,
     board: &Board,

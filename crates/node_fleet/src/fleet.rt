@@ -1,4 +1,4 @@
-//! The actors of a volume, which threads share, with their journal.
+//! The actors of a volume, shared by threads, with their journal.
 
 ghost use Rattle.std.specs.Prelude.{◌≡◌, ◌+◌, vec_len};
 ghost use Rattle.std.specs.Arc.{arc_value};
@@ -25,8 +25,8 @@ use std::alloc::Global;
 use std::sync::{Arc, Mutex};
 use world::promised;
 
-/// The authority, clients and nodes of a volume, each under a lock of its own, and their journal under another. A
-/// thread that steps an actor takes the actor's lock and then the journal's.
+/// The authority, clients and nodes of a volume, each under its own lock, and their journal under another. A step
+/// takes the actor's lock and then the journal's.
 #[derive(Drop)]
 pub struct Fleet<'a, L: FleetSite> {
     pub(crate) alloc: Global,
@@ -34,9 +34,9 @@ pub struct Fleet<'a, L: FleetSite> {
     pub(crate) board: Board,
     pub(crate) mail: Mailboxes,
     pub(crate) authority: Mutex<AuthorityActor<L>>,
-    /// Those of the volume epochs from 0 on; nobody is born with 0.
+    /// The clients by volume epoch, from 0 on; no client has epoch 0.
     pub(crate) clients: Vec<Mutex<ClientActor<L>>>,
-    /// 64 a group, one a member, where the plan names it.
+    /// 64 a group, one for each member that the plan names.
     pub(crate) nodes: Vec<Option<Mutex<NodeActor<L>>>>,
     pub(crate) journal: Mutex<Log<'a, L>>,
     pub(crate) slots: u32,
@@ -62,11 +62,10 @@ impl<'a, L: FleetSite> Fleet<'a, L> {
     ghost use Rattle.node_fleet.specs.Passes.{notes_of, seat_of, steps_of};
     ghost use Rattle.node_fleet.specs.Returned.{MailIsKept};
 
-    /// Ends the fleet, and leaves its journal: it has all steps of all passes and no others, it tells all that they
-    /// were refused, and of its run every promise of the volume holds. The board's number, and each number that was read, is
-    /// as the board's rule says of what exactly these passes raised and read. At each node's mailbox, of what exactly these
-    /// passes posted and collected one place has one letter, and is collected at most once, in the order of places. Takes no
-    /// memory.
+    /// Closes the fleet and returns its journal: it has all steps of all passes and no others, each of their notes is
+    /// true of it, and every promise of the volume holds of its run. The board's number, and each number read, is as
+    /// the board's rule says of exactly these passes. At each node's mailbox, of what exactly these passes posted and
+    /// collected, one place has one letter and is collected at most once, in the order of places. Takes no memory.
     pub fn close(self, passes: Vec<Pass<'a, L>>) -> Journal<'a, L>
         requires { (vec_len passes ≡ L.parts) × (0 < vec_len passes) }
         ensures run { IsRun L.plan (entries_in result) }

@@ -1,4 +1,5 @@
-//! A fleet: actors under locks of their own, their journal, and the mailboxes of its nodes.
+//! A fleet: the actors of a volume under locks of their own, the journal of their steps, and the mailboxes of its
+//! nodes.
 #![tactic(auto)]
 
 mod authority_calls;

@@ -1,10 +1,10 @@
-//! What nodes do in a fleet.
+//! The nodes' calls of a fleet.
 
 ghost use Rattle.std.specs.Prelude.{◌≡◌, IfErr};
 ghost use Rattle.volume_model.specs.Told.{refusal};
 ghost use Rattle.volume_model.specs.World.{step};
 ghost use Rattle.volume_model.specs.World.Event.{Deliver};
-ghost use Rattle.journal.specs.Passes.{journal_of, letter_number, notes_of, seat_of, steps_of, world_of};
+ghost use Rattle.journal.specs.Passes.{journal_of, message_ref_number, notes_of, seat_of, steps_of, world_of};
 ghost use Rattle.world.specs.Events.{event_of};
 ghost use Rattle.fleet_actors.specs.Halts.{AddsNote, Halts};
 ghost use Rattle.fleet_actors.specs.Nodes.{event_by};
@@ -13,8 +13,8 @@ ghost use Rattle.node_fleet.specs.Calls.{IsOfNone, Tells, Unmade};
 use crate::fleet::Fleet;
 use crate::settling::refusal_of;
 use crate::site::FleetSite;
-use fleet_actors::{Halt, NodeActor, NodeDeed, StepGate, taken};
-use journal::{Letter, Log, Pass, Receipt};
+use fleet_actors::{Halt, NodeAction, NodeActor, StepGate, lock_spinning};
+use journal::{Log, MessageRef, Pass, Receipt};
 use std::sync::{Mutex, Wait};
 use volume_model::Fault;
 use world::{Event, slot};
@@ -46,7 +46,7 @@ impl<'a, L: FleetSite> Fleet<'a, L> {
         if pass.reserve().is_err() {
             return Fault::NoMemory;
         }
-        log.settle(pass);
+        log.catch_up(pass);
         log.refuse(pass, event, Fault::NoActor);
         Fault::NoActor
     }
@@ -59,7 +59,7 @@ impl<'a, L: FleetSite> Fleet<'a, L> {
         ensures note { AddsNote (event_of event) result (steps_of pass.old) (notes_of pass.old) (notes_of pass.new) }
         ensures found { result ≢ NoMessage }
     {
-        let mut log = taken(rt, &self.journal);
+        let mut log = lock_spinning(rt, &self.journal);
         self.refuse_missing(&mut log, pass, event)
     }
 
@@ -72,14 +72,14 @@ impl<'a, L: FleetSite> Fleet<'a, L> {
         group: u8,
         member: u8,
         message: u64,
-    ) -> Result<Letter<'a, L>, Fault>
+    ) -> Result<MessageRef<'a, L>, Fault>
         ensures steps { (steps_of pass.new ≡ steps_of pass.old) × (seat_of pass.new ≡ seat_of pass.old) }
         ensures notes { OnOk result (notes_of pass.new ≡ notes_of pass.old) }
         ensures note { IfErr result (λ fault. AddsNote (Deliver group member message) fault (steps_of pass.old) (notes_of pass.old) (notes_of pass.new)) }
-        ensures found { IfOk result (λ letter. letter_number letter ≡ message) }
+        ensures found { IfOk result (λ message_ref. message_ref_number message_ref ≡ message) }
         ensures own { IfErr result (λ fault. Unmade message (steps_of pass.old) fault) }
     {
-        let mut log = taken(rt, &self.journal);
+        let mut log = lock_spinning(rt, &self.journal);
         if u64::from(group) >= log.joined() {
             let event = Event::Deliver {
                 group,
@@ -89,7 +89,7 @@ impl<'a, L: FleetSite> Fleet<'a, L> {
             return Err(self.refuse_missing(&mut log, pass, event));
         }
         match log.seek(pass, message) {
-            Some(letter) => Ok(letter),
+            Some(message_ref) => Ok(message_ref),
             None => Err(Fault::NoMessage),
         }
     }
@@ -102,18 +102,18 @@ impl<'a, L: FleetSite> Fleet<'a, L> {
         node: &Mutex<NodeActor<L>>,
         group: u8,
         member: u8,
-        letter: &mut Letter<'a, L>,
+        message_ref: &mut MessageRef<'a, L>,
         gate: &G,
     ) -> Result<Receipt, Halt>
-        ensures told { Halts (Deliver group member (letter_number letter.old)) result (steps_of pass.old) (steps_of pass.new) (notes_of pass.old) (notes_of pass.new) }
+        ensures told { Halts (Deliver group member (message_ref_number message_ref.old)) result (steps_of pass.old) (steps_of pass.new) (notes_of pass.old) (notes_of pass.new) }
         ensures found { IfErr result (λ halt. halt ≢ Refused NoMessage) }
         ensures seat { seat_of pass.new ≡ seat_of pass.old }
     {
-        let mut actor = taken(rt, node);
+        let mut actor = lock_spinning(rt, node);
         if actor.group() != group || actor.member() != member {
-            return Err(Halt::Again);
+            return Err(Halt::StaleCursor);
         }
-        actor.react(rt, self.alloc, &self.journal, pass, letter, gate)
+        actor.react(rt, self.alloc, &self.journal, pass, message_ref, gate)
     }
 
     // A delivery, by the journal's pass.
@@ -138,11 +138,11 @@ impl<'a, L: FleetSite> Fleet<'a, L> {
             };
             return Err(self.refuse_absent(rt, pass, event));
         };
-        let mut letter = match self.find(rt, pass, group, member, message) {
-            Ok(letter) => letter,
+        let mut message_ref = match self.find(rt, pass, group, member, message) {
+            Ok(message_ref) => message_ref,
             Err(fault) => return Err(fault),
         };
-        match self.try_deliver(rt, pass, node, group, member, &mut letter, gate) {
+        match self.try_deliver(rt, pass, node, group, member, &mut message_ref, gate) {
             Ok(receipt) => Ok(receipt),
             Err(halt) => Err(refusal_of(rt, halt)),
         }
@@ -156,18 +156,18 @@ impl<'a, L: FleetSite> Fleet<'a, L> {
         node: &Mutex<NodeActor<L>>,
         group: u8,
         member: u8,
-        deed: NodeDeed,
+        action: NodeAction,
     ) -> Result<Receipt, Halt>
-        ensures told { Halts (event_by group member deed) result (steps_of pass.old) (steps_of pass.new) (notes_of pass.old) (notes_of pass.new) }
+        ensures told { Halts (event_by group member action) result (steps_of pass.old) (steps_of pass.new) (notes_of pass.old) (notes_of pass.new) }
         ensures found { IfErr result (λ halt. halt ≢ Refused NoMessage) }
         ensures seat { seat_of pass.new ≡ seat_of pass.old }
     {
-        let mut actor = taken(rt, node);
+        let mut actor = lock_spinning(rt, node);
         if actor.group() != group || actor.member() != member {
-            return Err(Halt::Again);
+            return Err(Halt::StaleCursor);
         }
-        let mut log = taken(rt, &self.journal);
-        actor.act(rt, self.alloc, &mut log, pass, deed)
+        let mut log = lock_spinning(rt, &self.journal);
+        actor.act(rt, self.alloc, &mut log, pass, action)
     }
 
     // What a node does of itself, by the journal's pass.
@@ -177,16 +177,16 @@ impl<'a, L: FleetSite> Fleet<'a, L> {
         pass: &mut Pass<'a, L>,
         group: u8,
         member: u8,
-        deed: NodeDeed,
+        action: NodeAction,
     ) -> Result<Receipt, Fault>
-        ensures told { Tells (event_by group member deed) result (steps_of pass.old) (steps_of pass.new) (notes_of pass.old) (notes_of pass.new) }
+        ensures told { Tells (event_by group member action) result (steps_of pass.old) (steps_of pass.new) (notes_of pass.old) (notes_of pass.new) }
         ensures found { IfErr result (λ fault. fault ≢ NoMessage) }
         ensures seat { seat_of pass.new ≡ seat_of pass.old }
     {
         let Some(node) = self.node(group, member) else {
-            return Err(self.refuse_absent(rt, pass, deed.event(group, member)));
+            return Err(self.refuse_absent(rt, pass, action.event(group, member)));
         };
-        match self.try_node(rt, pass, node, group, member, deed) {
+        match self.try_node(rt, pass, node, group, member, action) {
             Ok(receipt) => Ok(receipt),
             Err(halt) => Err(refusal_of(rt, halt)),
         }

@@ -20,7 +20,7 @@ use crate::site::FleetSite;
 use board::BoardSeat;
 use epochs::Authority;
 use fleet_actors::{AuthorityActor, ClientActor, NodeActor};
-use journal::{History, Log, Mark, Row, Site, Who};
+use journal::{ActorCursor, ActorName, History, Log, Row, Site};
 use mailbox::MailSeats;
 use plan::CheckedPlan;
 use std::alloc::{AllocError, Global};
@@ -29,7 +29,7 @@ use std::sync::{Arc, Mutex};
 use volume_model::Fault;
 use world::Client;
 
-/// How many members a group can have.
+/// The most members of a group.
 const MEMBERS: usize = 64;
 
 // A pass that has done nothing.
@@ -96,8 +96,8 @@ fn client<L: Site>(
     } else {
         Client::unborn(plan.clone()?, volume)
     };
-    let mark = Mark::new(Who::Client(volume), history);
-    Ok(ClientActor::new(mark, client))
+    let cursor = ActorCursor::new(ActorName::Client(volume), history);
+    Ok(ClientActor::new(cursor, client))
 }
 
 // The clients of the volume epochs up to that of the last slot, and of volume epoch 0, which nobody is born with.
@@ -165,12 +165,12 @@ fn nodes<L: Site>(
 impl<'a, L: FleetSite> Fleet<'a, L> {
     ghost use Rattle.node_fleet.specs.Bases.{passes_of, IsBaseOf};
 
-    /// A fleet of a new volume over a plan, with an empty journal over a row of cells that nobody has written, for
-    /// clients of the volume epochs up to that of the last slot; and the passes of its callers. There is at least one
-    /// slot: with none a client could be born that has none, and a call for it would wait for good.
+    /// Makes a fleet of a new volume, with an empty journal over a row of unwritten cells and clients of volume
+    /// epochs up to `slots`, and the passes of its callers. There is at least one slot: with none a call for the
+    /// first client would wait for good.
     ///
     /// # Errors
-    /// `NoMemory` where a growth was refused.
+    /// `NoMemory` if there is no memory for it.
     pub fn new(
         alloc: Global,
         row: &'a mut Row,
@@ -201,7 +201,10 @@ impl<'a, L: FleetSite> Fleet<'a, L> {
         let nodes = nodes(alloc, &plan, &mut history)?;
         let clients = clients(alloc, &plan, slots, &mut history)?;
         let authority = Authority::new(alloc, plan.clone()?)?;
-        let authority = AuthorityActor::new(Mark::new(Who::TheAuthority, &mut history), authority);
+        let authority = AuthorityActor::new(
+            ActorCursor::new(ActorName::TheAuthority, &mut history),
+            authority,
+        );
         let born = u64::from(plan.born());
         let log = Log::new(alloc, row, slots, plan.groups(), born, book, history)?;
         let fleet = Fleet {

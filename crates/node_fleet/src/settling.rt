@@ -1,4 +1,4 @@
-//! What a try of a step comes to.
+//! The refusal of an attempted step.
 
 ghost use Rattle.std.specs.Prelude.{◌≡◌};
 ghost use Rattle.fleet_actors.specs.declared.halt.Halt.TheVariants.{Refused};
@@ -7,13 +7,13 @@ use fleet_actors::Halt;
 use std::sync::Wait;
 use volume_model::Fault;
 
-/// Why a step was refused. Where the locks did not agree, which no step brings about, it waits for good.
+/// Returns why a step was refused. Waits for good on a stale cursor, which no step brings about.
 pub(crate) fn refusal_of<R: Wait>(rt: &R, halt: Halt) -> Fault
     ensures { halt ≡ Refused result }
 {
     match halt {
         Halt::Refused(fault) => fault,
-        Halt::Again => {
+        Halt::StaleCursor => {
             for _ in rt.forever() {}
             unreachable!()
         }

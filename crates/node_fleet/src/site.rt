@@ -1,9 +1,9 @@
-//! What names a fleet.
+//! The name of a fleet.
 
 use journal::Site;
 use std::marker::Brand;
 
-/// Names a fleet: its journal, and the mailboxes of its nodes. Each call of a program picks it.
+/// Names a fleet: its journal and the mailboxes of its nodes. Each call of a program picks one.
 pub trait FleetSite: Site {
     ghost use Rattle.std.specs.Prelude.{List, Option};
     ghost use Rattle.mailbox.specs.Seats.{MailboxId};

@@ -1,4 +1,4 @@
-//! Whether the run of a journal agrees with what was told of its orders.
+//! Whether a journal's run agrees with the counts of a script.
 
 ghost use Rattle.std.specs.Prelude.{◌≡◌, ◌==◌, ◌&&◌, not, is_err, vec_len};
 ghost use Rattle.std.specs.List.{list_any};
@@ -6,16 +6,16 @@ ghost use Rattle.std.specs.List.{list_any};
 use volume_model::Fault;
 use world::{Event, Outcome};
 
-/// Whether some event was refused.
+/// Returns whether some event was refused.
 fn refuses(results: &[Result<u32, Fault>]) -> bool
-    ensures { result ≡ list_any (λ told. is_err told) results.now }
+    ensures { result ≡ list_any (λ completion. is_err completion) results.now }
 {
-    results.iter().any(|told| told.is_err())
+    results.iter().any(|completion| completion.is_err())
 }
 
-/// Whether a run refused nothing, and had so many events.
+/// Returns whether a run refused nothing and had `steps` events.
 pub fn agrees(outcome: &Outcome, events: &Vec<Event>, steps: usize) -> bool
-    ensures { result ≡ (not (list_any (λ told. is_err told) outcome.now.results.items) && (vec_len events.now == steps)) }
+    ensures { result ≡ (not (list_any (λ completion. is_err completion) outcome.now.results.items) && (vec_len events.now == steps)) }
 {
     !refuses(outcome.results.as_slice()) && events.len() == steps
 }

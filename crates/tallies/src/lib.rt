@@ -1,10 +1,10 @@
-//! What is told of orders, how many of them were made and refused, and whether a run of the journal agrees with it.
+//! The completions of orders, the counts of made and refused ones, and whether a journal's run agrees with them.
 #![tactic(auto)]
 
 mod agreeing;
-mod tally;
-mod told;
+mod completion;
+mod run_counts;
 
 pub use agreeing::agrees;
-pub use tally::Tally;
-pub use told::Told;
+pub use completion::Completion;
+pub use run_counts::RunCounts;

@@ -59,13 +59,13 @@ fn readings_rise_on_each_thread(rt: HostRuntime) -> Result<(), Fail> {
 
 #[test]
 fn a_closed_board_has_the_greatest_number(rt: HostRuntime) -> Result<(), Fail> {
-    let (mut board, mut seats) = Board::new(rt.alloc(), 2)?;
+    let (board, mut seats) = Board::new(rt.alloc(), 2)?;
     let mut second = seats.pop().ok_or("no seat")?;
     let mut first = seats.pop().ok_or("no seat")?;
     board.raise(&mut first, 5);
     board.raise(&mut second, 3);
-    board.take_back(second);
-    board.take_back(first);
-    assert_eq!(rt; board.close(), 5);
+    let mut returned = first.into_returned();
+    board.take_back(&mut returned, second);
+    assert_eq!(rt; board.end(returned), 5);
     Ok(())
 }

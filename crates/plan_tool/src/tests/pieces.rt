@@ -1,7 +1,6 @@
 //! 600 records, whose copies and installs come in three pieces each.
 
 use super::fleet_runs::fleet;
-use super::stops::tells_restarted;
 use super::volumes::tells;
 use std::alloc::{AllocError, Global};
 use std::sync::Wait;
@@ -91,26 +90,4 @@ fn are_told<H: Threads + Wait + Sync>(rt: &H, alloc: Global) -> Result<(bool, bo
 #[test]
 fn a_long_log(rt: HostRuntime) {
     assert_eq!(rt; are_told(&rt, rt.alloc()).ok(), Some((true, true)));
-}
-
-/// Lines 1223 to 1235: member 3 becomes whole from copies of 0 and 1.
-const MADE_WHOLE: &str =
-    "advance 0 1\ndeliver 0 0 1223.1\ndeliver 0 1 1223.1\ndeliver 0 3 1223.1\ndeliver 0 0 1226.1\ndeliver 0 1 1226.1\n\
-deliver 0 3 1227.1\ndeliver 0 3 1227.2\ndeliver 0 3 1227.3\ndeliver 0 3 1228.1\ndeliver 0 3 1228.2\n\
-deliver 0 3 1228.3\nhydrate 0 3\n";
-
-/// Lines 1229 to 1234 take the pieces: after a restart behind one of these the member isn't made whole.
-#[test]
-fn half_a_copy_never_counts(rt: HostRuntime) -> Result<(), AllocError> {
-    let script = written(rt.alloc(), MADE_WHOLE)?;
-    for at in 1226..1236usize {
-        let told = if at < 1229 || at == 1235 {
-            ("1236 ok 0\n", 1236, 0)
-        } else {
-            ("1236 refused 57 NotEnough\n", 1235, 1)
-        };
-        let is_told = tells_restarted(&rt, rt.alloc(), THREE_COPIES, &script, at, 3, told);
-        assert_eq!(rt; is_told.ok(), Some(true), "{at}");
-    }
-    Ok(())
 }

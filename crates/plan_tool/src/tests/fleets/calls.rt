@@ -1,7 +1,7 @@
 //! Calls of a fleet, as tables give them.
 
 use super::looks::{Lent, Look};
-use fleet_actors::{ClientDeed, NodeDeed};
+use fleet_actors::{ClientAction, NodeAction};
 use node_fleet::{Fleet, FleetSite, Pass, Receipt};
 use std::alloc::{AllocError, Global};
 use std::sync::Wait;
@@ -15,7 +15,7 @@ pub enum Call {
     /// A message is delivered to a member.
     Deliver(u8, u64),
     /// A member does something of itself.
-    Node(u8, NodeDeed),
+    Node(u8, NodeAction),
     /// The authority acts.
     Authority(AuthorityAct),
     /// A client gives these bytes their records, one a byte, from the first byte of block 0 on.
@@ -47,12 +47,12 @@ fn changes(alloc: Global, bytes: &str) -> Result<Vec<Change>, AllocError> {
 }
 
 /// What a client is asked to do.
-fn deed(alloc: Global, call: Call) -> Result<ClientDeed, AllocError> {
+fn action(alloc: Global, call: Call) -> Result<ClientAction, AllocError> {
     match call {
-        Call::Issue(_, bytes) => Ok(ClientDeed::Issue(changes(alloc, bytes)?)),
-        Call::Take(_, message) => Ok(ClientDeed::Take { message }),
-        Call::Read(_) => Ok(ClientDeed::Read { group: 0, block: 0 }),
-        _ => Ok(ClientDeed::Cut),
+        Call::Issue(_, bytes) => Ok(ClientAction::Issue(changes(alloc, bytes)?)),
+        Call::Take(_, message) => Ok(ClientAction::Take { message }),
+        Call::Read(_) => Ok(ClientAction::Read { group: 0, block: 0 }),
+        _ => Ok(ClientAction::Cut),
     }
 }
 
@@ -68,14 +68,14 @@ impl Call {
     ) -> Result<Receipt, Fault> {
         match self {
             Call::Deliver(member, message) => fleet.deliver(rt, pass, 0, member, message, look),
-            Call::Node(member, deed) => fleet.node_step(rt, pass, 0, member, deed),
+            Call::Node(member, action) => fleet.node_step(rt, pass, 0, member, action),
             Call::Authority(act) => fleet.advance(rt, pass, act),
             Call::Issue(volume, _)
             | Call::Take(volume, _)
             | Call::Cut(volume)
             | Call::Read(volume) => {
-                let deed = deed(alloc, self)?;
-                fleet.client_step(rt, pass, volume, &deed)
+                let action = action(alloc, self)?;
+                fleet.client_step(rt, pass, volume, &action)
             }
             Call::Board => Ok(Receipt {
                 number: 0,

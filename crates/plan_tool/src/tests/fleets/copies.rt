@@ -40,7 +40,16 @@ fn copied(alloc: Global) -> Result<Vec<Step>, AllocError> {
 fn a_copy_in_three_pieces(rt: HostRuntime) -> Result<(), Fault> {
     let look = Look::new();
     let steps = copied(rt.alloc())?;
-    let ending = run_table(&rt, rt.alloc(), THREE_COPIES, 1, 1, 627, steps.as_slice(), &look)?;
+    let ending = run_table(
+        &rt,
+        rt.alloc(),
+        THREE_COPIES,
+        1,
+        1,
+        627,
+        steps.as_slice(),
+        &look,
+    )?;
     assert_eq!(rt; ending.counts(), (None, 627, 0));
     assert_eq!(rt; look.last_ack(), (0, 600));
     assert_eq!(rt; look.pieces(), (3, 600));

@@ -4,16 +4,16 @@ use super::super::texts::{SIX, TWO_GROUPS};
 use super::calls::{Call, Step};
 use super::drive::run_table;
 use super::looks::Look;
-use fleet_actors::NodeDeed;
+use fleet_actors::NodeAction;
 use std::test::*;
 use volume_model::Fault;
 use world::AuthorityAct;
 
 /// Two steps fill a journal of two cells, and no actor makes another.
 const FULL: &[Step] = &[
-    (Call::Node(0, NodeDeed::Restart), Ok((0, 0))),
+    (Call::Node(0, NodeAction::Restart), Ok((0, 0))),
     (Call::Issue(1, "a"), Ok((1, 0))),
-    (Call::Node(0, NodeDeed::Restart), Err(Fault::JournalFull)),
+    (Call::Node(0, NodeAction::Restart), Err(Fault::JournalFull)),
     (Call::Deliver(0, 1), Err(Fault::JournalFull)),
     (Call::Issue(1, "a"), Err(Fault::JournalFull)),
     (
@@ -25,11 +25,11 @@ const FULL: &[Step] = &[
 /// What names no node, no message, no client and no slot.
 const NOBODY: &[Step] = &[
     (Call::Deliver(6, 1), Err(Fault::NoActor)),
-    (Call::Node(64, NodeDeed::Restart), Err(Fault::NoActor)),
+    (Call::Node(64, NodeAction::Restart), Err(Fault::NoActor)),
     (Call::Deliver(0, 1), Err(Fault::NoMessage)),
     (Call::Deliver(0, 0), Err(Fault::NoMessage)),
     (Call::Issue(1, "a"), Ok((1, 0))),
-    (Call::Node(0, NodeDeed::Restart), Ok((0, 0))),
+    (Call::Node(0, NodeAction::Restart), Ok((0, 0))),
     (Call::Deliver(0, 2), Err(Fault::NoMessage)),
     (Call::Take(1, 2), Err(Fault::NoMessage)),
     (Call::Cut(0), Err(Fault::NoActor)),
@@ -45,9 +45,9 @@ const NOBODY: &[Step] = &[
 
 /// A number above all members of the first of two groups names no node of the second.
 const BEYOND: &[Step] = &[
-    (Call::Node(64, NodeDeed::Restart), Err(Fault::NoActor)),
+    (Call::Node(64, NodeAction::Restart), Err(Fault::NoActor)),
     (Call::Deliver(64, 1), Err(Fault::NoActor)),
-    (Call::Node(0, NodeDeed::Restart), Ok((0, 0))),
+    (Call::Node(0, NodeAction::Restart), Ok((0, 0))),
 ];
 
 #[test]

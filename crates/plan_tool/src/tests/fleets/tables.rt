@@ -4,7 +4,7 @@ use super::super::texts::{REPLACED, SIX};
 use super::calls::{Call, Step};
 use super::drive::run_table;
 use super::looks::Look;
-use fleet_actors::NodeDeed;
+use fleet_actors::NodeAction;
 use std::test::*;
 use volume_model::Fault;
 use world::AuthorityAct;
@@ -80,14 +80,14 @@ const MADE_WHOLE: &[Step] = &[
     (Call::Deliver(6, 4), Err(Fault::NotWhole)),
     (Call::Deliver(0, 2), Ok((1, 0))),
     (Call::Deliver(6, 5), Ok((0, 0))),
-    (Call::Node(6, NodeDeed::Restart), Ok((0, 0))),
+    (Call::Node(6, NodeAction::Restart), Ok((0, 0))),
     (Call::Deliver(1, 2), Ok((1, 0))),
     (Call::Deliver(2, 2), Ok((1, 0))),
     (Call::Deliver(6, 6), Ok((0, 0))),
     (Call::Deliver(6, 7), Ok((0, 0))),
-    (Call::Node(6, NodeDeed::Hydrate), Err(Fault::NotEnough)),
+    (Call::Node(6, NodeAction::Hydrate), Err(Fault::NotEnough)),
     (Call::Deliver(6, 5), Ok((0, 0))),
-    (Call::Node(6, NodeDeed::Hydrate), Ok((0, 0))),
+    (Call::Node(6, NodeAction::Hydrate), Ok((0, 0))),
     (Call::Deliver(6, 4), Ok((1, 0))),
 ];
 
@@ -111,12 +111,12 @@ const JOINED: [Step; 32] = [
     (Call::Deliver(6, 4), Ok((0, 0))),
     (Call::Deliver(6, 5), Ok((0, 0))),
     (Call::Deliver(6, 6), Ok((0, 0))),
-    (Call::Node(6, NodeDeed::Hydrate), Ok((0, 0))),
+    (Call::Node(6, NodeAction::Hydrate), Ok((0, 0))),
     (Call::Deliver(3, 1), Ok((1, 0))),
     (Call::Deliver(4, 1), Ok((1, 0))),
     (Call::Deliver(5, 1), Ok((1, 0))),
     (Call::Deliver(3, 2), Ok((0, 0))),
-    (Call::Node(3, NodeDeed::Offer { lsn: 1 }), Ok((1, 0))),
+    (Call::Node(3, NodeAction::Offer { lsn: 1 }), Ok((1, 0))),
     (Call::Deliver(0, 10), Ok((1, 0))),
     (Call::Take(1, 7), Ok((0, 0))),
     (Call::Take(1, 8), Ok((0, 0))),

@@ -11,7 +11,7 @@ use super::super::texts::{SIX, checked};
 use super::calls::{Call, Step, first_wrong};
 use super::drive::{Ending, ended};
 use super::looks::Look;
-use fleet_actors::{ClientDeed, NodeDeed};
+use fleet_actors::{ClientAction, NodeAction};
 use node_fleet::{Base, Fleet, FleetSite, Pass, Row, StepGate};
 use plan::CheckedPlan;
 use std::alloc::{AllocError, Global};
@@ -77,9 +77,11 @@ impl<'f, 'a, L: FleetSite> Scene<'f, 'a, L> {
     /// Delivers the first message to a member, has the writer take the answer, and restarts the member.
     fn go_round<R: Wait>(&self, rt: &R, pass: &mut Pass<'a, L>, member: u8) {
         let message = self.deliver(rt, pass, member);
-        let deed = ClientDeed::Take { message };
-        let _ = self.fleet.client_step(rt, pass, 1, &deed);
-        let _ = self.fleet.node_step(rt, pass, 0, member, NodeDeed::Restart);
+        let action = ClientAction::Take { message };
+        let _ = self.fleet.client_step(rt, pass, 1, &action);
+        let _ = self
+            .fleet
+            .node_step(rt, pass, 0, member, NodeAction::Restart);
     }
 }
 

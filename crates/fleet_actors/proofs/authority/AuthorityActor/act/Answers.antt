@@ -9,33 +9,33 @@ use Rattle.fleet_actors.proofs.Exactly.{tried_exact}
 use Rattle.fleet_actors.proofs.Ruling.{authority_here, authority_refuses, ruled_state, slots_spent}
 use Rattle.fleet_actors.proofs.authority.AuthorityActor.act.Goals as goal
 
-pub conclude-requires-clause-exact : goal.conclude-requires-clause-exact
-conclude-requires-clause-exact g c =
+pub commit_or_note-requires-clause-exact : goal.commit_or_note-requires-clause-exact
+commit_or_note-requires-clause-exact g c =
     let self = c.args.self.now in
     let plan = g.L.Site.plan in
     let act = c.args.act in
-    let es = journal_of c.ready.new.log in
+    let es = journal_of c.catch_up_and_reserve.new.log in
     let w = world_at plan es in
     let own = authority_plan self.authority in
     let old = authority_of self.authority in
     let event = event_of c.event.result in
-    let here = authority_here (marked self.mark) (world_at plan (seen_at self.mark)) w old self.who c.in_default.ensures.agree self.state in
+    let here = authority_here (marked self.cursor) (world_at plan (seen_at self.cursor)) w old self.who c.in_default.ensures.agree self.state in
     let same = authority_refuses plan own self.plan w act old event here c.event.ensures in
     let spends = slots_spent w act old event c.args.slots g.L.Site.slots here c.event.ensures c.requires.slots in
-    tried_exact plan g.L.Site.slots (length g.L.Site.cells) es event (IsSpent act old c.args.slots) c.is_full.result (authority_acted own old act) spends c.is_full.ensures same c.tried-done.result c.tried-done.ensures.refused
+    tried_exact plan g.L.Site.slots (length g.L.Site.cells) es event (IsSpent act old c.args.slots) c.is_full.result (authority_acted own old act) spends c.is_full.ensures same c.try_step-done.result c.try_step-done.ensures.refused
 
 pub invariant_of-self-2-clause-who : goal.invariant_of-self-2-clause-who
-invariant_of-self-2-clause-who g c = c.conclude.ensures.mark ∙ c.ready.ensures.mark.0 ∙ c.args.self.now.who
+invariant_of-self-2-clause-who g c = c.commit_or_note.ensures.cursor ∙ c.catch_up_and_reserve.ensures.cursor.0 ∙ c.args.self.now.who
 
 pub invariant_of-self-2-clause-state : goal.invariant_of-self-2-clause-state
 invariant_of-self-2-clause-state g c =
     let self = c.args.self.now in
     let plan = g.L.Site.plan in
     let act = c.args.act in
-    let w = world_at plan (journal_of c.ready.new.log) in
+    let w = world_at plan (journal_of c.catch_up_and_reserve.new.log) in
     let old = authority_of self.authority in
-    let new = authority_of c.tried-done.new.authority in
+    let new = authority_of c.try_step-done.new.authority in
     let event = event_of c.event.result in
-    let here = authority_here (marked self.mark) (world_at plan (seen_at self.mark)) w old self.who c.in_default.ensures.agree self.state in
-    let was = self.state ∙ ap (λ (l : List Entry). (world_at plan l).authority) (sym c.ready.ensures.mark.2) in
-    ruled_state plan (authority_plan self.authority) self.plan w act old new event here c.event.ensures c.tried-done.result c.tried-done.ensures.done c.tried-done.ensures.still (seen_at c.ready.new.mark) (seen_at c.conclude.new.mark) was c.conclude.ensures.seen
+    let here = authority_here (marked self.cursor) (world_at plan (seen_at self.cursor)) w old self.who c.in_default.ensures.agree self.state in
+    let was = self.state ∙ ap (λ (l : List Entry). (world_at plan l).authority) (sym c.catch_up_and_reserve.ensures.cursor.2) in
+    ruled_state plan (authority_plan self.authority) self.plan w act old new event here c.event.ensures c.try_step-done.result c.try_step-done.ensures.done c.try_step-done.ensures.still (seen_at c.catch_up_and_reserve.new.cursor) (seen_at c.commit_or_note.new.cursor) was c.commit_or_note.ensures.seen

@@ -14,29 +14,29 @@ use Rattle.journal.proofs.log.Log.compare.Goals as goal
 pub returns-clause-agree : goal.returns-clause-agree
 returns-clause-agree g c =
     let log = c.args.self.now in
-    let mark = c.args.mark.now in
+    let cursor = c.args.cursor.now in
     let es = shown log.entries.items in
-    let actor = seen_who mark.who in
-    let there : last_in log.lasts actor ≡ Some mark.number = search rules in
-    let old = front_log mark.seen in
+    let actor = seen_who cursor.who in
+    let there : last_in log.lasts actor ≡ Some cursor.number = search rules in
+    let old = front_log cursor.seen in
     let begin : IsPrefix old es = subst (λ (l : List Entry). IsPrefix old l) (sym log.same) c.compare.ensures.begins in
-    (known g.L.Site.plan actor mark.number (entries_of old) (entries_of es) (entries_of es) (sym (ap or_zero there) ∙ log.newest actor) (length-entries old ∙ mark.long) (entries_begin old es begin) (prefix_self (entries_of es))).0
+    (known g.L.Site.plan actor cursor.number (entries_of old) (entries_of es) (entries_of es) (sym (ap or_zero there) ∙ log.newest actor) (length-entries old ∙ cursor.long) (entries_begin old es begin) (prefix_self (entries_of es))).0
 
 pub returns-clause-last : goal.returns-clause-last
 returns-clause-last g c =
     let log = c.args.self.now in
-    let mark = c.args.mark.now in
-    let actor = seen_who mark.who in
-    let there : last_in log.lasts actor ≡ Some mark.number = search rules in
+    let cursor = c.args.cursor.now in
+    let actor = seen_who cursor.who in
+    let there : last_in log.lasts actor ≡ Some cursor.number = search rules in
     (sym (ap or_zero there) ∙ log.newest actor, search rules)
 
 pub returns-clause-seen : goal.returns-clause-seen
 returns-clause-seen g c =
     let log = c.args.self.now in
-    let mark = c.args.mark.now in
+    let cursor = c.args.cursor.now in
     let es = shown log.entries.items in
-    let actor = seen_who mark.who in
-    let there : last_in log.lasts actor ≡ Some mark.number = search rules in
-    let old = front_log mark.seen in
+    let actor = seen_who cursor.who in
+    let there : last_in log.lasts actor ≡ Some cursor.number = search rules in
+    let old = front_log cursor.seen in
     let begin : IsPrefix old es = subst (λ (l : List Entry). IsPrefix old l) (sym log.same) c.compare.ensures.begins in
-    (known g.L.Site.plan actor mark.number (entries_of old) (entries_of es) (entries_of es) (sym (ap or_zero there) ∙ log.newest actor) (length-entries old ∙ mark.long) (entries_begin old es begin) (prefix_self (entries_of es))).1
+    (known g.L.Site.plan actor cursor.number (entries_of old) (entries_of es) (entries_of es) (sym (ap or_zero there) ∙ log.newest actor) (length-entries old ∙ cursor.long) (entries_begin old es begin) (prefix_self (entries_of es))).1

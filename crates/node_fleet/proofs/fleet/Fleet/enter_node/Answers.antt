@@ -7,7 +7,7 @@ pub returns-in-Err-clause-told : goal.returns-in-Err-clause-told
 returns-in-Err-clause-told g c =
     let first = c.args.pass.now in
     let new = c.try_node.new.pass in
-    tells_refused (event_by c.args.group c.args.member c.args.deed) c.in-Err.halt c.refusal_of.result (steps_of first) (steps_of new) (notes_of first) (notes_of new) c.refusal_of.ensures c.in-Err.ensures.told
+    tells_refused (event_by c.args.group c.args.member c.args.action) c.in-Err.halt c.refusal_of.result (steps_of first) (steps_of new) (notes_of first) (notes_of new) c.refusal_of.ensures c.in-Err.ensures.told
 
 pub returns-in-Err-clause-found : goal.returns-in-Err-clause-found
 returns-in-Err-clause-found g c lost = c.in-Err.ensures.found (lost_halt c.in-Err.halt c.refusal_of.result c.refusal_of.ensures lost)

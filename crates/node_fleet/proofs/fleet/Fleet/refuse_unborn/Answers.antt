@@ -6,7 +6,7 @@ use Rattle.wire.specs.Message.{message_of}
 use Rattle.world.specs.Clients.{client_plan, client_volume, seen_client}
 use Rattle.world.specs.Events.{event_of}
 use Rattle.journal.specs.Passes.{journal_of}
-use Rattle.fleet_actors.specs.Deeds.{deed_acted, event_by}
+use Rattle.fleet_actors.specs.Actions.{action_acted, event_by}
 use Rattle.fleet_actors.proofs.Acting.{refuses_alike}
 use Rattle.fleet_actors.proofs.Exactly.{exact_of}
 use Rattle.node_fleet.proofs.fleet.Fleet.refuse_unborn.Goals as goal
@@ -16,7 +16,7 @@ refused-requires-clause-exact g c =
     let plan = g.L.Site.plan in
     let client = c.unborn-client.result in
     let volume = client_volume client in
-    let deed = c.args.deed in
+    let action = c.args.action in
     let found = option_map message_of (option_copied c.args.found) in
     let es = journal_of c.args.log.now in
     let w = world_at plan es in
@@ -24,7 +24,7 @@ refused-requires-clause-exact g c =
     let event = event_of c.event.result in
     let own = c.unborn-client.ensures.own in
     let here : w.clients volume ≡ old = ap w.clients own.volume_is ∙ c.requires.unborn ∙ sym c.unborn-client.ensures.client in
-    let is : event ≡ event_by volume deed = c.event.ensures ∙ ap (λ v. event_by v deed) (sym own.volume_is) in
+    let is : event ≡ event_by volume action = c.event.ensures ∙ ap (λ v. event_by v action) (sym own.volume_is) in
     let of : client_plan client ≡ plan = own.plan_is ∙ ap checked_model c.in-Ok.ensures.cases ∙ c.args.self.now.plan_is in
-    let same = refuses_alike plan (client_plan client) of w volume deed found old old event here is c.requires.found in
-    exact_of plan g.L.Site.slots (length g.L.Site.cells) es event ⊥ c.is_full.result (deed_acted found deed (client_plan client) volume old) (λ h. absurd h) c.is_full.ensures same c.in-Err-tried.fault c.in-Err-tried.ensures.refused
+    let same = refuses_alike plan (client_plan client) of w volume action found old old event here is c.requires.found in
+    exact_of plan g.L.Site.slots (length g.L.Site.cells) es event ⊥ c.is_full.result (action_acted found action (client_plan client) volume old) (λ h. absurd h) c.is_full.ensures same c.in-Err-try_step.fault c.in-Err-try_step.ensures.refused

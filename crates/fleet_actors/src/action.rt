@@ -1,0 +1,111 @@
+//! Actions of a node without a message.
+
+ghost use Rattle.std.specs.Prelude.{◌≡◌, ℕ};
+
+use crate::halt::Halt;
+use crate::node::NodeActor;
+use crate::step::{catch_up_and_reserve, refused};
+use journal::{Log, Pass, Receipt, Site};
+use segment_core::NodeAct;
+use std::alloc::Global;
+use std::sync::Wait;
+use volume_model::Fault;
+use world::Event;
+
+/// An action of a node without a message.
+#[derive(Clone, Copy, PartialEq, Eq, Debug)]
+pub enum NodeAction {
+    /// Becomes whole from the copies that it was sent.
+    Hydrate,
+    /// Restarts.
+    Restart,
+    /// Offers the record with this LSN to its peers.
+    Offer { lsn: u64 },
+}
+
+impl NodeAction {
+    ghost use Rattle.volume_model.specs.Plan.{Plan};
+    ghost use Rattle.volume_model.specs.Node.{Node};
+    ghost use Rattle.segment_core.specs.Acts.{acted};
+    ghost use Rattle.world.specs.Events.{event_of};
+    ghost use Rattle.fleet_actors.specs.Nodes.{done_by, event_by};
+
+    /// Returns the event of this action of a member of a group.
+    pub fn event(self, group: u8, member: u8) -> Event
+        ensures { event_of result ≡ event_by group member self }
+    {
+        match self {
+            NodeAction::Hydrate => Event::Hydrate { group, member },
+            NodeAction::Restart => Event::Restart { group, member },
+            NodeAction::Offer { lsn } => Event::Offer { group, member, lsn },
+        }
+    }
+
+    /// Returns the segment's action.
+    fn act<'a>(self) -> NodeAct<'a>
+        ensures { (plan : Plan) (group member : ℕ) (now : Node) → acted result plan group member now ≡ done_by plan group member now self }
+    {
+        match self {
+            NodeAction::Hydrate => NodeAct::Hydrate,
+            NodeAction::Restart => NodeAct::Restart,
+            NodeAction::Offer { lsn } => NodeAct::Offer { lsn },
+        }
+    }
+}
+
+impl<L: Site> NodeActor<L> {
+    ghost use Rattle.std.specs.Prelude.{◌≢◌, Err, IfErr, OnErr, OnOk, length};
+    ghost use Rattle.volume_model.specs.declared.fault.Fault.TheVariants.{NoMessage};
+    ghost use Rattle.journal.specs.Passes.{journal_of, notes_of, seat_of, steps_of, world_of};
+    ghost use Rattle.fleet_actors.specs.declared.halt.Halt.TheVariants.{StaleCursor, Refused};
+    ghost use Rattle.fleet_actors.specs.Halts.{Enters, Halts, IsExact};
+    ghost use Rattle.fleet_actors.specs.Ready.{IsStale};
+    ghost use Rattle.fleet_actors.specs.Nodes.{actor_group, actor_member, actor_node, event_by};
+
+    /// Performs an action without a message and enters the step. The caller holds the node's lock and the journal's.
+    ///
+    /// # Errors
+    /// The node is unchanged. [`StaleCursor`](Halt::StaleCursor) if the cursor isn't the node's last entry. Else, and
+    /// noted: `NoActor` if the group hasn't joined; the node's own refusal, of [`NodeAction::Hydrate`]
+    /// `AlreadyWhole`, `NotEnough` or `Full`, of [`NodeAction::Offer`] `NotWhole`, `NotInstalled` or `NoRecord`;
+    /// `JournalFull` if no cell is left. `NoMemory`, which isn't noted.
+    pub fn act<'a, R: Wait>(
+        &mut self,
+        rt: &R,
+        alloc: Global,
+        log: &mut Log<'a, L>,
+        pass: &mut Pass<'a, L>,
+        action: NodeAction,
+    ) -> Result<Receipt, Halt>
+        ensures told { Halts (event_by (actor_group self.old) (actor_member self.old) action) result (steps_of pass.old) (steps_of pass.new) (notes_of pass.old) (notes_of pass.new) }
+        ensures exact { IsExact L.plan L.slots (length L.cells) (journal_of log.old) (event_by (actor_group self.old) (actor_member self.old) action) result }
+        ensures entered { Enters (event_by (actor_group self.old) (actor_member self.old) action) (journal_of log.old) (journal_of log.new) result }
+        ensures stale { result ≡ Err StaleCursor → IsStale self.old.cursor log.old }
+        ensures seat { seat_of pass.new ≡ seat_of pass.old }
+        ensures found { IfErr result (λ halt. halt ≢ Refused NoMessage) }
+        ensures same { (actor_group self.new ≡ actor_group self.old) × (actor_member self.new ≡ actor_member self.old) }
+        ensures moved { OnOk result (actor_node self.new ≡ (world_of log.new).nodes (actor_group self.old) (actor_member self.old)) }
+        ensures still { OnErr result (actor_node self.new ≡ actor_node self.old) }
+    {
+        let NodeActor {
+            cursor,
+            segment,
+            group,
+            member,
+        } = self;
+        catch_up_and_reserve(log, pass, cursor)?;
+        let event = action.event(*group, *member);
+        if u64::from(*group) >= log.joined() {
+            return Err(refused(log, pass, event, Fault::NoActor));
+        }
+        let prepared = match segment.prepare_act(alloc, action.act()) {
+            Ok(prepared) => prepared,
+            Err(fault) => return Err(refused(log, pass, event, fault)),
+        };
+        if log.is_full() {
+            return Err(refused(log, pass, event, Fault::JournalFull));
+        }
+        let made = segment.apply(prepared);
+        Ok(log.enter(rt, cursor, pass, event, made, 0))
+    }
+}

@@ -1,0 +1,158 @@
+//! The attempt of a client's action, before it is entered.
+
+ghost use Rattle.std.specs.Prelude.{◌≡◌, false, Ok, Some, IfErr, IfOk, OnErr, OnOk, option_map};
+ghost use Rattle.std.specs.Option.{option_copied};
+ghost use Rattle.volume_model.specs.Answer.{refusal_of, AnswersLate};
+ghost use Rattle.volume_model.specs.World.{take};
+ghost use Rattle.wire.specs.Message.{message_of};
+ghost use Rattle.writer_core.specs.Writers.{answered};
+ghost use Rattle.recovery.specs.Recoveries.{admitted};
+ghost use Rattle.world.specs.Clients.{client_plan, client_volume, seen_client, IsSameClient};
+ghost use Rattle.journal.specs.Standing.{durable_of};
+ghost use Rattle.fleet_actors.specs.Actions.{action_acted, action_durable, action_late, HasFound};
+ghost use Rattle.fleet_actors.specs.Attempts.{JudgedOf};
+
+use crate::client_action::ClientAction;
+use std::alloc::Global;
+use volume_model::Fault;
+use wire::{Message, Messages};
+use world::{Client, ClientAct, ClientState};
+
+/// Judges an action without performing it. Only a cut takes memory to be judged.
+fn admits(
+    alloc: Global,
+    client: &Client,
+    action: &ClientAction,
+    found: Option<&Message>,
+) -> Result<(), Fault>
+    ensures { AnswersLate (action_late action.now) admitted (refusal_of (action_acted (option_map message_of (option_copied found.entry)) action.now (client_plan client.now) (client_volume client.now) (seen_client client.now))) tt result tt }
+{
+    match action {
+        ClientAction::Issue(changes) => client.admits(alloc, ClientAct::Issue(changes.as_slice())),
+        ClientAction::Take { .. } => match found {
+            Some(message) => client.admits(alloc, ClientAct::Take(message)),
+            None => Err(Fault::NoMessage),
+        },
+        ClientAction::Cut => client.admits(alloc, ClientAct::Cut),
+        ClientAction::Open => client.admits_open(),
+        ClientAction::Resend { lsn } => client.admits(alloc, ClientAct::Resend { lsn: *lsn }),
+        ClientAction::Read { group, block } => client.admits(
+            alloc,
+            ClientAct::Read {
+                group: *group,
+                block: *block,
+            },
+        ),
+    }
+}
+
+/// Performs an action and returns the messages that it makes. On error the client is unchanged.
+#[inline(always)]
+fn act(
+    alloc: Global,
+    client: &mut Client,
+    action: &ClientAction,
+    found: Option<&Message>,
+) -> Result<Messages, Fault>
+    ensures answers { AnswersLate (action_late action.now) answered (action_acted (option_map message_of (option_copied found.entry)) action.now (client_plan client.old) (client_volume client.old) (seen_client client.old)) (seen_client client.old) result (seen_client client.new) }
+    ensures same { IsSameClient client.old client.new }
+{
+    match action {
+        ClientAction::Issue(changes) => client.act(alloc, ClientAct::Issue(changes.as_slice())),
+        ClientAction::Take { .. } => match found {
+            Some(message) => client.act(alloc, ClientAct::Take(message)),
+            None => Err(Fault::NoMessage),
+        },
+        ClientAction::Cut => client.act(alloc, ClientAct::Cut),
+        ClientAction::Open => match client.open() {
+            Ok(()) => Ok(Messages::Empty),
+            Err(fault) => Err(fault),
+        },
+        ClientAction::Resend { lsn } => client.act(alloc, ClientAct::Resend { lsn: *lsn }),
+        ClientAction::Read { group, block } => client.act(
+            alloc,
+            ClientAct::Read {
+                group: *group,
+                block: *block,
+            },
+        ),
+    }
+}
+
+/// Attempts an action of a client.
+///
+/// # Errors
+/// The client is unchanged. The model's refusal; then `JournalFull` if `full`; `NoMemory` if there is no memory.
+#[inline(always)]
+pub fn try_step(
+    alloc: Global,
+    client: &mut Client,
+    full: bool,
+    action: &ClientAction,
+    found: Option<&Message>,
+) -> Result<Messages, Fault>
+    requires found { HasFound action.now (option_map message_of (option_copied found)) }
+    ensures done { IfOk result (λ made. action_acted (option_map message_of (option_copied found.entry)) action.now (client_plan client.old) (client_volume client.old) (seen_client client.old) ≡ Ok (answered made (seen_client client.new))) }
+    ensures room { OnOk result (full ≡ false) }
+    ensures refused { IfErr result (λ fault. JudgedOf full (action_acted (option_map message_of (option_copied found.entry)) action.now (client_plan client.old) (client_volume client.old) (seen_client client.old)) fault) }
+    ensures still { OnErr result (seen_client client.new ≡ seen_client client.old) }
+    ensures same { IsSameClient client.old client.new }
+{
+    if full {
+        if let Err(fault) = admits(alloc, client, action, found) {
+            return Err(fault);
+        }
+        return Err(Fault::JournalFull);
+    }
+    act(alloc, client, action, found)
+}
+
+/// Attempts to take a message: otherwise as [`try_step`].
+#[inline(always)]
+pub(crate) fn try_take(
+    alloc: Global,
+    client: &mut Client,
+    is_full: bool,
+    message: &Message,
+) -> Result<Messages, Fault>
+    ensures done { IfOk result (λ made. take (client_plan client.old) (client_volume client.old) (seen_client client.old) (Some (message_of message.now)) ≡ Ok (answered made (seen_client client.new))) }
+    ensures room { OnOk result (is_full ≡ false) }
+    ensures refused { IfErr result (λ fault. JudgedOf is_full (take (client_plan client.old) (client_volume client.old) (seen_client client.old) (Some (message_of message.now))) fault) }
+    ensures still { OnErr result (seen_client client.new ≡ seen_client client.old) }
+    ensures same { IsSameClient client.old client.new }
+{
+    if is_full {
+        if let Err(fault) = client.admits(alloc, ClientAct::Take(message)) {
+            return Err(fault);
+        }
+        return Err(Fault::JournalFull);
+    }
+    client.act(alloc, ClientAct::Take(message))
+}
+
+/// Returns a client's durable point, 0 before its opening.
+#[inline(always)]
+pub(crate) fn durable_point(client: &Client) -> u64
+    ensures { result ≡ durable_of (seen_client client.now) }
+{
+    match client.state() {
+        ClientState::Unborn => 0,
+        ClientState::Recovery(_) => 0,
+        ClientState::Writer(writer) => writer.durable_point(),
+    }
+}
+
+/// Returns the durable point that a step's entry shows: the client's if the action may move it, else 0.
+#[inline(always)]
+pub(crate) fn shown(client: &Client, action: &ClientAction) -> u64
+    ensures { result ≡ action_durable action.now (seen_client client.now) }
+{
+    match action {
+        ClientAction::Take { .. } => durable_point(client),
+        ClientAction::Open => durable_point(client),
+        ClientAction::Issue(_) => 0,
+        ClientAction::Cut => 0,
+        ClientAction::Resend { .. } => 0,
+        ClientAction::Read { .. } => 0,
+    }
+}
