@@ -1,5 +1,7 @@
 pub mod Plain
 pub mod Answers
+pub mod Lengths
+pub mod Kept
 pub mod Places
 pub mod Views
 pub mod Deque
@@ -7,4 +9,3 @@ pub mod Sights
 pub mod Dealing
 pub mod Hands
 pub mod Settled
-pub mod Smaller

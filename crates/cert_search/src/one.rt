@@ -22,6 +22,15 @@ use volume_model::Fault;
 /// The budget from which on plain claims are found: their trees have at most so many nodes.
 const PLAIN_NODES: u64 = 100;
 
+/// How many nodes the searches of all claims may try together.
+const ALL_NODES: u64 = 1_200_000;
+
+/// How many nodes the search of each of so many claims may try, with this budget for each.
+fn share(budget: u64, claims: usize) -> u64 {
+    let claims = (claims as u64).max(1);
+    budget.min(ALL_NODES / claims)
+}
+
 /// A certificate, where it refutes the claim.
 fn judged<A: Allocator>(
     alloc: Global,
@@ -110,7 +119,8 @@ fn unplain<A: Allocator, B: Allocator + Clone>(
     }
 }
 
-/// The certificate of a claim, or none where the search gave up, as [`search_one`] gives it, by a search whose tables lie in an arena.
+/// The certificate of one of so many claims, or none where the search gave up, by a search whose tables lie in an arena. Its share of all nodes
+/// bounds how many it tries, where the budget doesn't.
 ///
 /// # Errors
 /// [`NoMemory`](Fault::NoMemory).
@@ -119,6 +129,7 @@ pub fn search_in<A: Allocator, B: Allocator + Clone>(
     arena: &B,
     claim: &Claim<A>,
     budget: u64,
+    claims: usize,
 ) -> Result<Option<Certificate<Global>>, Fault>
     ensures answer { IfOk result (λ answer. IsAnswer budget (first_state claim.now) (rule_in answer)) }
     ensures memory { IfErr result (λ e. e ≡ NoMemory) }
@@ -128,13 +139,27 @@ pub fn search_in<A: Allocator, B: Allocator + Clone>(
             return Ok(Some(certificate));
         }
     }
-    if let Some(certificate) = unplain(alloc, arena, claim, budget)? {
+    if let Some(certificate) = unplain(alloc, arena, claim, share(budget, claims))? {
         return Ok(Some(certificate));
     }
     if PLAIN_NODES <= budget {
         return plain(alloc, claim);
     }
     Ok(None)
+}
+
+/// The same in an arena of its own.
+pub fn search_shared<A: Allocator>(
+    alloc: Global,
+    claim: &Claim<A>,
+    budget: u64,
+    claims: usize,
+) -> Result<Option<Certificate<Global>>, Fault>
+    ensures answer { IfOk result (λ answer. IsAnswer budget (first_state claim.now) (rule_in answer)) }
+    ensures memory { IfErr result (λ e. e ≡ NoMemory) }
+{
+    let arena = Bump::new(alloc);
+    search_in(alloc, &&arena, claim, budget, claims)
 }
 
 /// A certificate that refutes a claim, or none where the search gave up: the budget bounds how many nodes it tries. A claim that
@@ -150,6 +175,5 @@ pub fn search_one(
     ensures answer { IfOk result (λ answer. IsAnswer budget (first_state claim.now) (rule_in answer)) }
     ensures memory { IfErr result (λ e. e ≡ NoMemory) }
 {
-    let arena = Bump::new(alloc);
-    search_in(alloc, &&arena, claim, budget)
+    search_shared(alloc, claim, budget, 1)
 }

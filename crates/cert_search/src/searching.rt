@@ -15,7 +15,7 @@ use crate::dealing::deal;
 use crate::filling::{Answer, empty_places, fill_all, take_out};
 use crate::gate::Gate;
 use crate::hand::Hand;
-use crate::one::search_one;
+use crate::one::search_shared;
 use crate::settling::settle;
 use crate::working::{Found, Worked, work};
 use crate::worth::worth;
@@ -43,7 +43,7 @@ fn answer(
 {
     match take_out(places, at) {
         Some(answer) => Ok(answer),
-        None => search_one(alloc, &claims[at].claim_in(alloc)?, budget),
+        None => search_shared(alloc, &claims[at].claim_in(alloc)?, budget, claims.len()),
     }
 }
 
@@ -139,7 +139,7 @@ fn searched<R: Threads + Wait + Sync, G: Gate + Sync>(
 }
 
 /// A place for each claim of a plan, in the order of [`claims`](plan::claims()): a certificate that refutes the claim, or
-/// none where the search gave up. The budget bounds how many nodes are tried for a claim.
+/// none where the search gave up. The budget bounds how many nodes are tried for a claim, and so does its share of the nodes of all.
 ///
 /// # Errors
 /// The kind of the first [`BadParent`](plan::PlanFault::BadParent) or [`MemberReused`](plan::PlanFault::MemberReused), which is

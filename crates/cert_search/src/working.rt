@@ -37,17 +37,18 @@ fn emptied(alloc: Global, mut arena: Bump) -> Bump {
     }
 }
 
-/// The answer to a claim, whose expressions, items and trees are made in an arena.
+/// The answer to one of so many claims, whose expressions, items and trees are made in an arena.
 fn answer_in(
     alloc: Global,
     arena: &Bump,
     lent: &LentClaim<'_>,
     budget: u64,
+    claims: usize,
 ) -> Result<Option<Certificate<Global>>, Fault>
     ensures { IfOk result (λ answer. IsAnswer budget (lent_state lent.now) (rule_in answer)) }
 {
     let claim = lent.claim_in(arena)?;
-    search_in(alloc, &arena, &claim, budget)
+    search_in(alloc, &arena, &claim, budget, claims)
 }
 
 /// What is found of the claim with a number, where there is memory for it.
@@ -61,7 +62,7 @@ fn found_of(
     ensures { IfSome result (IsFound budget (all_lent claims.now)) }
 {
     let lent = claims.get(claim)?;
-    let answer = answer_in(alloc, arena, lent, budget).ok()?;
+    let answer = answer_in(alloc, arena, lent, budget, claims.len()).ok()?;
     Some(Found { claim, answer })
 }
 

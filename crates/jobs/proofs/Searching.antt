@@ -1,5 +1,5 @@
 -- What a search says of what was found.
-use Rattle.std.proofs.Common.{◌≡◌, ◌∙◌, ap, sym, refl, ℕ, ◌+◌, ◌<◌, Bool, true, false, List, [], ◌∷◌, ◌++◌, Option, Some, None, Result, Ok, Err, option_map, is_none, if◌then◌else◌, length, drop, get_or, map, add-one, drop-cons, arith}
+use Rattle.std.proofs.Common.{◌≡◌, ◌∙◌, ap, sym, refl, ℕ, zero, suc, ◌+◌, ◌<◌, Bool, true, false, List, [], ◌∷◌, ◌++◌, Option, Some, None, Result, Ok, Err, option_map, is_none, if◌then◌else◌, length, drop, get_or, map, replicate, add-one, drop-cons, arith}
 use mir.Val.{bool_byte}
 use Rattle.std.specs.Prelude.{IsOkAnd}
 use Rattle.std.specs.List.{list_any}
@@ -13,7 +13,7 @@ use Rattle.plan.specs.LentClaims.{all_lent, lent_placed}
 use Rattle.plan.specs.PlanClaims.{PlacedClaim}
 use Rattle.plan_tokens.specs.WrittenPlans.{HasClaims}
 use Rattle.cert_search.specs.Answers.{rule_in}
-use Rattle.cert_search.specs.Smaller.{AreNoLarger}
+use Rattle.cert_search.specs.Kept.{AreKept}
 use Rattle.jobs.specs.Searched.{TellsSearch}
 use Rattle.jobs.specs.Unfound.{found_status, unfound_line, unfound_lines}
 
@@ -48,9 +48,9 @@ no_one false e = refl
 pub no_gap : (rules : List (Option Rule)) → found_status rules ≡ 0 → list_any (λ rule. is_none rule) rules ≡ false
 no_gap rules e = no_one (list_any (λ rule. is_none rule) rules) e
 
--- a text has a place for each of its claims, whatever smaller ones stand there
-pub still_claims : (text : List ℕ) (olds news : List (Option (Certificate Global))) → HasClaims text (length olds) → AreNoLarger (map rule_in olds) (map rule_in news) → HasClaims text (length news)
-still_claims text olds news has are = record {
+-- a text has a place for each of its claims, whichever are kept
+pub still_claims : (text : List ℕ) (room : ℕ) (olds news : List (Option (Certificate Global))) → HasClaims text (length olds) → AreKept room (map rule_in olds) (map rule_in news) → HasClaims text (length news)
+still_claims text room olds news has are = record {
   plan = has.plan;
   is = has.is;
   claims = has.claims;
@@ -95,3 +95,8 @@ all_found (c ∷ cs) (Some r ∷ rules) h = all_found cs rules h
 -- with the status 0 there is no line
 pub is_quiet : (plan : List ℕ) (status : ℕ) (text notes : List ℕ) → TellsSearch plan status text notes → status ≡ 0 → notes ≡ []
 is_quiet plan status text notes told zero = told.notes_are ∙ all_found told.claims told.rules (no_gap told.rules (sym told.status_is ∙ zero))
+
+-- places without a certificate have no rule
+pub none_ruled : (places : ℕ) → map rule_in (replicate places None) ≡ replicate places None
+none_ruled zero = refl
+none_ruled (suc n) = ap (λ rules. None ∷ rules) (none_ruled n)

@@ -1,5 +1,5 @@
 -- What a search prints of the bytes of its file.
-use Rattle.std.specs.Prelude.{◌≡◌, ◌⊎◌, ℕ, List, ◌++◌, Option, None, Result, Ok, Err, codes, string_bytes}
+use Rattle.std.specs.Prelude.{◌≡◌, ◌⊎◌, ℕ, ◌-◌, ◌<◌, ◌≤◌, List, ◌++◌, length, replicate, Option, None, Result, Ok, Err, codes, string_bytes}
 use Rattle.refutation.specs.Rule.{Rule}
 use Rattle.plan.specs.declared.fault.PlanFault.{PlanFault}
 use Rattle.plan.specs.PlanData.{PlanData}
@@ -7,8 +7,9 @@ use Rattle.plan.specs.PlanFaults.{plan_fault}
 use Rattle.plan.specs.PlanText.{◌>=>◌, plan_of}
 use Rattle.plan.specs.PlanClaims.{PlacedClaim, claims_in}
 use Rattle.plan.specs.WithCertificates.{with_certificates}
-use Rattle.plan.specs.Written.{IsCompact, spelt}
+use Rattle.plan.specs.Written.{IsCompact, rewritten, spelt}
 use Rattle.cert_search.specs.Answers.{AreAnswers}
+use Rattle.cert_search.specs.Kept.{AreKept}
 use Rattle.jobs.specs.Answer.{Answer, fault_answer}
 use Rattle.jobs.specs.Stops.{stop_answer}
 use Rattle.jobs.specs.Unfound.{found_status, unfound_lines}
@@ -26,16 +27,33 @@ pub record IsPlanLine (plan : PlanData) (line : List ℕ) : Type 0 where
   pub compact : IsCompact text
   pub line_is : line ≡ text ++ codes "\n"
 
+-- a line of compact JSON that spells the plan of a text with these certificates
+abbrev pub IsLineWith : List ℕ → List (Option Rule) → List ℕ → Type 0
+IsLineWith text rules line = (plan : PlanData) × (rewritten text rules ≡ Ok plan) × IsPlanLine plan line
+
+-- the room for certificates that the line of a text's plan without any leaves in 16,777,216 bytes
+abbrev pub IsRoom : List ℕ → ℕ → ℕ → Type 0
+IsRoom text places room = (line : List ℕ) × IsLineWith text (replicate places None) line × (room ≡ 16777216 - length line)
+
+-- All certificates stay where the line of a text's plan with them has at most 16,777,216 bytes; else the shortest do, as many as the line without any has
+-- room for.
+abbrev pub AreFitted : List ℕ → List (Option Rule) → List (Option Rule) → Type 0
+AreFitted text found kept =
+    ((line : List ℕ) × IsLineWith text found line × (length line ≤ 16777216) × (kept ≡ found))
+    ⊎ ((line : List ℕ) × (room : ℕ) × IsLineWith text found line × (16777216 < length line) × IsRoom text (length found) room × AreKept room found kept)
+
 -- The plan's text spells a plan that has claims, and what is printed is a line that spells this plan with what was found for its
--- claims with a budget of 100,000, and a line for each of them for which nothing was. The status is 0 exactly where there is no such line, and then that
+-- claims with a budget of 100,000 and fits, and a line for each of them for which nothing was or doesn't fit. The status is 0 exactly where there is no such line, and then that
 -- plan has no fault.
 pub record TellsSearch (plan : List ℕ) (status : ℕ) (text notes : List ℕ) : Type 0 where
   pub data_of : PlanData
   pub spelled : plan_of plan ≡ Ok data_of
   pub claims : List PlacedClaim
   pub listed : claims_in data_of ≡ Ok claims
+  pub found : List (Option Rule)
+  pub answers : AreAnswers 100000 claims found
   pub rules : List (Option Rule)
-  pub found : AreAnswers 100000 claims rules
+  pub fitted : AreFitted plan found rules
   pub line : IsPlanLine (with_certificates data_of rules) text
   pub notes_are : notes ≡ unfound_lines claims rules
   pub status_is : status ≡ found_status rules

@@ -1,18 +1,16 @@
 //! The search for the certificates of a plan's claims.
 
-ghost use Rattle.std.specs.Prelude.{◌≡◌, ◌<◌, ◌≤◌, ◌++◌, Err, IfErr, IfOk, Ok, OnOk, is_none, length, map, option_map, string_bytes};
+ghost use Rattle.std.specs.Prelude.{◌≡◌, ◌<◌, ◌≤◌, ◌++◌, Err, IfErr, IfOk, None, Ok, OnOk, is_none, length, map, option_map, replicate, string_bytes};
 ghost use Rattle.std.specs.List.{list_any};
 ghost use Rattle.refutation.specs.Certificate.{certificate_rule};
 ghost use Rattle.plan.specs.LentClaims.{all_lent, lent_placed};
 ghost use Rattle.plan.specs.Plan.{plan_data};
 ghost use Rattle.plan.specs.PlanClaims.{claims_in};
-ghost use Rattle.plan.specs.PlanData.{PlanData};
 ghost use Rattle.plan.specs.PlanText.{plan_of};
-ghost use Rattle.plan.specs.Written.{rewritten};
 ghost use Rattle.plan_tokens.specs.WrittenPlans.{HasClaims};
-ghost use Rattle.cert_search.specs.Answers.{rule_in, AreAnswers, AreAnswersOf};
+ghost use Rattle.cert_search.specs.Answers.{rule_in, AreAnswersOf};
 ghost use Rattle.jobs.specs.Answers.{AnswersOf, file_of};
-ghost use Rattle.jobs.specs.Searched.{IsPlanLine, SearchesTo, TellsSearch, claims_of, found_answer};
+ghost use Rattle.jobs.specs.Searched.{AreFitted, IsLineWith, IsRoom, SearchesTo, TellsSearch, claims_of, found_answer};
 ghost use Rattle.jobs.specs.Stops.{StopsBy};
 ghost use Rattle.jobs.specs.Streams.{FailsByRead};
 ghost use Rattle.jobs.specs.Unfound.{claim_line, unfound_line, unfound_lines};
@@ -23,7 +21,7 @@ use crate::files::Source;
 use crate::inputs::{contents, spelled_plan_in};
 use crate::leaving::leave;
 use crate::reply::{Found, Stop};
-use cert_search::{Gate, make_smaller, search_all};
+use cert_search::{Gate, PLAN_BYTES, keep_shortest, search_all};
 use command_line::Job;
 use plan::{LentClaim, Plan, claim_name, lent_claims, shown_claims_certify};
 use plan_tokens::{Spelling, write_plan};
@@ -34,9 +32,6 @@ use std::thread::Threads;
 
 /// The budget of a claim: the most nodes that are tried.
 const BUDGET: u64 = 100_000;
-
-/// The most bytes of a plan's text.
-const PLAN_BYTES: usize = 16_777_216;
 
 /// A gate that does nothing.
 struct NoGate;
@@ -85,7 +80,7 @@ fn plan_line(
 ) -> Result<Vec<u8>, Stop<'static>>
     requires plan { plan_of text.now ≡ Ok (plan_data plan.now) }
     requires claims { HasClaims text.now (length certificates.now) }
-    ensures line { IfOk result (λ line. (plan : PlanData) × (rewritten text.now (map (option_map certificate_rule) certificates.now) ≡ Ok plan) × IsPlanLine plan line.items) }
+    ensures line { IfOk result (λ line. IsLineWith text.now (map rule_in certificates.now) line.items) }
     ensures stop { IfErr result (λ stop. stop ≡ NoMemory) }
 {
     match write_plan(alloc, text, plan, spelling, certificates) {
@@ -97,29 +92,57 @@ fn plan_line(
     }
 }
 
-/// Writes a text's plan with these certificates as a line, or with smaller ones if the line would be too long.
+/// Makes `places` places without a certificate.
+fn nothing(alloc: Global, places: usize) -> Result<Vec<Option<Certificate<Global>>>, AllocError>
+    ensures { IfOk result (λ v. v.items ≡ replicate places None) }
+{
+    let mut certificates = Vec::with_capacity(alloc, places)?;
+    for _ in 0..places {
+        certificates.push(None)?;
+    }
+    Ok(certificates)
+}
+
+/// Returns the bytes that the line of a text's plan without certificates leaves for them.
+fn room_beside(
+    alloc: Global,
+    text: &[u8],
+    plan: &Plan,
+    spelling: &Option<Spelling>,
+    places: usize,
+) -> Result<u32, Stop<'static>>
+    requires plan { plan_of text.now ≡ Ok (plan_data plan.now) }
+    requires claims { HasClaims text.now places }
+    ensures room { IfOk result (IsRoom text.now places) }
+    ensures stop { IfErr result (λ stop. stop ≡ NoMemory) }
+{
+    let certificates = nothing(alloc, places)?;
+    let line = plan_line(alloc, text, plan, spelling, &certificates)?;
+    Ok((PLAN_BYTES as usize).saturating_sub(line.len()) as u32)
+}
+
+/// Writes a text's plan with these certificates as a line, or with the shortest of them if the line would be too
+/// long.
 fn fitting_line(
     alloc: Global,
     text: &[u8],
     plan: &Plan,
     spelling: &Option<Spelling>,
-    claims: &[LentClaim<'_>],
     certificates: &mut Vec<Option<Certificate<Global>>>,
 ) -> Result<Vec<u8>, Stop<'static>>
     requires plan { plan_of text.now ≡ Ok (plan_data plan.now) }
     requires claims { HasClaims text.now (length certificates.old.items) }
-    requires answers { AreAnswers 100000 (all_lent claims.now) (map rule_in certificates.old.items) }
-    ensures line { IfOk result (λ line. (plan : PlanData) × (rewritten text.now (map rule_in certificates.new.items) ≡ Ok plan) × IsPlanLine plan line.items) }
-    ensures answers { AreAnswers 100000 (all_lent claims.now) (map rule_in certificates.new.items) }
+    ensures line { IfOk result (λ line. IsLineWith text.now (map rule_in certificates.new.items) line.items) }
+    ensures fitted { IfOk result (λ _. AreFitted text.now (map rule_in certificates.old.items) (map rule_in certificates.new.items)) }
     ensures stop { IfErr result (λ stop. stop ≡ NoMemory) }
 {
     let line = plan_line(alloc, text, plan, spelling, certificates)?;
-    if line.len() <= PLAN_BYTES {
+    if line.len() <= PLAN_BYTES as usize {
         return Ok(line);
     }
-    let excess = line.len() - PLAN_BYTES;
     drop(line);
-    match make_smaller(alloc, claims, BUDGET, excess, certificates) {
+    let room = room_beside(alloc, text, plan, spelling, certificates.len())?;
+    match keep_shortest(alloc, certificates, room) {
         Ok(()) => plan_line(alloc, text, plan, spelling, certificates),
         Err(_) => Err(Stop::NoMemory),
     }
@@ -194,7 +217,7 @@ fn searched<H: Threads + Wait + Sync>(
     let (plan, spelling) = spelled_plan_in(alloc, text)?;
     let claims = claims_of(alloc, &plan)?;
     let mut certificates = answers(rt, alloc, &plan, workers)?;
-    let line = fitting_line(alloc, text, &plan, &spelling, &claims, &mut certificates)?;
+    let line = fitting_line(alloc, text, &plan, &spelling, &mut certificates)?;
     let unfound = unfound(alloc, &claims, &certificates)?;
     let status = u8::from(has_gap(&certificates));
     leave(certificates);

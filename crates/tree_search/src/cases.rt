@@ -1,14 +1,11 @@
 //! The search by cases: each member that matters on both sides is absent from the one or from the other.
 
 use crate::leaves::dead_on;
-use crate::rules::Search;
+use crate::spending::Search;
 use crate::state::State;
 use quorum_expr::MEMBERS;
 use refutation::{Refutation, Side};
 use std::alloc::{AllocError, Allocator};
-
-/// How many states the cases of members may try, times the number of subexpressions that each of them looks at.
-pub const CASE_WORK: u64 = 100_000_000;
 
 /// What refutes a state by the cases of these members, where it is found in trees of so many levels. Only the side that lost a member
 /// last is looked at for an item that can't hold.
@@ -19,7 +16,7 @@ pub fn split<A: Allocator, B: Allocator + Clone>(
     members: &[u8],
     levels: u8,
 ) -> Result<Option<Refutation<B>>, AllocError> {
-    if levels == 0 || !search.spend() {
+    if levels == 0 || !search.spend_state() {
         return Ok(None);
     }
     if let Some(tree) = dead_on(state, lost) {

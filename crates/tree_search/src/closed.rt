@@ -3,7 +3,7 @@
 use crate::closing::{Closing, Way, equal_members};
 use crate::equals::equal_match;
 use crate::parts::{Form, Part};
-use crate::rules::Search;
+use crate::spending::Search;
 use refutation::{Refutation, Side};
 use std::alloc::{AllocError, Allocator};
 
@@ -16,7 +16,7 @@ pub fn closed<B: Allocator + Clone, C: Allocator>(
     other: &Part,
     levels: u8,
 ) -> Result<Option<Refutation<B>>, AllocError> {
-    if levels == 0 || !search.spend() {
+    if levels == 0 || !search.spend(1, closing.steps(one, other)) {
         return Ok(None);
     }
     match closing.way(one, other) {
@@ -26,6 +26,39 @@ pub fn closed<B: Allocator + Clone, C: Allocator>(
         Some(Way::Match) => matched(search, closing, one, other, levels - 1),
         Some(Way::Pick(side)) => picked(search, closing, side, one, other, levels - 1),
     }
+}
+
+/// Both sides, with a child in the place of the one.
+fn pair<'p>(side: Side, both: (&'p Part, &'p Part), child: &'p Part) -> (&'p Part, &'p Part) {
+    match side {
+        Side::Left => (child, both.1),
+        Side::Right => (both.0, child),
+    }
+}
+
+/// A bit for each of the first of these children of a side that close with the other side, of so much weight together.
+fn chosen<C: Allocator>(
+    closing: &Closing<C>,
+    side: Side,
+    both: (&Part, &Part),
+    children: &[Part],
+    needed: usize,
+) -> u64 {
+    let mut chosen = 0u64;
+    let mut bit = 1u64;
+    let mut missing = needed;
+    for child in children {
+        if missing == 0 {
+            break;
+        }
+        let (left, right) = pair(side, both, child);
+        if closing.closes(left, right) {
+            chosen |= bit;
+            missing = missing.saturating_sub(usize::from(child.weight));
+        }
+        bit = bit.wrapping_add(bit);
+    }
+    chosen
 }
 
 /// The pick of those children of a side's only item that close with that of the other side, of as much weight as is needed.
@@ -43,26 +76,21 @@ fn picked<B: Allocator + Clone, C: Allocator>(
         (Side::Right, _, Form::KOf(others)) => (others, closing.rights(others)),
         _ => return Ok(None),
     };
-    let most = choice.len().min(choice.needed());
-    let mut children = Vec::with_capacity(search.arena.clone()?, most)?;
-    let mut then = Vec::with_capacity(search.arena.clone()?, most)?;
-    let mut missing = choice.needed();
+    let chosen = chosen(closing, side, (one, other), candidates, choice.needed());
+    let count = chosen.count_ones() as usize;
+    let mut children = Vec::with_capacity(search.arena.clone()?, count)?;
+    let mut then = Vec::with_capacity(search.arena.clone()?, count)?;
+    let mut bit = 1u64;
     for (number, child) in (0..64u8).zip(candidates) {
-        if missing == 0 {
-            break;
-        }
-        let (left, right) = match side {
-            Side::Left => (child, other),
-            Side::Right => (one, child),
-        };
-        if closing.closes(left, right) {
+        if chosen & bit != 0 {
+            let (left, right) = pair(side, (one, other), child);
             let Some(tree) = closed(search, closing, left, right, levels)? else {
                 return Ok(None);
             };
             children.push(number)?;
             then.push(tree)?;
-            missing = missing.saturating_sub(usize::from(child.weight));
         }
+        bit = bit.wrapping_add(bit);
     }
     Ok(Some(Refutation::Pick {
         side,
@@ -85,7 +113,7 @@ fn matched<B: Allocator + Clone, C: Allocator>(
         return Ok(None);
     };
     if let Some(count) = equal_members(one, of, other, others) {
-        if levels == 0 || !search.spend_all(count as u64) {
+        if levels == 0 || !search.spend(count as u64, count as u64) {
             return Ok(None);
         }
         let (lefts, rights) = (closing.lefts(of), closing.rights(others));

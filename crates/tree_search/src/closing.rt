@@ -2,11 +2,15 @@
 //! choices have enough pairs of children that close, or a choice has enough children that close with the other.
 
 use crate::grid::Grid;
-use crate::matching::Mates;
+use crate::matching::{Mates, steps_of};
 use crate::order::ordered;
 use crate::parts::{Choice, Form, Part, Parts};
+use crate::spending::Search;
 use refutation::Side;
 use std::alloc::{AllocError, Allocator};
+
+/// How many steps it takes to see how a pair is closed that has a member, or thresholds over members alone.
+const FLAT_STEPS: u64 = 4;
 
 /// How a pair is closed.
 #[derive(Clone, Copy)]
@@ -70,18 +74,30 @@ impl<B: Allocator> Closing<B> {
         self.rights.at(at)
     }
 
-    /// Goes through all pairs of choices, those of children before those of their parents.
-    pub fn new(arena: B, lefts: Parts<B>, rights: Parts<B>) -> Result<Closing<B>, AllocError> {
-        let grid = Grid::new(arena, lefts.choices.len(), rights.choices.len())?;
+    /// Goes through all pairs of choices, those of children before those of their parents, as far as the search may. None where it may not even
+    /// make room for them.
+    pub fn new(
+        search: &mut Search<B>,
+        lefts: Parts<B>,
+        rights: Parts<B>,
+    ) -> Result<Option<Closing<B>>, AllocError>
+    where
+        B: Clone,
+    {
+        let (rows, columns) = (lefts.choices.len(), rights.choices.len());
+        if !search.step(Grid::<B>::words(rows, columns) as u64) {
+            return Ok(None);
+        }
+        let grid = Grid::new(search.arena.clone()?, rows, columns)?;
         let mut closing = Closing {
             lefts,
             rights,
             grid,
         };
-        for row in (0..closing.lefts.choices.len()).rev() {
-            closing.close_row(row);
+        for row in (0..rows).rev() {
+            closing.close_row(search, row);
         }
-        Ok(closing)
+        Ok(Some(closing))
     }
 
     /// The members that matter on both sides, in the order in which their cases are tried.
@@ -98,19 +114,32 @@ impl<B: Allocator> Closing<B> {
     }
 
     /// Goes through the pairs of a left choice. Nobody asks for the pair of the two whole expressions, which are no children.
-    fn close_row(&mut self, row: usize) {
+    fn close_row(&mut self, search: &mut Search<B>, row: usize) {
         for column in (0..self.rights.choices.len()).rev() {
-            if (row, column) != (0, 0) && self.choices_close(row, column) {
+            if (row, column) != (0, 0) && self.choices_close(search, row, column) {
                 self.grid.put(row, column);
             }
         }
     }
 
-    /// Whether a pair of choices closes, where the pairs of children are known.
-    fn choices_close(&self, row: usize, column: usize) -> bool {
+    /// Whether a pair of choices closes, where the pairs of children are known and the search may look at these.
+    fn choices_close(&self, search: &mut Search<B>, row: usize, column: usize) -> bool {
         match (self.lefts.choice(row), self.rights.choice(column)) {
-            (Some(one), Some(other)) => self.way(one, other).is_some(),
+            (Some(one), Some(other)) => {
+                search.step(self.steps(one, other)) && self.way(one, other).is_some()
+            }
             _ => false,
+        }
+    }
+
+    /// How many steps it takes at most to see how a pair is closed.
+    pub fn steps(&self, one: &Part, other: &Part) -> u64 {
+        match (&one.form, &other.form) {
+            (Form::KOf(of), Form::KOf(others)) if !of.is_flat || !others.is_flat => {
+                let is_of_ones = of.is_of_ones() && others.is_of_ones();
+                steps_of(of.len(), others.len(), is_of_ones).saturating_add(FLAT_STEPS)
+            }
+            _ => FLAT_STEPS,
         }
     }
 

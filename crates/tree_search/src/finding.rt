@@ -1,16 +1,23 @@
 //! The search for the first tree that refutes a claim.
 
-use crate::cases::{CASE_WORK, split};
+use crate::cases::split;
 use crate::closed::closed;
 use crate::closing::Closing;
 use crate::leaves::has_counterexample;
 use crate::parts::parts_of;
-use crate::rules::{ITEM_WORK, Search, refute};
+use crate::rules::refute;
+use crate::spending::Search;
 use crate::state::State;
 use quorum_checker::Claim;
 use quorum_expr::MemberSet;
 use refutation::{MAX_DEPTH, MAX_NODES, Refutation, Side};
 use std::alloc::{AllocError, Allocator, Global};
+
+/// How many steps a search may take for each node that it may try.
+const NODE_STEPS: u64 = 2_000;
+
+/// How many times the rules that look at items look at each subexpression of a state: once with and once without each member, on either side.
+const ITEM_LOOKS: u64 = 128;
 
 /// A tree that was found, and where it lies.
 #[derive(Drop)]
@@ -21,18 +28,22 @@ pub enum Tree<B: Allocator> {
     InArena(Refutation<B>),
 }
 
-/// The pairs of subexpressions of a claim that close.
+/// The pairs of subexpressions of a claim that close. They take half of the steps at most.
 fn closing_of<A: Allocator, B: Allocator + Clone>(
-    arena: &B,
+    search: &mut Search<B>,
     claim: &Claim<A>,
 ) -> Result<Option<Closing<B>>, AllocError> {
-    let Some(lefts) = parts_of(arena, &claim.left, claim.clear)? else {
+    let rest = search.steps / 2;
+    search.steps -= rest;
+    let Some(lefts) = parts_of(search, &claim.left, claim.clear)? else {
         return Ok(None);
     };
-    let Some(rights) = parts_of(arena, &claim.right, MemberSet::empty())? else {
+    let Some(rights) = parts_of(search, &claim.right, MemberSet::empty())? else {
         return Ok(None);
     };
-    Ok(Some(Closing::new(arena.clone()?, lefts, rights)?))
+    let closing = Closing::new(search, lefts, rights)?;
+    search.steps = search.steps.saturating_add(rest);
+    Ok(closing)
 }
 
 /// What refutes a claim whose two expressions close by themselves.
@@ -46,33 +57,40 @@ fn whole<B: Allocator>(
     }
 }
 
-/// What refutes a claim that isn't closed by pairs: by the rules that look at items, then by the cases of members. Half of the budget
-/// is for either, and less of it where the expressions are large.
+/// What refutes a claim that isn't closed by pairs: by the rules that look at items, then by the cases of members. Half of the nodes
+/// and of the steps are for the first, and what is left of all for the second.
 fn searched<A: Allocator, B: Allocator + Clone>(
     search: &mut Search<B>,
     claim: &Claim<A>,
     closing: &Closing<B>,
-    budget: u64,
 ) -> Result<Option<Refutation<B>>, AllocError> {
-    let size = (closing.size() as u64).max(1);
+    let size = closing.size() as u64;
     let lefts = [&claim.left];
     let rights = [&claim.right];
     let state = State::new(&lefts, &rights, (claim.clear, MemberSet::empty()));
-    search.budget = (budget / 2).min(ITEM_WORK / size);
+    let (nodes, steps) = (search.nodes / 2, search.steps / 2);
+    search.nodes -= nodes;
+    search.steps -= steps;
+    search.state_steps = size.saturating_mul(ITEM_LOOKS);
     if let Some(tree) = refute(search, &state, MAX_DEPTH)? {
         return Ok(Some(tree));
     }
-    if has_counterexample(&state) {
+    search.nodes = search.nodes.saturating_add(nodes);
+    search.steps = search.steps.saturating_add(steps);
+    if search.step(search.state_steps) && has_counterexample(&state) {
         return Ok(None);
     }
-    search.budget = (budget / 2).min(CASE_WORK / size);
+    search.state_steps = size;
+    if !search.step(size) {
+        return Ok(None);
+    }
     let members = closing.members(&search.arena)?;
     split(search, &state, Side::Left, members.as_slice(), MAX_DEPTH)
 }
 
 /// A tree that is to refute a claim, or none where the search gave up: first by the pairs of its subexpressions that close, each by
-/// itself, then by the rules that look at items and by the cases of members. The budget bounds how many nodes are tried. Tables and items
-/// lie in the arena, and so does a tree that isn't read off the pairs.
+/// itself, then by the rules that look at items and by the cases of members. The budget bounds how many nodes are tried, and with them the steps, and so
+/// the time and the memory of all of it. Tables and items lie in the arena, and so does a tree that isn't read off the pairs.
 ///
 /// # Errors
 /// [`AllocError`] where memory runs out.
@@ -82,21 +100,26 @@ pub fn find_tree<A: Allocator, B: Allocator + Clone>(
     claim: &Claim<A>,
     budget: u64,
 ) -> Result<Option<Tree<B>>, AllocError> {
-    let Some(closing) = closing_of(arena, claim)? else {
+    let mut search = Search {
+        arena: arena.clone()?,
+        nodes: budget,
+        steps: budget.saturating_mul(NODE_STEPS),
+        state_steps: 0,
+    };
+    let Some(closing) = closing_of(&mut search, claim)? else {
         return Ok(None);
     };
     let mut pairs = Search {
         arena: alloc,
-        budget: budget.min(u64::from(MAX_NODES)),
+        nodes: budget.min(u64::from(MAX_NODES)),
+        steps: search.steps,
+        state_steps: 0,
     };
     if let Some(tree) = whole(&mut pairs, &closing)? {
         return Ok(Some(Tree::Kept(tree)));
     }
-    let mut search = Search {
-        arena: arena.clone()?,
-        budget: 0,
-    };
-    match searched(&mut search, claim, &closing, budget)? {
+    search.steps = pairs.steps;
+    match searched(&mut search, claim, &closing)? {
         Some(tree) => Ok(Some(Tree::InArena(tree))),
         None => Ok(None),
     }

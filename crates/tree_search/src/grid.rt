@@ -11,10 +11,15 @@ pub struct Grid<B: Allocator> {
 }
 
 impl<B: Allocator> Grid<B> {
+    /// How many words so many rows of so many columns take.
+    pub fn words(rows: usize, columns: usize) -> usize {
+        rows.saturating_mul(columns / 64 + 1)
+    }
+
     /// So many rows of so many columns.
     pub fn new(arena: B, rows: usize, columns: usize) -> Result<Grid<B>, AllocError> {
+        let bits = vec![in arena; 0u64; Grid::<B>::words(rows, columns)]?;
         let words = columns / 64 + 1;
-        let bits = vec![in arena; 0u64; rows.saturating_mul(words)]?;
         Ok(Grid { words, bits })
     }
 

@@ -26,11 +26,12 @@ fn dead<A: Allocator, B: Allocator>(state: &State<'_, A>) -> Option<Refutation<B
 
 /// Two items that are the same member, as a refutation.
 fn clash<A: Allocator, B: Allocator>(state: &State<'_, A>) -> Option<Refutation<B>> {
+    let rights = state.right.members();
     for (i, item) in state.left.items.iter().enumerate() {
         if let Expr::Member(member) = *item {
-            if let Some(j) = state.right.place_of(*member) {
+            if rights.contains(*member) {
                 let left = state.left.number(i)?;
-                let right = state.right.number(j)?;
+                let right = state.right.number(state.right.place_of(*member)?)?;
                 return Some(Refutation::Clash { left, right });
             }
         }

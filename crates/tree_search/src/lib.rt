@@ -6,10 +6,7 @@
 mod cases;
 mod closed;
 mod closing;
-mod cutting;
 mod equals;
-mod few;
-mod fewest;
 mod finding;
 mod grid;
 mod leaves;
@@ -17,15 +14,10 @@ mod lists;
 mod matching;
 mod members;
 mod needs;
-mod offers;
 mod order;
 mod parts;
 mod rules;
-mod small;
+mod spending;
 mod state;
 
-pub use cutting::Bounds;
-pub use fewest::Fewest;
 pub use finding::{Tree, find_tree};
-pub use order::Order;
-pub use small::{bounds_of, table_of, tree_by_cases, tree_by_items, tree_by_pairs};

@@ -3,6 +3,17 @@
 /// No left child.
 const NOBODY: u8 = u8::MAX;
 
+/// How many steps a matching of so many children takes at most: one for each pair, or where they don't all weigh 1, as many times as there are
+/// children on the longer side.
+pub fn steps_of(lefts: usize, rights: usize, is_of_ones: bool) -> u64 {
+    let pairs = (lefts as u64).saturating_mul(rights as u64);
+    if is_of_ones {
+        pairs
+    } else {
+        pairs.saturating_mul(lefts.max(rights) as u64)
+    }
+}
+
 /// For each right child the left child that it is matched with.
 #[derive(Drop)]
 pub struct Mates {

@@ -2,6 +2,7 @@
 
 use crate::lists::append;
 use crate::needs::known_of;
+use crate::spending::Search;
 use quorum_expr::{Expr, MemberSet};
 use std::alloc::{AllocError, Allocator};
 use std::ops::Range;
@@ -13,6 +14,9 @@ const MOST: usize = 4096;
 const ROOM: usize = 64;
 
 const CHOICES: usize = 16;
+
+/// How many steps it takes to list a subexpression and to see what it needs.
+const PART_STEPS: u64 = 16;
 
 /// At least so much of what the subexpressions from a number on weigh.
 #[derive(Clone, Copy)]
@@ -233,24 +237,28 @@ impl<B: Allocator> Parts<B> {
     }
 }
 
-/// The subexpressions of an expression where these members are absent. None where they are too many.
+/// The subexpressions of an expression where these members are absent. None where they are too many, or more than the search may look at.
 pub fn parts_of<A: Allocator, B: Allocator + Clone>(
-    arena: &B,
+    search: &mut Search<B>,
     expr: &Expr<A>,
     absent: MemberSet,
 ) -> Result<Option<Parts<B>>, AllocError> {
     let mut listing = Listing {
         parts: Parts {
-            all: Vec::with_capacity(arena.clone()?, ROOM)?,
-            choices: Vec::with_capacity(arena.clone()?, CHOICES)?,
+            all: Vec::with_capacity(search.arena.clone()?, ROOM)?,
+            choices: Vec::with_capacity(search.arena.clone()?, CHOICES)?,
         },
-        children: Vec::with_capacity(arena.clone()?, CHOICES)?,
+        children: Vec::with_capacity(search.arena.clone()?, CHOICES)?,
         absent,
     };
     listing.add(1, expr)?;
     for number in 0..MOST + 1 {
         if number >= listing.children.len() {
             break;
+        }
+        let children = listing.children.get(number).map_or(0, |of| of.len());
+        if !search.step((children as u64).saturating_mul(PART_STEPS)) {
+            return Ok(None);
         }
         listing.add_children(number)?;
     }

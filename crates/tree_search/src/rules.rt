@@ -2,22 +2,13 @@
 //! then matches, then other picks.
 
 use crate::leaves::{has_counterexample, leaf};
-use crate::matching::Mates;
+use crate::matching::{Mates, steps_of};
 use crate::parts::total;
+use crate::spending::Search;
 use crate::state::{Row, State};
 use quorum_expr::Expr;
 use refutation::{Refutation, Side};
 use std::alloc::{AllocError, Allocator};
-
-/// How many states the rules that look at items may try, times the number of subexpressions that each of them looks at.
-pub const ITEM_WORK: u64 = 700_000;
-
-/// Where a search makes its items and trees, and how many nodes it may still try.
-#[derive(Drop)]
-pub struct Search<B: Allocator> {
-    pub arena: B,
-    pub budget: u64,
-}
 
 /// A pair of children that closes.
 #[derive(Drop)]
@@ -32,29 +23,6 @@ struct Closed<B: Allocator> {
 struct Closing<B: Allocator> {
     pairs: Vec<Closed<B>, B>,
     edges: Vec<u64, B>,
-}
-
-impl<B: Allocator> Search<B> {
-    /// Counts a node, where the search may try one more.
-    pub fn spend(&mut self) -> bool {
-        self.spend_all(1)
-    }
-
-    /// Counts so many nodes, where the search may try as many more.
-    pub fn spend_all(&mut self, nodes: u64) -> bool {
-        match self.budget.checked_sub(nodes) {
-            Some(rest) => {
-                self.budget = rest;
-                true
-            }
-            None => false,
-        }
-    }
-
-    /// Whether a state may be looked at whose tree may have so many levels. Asked before a row is copied for it.
-    fn may_try(&self, levels: u8) -> bool {
-        levels > 0 && self.budget > 0
-    }
 }
 
 /// The first item that asks for all its children.
@@ -99,7 +67,7 @@ pub fn refute<A: Allocator, B: Allocator + Clone>(
     state: &State<'_, A>,
     levels: u8,
 ) -> Result<Option<Refutation<B>>, AllocError> {
-    if levels == 0 || !search.spend() {
+    if levels == 0 || !search.spend_state() {
         return Ok(None);
     }
     if let Some(tree) = leaf(state) {
@@ -212,7 +180,7 @@ fn match_some<A: Allocator, B: Allocator + Clone>(
 ) -> Result<Option<Refutation<B>>, AllocError> {
     for i in 0..state.left.items.len() {
         for j in 0..state.right.items.len() {
-            if !search.may_try(levels) {
+            if !search.may_try(levels) || !search.step(1) {
                 return Ok(None);
             }
             if let Some(tree) = match_two(search, state, i, j, levels)? {
@@ -295,15 +263,19 @@ fn match_two<A: Allocator, B: Allocator + Clone>(
     let (Some(left), Some(right)) = (state.left.number(i), state.right.number(j)) else {
         return Ok(None);
     };
+    if !search.step(of.len().saturating_add(others.len()) as u64) {
+        return Ok(None);
+    }
     let spare = usize::from(*k).saturating_add(usize::from(*l));
     let (all, rest) = (total(of.as_slice()), total(others.as_slice()));
     let wanted = (all.saturating_add(rest).saturating_add(1)).saturating_sub(spare);
-    if wanted > all.min(rest) {
+    let is_of_ones = all == of.len() && rest == others.len();
+    if wanted > all.min(rest) || !search.step(steps_of(of.len(), others.len(), is_of_ones)) {
         return Ok(None);
     }
     let closing = close_pairs(search, state, of, others, levels)?;
     let edges = closing.edges.as_slice();
-    let mates = if all == of.len() && rest == others.len() {
+    let mates = if is_of_ones {
         Mates::find(edges, wanted)
     } else {
         Mates::heaviest(

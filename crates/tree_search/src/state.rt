@@ -2,7 +2,7 @@
 
 ghost use Rattle.std.specs.Prelude.{◌<◌};
 
-use quorum_expr::{Expr, MemberSet, holds};
+use quorum_expr::{Expr, MEMBERS, MemberSet, holds};
 use refutation::Side;
 use std::alloc::{AllocError, Allocator};
 
@@ -116,6 +116,19 @@ impl<'a, A: Allocator> Row<'a, A> {
     pub fn first_dead(&self) -> Option<usize> {
         let present = self.absent.complement();
         self.items.iter().position(|item| !holds(*item, present))
+    }
+
+    /// The members that are items.
+    pub fn members(&self) -> MemberSet {
+        let mut members = MemberSet::empty();
+        for item in self.items {
+            if let Expr::Member(member) = *item {
+                if *member < MEMBERS {
+                    members = members.with(*member);
+                }
+            }
+        }
+        members
     }
 
     /// The first item that is this member.

@@ -1,6 +1,6 @@
 //! Searches whose workers wait for one another.
 
-use super::smaller::claims_of;
+use super::kept::claims_of;
 use super::texts::{WIDE, plan_of};
 use cert_search::{Gate, search_all, search_one};
 use quorum_checker::check;

@@ -1,6 +1,6 @@
 //! Copies in memory that runs short behind any number of bytes.
 
-use super::smaller::claims_of;
+use super::kept::claims_of;
 use super::texts::{WIDE, plan_of};
 use bumpalo::Bump;
 use cert_search::search_in;
@@ -51,7 +51,7 @@ fn copied(alloc: Global, arena: &Bump, lent: &LentClaim<'_>) -> Result<bool, Fau
 /// Searches a claim with tables in an arena. Whether its certificate is found.
 fn searched(alloc: Global, arena: &Bump, lent: &LentClaim<'_>) -> Result<bool, Fault> {
     let claim = lent.claim_in(alloc)?;
-    match search_in(alloc, &arena, &claim, BUDGET)? {
+    match search_in(alloc, &arena, &claim, BUDGET, 1)? {
         Some(certificate) => Ok(check(alloc, &claim, &certificate).is_ok()),
         None => Ok(false),
     }

@@ -1,7 +1,7 @@
 //! Plans and certificates that are written.
 
+use super::kept::claims_of;
 use super::said::SIX_COPIES;
-use super::smaller::claims_of;
 use super::texts::{REPLACED, plan_of};
 use plan::{CheckedPlan, Plan, PlanFault, check_plan, claims, read_plan, write_plan};
 use refutation::{Certificate, read_certificate, write_certificate};

@@ -1,0 +1,123 @@
+-- The shortest certificates are kept.
+use Rattle.std.proofs.Common.{◌≡◌, ℕ, zero, suc, ◌+◌, ◌-◌, ◌<◌, ◌≤◌, List, [], ◌∷◌, ◌++◌, map, length, drop, get_or, refl, ap, sym, ◌∙◌, inl, inr, subst, add-one, drop-cons, arith}
+use Rattle.std.specs.Prelude.{Bool, true, false, None, Option, Some, if◌then◌else◌, nat_le, slice_get, slice_set}
+use Rattle.std.proofs.lemmas.Bool.{cases_eq}
+use Rattle.std.proofs.lemmas.Bool.Decides.{nat_tests}
+use Rattle.std.proofs.lemmas.List.{append_assoc, append-nil, drop_all, length-set}
+use Rattle.std.proofs.lemmas.Option.{get_or_from_slice_get, slice_get_within}
+use Rattle.std.specs.declared.alloc.Global.{Global}
+use Rattle.refutation.specs.declared.certificate.Certificate.{Certificate}
+use Rattle.refutation.specs.Rule.{Rule}
+use Rattle.cert_search.specs.Answers.{rule_in}
+use Rattle.cert_search.specs.Kept.{AreKept, kept_at, length_before, length_up_to}
+use Rattle.cert_search.specs.Lengths.{length_in}
+use Rattle.cert_search.proofs.Places.{elsewhere, here}
+use Rattle.cert_search.proofs.Rows.{map_at, map_from, map_len, set_other, some_is}
+
+room_left : (b t left rest : ℕ) → b ≤ left → rest ≡ left - b → nat_le t rest ≡ nat_le (b + t) left
+room_left b t left rest h e = rw e (grind (arith, nat_tests))
+
+no_room : (b t left : ℕ) → left < b → false ≡ nat_le (b + t) left
+no_room b t left h = grind (arith, nat_tests)
+
+-- one length more
+front : (other at i : ℕ) (ls : List ℕ) (x : ℕ) → i < length ls → x ≡ get_or ls i x → length_up_to other at i (drop i ls) ≡ length_before x i other at + length_up_to other at (i + 1) (drop (i + 1) ls)
+front other at i ls x within is =
+    let split : drop i ls ≡ x ∷ drop (i + 1) ls = drop-cons ls i x within ∙ rw (← is, add-one) refl in
+    ap (length_up_to other at i) split
+
+pub one_fits : (other at i left rest : ℕ) (ls : List ℕ) (x : ℕ) (whole : Bool) → i < length ls → x ≡ get_or ls i x → length_before x i other at ≤ left → rest ≡ left - length_before x i other at
+    → nat_le (length_up_to other at i (drop i ls)) left ≡ whole → nat_le (length_up_to other at (i + 1) (drop (i + 1) ls)) rest ≡ whole
+one_fits other at i left rest ls x whole within is fits e so_far =
+    room_left (length_before x i other at) (length_up_to other at (i + 1) (drop (i + 1) ls)) left rest fits e ∙ (ap (λ n. nat_le n left) (sym (front other at i ls x within is)) ∙ so_far)
+
+pub one_is_too_long : (other at i left : ℕ) (ls : List ℕ) (x : ℕ) (whole : Bool) → i < length ls → x ≡ get_or ls i x → left < length_before x i other at
+    → nat_le (length_up_to other at i (drop i ls)) left ≡ whole → false ≡ whole
+one_is_too_long other at i left ls x whole within is long so_far =
+    no_room (length_before x i other at) (length_up_to other at (i + 1) (drop (i + 1) ls)) left long ∙ (ap (λ n. nat_le n left) (sym (front other at i ls x within is)) ∙ so_far)
+
+from_none : (left : ℕ) → true ≡ nat_le 0 left
+from_none left = grind (arith, nat_tests)
+
+pub all_fit : (other at i left : ℕ) (ls : List ℕ) (whole : Bool) → length ls ≤ i → nat_le (length_up_to other at i (drop i ls)) left ≡ whole → true ≡ whole
+all_fit other at i left ls whole past so_far = from_none left ∙ (ap (λ (xs : List ℕ). nat_le (length_up_to other at i xs) left) (sym (drop_all i ls past)) ∙ so_far)
+
+-- the lengths of certificates, of which one stands in front of those that are left
+pub lengths_more : (cs : List (Option (Certificate Global))) (i : ℕ) (c : Option (Certificate Global)) (ls more all : List ℕ) (long : ℕ) → i < length cs → c ≡ get_or cs i c → more ≡ ls ++ long ∷ [] → long ≡ length_in (rule_in c)
+    → ls ++ map length_in (map rule_in (drop i cs)) ≡ all → more ++ map length_in (map rule_in (drop (i + 1) cs)) ≡ all
+lengths_more cs i c ls more all long within is pushed long_is so_far =
+    let rest = map length_in (map rule_in (drop (i + 1) cs)) in
+    let split : drop i cs ≡ c ∷ drop (i + 1) cs = drop-cons cs i c within ∙ rw (← is, add-one) refl in
+    let first : map length_in (map rule_in (drop i cs)) ≡ long ∷ rest = ap (λ xs. map length_in (map rule_in xs)) split ∙ ap (λ n. n ∷ rest) (sym long_is) in
+    ap (λ xs. xs ++ rest) pushed ∙ (append_assoc ls (long ∷ []) rest ∙ (ap (λ xs. ls ++ xs) (sym first) ∙ so_far))
+
+pub lengths_all : (cs : List (Option (Certificate Global))) (i : ℕ) (ls all : List ℕ) → length cs ≤ i → ls ++ map length_in (map rule_in (drop i cs)) ≡ all → ls ≡ all
+lengths_all cs i ls all past so_far = sym (append-nil ls) ∙ (ap (λ xs. ls ++ map length_in (map rule_in xs)) (sym (drop_all i cs past)) ∙ so_far)
+
+-- what stands below a number was kept or dropped, and what stands from there on is as it was
+pub record KeptTo (room : ℕ) (lengths : List ℕ) (at : ℕ) (olds news : List (Option (Certificate Global))) : Type 0 where
+  pub as_many : length news ≡ length olds
+  pub before : (i : ℕ) (old left : Option (Certificate Global)) → i < at → slice_get olds i ≡ Some old → slice_get news i ≡ Some left → rule_in left ≡ kept_at room lengths i (rule_in old)
+  pub rest : (i : ℕ) → at ≤ i → slice_get news i ≡ slice_get olds i
+
+pub none_yet : (room : ℕ) (lengths : List ℕ) (olds : List (Option (Certificate Global))) → KeptTo room lengths 0 olds olds
+none_yet room lengths olds = record { as_many = refl; before = λ i old left lt at_old at_new. absurd (omega (arith, lt)); rest = λ i le. refl }
+
+length_at : (lengths : List ℕ) (olds : List (Option (Certificate Global))) (at : ℕ) (old : Option (Certificate Global)) → lengths ≡ map length_in (map rule_in olds) → slice_get olds at ≡ Some old → get_or lengths at 0 ≡ length_in (rule_in old)
+length_at lengths olds at old are there =
+    get_or_from_slice_get lengths at (length_in (rule_in old)) 0 (ap (λ (ls : List ℕ). slice_get ls at) are ∙ map_at length_in (map rule_in olds) at (rule_in old) (map_at rule_in olds at old there))
+
+by_test : (room : ℕ) (lengths : List ℕ) (at long : ℕ) (rule : Option Rule) (stays : Bool) → long ≡ length_in rule → stays ≡ nat_le (length_up_to long at 0 lengths) room → (if stays then rule else None) ≡ kept_at room lengths at rule
+by_test room lengths at long rule stays is test = ap (λ (b : Bool). if b then rule else None) (test ∙ ap (λ n. nat_le (length_up_to n at 0 lengths) room) is)
+
+-- one more is kept
+pub one_stays : (room : ℕ) (lengths : List ℕ) (at : ℕ) (olds news : List (Option (Certificate Global))) → KeptTo room lengths at olds news → lengths ≡ map length_in (map rule_in olds) → true ≡ nat_le (length_up_to (get_or lengths at 0) at 0 lengths) room
+    → KeptTo room lengths (at + 1) olds news
+one_stays room lengths at olds news to are test = record {
+  as_many = to.as_many;
+  before = λ i old left lt at_old at_new. elim (cases_eq i at) [
+    | inl same ↦
+        let there : slice_get olds at ≡ Some old = subst (λ j. slice_get olds j ≡ Some old) same at_old in
+        let is : left ≡ old = some_is left old (sym at_new ∙ (to.rest i (omega (arith, same)) ∙ at_old)) in
+        let kept : rule_in old ≡ kept_at room lengths at (rule_in old) = by_test room lengths at (get_or lengths at 0) (rule_in old) true (length_at lengths olds at old are there) test in
+        ap rule_in is ∙ (kept ∙ ap (λ j. kept_at room lengths j (rule_in old)) (sym same))
+    | inr other ↦ to.before i old left (omega (arith, lt, other)) at_old at_new
+  ];
+  rest = λ i le. to.rest i (omega (arith, le));
+}
+
+-- one more is dropped
+pub one_goes : (room : ℕ) (lengths : List ℕ) (at : ℕ) (olds news : List (Option (Certificate Global))) → KeptTo room lengths at olds news → lengths ≡ map length_in (map rule_in olds) → false ≡ nat_le (length_up_to (get_or lengths at 0) at 0 lengths) room
+    → KeptTo room lengths (at + 1) olds (slice_set news at None)
+one_goes room lengths at olds news to are test = record {
+  as_many = length-set news at None ∙ to.as_many;
+  before = λ i old left lt at_old at_new. elim (cases_eq i at) [
+    | inl same ↦
+        let there : slice_get olds at ≡ Some old = subst (λ j. slice_get olds j ≡ Some old) same at_old in
+        let is : None ≡ left = here news at None left (subst (λ j. slice_get (slice_set news at None) j ≡ Some left) same at_new) in
+        let kept : None ≡ kept_at room lengths at (rule_in old) = by_test room lengths at (get_or lengths at 0) (rule_in old) false (length_at lengths olds at old are there) test in
+        ap rule_in (sym is) ∙ (kept ∙ ap (λ j. kept_at room lengths j (rule_in old)) (sym same))
+    | inr other ↦ to.before i old left (omega (arith, lt, other)) at_old (elsewhere news at i None left other at_new)
+  ];
+  rest = λ i le. untouched i (omega (arith, le)) ∙ to.rest i (omega (arith, le));
+}
+  where
+    untouched : (i : ℕ) → at < i → slice_get (slice_set news at None) i ≡ slice_get news i
+    untouched i lt = set_other news at i None (λ e. absurd (omega (arith, lt, e)))
+
+-- one more was seen
+pub one_seen : (room : ℕ) (lengths : List ℕ) (at : ℕ) (olds news more : List (Option (Certificate Global))) (stays : Bool) → KeptTo room lengths at olds news → lengths ≡ map length_in (map rule_in olds)
+    → stays ≡ nat_le (length_up_to (get_or lengths at 0) at 0 lengths) room → more ≡ (if stays then news else slice_set news at None) → KeptTo room lengths (at + 1) olds more
+one_seen room lengths at olds news more true to are test is = subst (KeptTo room lengths (at + 1) olds) (sym is) (one_stays room lengths at olds news to are test)
+one_seen room lengths at olds news more false to are test is = subst (KeptTo room lengths (at + 1) olds) (sym is) (one_goes room lengths at olds news to are test)
+
+-- all were seen
+pub all_kept : (room : ℕ) (lengths : List ℕ) (at : ℕ) (olds news : List (Option (Certificate Global))) → KeptTo room lengths at olds news → lengths ≡ map length_in (map rule_in olds) → length olds ≤ at → AreKept room (map rule_in olds) (map rule_in news)
+all_kept room lengths at olds news to are past = record {
+  as_many = map_len rule_in news ∙ (to.as_many ∙ sym (map_len rule_in olds));
+  each = λ i rule left at_old at_new.
+      let old = map_from rule_in olds i rule at_old in
+      let new = map_from rule_in news i left at_new in
+      let kept = to.before i old.0 new.0 (omega (arith, slice_get_within olds i old.0 old.1, past)) old.1 new.1 in
+      sym new.2 ∙ (kept ∙ (ap (λ r. kept_at room lengths i r) old.2 ∙ ap (λ (ls : List ℕ). kept_at room ls i rule) are));
+}
