@@ -1,4 +1,4 @@
-//! Claims are dealt to workers, before any worker starts.
+//! Dealing claims to workers, before any worker starts.
 ghost use Rattle.std.specs.Prelude.{◌≡◌, ◌<◌, ◌≤◌, map, vec_len, All, IfOk, IfErr};
 ghost use Rattle.volume_model.specs.declared.fault.Fault.TheVariants.{NoMemory};
 ghost use Rattle.cert_search.specs.Hands.{hand_plain, hands_from, AreDealt, IsOfDeal, ShareDeques};
@@ -9,8 +9,8 @@ use crate::table::Table;
 use std::alloc::{AllocError, Global};
 use volume_model::Fault;
 
-/// Deals the claims below `claims` to so many workers: claim c goes to the deque of the worker `c mod workers`. One hand a worker, in order.
-/// The hands share the deques.
+/// Deals claims 0 to `claims - 1` to `workers` workers: claim c goes to the deque of worker `c mod workers`. Returns
+/// a hand for each worker, in order. The hands share the deques.
 ///
 /// # Errors
 /// [`NoMemory`](Fault::NoMemory).

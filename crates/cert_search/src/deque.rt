@@ -6,23 +6,22 @@ use crossbeam_deque::{Pass, Stealer, Worker};
 use std::alloc::Global;
 use std::collections::LinkedList;
 
-/// What stands in a deque: its claims, and after them a mark of the end for each worker.
+/// An element of a deque: a claim, or behind all claims a mark of the end for each worker.
 #[derive(Drop)]
 pub enum Task {
     Claim(usize),
     End,
 }
 
-/// Who has a view of a deque: the worker whose deque it is, with the number of the other views that are out, another worker, or
-/// nobody any more.
+/// The holder of a view of a deque: its owner, with the number of other views, another worker, or nobody any more.
 pub enum Holder {
     Owner(usize),
     Guest,
     Nobody,
 }
 
-/// What a holder knows of a deque: whether it may still deal, the claims that were dealt, those that it has had, how many marks of the
-/// end were dealt, and whether it has had one. No value of it is made.
+/// What a holder knows of a deque: whether it may still deal, the claims dealt, those that it took, how many marks of
+/// the end were dealt, and whether it took one. No value of this type is made.
 pub struct Had {
     pub holder: Holder,
     pub deals: bool,
@@ -32,7 +31,7 @@ pub struct Had {
     pub ended: bool,
 }
 
-/// No claim stands in two views, or in a view and the deque.
+/// The rule: no claim stands in two views, or in a view and the deque.
 pub struct Once;
 
 impl Protocol<Task, Had> for Once {
@@ -46,7 +45,7 @@ impl Protocol<Task, Had> for Once {
     ghost guest = { guest_view [] 0 };
 }
 
-/// A claim joins the deque.
+/// A claim is pushed.
 pub struct Deals;
 
 impl Outcome<Task, Had> for Deals {
@@ -55,7 +54,7 @@ impl Outcome<Task, Had> for Deals {
     ghost then = { Adds };
 }
 
-/// A mark of the end joins the deque: no claim is dealt any more.
+/// A mark of the end is pushed: no claim is dealt any more.
 pub struct Closes;
 
 impl Outcome<Task, Had> for Closes {
@@ -64,7 +63,7 @@ impl Outcome<Task, Had> for Closes {
     ghost then = { λ v tasks w. w ≡ closed v };
 }
 
-/// A claim or a mark leaves the deque, and the holder has had it.
+/// A claim or a mark is taken from the deque by the holder.
 pub struct Takes;
 
 impl Outcome<Task, Had> for Takes {
@@ -73,7 +72,7 @@ impl Outcome<Task, Had> for Takes {
     ghost then = { Took };
 }
 
-/// No claim is dealt any more, and the new holder has had none.
+/// No claim is dealt any more, and the new holder has taken none.
 pub struct Thieves;
 
 impl Split<Had> for Thieves {
@@ -92,7 +91,7 @@ impl Join<Had> for Thieves {
     ghost spent = { spent_view };
 }
 
-/// What the worker learns of its deque.
+/// What the owner learns of its deque.
 pub struct Settled;
 
 impl Lesson<Task, Had> for Settled {

@@ -1,4 +1,4 @@
-//! Places for the answers to claims. What is said of places holds of each budget and of whichever claims they are the places of.
+//! Places for the answers to claims.
 
 ghost use Rattle.std.specs.Prelude.{ℕ, ◌<◌, All, IfOk, IfSome, List, length};
 ghost use Rattle.plan.specs.LentClaims.{all_lent};
@@ -10,10 +10,10 @@ use plan::LentClaim;
 use refutation::Certificate;
 use std::alloc::{AllocError, Global};
 
-/// What a search answers of a claim.
+/// The answer to a claim: a certificate, or `None` if the search gave up.
 pub type Answer = Option<Certificate<Global>>;
 
-/// An empty place for each claim.
+/// Makes an empty place for each claim.
 pub fn empty_places(
     alloc: Global,
     claims: &[LentClaim<'_>],
@@ -27,7 +27,7 @@ pub fn empty_places(
     Ok(places)
 }
 
-/// Puts what was found into its place.
+/// Puts an answer into its place.
 fn fill(found: Found, places: &mut Vec<Option<Answer>>)
     ensures { (budget : ℕ) (claims : List PlacedClaim) → IsFound budget claims found → ArePlaces budget claims places.old.items → ArePlaces budget claims places.new.items }
 {
@@ -36,7 +36,7 @@ fn fill(found: Found, places: &mut Vec<Option<Answer>>)
     }
 }
 
-/// Puts what a worker found into its places.
+/// Puts a worker's answers into their places.
 fn fill_each(mut founds: Vec<Found>, places: &mut Vec<Option<Answer>>)
     ensures { (budget : ℕ) (claims : List PlacedClaim) → IsWork budget claims founds → ArePlaces budget claims places.old.items → ArePlaces budget claims places.new.items }
 {
@@ -45,7 +45,7 @@ fn fill_each(mut founds: Vec<Found>, places: &mut Vec<Option<Answer>>)
     }
 }
 
-/// Puts what all workers found into its places.
+/// Puts all workers' answers into their places.
 pub fn fill_all(mut found: Vec<Vec<Found>>, places: &mut Vec<Option<Answer>>)
     ensures { (budget : ℕ) (claims : List PlacedClaim) → All (IsWork budget claims) found.items → ArePlaces budget claims places.old.items → ArePlaces budget claims places.new.items }
 {
@@ -54,7 +54,7 @@ pub fn fill_all(mut found: Vec<Vec<Found>>, places: &mut Vec<Option<Answer>>)
     }
 }
 
-/// Takes out what stands at a place, which is found of the claim with its number.
+/// Takes the answer out of a place.
 pub fn take_out(places: &mut Vec<Option<Answer>>, at: usize) -> Option<Answer>
     requires at { at < length places.old.items }
     ensures places { (budget : ℕ) (claims : List PlacedClaim) → ArePlaces budget claims places.old.items → ArePlaces budget claims places.new.items }

@@ -1,10 +1,10 @@
-//! Who is told how a search gets on.
+//! Observing a search.
 
-/// Is told of each claim when its search begins and when it has ended, by the worker that searches it.
+/// Observes a search: called by the worker that searches a claim, when the search begins and when it has ended.
 pub trait Gate {
-    /// The claim with this number has been taken, and its search begins.
+    /// The claim was taken, and its search begins.
     fn started(&self, claim: usize);
 
-    /// The answer to the claim with this number stands.
+    /// The claim's answer is known.
     fn finished(&self, claim: usize);
 }

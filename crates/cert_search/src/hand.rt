@@ -1,4 +1,4 @@
-//! A worker's hand: its own claims, and the deques of the others.
+//! A worker's hand.
 ghost use Rattle.std.specs.Prelude.{◌≡◌, map, true, IfSome, IfNone, All};
 ghost use Rattle.cert_search.specs.Sights.{reach_sight, reach_calm, GetsOne};
 
@@ -6,7 +6,7 @@ use crate::own::Own;
 use crate::reach::Reach;
 use std::sync::Wait;
 
-/// A worker's own claims, and the deques of the others, from its right neighbour's round.
+/// A worker's own deque and its views of the others, from its right neighbour's on.
 #[derive(Drop)]
 pub struct Hand {
     own: Own,
@@ -32,8 +32,8 @@ impl Hand {
         (own, others)
     }
 
-    /// Takes a claim of its own, first to last, or else steals one. Where there is none, it has had a mark of the end of each deque,
-    /// which stands behind all claims of that deque, and it has none from then on. Takes no memory.
+    /// Takes its own next claim, or steals one. Returns `None` once it has taken a mark of the end of each deque,
+    /// behind which no claim is left; it does so from then on. Takes no memory.
     pub fn take<R: Wait>(&mut self, rt: &R) -> Option<usize>
         ensures some { IfSome result (λ c. TakesClaim self.old c self.new) }
         ensures own_first { IfSome result (λ c. ComesAfterOwn self.old c self.new) }

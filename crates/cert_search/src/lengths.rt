@@ -9,7 +9,7 @@ ghost use Rattle.cert_search.specs.Lengths.{branches_length, digits, head_length
 use refutation::{Certificate, Refutation, Side};
 use std::alloc::Allocator;
 
-/// How many bytes a plan's text may have.
+/// The most bytes of a plan's text.
 pub const PLAN_BYTES: u32 = 16_777_216;
 
 /// How many digits a number has.

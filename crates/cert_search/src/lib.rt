@@ -1,5 +1,5 @@
-//! The search for the certificates of a plan's claims: how a claim's certificate is found, and how the claims are dealt to workers
-//! that steal from one another.
+//! The search for the certificates of a plan's claims: how a claim's certificate is found, and how claims are dealt
+//! to workers that steal from one another.
 #![tactic(auto)]
 
 mod dealing;

@@ -19,7 +19,7 @@ use std::alloc::{Allocator, Global};
 use tree_search::{Tree, find_tree};
 use volume_model::Fault;
 
-/// The budget from which on plain claims are found: their trees have at most so many nodes.
+/// The budget from which on each plain claim is found: the most nodes of its tree.
 const PLAIN_NODES: u64 = 100;
 
 /// How many nodes the searches of all claims may try together.
@@ -31,7 +31,7 @@ fn share(budget: u64, claims: usize) -> u64 {
     budget.min(ALL_NODES / claims)
 }
 
-/// A certificate, where it refutes the claim.
+/// Returns the certificate if it refutes the claim.
 fn judged<A: Allocator>(
     alloc: Global,
     claim: &Claim<A>,
@@ -48,7 +48,7 @@ fn judged<A: Allocator>(
     }
 }
 
-/// The certificate that a tree is, where it refutes the claim.
+/// Returns the certificate of a tree if it refutes the claim.
 pub fn certified<A: Allocator>(
     alloc: Global,
     claim: &Claim<A>,
@@ -64,7 +64,7 @@ pub fn certified<A: Allocator>(
     judged(alloc, claim, certificate)
 }
 
-/// The certificate that a copy of a tree is, where it refutes the claim.
+/// Returns the certificate of a copy of a tree if it refutes the claim.
 pub fn copy_certified<A: Allocator, B: Allocator>(
     alloc: Global,
     claim: &Claim<A>,
@@ -79,7 +79,7 @@ pub fn copy_certified<A: Allocator, B: Allocator>(
     judged(alloc, claim, certificate.copy_in(alloc)?)
 }
 
-/// Whether both sides begin with a member, as those of a plain claim mostly do.
+/// Returns whether both sides begin with a member, as those of most plain claims do.
 fn seems_plain<A: Allocator>(claim: &Claim<A>) -> bool {
     let (left, right) = (children(&claim.left), children(&claim.right));
     match (left.first(), right.first()) {
@@ -88,7 +88,7 @@ fn seems_plain<A: Allocator>(claim: &Claim<A>) -> bool {
     }
 }
 
-/// The certificate of a plain claim.
+/// Returns the certificate of a plain claim.
 fn plain<A: Allocator>(
     alloc: Global,
     claim: &Claim<A>,

@@ -8,7 +8,7 @@ use crate::reach::Reach;
 use std::alloc::{AllocError, Global};
 use std::sync::Wait;
 
-/// The deque of the worker `which`, as that worker has it.
+/// The deque of worker `which`, as its owner has it.
 #[derive(Drop)]
 pub struct Own {
     which: usize,

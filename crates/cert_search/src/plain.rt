@@ -17,7 +17,7 @@ use refutation::Refutation;
 use std::alloc::Allocator;
 use volume_model::Fault;
 
-/// Whether an expression is this member.
+/// Returns whether an expression is this member.
 pub fn is_member<A: Allocator>(member: u8, expr: &Expr<A>) -> bool
     ensures { result ≡ is_member member (formula_of expr.now) }
 {
@@ -27,7 +27,7 @@ pub fn is_member<A: Allocator>(member: u8, expr: &Expr<A>) -> bool
     }
 }
 
-/// The place of the first expression that is this member.
+/// Returns the place of the first expression that is this member.
 fn place_of<A: Allocator>(member: u8, others: &[(u8, Expr<A>)]) -> Option<usize>
     ensures within { IfSome result (λ j. j < length others.now) }
     ensures place { result ≡ place_of member (formulas_of others.now) }
@@ -40,7 +40,7 @@ fn place_of<A: Allocator>(member: u8, others: &[(u8, Expr<A>)]) -> Option<usize>
     None
 }
 
-/// The place of a member with that of an equal one among others, if there is one.
+/// Returns the place of a member with that of an equal one among the others, if there is one.
 fn pair_at<A: Allocator>(i: u8, child: &Expr<A>, others: &[(u8, Expr<A>)]) -> Option<(u8, u8)>
     requires { length others.now ≤ 64 }
     ensures { result ≡ pair_at i (formula_of child.now) (formulas_of others.now) }
@@ -51,7 +51,7 @@ fn pair_at<A: Allocator>(i: u8, child: &Expr<A>, others: &[(u8, Expr<A>)]) -> Op
     }
 }
 
-/// The places of equal members of two lists.
+/// Returns the pairs of places of equal members of two lists.
 fn equal_pairs<A: Allocator, B: Allocator + Clone>(
     arena: &B,
     of: &[(u8, Expr<A>)],
@@ -70,7 +70,7 @@ fn equal_pairs<A: Allocator, B: Allocator + Clone>(
     Ok(pairs)
 }
 
-/// A clash of the only items for each pair.
+/// Returns a clash of the only items for each pair.
 fn clashes<B: Allocator + Clone>(
     arena: &B,
     pairs: &[(u8, u8)],
@@ -84,7 +84,7 @@ fn clashes<B: Allocator + Clone>(
     Ok(then)
 }
 
-/// A match of the only items.
+/// Returns a match of the only items.
 fn only_match<B: Allocator>(pairs: Vec<(u8, u8), B>, then: Vec<Refutation<B>, B>) -> Refutation<B>
     ensures { rule_of result ≡ pair_up 0 0 pairs.items (branches_of (rules_of then.items)) }
 {
@@ -96,7 +96,7 @@ fn only_match<B: Allocator>(pairs: Vec<(u8, u8), B>, then: Vec<Refutation<B>, B>
     }
 }
 
-/// The match of all pairs of equal members, each closed by a clash.
+/// Returns the match of all pairs of equal members, each closed by a clash.
 pub fn plain_tree<A: Allocator, B: Allocator + Clone>(
     arena: &B,
     left: &Expr<A>,

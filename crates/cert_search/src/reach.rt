@@ -1,4 +1,4 @@
-//! The deque of another worker.
+//! A view of another worker's deque.
 ghost use Rattle.std.specs.Prelude.{◌≡◌};
 ghost use Rattle.crossbeam_deque.specs.Handles.{IsPassOf, view, stealer_deque, stealer_flavor};
 ghost use Rattle.cert_search.specs.declared.deque.Holder.TheVariants.{Guest};
@@ -7,7 +7,7 @@ use crate::deque::{Entry, Takes, Task, Thief};
 use crossbeam_deque::Steal;
 use std::sync::Wait;
 
-/// The deque of the worker `which`, as another worker reaches it.
+/// A view of the deque of worker `which`, from which another worker steals.
 #[derive(Drop)]
 pub struct Reach {
     pub(crate) which: usize,

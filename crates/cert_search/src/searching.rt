@@ -27,7 +27,7 @@ use std::thread;
 use std::thread::Threads;
 use volume_model::Fault;
 
-/// The answer to a claim: what stands at its place, or by a search where that is empty.
+/// Returns the answer at a claim's place, or searches the claim if the place is empty.
 fn answer(
     alloc: Global,
     claims: &[LentClaim<'_>],
@@ -47,7 +47,7 @@ fn answer(
     }
 }
 
-/// The answers at the places, and by a search where a place is empty.
+/// Returns the answers at the places, and searches the claims of empty ones.
 fn answers(
     alloc: Global,
     claims: &[LentClaim<'_>],
@@ -65,7 +65,7 @@ fn answers(
     Ok(answers)
 }
 
-/// What workers find of claims, each in a thread of its own where there is one.
+/// Runs the workers, each on a thread of its own if there is one.
 fn worked_by<R: Threads + Wait + Sync, G: Gate + Sync>(
     rt: &R,
     alloc: Global,
@@ -85,7 +85,7 @@ fn worked_by<R: Threads + Wait + Sync, G: Gate + Sync>(
     )
 }
 
-/// What each worker found, and the hands of all.
+/// Splits the workers' results into their answers and their hands.
 fn parts_of(alloc: Global, works: Vec<Worked>) -> Result<(Vec<Vec<Found>>, Vec<Hand>), AllocError>
     ensures { IfOk result (λ p. (p.0.items ≡ map (λ w. w.founds) works.items) × (p.1.items ≡ map (λ w. w.hand) works.items)) }
 {
@@ -98,7 +98,7 @@ fn parts_of(alloc: Global, works: Vec<Worked>) -> Result<(Vec<Vec<Found>>, Vec<H
     Ok((found, hands))
 }
 
-/// What workers find of the claims that were dealt to them. Each claim has been had by one of them, once all have ended.
+/// Runs the workers over the claims dealt to them. Once all have ended each claim was taken by exactly one of them.
 fn found_by<R: Threads + Wait + Sync, G: Gate + Sync>(
     rt: &R,
     alloc: Global,
@@ -118,7 +118,7 @@ fn found_by<R: Threads + Wait + Sync, G: Gate + Sync>(
     Ok(found)
 }
 
-/// The answers to claims, by so many workers.
+/// Searches claims by `workers` workers.
 fn searched<R: Threads + Wait + Sync, G: Gate + Sync>(
     rt: &R,
     alloc: Global,

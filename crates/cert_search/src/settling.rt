@@ -1,4 +1,4 @@
-//! The hands of a deal are taken back.
+//! Taking back the hands of a deal.
 ghost use Rattle.std.specs.Prelude.{◌≡◌, ◌++◌, map, IfOk, IfErr};
 ghost use Rattle.volume_model.specs.declared.fault.Fault.TheVariants.{NoMemory};
 ghost use Rattle.cert_search.specs.Sights.{own_sight, reach_sight};
@@ -11,8 +11,9 @@ use crate::reach::Reach;
 use std::alloc::{AllocError, Global};
 use volume_model::Fault;
 
-/// Takes back all hands of a deal, in order. No claim has been had by two of them, or twice by one. Where one of them has had a mark of
-/// the end of a deque, as each has that has answered [`None`](Hand::take), each claim of that deque has been had by one of them.
+/// Takes back all hands of a deal, in order. No claim was taken by two of them, or twice by one. If one of them took
+/// a mark of the end of a deque, as each has that answered [`None`](Hand::take), each claim of that deque was taken
+/// by one of them.
 ///
 /// # Errors
 /// [`NoMemory`](Fault::NoMemory).

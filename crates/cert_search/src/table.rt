@@ -6,7 +6,7 @@ use crate::own::Own;
 use crate::reach::Reach;
 use std::alloc::{AllocError, Global};
 
-/// A deque for each worker, with the claims that are its own. No claim has been had.
+/// A deque for each worker, with its own claims. No claim was taken.
 #[derive(Drop)]
 pub struct Table {
     pub(crate) workers: usize,
@@ -50,7 +50,7 @@ impl Table {
         Ok(row)
     }
 
-    /// The views of each worker.
+    /// Makes the views of each worker.
     pub(crate) fn rows(&mut self, alloc: Global) -> Result<Vec<Vec<Reach>>, AllocError>
         requires none { AreOut self.old.workers 0 self.old.owns.items }
         ensures count { IfOk result (λ rows. vec_len rows ≡ self.old.workers) }

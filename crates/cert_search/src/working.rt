@@ -15,21 +15,21 @@ use std::alloc::Global;
 use std::sync::Wait;
 use volume_model::Fault;
 
-/// What a search answered of the claim with a number.
+/// The answer to a claim.
 #[derive(Drop)]
 pub struct Found {
     pub claim: usize,
     pub answer: Option<Certificate<Global>>,
 }
 
-/// What a worker found, and its hand after it.
+/// A worker's answers, and its hand.
 #[derive(Drop)]
 pub struct Worked {
     pub founds: Vec<Found>,
     pub hand: Hand,
 }
 
-/// The arena, empty again, or another where something in it is still held.
+/// Empties the arena, or makes another if something in it is still held.
 fn emptied(alloc: Global, mut arena: Bump) -> Bump {
     match arena.reset() {
         Ok(()) => arena,
@@ -37,7 +37,7 @@ fn emptied(alloc: Global, mut arena: Bump) -> Bump {
     }
 }
 
-/// The answer to one of so many claims, whose expressions, items and trees are made in an arena.
+/// Searches one of `claims` claims in an arena.
 fn answer_in(
     alloc: Global,
     arena: &Bump,
@@ -51,7 +51,7 @@ fn answer_in(
     search_in(alloc, &arena, &claim, budget, claims)
 }
 
-/// What is found of the claim with a number, where there is memory for it.
+/// Returns the answer to a claim, `None` if memory ran out.
 fn found_of(
     alloc: Global,
     arena: &Bump,
@@ -66,7 +66,7 @@ fn found_of(
     Some(Found { claim, answer })
 }
 
-/// Searches a claim. Where memory runs out nothing is added.
+/// Searches a claim and adds its answer, or nothing if memory runs out.
 fn add<G: Gate>(
     alloc: Global,
     arena: &Bump,
@@ -89,8 +89,8 @@ fn add<G: Gate>(
     }
 }
 
-/// Searches the claims that a hand takes, until it has had a mark of the end of each deque, in an arena that is emptied after each. A
-/// claim whose search finds no memory is left out.
+/// Searches the claims that a hand takes, in an arena that is emptied after each. A claim whose search runs out of
+/// memory is left out.
 pub fn work<R: Wait, G: Gate>(
     rt: &R,
     alloc: Global,

@@ -7,13 +7,13 @@ use quorum_checker::children;
 use quorum_expr::Expr;
 use std::alloc::Allocator;
 
-/// How many pairs of subexpressions are worth one more thread.
+/// The number of pairs of subexpressions that is worth one more thread.
 const PAIRS: usize = 1024;
 
-/// How many pairs take as long as one of another claim, where both sides are thresholds over members, of which equal ones are matched.
+/// The number of pairs of two thresholds over members that take as long as one pair of another claim.
 const PLAIN: usize = 64;
 
-/// How many subexpressions an expression has, itself too.
+/// Returns the number of an expression's subexpressions, itself among them.
 fn size<A: Allocator>(expr: &Expr<A>) -> usize {
     match expr {
         Expr::Member(_) => 1,
@@ -27,7 +27,7 @@ fn size<A: Allocator>(expr: &Expr<A>) -> usize {
     }
 }
 
-/// Whether an expression is a threshold over members that weigh 1 each.
+/// Returns whether an expression is a threshold over members that weigh 1 each.
 fn is_flat<A: Allocator>(expr: &Expr<A>) -> bool {
     for (weight, child) in children(expr) {
         match child {
@@ -38,7 +38,7 @@ fn is_flat<A: Allocator>(expr: &Expr<A>) -> bool {
     true
 }
 
-/// How many pairs of subexpressions of its two sides a claim has, of which those of two thresholds over members count less.
+/// Returns the number of pairs of subexpressions of a claim's two sides. Pairs of thresholds over members count less.
 fn pairs_of(claim: &LentClaim<'_>) -> usize {
     let left = &claim.this.read;
     let right = match claim.parent {
@@ -53,7 +53,7 @@ fn pairs_of(claim: &LentClaim<'_>) -> usize {
     }
 }
 
-/// As many workers as are worth their threads where these claims are searched, of so many.
+/// Returns how many of `workers` workers are worth their threads for these claims.
 pub fn worth(claims: &[LentClaim<'_>], workers: usize) -> usize
     requires { 0 < workers }
     ensures { (0 < result) × (result ≤ workers) }
