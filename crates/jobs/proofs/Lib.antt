@@ -2,6 +2,7 @@ pub mod Calls
 pub mod Due
 pub mod Failing
 pub mod Findings
+pub mod Fitting
 pub mod Given
 pub mod Says
 pub mod Searching

@@ -94,7 +94,7 @@ all_found (c ∷ cs) (Some r ∷ rules) h = all_found cs rules h
 
 -- with the status 0 there is no line
 pub is_quiet : (plan : List ℕ) (status : ℕ) (text notes : List ℕ) → TellsSearch plan status text notes → status ≡ 0 → notes ≡ []
-is_quiet plan status text notes told zero = told.notes_are ∙ all_found told.claims told.rules (no_gap told.rules (sym told.status_is ∙ zero))
+is_quiet plan status text notes told none = told.notes_are ∙ all_found told.claims told.rules (no_gap told.rules (sym told.status_is ∙ none))
 
 -- places without a certificate have no rule
 pub none_ruled : (places : ℕ) → map rule_in (replicate places None) ≡ replicate places None

@@ -3,4 +3,4 @@ use Rattle.jobs.proofs.search.nothing.Given as goal
 
 -- so many places so far
 abbrev pub invariant-loop : goal.invariant-loop
-invariant-loop l = l.certificates.items ≡ replicate l.index None
+invariant-loop l = l.certificates.items ≡ replicate l.counter None
