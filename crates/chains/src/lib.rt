@@ -1,4 +1,5 @@
-//! How far the records of a group hang together, in whatever order they come.
+//! Tracks the complete point of a group's records while they arrive in any order. A record whose predecessor is
+//! missing is queued under the predecessor's LSN.
 #![tactic(auto)]
 
 mod chains;

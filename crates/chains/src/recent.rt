@@ -1,4 +1,4 @@
-//! Who has come to wait of late: a few, in the order in which they came.
+//! The newest pending records: a few, in the order they came.
 
 ghost use Rattle.std.specs.List.{list_any};
 ghost use Rattle.std.specs.Prelude.{ℕ, ◌≡◌, ◌==◌, [], if◌then◌else◌, OnOk};
@@ -10,7 +10,7 @@ use crate::numbers::add;
 use crate::wait::Wait;
 use std::alloc::AllocError;
 
-/// Whether somebody waits for a number.
+/// Returns whether a record is pending under an LSN.
 #[inline(always)]
 pub fn is_awaited(waits: &[Wait], before: u64) -> bool
     ensures { result ≡ list_any (λ wait. wait.before == before) waits.now }
@@ -18,10 +18,10 @@ pub fn is_awaited(waits: &[Wait], before: u64) -> bool
     waits.iter().any(|wait| wait.before == before)
 }
 
-/// Adds those that wait for a number to others, where they aren't there.
+/// Adds the records pending under an LSN to a list that lacks them.
 ///
 /// # Errors
-/// Where a growth was refused.
+/// `AllocError` if there is no memory.
 #[inline(always)]
 pub fn add_waiters(waits: &[Wait], before: u64, numbers: &mut Vec<u64>) -> Result<(), AllocError>
     requires growing { AreGrowing numbers.old.items }
@@ -35,7 +35,7 @@ pub fn add_waiters(waits: &[Wait], before: u64, numbers: &mut Vec<u64>) -> Resul
     Ok(())
 }
 
-/// Takes out those that wait for one of these numbers.
+/// Removes the records pending under these LSNs.
 #[inline(always)]
 pub fn wake(waits: &mut Vec<Wait>, woken: &[u64])
     ensures { (k : ℕ) → recent_waiters waits.new.items k ≡ (if any (λ n. n == k) woken.now then [] else recent_waiters waits.old.items k) }

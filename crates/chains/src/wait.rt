@@ -1,10 +1,10 @@
-//! One number that waits.
+//! A pending record.
 
-/// A number that waits for the one before it in its group.
+/// A pending record and the LSN that it waits for.
 #[derive(Clone, Copy)]
 pub struct Wait {
-    /// The number that is waited for.
+    /// The LSN that it waits for.
     pub before: u64,
-    /// The number that waits, which is above it.
+    /// The record's LSN, which is greater.
     pub number: u64,
 }

@@ -1,4 +1,4 @@
-//! Which numbers wait for which.
+//! The pending records of a group.
 
 ghost use Rattle.std.specs.Prelude.{ℕ, ◌<◌, ◌++◌};
 ghost use Rattle.std.proofs.Props.{props};
@@ -12,14 +12,14 @@ use crate::recent::{add_waiters, is_awaited, wake};
 use crate::wait::Wait;
 use std::alloc::{AllocError, Global};
 
-/// For how many numbers that are woken at once there is room at first.
+/// The initial room for LSNs that are released at once.
 const FEW: usize = 8;
 
-/// How many of the latest waits stand in a list.
+/// The number of newest pending records that are kept in a list.
 const RECENT: usize = 16;
 
-/// Under each number, those that wait for it, which are above it: those that came of late in a list that is short enough to
-/// be looked through, since mostly no more wait at once, and the earlier ones where each is found by its number.
+/// The pending records, by the LSN that they wait for: the newest in a short list, which mostly holds all, and the
+/// older ones in a tree.
 #[derive(Drop)]
 pub struct Waits {
     earlier: Earlier,
@@ -32,7 +32,7 @@ impl Waits {
     ghost use Rattle.volume_model.specs.Lists.{any};
     ghost use Rattle.chains.specs.Waits.{waiters, HasRoomFor, WaitsIn, AreWoken};
 
-    /// Nobody waits.
+    /// Makes an empty structure: no record is pending.
     pub fn new(alloc: Global) -> Waits
         ensures { (k : ℕ) → waiters result k ≡ [] }
     {
@@ -42,7 +42,7 @@ impl Waits {
         }
     }
 
-    /// Whether somebody waits for a number.
+    /// Returns whether a record is pending under an LSN.
     #[inline(always)]
     pub fn is_awaited(&self, number: u64) -> bool
         ensures { MatchBool result ((m : ℕ) × WaitsIn self.now number m) ((m : ℕ) → WaitsIn self.now number m → ⊥) }
@@ -50,10 +50,10 @@ impl Waits {
         is_awaited(self.recent.as_slice(), number) || !self.earlier.of(number).is_empty()
     }
 
-    /// Makes room for one more that waits for a number.
+    /// Reserves room for one more pending record.
     ///
     /// # Errors
-    /// Where a growth was refused; then as many wait for each number as before, in the same order.
+    /// `AllocError` if there is no memory; then the same records are pending, in the same order.
     #[inline(always)]
     pub fn make_room(&mut self, alloc: Global, number: u64) -> Result<(), AllocError>
         ensures same { (k : ℕ) → waiters self.new k ≡ waiters self.old k }
@@ -66,10 +66,10 @@ impl Waits {
         }
     }
 
-    /// Moves the latest waits to the earlier ones: apart, since mostly there is room for one more beside them.
+    /// Moves the newest pending records to the older ones. Out of line, since the list mostly has room.
     ///
     /// # Errors
-    /// Where a growth was refused; then some may have been moved.
+    /// `AllocError` if there is no memory; then some may have been moved.
     #[inline(never)]
     fn settle(&mut self, alloc: Global) -> Result<(), AllocError>
         ensures same { (k : ℕ) → waiters self.new k ≡ waiters self.old k }
@@ -84,7 +84,7 @@ impl Waits {
         self.recent.reserve_exact(RECENT)
     }
 
-    /// One more waits for a number.
+    /// Adds a record that is pending under an LSN.
     #[inline(always)]
     pub fn wait(&mut self, number: u64, waiter: u64)
         requires room { HasRoomFor number self.old }
@@ -97,7 +97,7 @@ impl Waits {
         });
     }
 
-    /// Nobody waits for these any more.
+    /// Removes the records pending under these LSNs.
     #[inline(always)]
     pub fn wake(&mut self, woken: &[u64])
         ensures { (k : ℕ) → waiters self.new k ≡ (if any (λ n. n == k) woken.now then [] else waiters self.old k) }
@@ -106,10 +106,11 @@ impl Waits {
         self.earlier.wake(woken);
     }
 
-    /// A number and all that it wakes, in growing order: those that wait for it, those that wait for them, and so on.
+    /// Returns an LSN and all that it releases, in growing order: the records pending under it, those pending under
+    /// them, and so on.
     ///
     /// # Errors
-    /// Where a growth was refused.
+    /// `AllocError` if there is no memory for the list.
     pub fn woken(&self, alloc: Global, number: u64) -> Result<Vec<u64>, AllocError>
         ensures { IfOk result (λ woken. AreWoken (WaitsIn self.now) number woken.items) }
     {

@@ -22,7 +22,8 @@ use writer_core::Standings;
 /// What a recovery of this volume epoch finds in the reports that it has.
 ///
 /// # Errors
-/// `LsnSpent` where its own numbers would begin above the greatest, and `NoMemory`, which may come before it, where a growth was refused.
+/// `LsnSpent` if its own numbers would begin above the greatest, and `NoMemory`, which may come before it, if there
+/// is no memory.
 pub fn find(alloc: Global, volume: u32, standings: &Standings) -> Result<Found, Fault>
     requires assigned { 1 ≤ volume }
     requires older { are_older volume (groups_in standings.now) ≡ true }

@@ -40,7 +40,7 @@ impl Recovery {
     ghost use Rattle.recovery.specs.Recoveries.{client_of, recovery_groups, recovery_plan, recovery_volume, admitted, begun, birth_of, found_step, view_volume, HasInstalled, Opens};
     ghost use Rattle.recovery.specs.Finds.{is_spent, IsFindOf};
 
-    /// The View that makes a recovery, refused as [`Recovery::admits_birth`] says.
+    /// Returns the View that makes a recovery, refused as [`Recovery::admits_birth`] says.
     fn first_view<'a>(plan: &CheckedPlan, message: &'a Message) -> Result<&'a View, Fault>
         ensures refusal { refusal_of result ≡ refusal_of (birth_of (checked_model plan.now) (message_of message.now)) }
         ensures view { IfOk result (λ view. message.now ≡ Message.View view.now) }
@@ -56,11 +56,11 @@ impl Recovery {
         Ok(view)
     }
 
-    /// Whether a message makes a recovery. Takes no memory.
+    /// Returns whether a message makes a recovery. Takes no memory.
     ///
     /// # Errors
-    /// `NotAddressed` where it is no View, and `NotInPlan` where its places aren't those of the plan's first groups, of all that are there
-    /// at birth at least, each at one of its configurations.
+    /// `NotAddressed` if it is no View, and `NotInPlan` if its places aren't those of the plan's first groups, of all
+    /// that are there at birth at least, each at one of its configurations.
     pub fn admits_birth(plan: &CheckedPlan, message: &Message) -> Result<(), Fault>
         ensures refusal { result ≡ refusal_of (birth_of (checked_model plan.now) (message_of message.now)) }
         ensures own { IfErr result (λ fault. fault ≢ NoMemory) }
@@ -71,10 +71,10 @@ impl Recovery {
         }
     }
 
-    /// A recovery from its first View, with one Fence a group of the View.
+    /// Returns a recovery from its first View, with one Fence a group of the View.
     ///
     /// # Errors
-    /// As [`Recovery::admits_birth`] says, and `NoMemory` where a growth was refused.
+    /// As [`Recovery::admits_birth`] says; `NoMemory`.
     pub fn new(
         alloc: Global,
         plan: Arc<CheckedPlan>,
@@ -98,14 +98,14 @@ impl Recovery {
         Ok((recovery, messages))
     }
 
-    /// The volume epoch.
+    /// Returns the volume epoch.
     pub fn volume(&self) -> u32
         ensures { result ≡ recovery_volume self.now }
     {
         self.volume
     }
 
-    /// How many groups the volume has.
+    /// Returns how many groups the volume has.
     pub fn groups(&self) -> u8
         ensures all { result ≡ (recovery_plan self.now).groups }
         ensures view { length (client_of self.now).groups ≤ result }
@@ -113,11 +113,11 @@ impl Recovery {
         self.standings.plan().groups()
     }
 
-    /// Whether a later View can be taken. Takes no memory.
+    /// Returns whether a later View can be taken. Takes no memory.
     ///
     /// # Errors
-    /// `NotAddressed` where it is one of another volume epoch, and `NotInPlan` where its places aren't those of the plan's first groups, of
-    /// all that are there at birth at least, each at one of its configurations.
+    /// `NotAddressed` if it is one of another volume epoch, and `NotInPlan` if its places aren't those of the plan's
+    /// first groups, of all that are there at birth at least, each at one of its configurations.
     pub fn admits_view(&self, view: &View) -> Result<(), Fault>
         ensures refusal { result ≡ refusal_of (taken (recovery_plan self.now) (recovery_volume self.now) (client_of self.now) (message_of (Message.View view.now))) }
         ensures epoch { OnOk result (view.now.volume ≡ recovery_volume self.now) }
@@ -133,11 +133,12 @@ impl Recovery {
         Ok(())
     }
 
-    /// Takes a later View. Each group moves to its place where that is one of a later epoch, which a group that is new always is; for each
-    /// such group it makes a Fence before its cut, when the group's reports no longer count, and the group's Installs after it.
+    /// Takes a later View. Each group moves to its place where that is one of a later epoch, which a group that is
+    /// new always is; for each such group it makes a Fence before its cut, when the group's reports no longer count,
+    /// and the group's Installs after it.
     ///
     /// # Errors
-    /// As [`Recovery::admits_view`] says, and `NoMemory` where a growth was refused; the recovery is what it was then.
+    /// As [`Recovery::admits_view`] says; `NoMemory`; the recovery is unchanged.
     pub fn view(&mut self, alloc: Global, view: &View) -> Result<Vec<Message>, Fault>
         ensures answers { Answers acted (taken (recovery_plan self.old) (recovery_volume self.old) (client_of self.old) (message_of (Message.View view.now))) (client_of self.old) result (client_of self.new) }
         ensures plan { recovery_plan self.new ≡ recovery_plan self.old }
@@ -159,10 +160,11 @@ impl Recovery {
         }
     }
 
-    /// Whether what a node says that it holds can be taken. Takes no memory.
+    /// Returns whether a report can be taken. Takes no memory.
     ///
     /// # Errors
-    /// `NotAddressed` where it isn't said to this recovery, of a group of the volume with records of that group, by a member.
+    /// `NotAddressed` if it isn't for this recovery, of a group of the volume with records of that group, from a
+    /// member.
     pub fn admits_report(&self, report: &Report) -> Result<(), Fault>
         ensures refusal { result ≡ refusal_of (taken (recovery_plan self.now) (recovery_volume self.now) (client_of self.now) (message_of (Message.Report report.now))) }
         ensures can { OnOk result (is_for (recovery_volume self.now) (recovery_plan self.now).groups (message_of (Message.Report report.now)) ≡ true) }
@@ -174,11 +176,11 @@ impl Recovery {
         Ok(())
     }
 
-    /// Takes what a node says that it holds. It counts before the cut, where its membership epoch is the group's and its lineage is older
+    /// Takes a report. It counts before the cut, where its membership epoch is the group's and its lineage is older
     /// than the recovery, and it is the member's first; else it changes nothing.
     ///
     /// # Errors
-    /// As [`Recovery::admits_report`] says, and `NoMemory` where a growth was refused; the recovery is what it was then.
+    /// As [`Recovery::admits_report`] says; `NoMemory`; the recovery is unchanged.
     pub fn take_report(&mut self, report: &Report) -> Result<(), Fault>
         ensures answers { Answers silent (taken (recovery_plan self.old) (recovery_volume self.old) (client_of self.old) (message_of (Message.Report report.now))) (client_of self.old) result (client_of self.new) }
         ensures plan { recovery_plan self.new ≡ recovery_plan self.old }
@@ -195,10 +197,10 @@ impl Recovery {
         Ok(())
     }
 
-    /// Whether an acknowledgement can be taken. Takes no memory.
+    /// Returns whether an acknowledgement can be taken. Takes no memory.
     ///
     /// # Errors
-    /// `NotAddressed` where it isn't one to this recovery, of a group of the volume and a member.
+    /// `NotAddressed` if it isn't one to this recovery, of a group of the volume and a member.
     pub fn admits_ack(&self, ack: &Ack) -> Result<(), Fault>
         ensures refusal { result ≡ refusal_of (taken (recovery_plan self.now) (recovery_volume self.now) (client_of self.now) (message_of (Message.Ack ack.now))) }
         ensures can { OnOk result (is_for (recovery_volume self.now) (recovery_plan self.now).groups (message_of (Message.Ack ack.now)) ≡ true) }
@@ -210,10 +212,11 @@ impl Recovery {
         Ok(())
     }
 
-    /// Takes an acknowledgement. It is counted after the cut, where its membership epoch is at most the group's; else it changes nothing.
+    /// Takes an acknowledgement. It is counted after the cut, where its membership epoch is at most the group's; else
+    /// it changes nothing.
     ///
     /// # Errors
-    /// As [`Recovery::admits_ack`] says, and `NoMemory` where a growth was refused; the recovery is what it was then.
+    /// As [`Recovery::admits_ack`] says; `NoMemory`; the recovery is unchanged.
     pub fn take_ack(&mut self, ack: &Ack) -> Result<(), Fault>
         ensures answers { Answers silent (taken (recovery_plan self.old) (recovery_volume self.old) (client_of self.old) (message_of (Message.Ack ack.now))) (client_of self.old) result (client_of self.new) }
         ensures plan { recovery_plan self.new ≡ recovery_plan self.old }
@@ -227,7 +230,7 @@ impl Recovery {
         Ok(())
     }
 
-    /// What a cut finds, refused as [`Recovery::admits_cut`] says.
+    /// Finds the log that a cut would find, refused as [`Recovery::admits_cut`] says.
     fn find_cut(&self, alloc: Global) -> Result<Found, Fault>
         ensures { AnswersLate is_spent (found_step (recovery_volume self.now)) (cut_client (recovery_plan self.now) (recovery_volume self.now) (client_of self.now)) (recovery_groups self.now) result (recovery_groups self.now) }
     {
@@ -240,12 +243,12 @@ impl Recovery {
         find(alloc, self.volume, &self.standings)
     }
 
-    /// Whether it can cut the log that the reports hold.
+    /// Returns whether it can cut the log that the reports hold.
     ///
     /// # Errors
-    /// `AlreadyDone` where it has cut, `NotReady` where in some group the senders of its reports are no read set, and `LsnSpent` where its
-    /// own numbers would begin above the greatest; `NoMemory`, which may come before `LsnSpent`, since the log is found first, where a
-    /// growth was refused.
+    /// `AlreadyDone` if it has cut, `NotReady` if in some group the senders of its reports are no read set, and
+    /// `LsnSpent` if its own numbers would begin above the greatest; `NoMemory`, which may come before `LsnSpent`,
+    /// since the log is found first, if there is no memory.
     pub fn admits_cut(&self, alloc: Global) -> Result<(), Fault>
         ensures { AnswersLate is_spent admitted (refusal_of (cut_client (recovery_plan self.now) (recovery_volume self.now) (client_of self.now))) tt result tt }
     {
@@ -255,11 +258,11 @@ impl Recovery {
         }
     }
 
-    /// Cuts the log that the reports hold, and makes the Installs of what it has found, one a piece of a group: the newest
-    /// lineage with its own entry, and the log up to the cut.
+    /// Cuts the log that the reports hold, and makes the Installs of what it has found, one a piece of a group: the
+    /// newest lineage with its own entry, and the log up to the cut.
     ///
     /// # Errors
-    /// As [`Recovery::admits_cut`] says; the recovery is what it was then.
+    /// As [`Recovery::admits_cut`] says; the recovery is unchanged.
     pub fn cut(&mut self, alloc: Global) -> Result<Vec<Message>, Fault>
         ensures answers { AnswersLate is_spent acted (cut_client (recovery_plan self.old) (recovery_volume self.old) (client_of self.old)) (client_of self.old) result (client_of self.new) }
         ensures plan { recovery_plan self.new ≡ recovery_plan self.old }
@@ -274,7 +277,7 @@ impl Recovery {
         Ok(messages)
     }
 
-    /// No more records than this many has the log that its reports hold.
+    /// Returns a bound on the number of records of the log that its reports hold.
     pub fn reported(&self) -> usize
         ensures { length (log_reported (client_of self.now)) ≤ result }
     {
@@ -282,7 +285,7 @@ impl Recovery {
         records_said(self.standings.as_slice())
     }
 
-    /// How many records the log has that it has found, and 0 before its cut.
+    /// Returns how many records the log has that it has found, and 0 before its cut.
     pub fn found_len(&self) -> usize
         ensures { result ≡ length (client_of self.now).found }
     {
@@ -292,17 +295,17 @@ impl Recovery {
         }
     }
 
-    /// What it has found, and none before its cut.
+    /// Returns what it has found, `None` before its cut.
     pub fn found(&self) -> Option<&Found>
         ensures { MatchOption result (has_cut (client_of self.now).stage ≡ false) (λ found. (has_cut (client_of self.now).stage ≡ true) × IsFindOf (client_of self.now) found.now) }
     {
         self.found.as_ref()
     }
 
-    /// Whether it can become a writer. Takes no memory.
+    /// Returns the refusal of [`Recovery::open`] without acting. Takes no memory.
     ///
     /// # Errors
-    /// `NotReady` before its cut, and until the members of a write set of each group have acknowledged what it installed.
+    /// `NotReady` before its cut, and until a write quorum of each group has acknowledged its install.
     pub fn admits_open(&self) -> Result<(), Fault>
         ensures refusal { result ≡ refusal_of (opened (recovery_plan self.now) (client_of self.now)) }
         ensures cut { OnOk result (has_cut (client_of self.now).stage ≡ true) }
@@ -315,10 +318,11 @@ impl Recovery {
         Ok(())
     }
 
-    /// The writer that it becomes once the members of a write set of each group have acknowledged what it installed. Takes no memory.
+    /// Opens: returns the writer that the recovery becomes once a write quorum of each group has acknowledged its
+    /// install. Takes no memory.
     ///
     /// # Errors
-    /// As [`Recovery::admits_open`] says, with the recovery as it was.
+    /// Those of [`Recovery::admits_open`], with the recovery unchanged.
     pub fn open(self) -> Result<Writer, (Fault, Recovery)>
         ensures opens { Opens (opened (recovery_plan self) (client_of self)) self result }
         ensures plan { IfOk result (λ w. writer_plan w ≡ recovery_plan self) }

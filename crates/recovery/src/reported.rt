@@ -26,10 +26,10 @@ fn newest_reported<'a>(standings: &'a [Standing], last: &'a Lineage) -> &'a Line
     }
 }
 
-/// The newest lineage of all reports, and none where there is no report.
+/// Returns the newest lineage of all reports, and none where there is no report.
 ///
 /// # Errors
-/// Where a growth was refused.
+/// `AllocError` if there is no memory.
 pub fn newest_lineage(alloc: Global, standings: &[Standing]) -> Result<Lineage, AllocError>
     ensures { IfOk result (λ lineage. lineage_of lineage ≡ newest (reports_in (groups_of standings.now))) }
 {
@@ -37,10 +37,10 @@ pub fn newest_lineage(alloc: Global, standings: &[Standing]) -> Result<Lineage, 
     newest_reported(standings, &none).clone()
 }
 
-/// All reported records that are live in the lineage.
+/// Returns all reported records that are live in the lineage.
 ///
 /// # Errors
-/// Where a growth was refused.
+/// `AllocError` if there is no memory.
 pub fn found_in(
     alloc: Global,
     lineage: &Lineage,
@@ -57,7 +57,8 @@ pub fn found_in(
     }
 }
 
-/// How many records the reports of a group hold, each counted as often as it is held; at most the greatest number.
+/// Returns how many records the reports of a group hold, each counted as often as it is held; at most the greatest
+/// number.
 fn records_in(copies: &[Copied]) -> usize
     ensures { result ≡ min (records_in (contents_of (copies_in copies.now))) (2 ^ 64 - 1) }
 {
@@ -67,7 +68,8 @@ fn records_in(copies: &[Copied]) -> usize
     }
 }
 
-/// How many records the reports of all groups hold, each counted as often as it is held; at most the greatest number.
+/// Returns how many records the reports of all groups hold, each counted as often as it is held; at most the greatest
+/// number.
 pub fn records_said(standings: &[Standing]) -> usize
     ensures { result ≡ min (records_in (reports_in (groups_of standings.now))) (2 ^ 64 - 1) }
 {

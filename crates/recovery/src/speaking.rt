@@ -1,4 +1,4 @@
-//! What a recovery says to nodes.
+//! The messages of a recovery to nodes.
 
 ghost use Rattle.std.specs.Prelude.{◌≡◌, ◌≤◌, true, length, map, IfOk};
 ghost use Rattle.volume_model.specs.Message.{place_in};
@@ -19,7 +19,7 @@ use writer_core::{Standings, group_installs, label_at};
 /// One Fence a group of the view.
 ///
 /// # Errors
-/// Where a growth was refused.
+/// `AllocError` if there is no memory.
 pub fn fences(alloc: Global, volume: u32, standings: &Standings) -> Result<Vec<Message>, AllocError>
     ensures { IfOk result (λ messages. messages_of messages.items ≡ fences (length (groups_in standings.now)) volume (place_of (groups_in standings.now)) (λ group. true)) }
 {
@@ -36,7 +36,7 @@ pub fn fences(alloc: Global, volume: u32, standings: &Standings) -> Result<Vec<M
 /// One Fence for each group that these places raise.
 ///
 /// # Errors
-/// Where a growth was refused.
+/// `AllocError` if there is no memory.
 pub fn later_fences(
     alloc: Global,
     volume: u32,
@@ -59,10 +59,10 @@ pub fn later_fences(
     Ok(messages)
 }
 
-/// The Installs of what was found for all groups of the view, in order of group, then piece.
+/// Returns the Installs of what was found for all groups of the view, in order of group, then piece.
 ///
 /// # Errors
-/// Where a growth was refused.
+/// `AllocError` if there is no memory.
 pub fn installs(
     alloc: Global,
     volume: u32,
@@ -80,10 +80,10 @@ pub fn installs(
     Ok(messages)
 }
 
-/// The Installs of what was found for each group that these places raise, in order of group, then piece.
+/// Returns the Installs of what was found for each group that these places raise, in order of group, then piece.
 ///
 /// # Errors
-/// Where a growth was refused.
+/// `AllocError` if there is no memory.
 pub fn later_installs(
     alloc: Global,
     volume: u32,

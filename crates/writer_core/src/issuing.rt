@@ -35,8 +35,8 @@ pub struct Span {
     pub ghost assigned: { 1 ≤ volume },
 }
 
-/// The packet of a change's record behind a log, of which the last LSNs are known; `point` makes it a consistency point. They then know
-/// the record too, and where memory runs out they don't.
+/// Returns the record of a change's record behind a log, of which the last LSNs are known; `point` makes it a
+/// consistency point. They then know the record too, and where memory runs out they don't.
 #[inline(always)]
 fn next_packet(
     alloc: Global,
@@ -80,7 +80,7 @@ fn next_packet(
     }
 }
 
-/// A record as a writer of this volume epoch carries it to the nodes of its group.
+/// Returns a record as a writer of this volume epoch carries it to the nodes of its group.
 pub fn carry<'a>(volume: u32, standings: &Standings, packet: &'a SharedRecord) -> Carried<'a>
     ensures { carried_write result ≡ model.Message.Write (shared_redo packet.now).group (label_of volume (place_of (groups_in standings.now)) (shared_redo packet.now).group) (shared_redo packet.now) }
 {
@@ -92,7 +92,7 @@ pub fn carry<'a>(volume: u32, standings: &Standings, packet: &'a SharedRecord) -
     }
 }
 
-/// No message yet, but room for so many. One takes no memory.
+/// No message yet, but room for this many. One takes no memory.
 #[inline(always)]
 pub fn room_for(alloc: Global, messages: usize) -> Result<Messages, AllocError>
     ensures { IfOk result (λ made. listed made ≡ []) }

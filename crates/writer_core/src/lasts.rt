@@ -11,7 +11,8 @@ use std::mem;
 /// The most groups that a volume has.
 pub const GROUPS: usize = 16;
 
-/// Puts a number for a block, and answers the one that stood there, 0 where there was none. Where memory runs out nothing has changed.
+/// Puts a number for a block, and answers the one that stood there, 0 where there was none. On error nothing has
+/// changed.
 #[inline(always)]
 fn put(blocks: &mut BTreeMap<(u32, u8), u64>, place: (u32, u8), lsn: u64) -> Result<u64, AllocError>
     ensures before { IfOk result (λ before. before ≡ kept_in blocks.old place.1 place.0) }
@@ -54,7 +55,7 @@ impl Lasts {
         }
     }
 
-    /// The last LSN of a group, 0 where there is none.
+    /// Returns the last LSN of a group, 0 where there is none.
     pub fn of_group(&self, group: u8) -> u64
         requires { group < 16 }
         ensures { result ≡ kept_of_group self.now group }
@@ -91,8 +92,8 @@ impl Lasts {
         Ok(())
     }
 
-    /// Takes the record out again that was entered last: what it names stands there as before. It stands apart, since want of memory alone
-    /// comes to it.
+    /// Removes the record that was entered last: the LSNs that it names are the last ones again. Out of line, since
+    /// it is called only when memory ran out.
     #[inline(never)]
     pub fn leave(&mut self, group: u8, block: u32, prev_group: u64, prev_block: u64)
         requires group { group < 16 }
@@ -110,7 +111,7 @@ impl Lasts {
         self.entered -= 1;
     }
 
-    /// Takes records out again, the last first, until at most so many of the log are entered. Takes no memory.
+    /// Takes records out again, the last first, until at most this many of the log are entered. Takes no memory.
     pub fn go_back(&mut self, log: &Log, records: usize)
         requires front { AreLastsOfFront self.old (packets_in log.now) }
         requires linked { AreLinkedFrom records (packets_in log.now) }

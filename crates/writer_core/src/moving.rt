@@ -13,8 +13,8 @@ use plan::CheckedPlan;
 use std::alloc::AllocError;
 use wire::Place;
 
-/// Whether these are places of the plan's first groups, of all that are there at birth at least, in their order, each at one of its
-/// configurations.
+/// Returns whether these are places of the plan's first groups, of all that are there at birth at least, in their
+/// order, each at one of its configurations.
 pub fn are_places(plan: &CheckedPlan, places: &[Place]) -> bool
     ensures { result ≡ are_places (checked_model plan.now) (map place_of places.now) }
 {
@@ -42,7 +42,7 @@ pub fn raise(plan: &CheckedPlan, standings: &mut [Standing])
     }
 }
 
-/// Takes up groups that stand nowhere yet, up to so many. Where memory runs out nothing has changed.
+/// Takes up groups that stand nowhere yet, up to this many. On error nothing has changed.
 pub fn extend(standings: &mut Vec<Standing>, groups: usize) -> Result<(), AllocError>
     ensures more { OnOk result (groups_of standings.new.items ≡ groups_of standings.old.items ++ replicate (groups - length standings.old.items) no_group) }
     ensures same { OnErr result (groups_of standings.new.items ≡ groups_of standings.old.items) }

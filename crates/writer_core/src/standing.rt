@@ -1,4 +1,4 @@
-//! What a client keeps of one group.
+//! A client's state of one group.
 
 use crate::count::Count;
 use crate::counts::{add, best_from, reaching};
@@ -8,12 +8,12 @@ use quorum_expr::holds;
 use std::alloc::{AllocError, AllocFailed, Global};
 use wire::{Place, Report};
 
-/// What a client keeps of a group.
+/// A client's state of one group.
 #[derive(Drop)]
 pub struct Standing {
-    /// The group's configuration and membership epoch, as far as the client was told.
+    /// The group's configuration and membership epoch, as far as the client knows.
     pub place: Place,
-    /// What members said that they hold, the first report of each. After a recovery's cut they no longer matter.
+    /// The first report of each member. They no longer matter after a recovery's cut.
     pub copies: Vec<Copied>,
     /// The acknowledgements counted.
     pub counts: Vec<Count>,
@@ -35,7 +35,7 @@ impl Standing {
     ghost use Rattle.wire.specs.Message.{place_of};
     ghost use Rattle.writer_core.specs.Standings.{group_at, counted_group, report_of, reported_group};
 
-    /// As a client comes to it that finds it at this place.
+    /// Makes the state of a client that finds the group at this place.
     pub(crate) fn at(alloc: Global, place: Place) -> Standing
         ensures { group_at result ≡ newly_at (place_of place) }
     {
@@ -48,7 +48,7 @@ impl Standing {
         }
     }
 
-    /// As the first writer finds it that is there when the volume is born.
+    /// Makes the first writer's state of a group that is there at birth.
     pub(crate) fn born(alloc: Global) -> Standing
         ensures { group_at result ≡ born_group }
     {
@@ -61,7 +61,7 @@ impl Standing {
         standing
     }
 
-    /// As a group is to a client that doesn't have it.
+    /// Makes the state of a group that isn't in the client's view.
     pub(crate) fn none(alloc: Global) -> Standing
         ensures { group_at result ≡ no_group }
     {
@@ -72,7 +72,7 @@ impl Standing {
         Standing::at(alloc, nowhere)
     }
 
-    /// Counts an acknowledgement. Where memory runs out nothing has changed.
+    /// Counts an acknowledgement. On error nothing has changed.
     pub(crate) fn count(&mut self, sender: u8, reached: u64) -> Result<(), AllocFailed<Count>>
         requires { sender < 64 }
         ensures counted { OnOk result (group_at self.new ≡ counted_group (group_at self.old) sender reached) }
@@ -82,8 +82,7 @@ impl Standing {
         add(&mut self.counts, sender, reached)
     }
 
-    /// Keeps a copy of what a member says that it holds, where it is the member's first report. Where memory runs out nothing has
-    /// changed.
+    /// Keeps a copy of a report, where it is the member's first report. On error nothing has changed.
     pub(crate) fn keep(&mut self, report: &Report) -> Result<(), AllocError>
         requires { report.now.from < 64 }
         ensures kept { OnOk result (group_at self.new ≡ reported_group (group_at self.old) (report_of report.now)) }
@@ -115,7 +114,7 @@ impl Standing {
         }
     }
 
-    /// Moves to a place, where that is one of a later epoch.
+    /// Moves to a place if its epoch is later.
     pub(crate) fn follow(&mut self, place: Place)
         ensures { group_at self.new ≡ later_group (group_at self.old) (place_of place) }
     {
@@ -124,7 +123,7 @@ impl Standing {
         }
     }
 
-    /// Moves to a place, where that is one of a later epoch, and then drops the reports.
+    /// Moves to a place if its epoch is later, and then drops the reports.
     pub(crate) fn reread(&mut self, place: Place)
         ensures { group_at self.new ≡ reread_group (group_at self.old) (place_of place) }
     {
@@ -134,7 +133,7 @@ impl Standing {
         }
     }
 
-    /// Whether the senders of its reports are a read set.
+    /// Returns whether the senders of its reports are a read set.
     pub(crate) fn has_read(&self, plan: &CheckedPlan, group: u8) -> bool
         requires group { group < (checked_model plan.now).groups }
         requires configuration { self.now.place.configuration < (checked_model plan.now).configurations group }
@@ -146,7 +145,7 @@ impl Standing {
         }
     }
 
-    /// Whether the members whose acknowledgement is counted are a write set.
+    /// Returns whether the members whose acknowledgement is counted are a write set.
     pub(crate) fn has_installed(&self, plan: &CheckedPlan, group: u8) -> bool
         requires group { group < (checked_model plan.now).groups }
         requires configuration { self.now.place.configuration < (checked_model plan.now).configurations group }

@@ -1,4 +1,4 @@
-//! What a client keeps of the groups of its view.
+//! A client's state of the groups of its view.
 
 ghost use Rattle.std.specs.Prelude.{◌≡◌, ◌≤◌, length};
 ghost use Rattle.std.specs.Arc.{arc_value};
@@ -13,7 +13,7 @@ use std::alloc::{AllocError, AllocFailed, Global};
 use std::sync::Arc;
 use wire::{Ack, Label, Place, Report};
 
-/// What a client keeps of the groups of its view: the first ones of its plan, in their order.
+/// A client's state of the groups of its view, which are the first ones of its plan.
 #[derive(Drop)]
 pub struct Standings {
     plan: Arc<CheckedPlan>,
@@ -34,10 +34,10 @@ impl Standings {
     ghost use Rattle.writer_core.specs.Raised.{raised_in};
     ghost use Rattle.writer_core.specs.Groups.{groups_in, standings_plan, keeping};
 
-    /// As the first writer comes to a new volume: each group that is there at birth, at its root.
+    /// Makes the first writer's state: each group that is there at birth, at its root.
     ///
     /// # Errors
-    /// Where a growth was refused.
+    /// `AllocError` if there is no memory.
     pub fn at_roots(alloc: Global, plan: Arc<CheckedPlan>) -> Result<Standings, AllocError>
         ensures groups { IfOk result (λ s. groups_in s ≡ replicate (checked_model (arc_value plan)).born born_group) }
         ensures plan { IfOk result (λ s. standings_plan s ≡ checked_model (arc_value plan)) }
@@ -50,10 +50,10 @@ impl Standings {
         Ok(Standings { plan, list })
     }
 
-    /// As a client comes to groups that stand at these places.
+    /// Makes the state of a client that finds the groups at these places.
     ///
     /// # Errors
-    /// Where a growth was refused.
+    /// `AllocError` if there is no memory.
     pub fn at_places(
         alloc: Global,
         plan: Arc<CheckedPlan>,
@@ -70,7 +70,7 @@ impl Standings {
         Ok(Standings { plan, list })
     }
 
-    /// The plan.
+    /// Returns the plan.
     pub fn plan(&self) -> &CheckedPlan
         ensures { checked_model result.now ≡ standings_plan self.now }
     {
@@ -82,7 +82,7 @@ impl Standings {
         *self.list.allocator()
     }
 
-    /// How many groups the view has.
+    /// Returns how many groups the view has.
     pub fn groups(&self) -> u8
         ensures groups { result ≡ length (groups_in self.now) }
         ensures within { result ≤ (standings_plan self.now).groups }
@@ -105,7 +105,7 @@ impl Standings {
         self.list.get(usize::from(group))
     }
 
-    /// The LSN up to which a group is acknowledged, and 0 where the view has no such group.
+    /// Returns the LSN up to which a group is acknowledged, and 0 where the view has no such group.
     pub fn point(&self, group: u8) -> u64
         ensures { result ≡ group_point_of (groups_in self.now) group }
     {
@@ -114,7 +114,7 @@ impl Standings {
             .map_or(0, |standing| standing.point)
     }
 
-    /// The membership epoch of a group, as far as the client was told, and 0 where the view has no such group.
+    /// Returns the membership epoch of a group, as far as the client knows, and 0 where the view has no such group.
     pub fn epoch(&self, group: u8) -> u32
         ensures { result ≡ (client.place_of (groups_in self.now) group).epoch }
     {
@@ -123,8 +123,8 @@ impl Standings {
             .map_or(0, |standing| standing.place.epoch)
     }
 
-    /// Whether a group has joined the writer: it was there at the volume's birth, or a write set has acknowledged its install at a moment
-    /// since the writer opened. None has that isn't in the view.
+    /// Returns whether a group has joined the writer: it was there at the volume's birth, or a write set has
+    /// acknowledged its install at a moment since the writer opened. None has that isn't in the view.
     pub fn has_joined(&self, group: u8) -> bool
         ensures { result ≡ (group_of (groups_in self.now) group).joined }
     {
@@ -133,7 +133,7 @@ impl Standings {
             .map_or(false, |standing| standing.joined)
     }
 
-    /// The label under which a client of this volume epoch speaks to a group.
+    /// Returns the label under which a client of this volume epoch speaks to a group.
     pub fn label(&self, volume: u32, group: u8) -> Label
         ensures { label_of result ≡ client.label_of volume (client.place_of (groups_in self.now)) group }
     {
@@ -143,8 +143,8 @@ impl Standings {
         }
     }
 
-    /// Counts an acknowledgement of a group: the greatest complete point of its sender is kept. No point is raised yet. One of a group
-    /// outside the view changes nothing. Where memory runs out nothing has changed.
+    /// Counts an acknowledgement of a group: the greatest complete point of its sender is kept. No point is raised
+    /// yet. One of a group outside the view changes nothing. On error nothing has changed.
     pub fn count(&mut self, ack: &Ack) -> Result<(), AllocFailed<Count>>
         requires sender { ack.now.from < 64 }
         ensures counted { OnOk result (groups_in self.new ≡ counted_in (groups_in self.old) ack.now.group ack.now.from ack.now.scl) }
@@ -157,8 +157,8 @@ impl Standings {
         }
     }
 
-    /// Keeps a copy of what a member of a group says that it holds, where it is the member's first report. One of a group outside the view
-    /// changes nothing. Where memory runs out nothing has changed.
+    /// Keeps a member's report of a group if it is the member's first. One of a group outside the view changes
+    /// nothing. On error nothing has changed.
     pub fn keep(&mut self, report: &Report) -> Result<(), AllocError>
         requires sender { report.now.from < 64 }
         ensures kept { OnOk result (groups_in self.new ≡ reported_in (groups_in self.old) report.now.group (report_of report.now)) }
@@ -189,16 +189,16 @@ impl Standings {
         }
     }
 
-    /// Whether these are places of the plan's first groups, of all that are there at birth at least, in their order, each at one of its
-    /// configurations.
+    /// Returns whether these are places of the plan's first groups, of all that are there at birth at least, in their
+    /// order, each at one of its configurations.
     pub fn are_places(&self, places: &[Place]) -> bool
         ensures { result ≡ are_places (standings_plan self.now) (map place_of places.now) }
     {
         are_places(&self.plan, places)
     }
 
-    /// Moves each group to its place, where that is one of a later epoch, and takes up those that are new. Where memory runs out nothing has
-    /// changed.
+    /// Moves each group to its place, where that is one of a later epoch, and takes up those that are new. On error
+    /// nothing has changed.
     pub fn follow(&mut self, places: &[Place]) -> Result<(), AllocError>
         requires { are_places (standings_plan self.old) (map place_of places.now) ≡ true }
         ensures groups { OnOk result (groups_in self.new ≡ with_places later_group (groups_in self.old) (map place_of places.now)) }
@@ -210,8 +210,8 @@ impl Standings {
         Ok(())
     }
 
-    /// Moves each group to its place, where that is one of a later epoch, and then drops the group's reports; takes up those that are new.
-    /// Where memory runs out nothing has changed.
+    /// Moves each group to its place, where that is one of a later epoch, and then drops the group's reports; takes
+    /// up those that are new. On error nothing has changed.
     pub fn reread(&mut self, places: &[Place]) -> Result<(), AllocError>
         requires { are_places (standings_plan self.old) (map place_of places.now) ≡ true }
         ensures groups { OnOk result (groups_in self.new ≡ with_places reread_group (groups_in self.old) (map place_of places.now)) }
@@ -223,7 +223,7 @@ impl Standings {
         Ok(())
     }
 
-    /// Whether in each group the senders of the kept reports are a read set.
+    /// Returns whether in each group the senders of the kept reports are a read set.
     pub fn has_read(&self) -> bool
         ensures { result ≡ has_read (standings_plan self.now) (keeping (groups_in self.now)) }
     {
@@ -235,7 +235,7 @@ impl Standings {
         true
     }
 
-    /// Whether in each group the members whose acknowledgement is counted are a write set.
+    /// Returns whether in each group the members whose acknowledgement is counted are a write set.
     pub fn has_installed(&self) -> bool
         ensures { result ≡ has_installed (standings_plan self.now) (keeping (groups_in self.now)) }
     {

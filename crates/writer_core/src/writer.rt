@@ -25,7 +25,7 @@ use std::sync::Arc;
 use volume_model::Fault;
 use wire::{Ack, Carried, Message, Messages, PageAsk, View};
 
-/// The greatest log sequence number.
+/// The greatest LSN.
 const LAST_LSN: u64 = 1 << 62;
 
 /// The writer of a volume epoch: the log that it began with, and what it has issued since.
@@ -64,7 +64,8 @@ impl Writer {
     ghost use Rattle.writer_core.specs.Writers.{client_of, writer_plan, writer_volume, installing, CanIssue, acted, answered, silent, asked, sent};
     ghost use Rattle.lineage.specs.Lineage.{lineage_of};
 
-    /// The writer that a volume is born with: volume epoch 1, each group that is there at its root, no record. Fails for want of memory alone.
+    /// Returns the writer that a volume is born with: volume epoch 1, each group that is there at its root, no
+    /// record. Fails only with `NoMemory`.
     pub fn first(alloc: Global, plan: Arc<CheckedPlan>) -> Result<Writer, Fault>
         ensures client { AnswersNew client_of (Ok (first_writer (checked_model (arc_value plan)))) result }
         ensures plan { IfOk result (λ w. writer_plan w ≡ checked_model (arc_value plan)) }
@@ -108,65 +109,65 @@ impl Writer {
         }
     }
 
-    /// The volume epoch.
+    /// Returns the volume epoch.
     pub fn volume(&self) -> u32
         ensures { result ≡ writer_volume self.now }
     {
         self.volume
     }
 
-    /// How many groups the volume has.
+    /// Returns how many groups the volume has.
     pub fn groups(&self) -> u8
         ensures { result ≡ (writer_plan self.now).groups }
     {
         self.standings.plan().groups()
     }
 
-    /// The lineage under which it writes.
+    /// Returns the lineage under which it writes.
     pub fn lineage(&self) -> &Lineage
         ensures { lineage_of result.now ≡ (client_of self.now).lineage }
     {
         &self.lineage
     }
 
-    /// The log that its recovery found, in growing LSN; none of the writer that a volume is born with.
+    /// Returns the log that its recovery found, in growing LSN; none of the writer that a volume is born with.
     pub fn found(&self) -> &RecordSet
         ensures { log_of_set result.now ≡ (client_of self.now).found }
     {
         self.log.found()
     }
 
-    /// The LSN after which its own records begin.
+    /// Returns the LSN after which its own records begin.
     pub fn start(&self) -> u64
         ensures { result ≡ last_start (client_of self.now).lineage }
     {
         self.lineage.last_start()
     }
 
-    /// The log, in growing LSN.
+    /// Returns the log, in growing LSN.
     pub fn log(&self) -> &Log
         ensures { log_in result.now ≡ (client_of self.now).log }
     {
         &self.log
     }
 
-    /// The greatest LSN of the log up to which each record is covered by its group's point, else 0.
+    /// Returns the greatest LSN of the log up to which each record is covered by its group's point, else 0.
     pub fn complete_point(&self) -> u64
         ensures { result ≡ complete_point (client_of self.now) }
     {
         self.covered.complete
     }
 
-    /// The greatest consistency point that is not above the complete point, else 0. A commit is complete where it isn't
-    /// above this.
+    /// Returns the greatest consistency point that is not above the complete point, else 0. A commit is complete
+    /// where it isn't above this.
     pub fn durable_point(&self) -> u64
         ensures { result ≡ durable_point (client_of self.now) }
     {
         self.covered.durable
     }
 
-    /// Whether an acknowledgement can be taken: `NotAddressed` where it isn't one to this writer, of a group of the volume and a
-    /// member. Takes no memory.
+    /// Returns whether an acknowledgement can be taken: `NotAddressed` if it isn't one to this writer, of a group of
+    /// the volume and a member. Takes no memory.
     pub fn admits_ack(&self, ack: &Ack) -> Result<(), Fault>
         ensures refusal { result ≡ refusal_of (taken (writer_plan self.now) (writer_volume self.now) (client_of self.now) (message_of (Message.Ack ack.now))) }
         ensures can { OnOk result (is_for (writer_volume self.now) (writer_plan self.now).groups (message_of (Message.Ack ack.now)) ≡ true) }
@@ -178,11 +179,11 @@ impl Writer {
         Ok(())
     }
 
-    /// Takes an acknowledgement. It is counted where its membership epoch is at most the one that the writer knows of the group; a later
-    /// one changes nothing. Only its own group's point may rise, and only its own group join.
+    /// Takes an acknowledgement. It is counted where its membership epoch is at most the one that the writer knows of
+    /// the group; a later one changes nothing. Only its own group's point may rise, and only its own group join.
     ///
     /// # Errors
-    /// As [`Writer::admits_ack`], and `NoMemory` where that admits it and a growth was refused.
+    /// As [`Writer::admits_ack`]; `NoMemory`.
     pub fn take_ack(&mut self, ack: &Ack) -> Result<(), Fault>
         ensures answers { Answers silent (taken (writer_plan self.old) (writer_volume self.old) (client_of self.old) (message_of (Message.Ack ack.now))) (client_of self.old) result (client_of self.new) }
         ensures plan { writer_plan self.new ≡ writer_plan self.old }
@@ -201,8 +202,9 @@ impl Writer {
         Ok(())
     }
 
-    /// Whether a View can be taken: `NotAddressed` where it is one of another volume epoch, `NotInPlan` where its places aren't those
-    /// of the plan's first groups, of all that are there at birth at least, each at one of its configurations. Takes no memory.
+    /// Returns whether a View can be taken: `NotAddressed` if it is one of another volume epoch, `NotInPlan` if its
+    /// places aren't those of the plan's first groups, of all that are there at birth at least, each at one of its
+    /// configurations. Takes no memory.
     pub fn admits_view(&self, view: &View) -> Result<(), Fault>
         ensures refusal { result ≡ refusal_of (taken (writer_plan self.now) (writer_volume self.now) (client_of self.now) (message_of (Message.View view.now))) }
         ensures epoch { OnOk result (view.now.volume ≡ writer_volume self.now) }
@@ -218,12 +220,12 @@ impl Writer {
         Ok(())
     }
 
-    /// Takes a View: each group moves to its place where that is one of a later epoch, those that are new are taken up, and the points of
-    /// all groups are raised. Each group that moves or is new, and hasn't joined, is installed, with no records: one Install a group, in
-    /// their order.
+    /// Takes a View: each group moves to its place where that is one of a later epoch, those that are new are taken
+    /// up, and the points of all groups are raised. Each group that moves or is new, and hasn't joined, is installed,
+    /// with no records: one Install a group, in their order.
     ///
     /// # Errors
-    /// As [`Writer::admits_view`], and `NoMemory` where that admits it and a growth was refused.
+    /// As [`Writer::admits_view`]; `NoMemory`.
     pub fn view(&mut self, alloc: Global, view: &View) -> Result<Vec<Message>, Fault>
         ensures answers { Answers acted (taken (writer_plan self.old) (writer_volume self.old) (client_of self.old) (message_of (Message.View view.now))) (client_of self.old) result (client_of self.new) }
         ensures plan { writer_plan self.new ≡ writer_plan self.old }
@@ -244,7 +246,8 @@ impl Writer {
         Ok(messages)
     }
 
-    /// A record of the log, to be carried once more by a Write. `NoLogRecord` where the log has none with this LSN. Takes no memory.
+    /// Returns a record of the log, to be carried once more by a Write. `NoLogRecord` if the log has none with this
+    /// LSN. Takes no memory.
     pub fn resend(&self, lsn: u64) -> Result<Carried<'_>, Fault>
         ensures answers { AnswersAlways sent (resent (writer_volume self.now) (client_of self.now) lsn) (client_of self.now) result (client_of self.now) }
         ensures own { IfErr result (λ fault. fault ≢ NoMemory) }
@@ -255,7 +258,8 @@ impl Writer {
         }
     }
 
-    /// A question for a block's bytes at the durable point. `NoGroup` where the view has no such group. Takes no memory.
+    /// Returns a request for a block's page at the durable point. `NoGroup` if the view has no such group. Takes no
+    /// memory.
     pub fn read(&self, group: u8, block: u32) -> Result<Message, Fault>
         ensures answers { AnswersAlways asked (page_asked (writer_volume self.now) (client_of self.now) group block) (client_of self.now) result (client_of self.now) }
         ensures own { IfErr result (λ fault. fault ≢ NoMemory) }
@@ -271,8 +275,8 @@ impl Writer {
         }))
     }
 
-    /// The LSN up to which a group is acknowledged: the greatest that a write set of its members has said at some moment. `NoGroup`
-    /// where the view has no such group.
+    /// Returns the LSN up to which a group is acknowledged: the greatest that a write set of its members has said at
+    /// some moment. `NoGroup` if the view has no such group.
     pub fn group_point(&self, group: u8) -> Result<u64, Fault>
         ensures { MatchResult result (λ point. (group < length (client_of self.now).groups) × (group_point_of (client_of self.now).groups group ≡ point)) (λ fault. (length (client_of self.now).groups ≤ group) × (fault ≡ NoGroup)) }
     {
@@ -282,16 +286,17 @@ impl Writer {
         }
     }
 
-    /// Whether the LSN is that of a consistency point of the log, and not above the durable point.
+    /// Returns whether the LSN is that of a consistency point of the log, and not above the durable point.
     pub fn acknowledged(&self, lsn: u64) -> bool
         ensures { result ≡ acknowledged (client_of self.now) lsn }
     {
         self.log.is_point(lsn) && lsn <= self.durable_point()
     }
 
-    /// Whether a transaction can be issued: `BadTransaction` where it isn't one of 1 to 32 good changes of groups of the view, `NotJoined`
-    /// where one of them is of a group that hasn't joined, `LsnSpent` where no log sequence numbers are left for it, `LimitReached`
-    /// where the last of its records would stand further above the durable point and the start than the plan allows. Takes no memory.
+    /// Returns whether a transaction can be issued: `BadTransaction` if it isn't one of 1 to 32 good changes of
+    /// groups of the view, `NotJoined` if one of them is of a group that hasn't joined, `LsnSpent` if no LSNs are
+    /// left for it, `LimitReached` if the last of its records would stand further above the durable point and the
+    /// start than the plan allows. Takes no memory.
     pub fn admits(&self, changes: &[Change]) -> Result<(), Fault>
         ensures refusal { result ≡ refusal_of (issued (writer_plan self.now) (writer_volume self.now) (client_of self.now) (changes_of changes.now)) }
         ensures ok { OnOk result (issued (writer_plan self.now) (writer_volume self.now) (client_of self.now) (changes_of changes.now) ≡ Ok (issue_step (writer_volume self.now) (client_of self.now) (changes_of changes.now))) }
@@ -323,9 +328,8 @@ impl Writer {
         Ok(())
     }
 
-    /// Gives a transaction's changes their records, all or none, and makes the Writes that carry them, in order. The last is
-    /// a consistency point. Refused as [`Writer::admits`] says. Where memory runs out the log is what it was, and nothing of
-    /// it is read anew.
+    /// Issues a transaction: appends a record for each change, all or none, and returns their Writes, in order. The
+    /// last record is a consistency point. Refused as [`Writer::admits`] says; on error the writer is unchanged.
     pub fn issue(&mut self, alloc: Global, changes: &[Change]) -> Result<Messages, Fault>
         ensures answers { Answers answered (issued (writer_plan self.old) (writer_volume self.old) (client_of self.old) (changes_of changes.now)) (client_of self.old) result (client_of self.new) }
         ensures plan { writer_plan self.new ≡ writer_plan self.old }
