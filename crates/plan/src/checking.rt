@@ -15,7 +15,7 @@ ghost use Rattle.quorum_checker.specs.FirstFault.{first_fault};
 use crate::checked::CheckedPlan;
 use crate::configurations::{Configuration, Group, Plan};
 use crate::fault::PlanFault;
-use crate::lent::LentClaim;
+use crate::lent::ClaimRef;
 use crate::parents::check_shape;
 use quorum_checker::no_fault_refutes;
 use refutation::Certificate;
@@ -25,7 +25,7 @@ use volume_model::Fault;
 /// Whether a certificate refutes a claim.
 fn check_certificate(
     alloc: Global,
-    claim: &LentClaim<'_>,
+    claim: &ClaimRef<'_>,
     certificate: &Certificate<Global>,
 ) -> Result<(), PlanFault>
     ensures { Finds result (certificate_fault claim.now.group claim.now.configuration (is_some claim.now.parent) (first_fault (certificate_rule certificate.now) (lent_state claim.now))) }
@@ -61,7 +61,7 @@ fn check_meets(
             step: false,
         }),
         Some(certificate) => {
-            let claim = LentClaim {
+            let claim = ClaimRef {
                 group,
                 configuration,
                 this,
@@ -90,7 +90,7 @@ fn check_step(
             step: true,
         }),
         Some(certificate) => {
-            let claim = LentClaim {
+            let claim = ClaimRef {
                 group,
                 configuration,
                 this: child,

@@ -53,7 +53,7 @@ fn step_claim<B: Allocator + Clone>(
 /// A claim of a configuration, by what its plan lends: that its read sets meet its write sets or, where a parent stands beside it, that
 /// of its step from there.
 #[derive(Clone, Copy)]
-pub struct LentClaim<'p> {
+pub struct ClaimRef<'p> {
     /// The number of the configuration's group, from 0.
     pub group: u8,
     /// The number of the configuration in its group, from 0.
@@ -64,7 +64,7 @@ pub struct LentClaim<'p> {
     pub parent: Option<&'p Configuration>,
 }
 
-impl LentClaim<'_> {
+impl ClaimRef<'_> {
     ghost use Rattle.std.specs.Prelude.{◌≡◌, ◌≢◌, Some, OnOk, IfErr};
     ghost use Rattle.volume_model.specs.declared.fault.Fault.TheVariants.{NoMemory};
     ghost use Rattle.refutation.specs.Certificate.{certificate_rule};

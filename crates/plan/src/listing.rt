@@ -11,7 +11,7 @@ ghost use Rattle.plan.specs.PlanClaims.{configuration_claims, group_claims, clai
 
 use crate::configurations::{Configuration, Group, Plan};
 use crate::fault::PlanFault;
-use crate::lent::LentClaim;
+use crate::lent::ClaimRef;
 use crate::parents::check_shape;
 use crate::placed::NamedClaim;
 use crate::shapes::check_shapes;
@@ -23,14 +23,14 @@ fn of_configuration<'p>(
     group: u8,
     configurations: &'p [Configuration],
     configuration: u8,
-) -> Result<Vec<LentClaim<'p>>, PlanFault>
+) -> Result<Vec<ClaimRef<'p>>, PlanFault>
     requires { configuration < length configurations.now }
     ensures { Reads (λ v. all_lent v.items) result (configuration_claims group (map configuration_data configurations.entry.now) configuration) }
 {
     check_shape(group, configurations, configuration)?;
     let this = &configurations[usize::from(configuration)];
     let mut list = Vec::new(alloc);
-    list.push(LentClaim {
+    list.push(ClaimRef {
         group,
         configuration,
         this,
@@ -39,7 +39,7 @@ fn of_configuration<'p>(
     let Some(parent) = this.parent else {
         return Ok(list);
     };
-    list.push(LentClaim {
+    list.push(ClaimRef {
         group,
         configuration,
         this,
@@ -53,7 +53,7 @@ fn of_group<'p>(
     alloc: Global,
     group: u8,
     configurations: &'p [Configuration],
-) -> Result<Vec<LentClaim<'p>>, PlanFault>
+) -> Result<Vec<ClaimRef<'p>>, PlanFault>
     requires { length configurations.now ≤ 64 }
     ensures { Reads (λ v. all_lent v.items) result (group_claims group (map configuration_data configurations.entry.now)) }
 {
@@ -66,7 +66,7 @@ fn of_group<'p>(
 }
 
 /// The claims of all groups.
-fn of_groups<'p>(alloc: Global, groups: &'p [Group]) -> Result<Vec<LentClaim<'p>>, PlanFault>
+fn of_groups<'p>(alloc: Global, groups: &'p [Group]) -> Result<Vec<ClaimRef<'p>>, PlanFault>
     requires { length groups.now ≤ 16 }
     ensures { Reads (λ v. all_lent v.items) result (claims_of_groups (map group_data groups.entry.now)) }
 {
@@ -84,7 +84,7 @@ fn of_groups<'p>(alloc: Global, groups: &'p [Group]) -> Result<Vec<LentClaim<'p>
 /// The first [`PlanFault::BadParent`] or [`PlanFault::MemberReused`], which is found before any memory is taken; or else
 /// that memory ran out.
 #[tactic(auto, unfolding(crate::specs::PlanClaims::claims_in))]
-pub fn lent_claims<'p>(alloc: Global, plan: &'p Plan) -> Result<Vec<LentClaim<'p>>, PlanFault>
+pub fn lent_claims<'p>(alloc: Global, plan: &'p Plan) -> Result<Vec<ClaimRef<'p>>, PlanFault>
     ensures claims { Reads (λ v. all_lent v.items) result (claims_in (plan_data plan.entry.now)) }
     ensures memory { IfErr result (λ e. kind_of e ≡ NoMemory → IsOk (claims_in (plan_data plan.entry.now))) }
 {
@@ -93,7 +93,7 @@ pub fn lent_claims<'p>(alloc: Global, plan: &'p Plan) -> Result<Vec<LentClaim<'p
 }
 
 /// The same claims in memory of their own.
-fn named(alloc: Global, lent: &[LentClaim<'_>]) -> Result<Vec<NamedClaim>, PlanFault>
+fn named(alloc: Global, lent: &[ClaimRef<'_>]) -> Result<Vec<NamedClaim>, PlanFault>
     ensures { Reads (λ v. all_placed v.items) result (Ok (all_lent lent.now)) }
 {
     let mut list = Vec::new(alloc);

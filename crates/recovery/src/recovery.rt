@@ -13,17 +13,17 @@ use std::alloc::Global;
 use std::sync::Arc;
 use volume_model::{Fault, steps_are_few};
 use wire::{Ack, Message, Report, View};
-use writer_core::{Standings, Writer, are_places};
+use writer_core::{GroupStates, Writer, are_places};
 
 /// A recovery of a volume epoch: it reads until it cuts, and then installs what it has found.
 #[derive(Drop)]
 pub struct Recovery {
-    standings: Standings,
+    group_states: GroupStates,
     volume: u32,
     /// What it has found, once it has cut.
     found: Option<Found>,
     ghost assigned: { 1 ≤ volume },
-    ghost older: { are_older volume (groups_in standings) ≡ true },
+    ghost older: { are_older volume (groups_in group_states) ≡ true },
 }
 
 impl Recovery {
@@ -88,10 +88,10 @@ impl Recovery {
             Ok(view) => view,
             Err(fault) => return Err(fault),
         };
-        let standings = Standings::at_places(alloc, plan, view.places.as_slice())?;
-        let messages = fences(alloc, view.volume, &standings)?;
+        let group_states = GroupStates::at_places(alloc, plan, view.places.as_slice())?;
+        let messages = fences(alloc, view.volume, &group_states)?;
         let recovery = Recovery {
-            standings,
+            group_states,
             volume: view.volume,
             found: None,
         };
@@ -110,7 +110,7 @@ impl Recovery {
         ensures all { result ≡ (recovery_plan self.now).groups }
         ensures view { length (client_of self.now).groups ≤ result }
     {
-        self.standings.plan().groups()
+        self.group_states.plan().groups()
     }
 
     /// Returns whether a later View can be taken. Takes no memory.
@@ -127,7 +127,7 @@ impl Recovery {
         if view.volume != self.volume {
             return Err(Fault::NotAddressed);
         }
-        if !self.standings.are_places(view.places.as_slice()) {
+        if !self.group_states.are_places(view.places.as_slice()) {
             return Err(Fault::NotInPlan);
         }
         Ok(())
@@ -148,13 +148,13 @@ impl Recovery {
         let places = view.places.as_slice();
         match &self.found {
             None => {
-                let messages = later_fences(alloc, self.volume, &self.standings, places)?;
-                self.standings.reread(places)?;
+                let messages = later_fences(alloc, self.volume, &self.group_states, places)?;
+                self.group_states.reread(places)?;
                 Ok(messages)
             }
             Some(found) => {
-                let messages = later_installs(alloc, self.volume, &self.standings, found, places)?;
-                self.standings.follow(places)?;
+                let messages = later_installs(alloc, self.volume, &self.group_states, found, places)?;
+                self.group_states.follow(places)?;
                 Ok(messages)
             }
         }
@@ -188,12 +188,12 @@ impl Recovery {
     {
         self.admits_report(report)?;
         if self.found.is_some()
-            || report.label.member != self.standings.epoch(report.group)
+            || report.label.member != self.group_states.epoch(report.group)
             || report.contents.lineage.last_epoch() >= self.volume
         {
             return Ok(());
         }
-        self.standings.keep(report)?;
+        self.group_states.keep(report)?;
         Ok(())
     }
 
@@ -223,10 +223,10 @@ impl Recovery {
         ensures volume { recovery_volume self.new ≡ recovery_volume self.old }
     {
         self.admits_ack(ack)?;
-        if self.found.is_none() || ack.label.member > self.standings.epoch(ack.group) {
+        if self.found.is_none() || ack.label.member > self.group_states.epoch(ack.group) {
             return Ok(());
         }
-        self.standings.count(ack)?;
+        self.group_states.count(ack)?;
         Ok(())
     }
 
@@ -237,10 +237,10 @@ impl Recovery {
         if self.found.is_some() {
             return Err(Fault::AlreadyDone);
         }
-        if !self.standings.has_read() {
+        if !self.group_states.has_read() {
             return Err(Fault::NotReady);
         }
-        find(alloc, self.volume, &self.standings)
+        find(alloc, self.volume, &self.group_states)
     }
 
     /// Returns whether it can cut the log that the reports hold.
@@ -272,7 +272,7 @@ impl Recovery {
             Ok(found) => found,
             Err(fault) => return Err(fault),
         };
-        let messages = installs(alloc, self.volume, &self.standings, &found)?;
+        let messages = installs(alloc, self.volume, &self.group_states, &found)?;
         self.found = Some(found);
         Ok(messages)
     }
@@ -282,7 +282,7 @@ impl Recovery {
         ensures { length (log_reported (client_of self.now)) ≤ result }
     {
         steps_are_few();
-        records_said(self.standings.as_slice())
+        records_said(self.group_states.as_slice())
     }
 
     /// Returns how many records the log has that it has found, and 0 before its cut.
@@ -312,7 +312,7 @@ impl Recovery {
         ensures installed { OnOk result (HasInstalled self.now) }
         ensures own { IfErr result (λ fault. fault ≢ NoMemory) }
     {
-        if self.found.is_none() || !self.standings.has_installed() {
+        if self.found.is_none() || !self.group_states.has_installed() {
             return Err(Fault::NotReady);
         }
         Ok(())
@@ -332,14 +332,14 @@ impl Recovery {
             return Err((fault, self));
         }
         let Recovery {
-            standings,
+            group_states,
             volume,
             found,
         } = self;
         match found {
             Some(found) => {
                 let Found { log, lineage, .. } = found;
-                Ok(Writer::opened(standings, volume, lineage, log))
+                Ok(Writer::opened(group_states, volume, lineage, log))
             }
             None => unreachable!(),
         }

@@ -6,7 +6,7 @@ ghost use Rattle.lineage.specs.Lineage.{lineage_of};
 ghost use Rattle.segment_core.specs.Records.{records_of};
 ghost use Rattle.segment_core.specs.Told.{TellsAll, told_of};
 
-use crate::entrant::Entrant;
+use crate::pending_insert::PendingInsert;
 use crate::records::Records;
 use lineage::Lineage;
 use pages::BLOCK;
@@ -102,10 +102,10 @@ impl Held {
         alloc: Global,
         place: Place,
         packet: &SharedRecord,
-    ) -> Result<Entrant, AllocError>
+    ) -> Result<PendingInsert, AllocError>
         requires { StandsAt place self.old.records.ordered (shared_redo packet.now) }
-        ensures ready { IfOk result (λ entrant. CanEnter self.new.records entrant) }
-        ensures packet { IfOk result (λ entrant. shared_redo entrant.packet ≡ shared_redo packet.now) }
+        ensures ready { IfOk result (λ pending_insert. CanEnter self.new.records pending_insert) }
+        ensures packet { IfOk result (λ pending_insert. shared_redo pending_insert.packet ≡ shared_redo packet.now) }
         ensures same { held_in self.new ≡ held_in self.old }
     {
         self.records.prepare(alloc, place, packet)
@@ -113,11 +113,11 @@ impl Held {
 
     /// Takes a record that is prepared to enter. Takes no memory.
     #[inline(always)]
-    pub fn enter(&mut self, entrant: Entrant)
-        requires { CanEnter self.old.records entrant }
-        ensures { held_in self.new ≡ entered (shared_redo entrant.packet) (held_in self.old) }
+    pub fn enter(&mut self, pending_insert: PendingInsert)
+        requires { CanEnter self.old.records pending_insert }
+        ensures { held_in self.new ≡ entered (shared_redo pending_insert.packet) (held_in self.old) }
     {
         self.told = None;
-        self.records.enter(entrant);
+        self.records.enter(pending_insert);
     }
 }

@@ -295,9 +295,9 @@ impl Segment {
         if self.held.records.len() >= MOST_RECORDS {
             return Err(Fault::Full);
         }
-        let entrant = self.held.prepare(alloc, place, packet)?;
-        let scl = self.held.records.point_with(&entrant);
-        Ok(self.acknowledged(label, scl, Effect::Enter(entrant)))
+        let pending_insert = self.held.prepare(alloc, place, packet)?;
+        let scl = self.held.records.point_with(&pending_insert);
+        Ok(self.acknowledged(label, scl, Effect::Enter(pending_insert)))
     }
 
     /// Prepares to take a membership step.
@@ -512,7 +512,7 @@ impl Segment {
     {
         match effect {
             Effect::Nothing => {}
-            Effect::Enter(entrant) => self.held.enter(entrant),
+            Effect::Enter(pending_insert) => self.held.enter(pending_insert),
             Effect::Promise(volume) => self.volume = volume,
             Effect::Move(place) => {
                 self.configuration = place.configuration;

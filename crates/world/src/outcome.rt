@@ -7,7 +7,7 @@ use writer_core::Log;
 
 /// An opened writer at the end of a run.
 #[derive(Drop)]
-pub struct WriterEnd {
+pub struct WriterOutcome {
     /// Returns the client's volume epoch.
     pub volume: u32,
     /// The LSN after which its own records begin.
@@ -20,7 +20,7 @@ pub struct WriterEnd {
 
 /// A recovery that has cut, at the end of a run.
 #[derive(Drop)]
-pub struct FindEnd {
+pub struct RecoveryOutcome {
     /// Returns the client's volume epoch.
     pub volume: u32,
     /// The log that it found, where it cut, and its lineage.
@@ -35,9 +35,9 @@ pub struct Outcome {
     /// For each event the number of messages that it made, or why it was refused. There may be many.
     pub results: Vec<Result<u32, Fault>>,
     /// The opened writers, in growing volume epoch.
-    pub writers: Vec<WriterEnd>,
+    pub writers: Vec<WriterOutcome>,
     /// The recoveries that have cut, in growing volume epoch. One that has become a writer is both.
-    pub finds: Vec<FindEnd>,
+    pub finds: Vec<RecoveryOutcome>,
     /// The actors as the run left them, and all messages: their memory is given back with the outcome, whenever that is.
     pub(crate) actors: Actors,
 }

@@ -15,7 +15,7 @@ ghost use Rattle.wire.specs.Message.{messages_of};
 ghost use Rattle.writer_core.specs.Logs.{log_of_set};
 ghost use Rattle.writer_core.specs.Groups.{groups_in};
 
-use crate::standings::Standings;
+use crate::group_states::GroupStates;
 use lineage::Lineage;
 use redo_record::RecordSet;
 use std::alloc::{AllocError, Global};
@@ -90,18 +90,18 @@ pub fn group_installs(
 pub(crate) fn unjoined_installs(
     alloc: Global,
     volume: u32,
-    standings: &Standings,
+    group_states: &GroupStates,
     lineage: &Lineage,
     places: &[Place],
 ) -> Result<Vec<Message>, AllocError>
     requires { length places.now ≤ 16 }
-    ensures { IfOk result (λ messages. messages_of messages.items ≡ installs (length places.now) volume (place_in (map wire.place_of places.now)) (lineage_of lineage.now) [] (later_unjoined (groups_in standings.now) (place_in (map wire.place_of places.now)))) }
+    ensures { IfOk result (λ messages. messages_of messages.items ≡ installs (length places.now) volume (place_in (map wire.place_of places.now)) (lineage_of lineage.now) [] (later_unjoined (groups_in group_states.now) (place_in (map wire.place_of places.now)))) }
 {
     let none = RecordSet::new(alloc);
     let mut messages = Vec::new(alloc);
     for group in 0..places.len() as u8 {
         let place = places[usize::from(group)];
-        if standings.epoch(group) < place.epoch && !standings.has_joined(group) {
+        if group_states.epoch(group) < place.epoch && !group_states.has_joined(group) {
             let label = label_at(volume, place);
             let mut pieces = group_installs(alloc, group, label, lineage, &none)?;
             messages.append(&mut pieces)?;

@@ -6,7 +6,7 @@ ghost use Rattle.writer_core.specs.Changes.{change_of, changes_of};
 ghost use Rattle.writer_core.specs.Groups.{groups_in};
 
 use crate::change::Change;
-use crate::standings::Standings;
+use crate::group_states::GroupStates;
 
 /// The bytes of a block.
 const BLOCK: usize = 512;
@@ -38,11 +38,11 @@ pub fn is_transaction(groups: usize, changes: &[Change]) -> bool
 }
 
 /// Returns whether each group that is changed has joined the writer.
-pub fn have_joined(standings: &Standings, changes: &[Change]) -> bool
-    ensures { result ≡ have_joined (groups_in standings.now) (changes_of changes.now) }
+pub fn have_joined(group_states: &GroupStates, changes: &[Change]) -> bool
+    ensures { result ≡ have_joined (groups_in group_states.now) (changes_of changes.now) }
 {
     for change in changes {
-        if !standings.has_joined(change.group()) {
+        if !group_states.has_joined(change.group()) {
             return false;
         }
     }

@@ -3,19 +3,19 @@
 ghost use Rattle.std.specs.Prelude.{◌≡◌, ◌≤◌, true, length};
 ghost use Rattle.writer_core.specs.Logs.{log_of_set, is_growing};
 ghost use Rattle.writer_core.specs.Log.{log_in, packets_in};
-ghost use Rattle.writer_core.specs.Lasts.{AreLastsOfFront};
-ghost use Rattle.writer_core.specs.Covered.{CoversLog};
-ghost use Rattle.writer_core.specs.Groups.{groups_in, standings_plan};
+ghost use Rattle.writer_core.specs.LastLsns.{AreLastsOfFront};
+ghost use Rattle.writer_core.specs.DurabilityTracker.{CoversLog};
+ghost use Rattle.writer_core.specs.Groups.{groups_in, group_states_plan};
 ghost use Rattle.writer_core.specs.Raised.{AreRaised, HaveJoined};
 ghost use Rattle.volume_model.specs.Client.{group_point_of};
 
 use crate::change::Change;
-use crate::covered::Covered;
+use crate::durability::DurabilityTracker;
 use crate::installs::unjoined_installs;
 use crate::issuing::{Span, append, carry, room_for};
-use crate::lasts::Lasts;
+use crate::last_lsns::LastLsns;
 use crate::log::Log;
-use crate::standings::Standings;
+use crate::group_states::GroupStates;
 use crate::transaction::{have_joined, is_transaction};
 use lineage::Lineage;
 use plan::CheckedPlan;
@@ -31,19 +31,19 @@ const LAST_LSN: u64 = 1 << 62;
 /// The writer of a volume epoch: the log that it began with, and what it has issued since.
 #[derive(Drop)]
 pub struct Writer {
-    standings: Standings,
+    group_states: GroupStates,
     volume: u32,
     lineage: Lineage,
     log: Log,
     /// The last LSN of each group and block, of the log's front; a transaction enters the rest before it asks.
-    lasts: Lasts,
+    last_lsns: LastLsns,
     /// How far the log is covered by the points of its groups.
-    covered: Covered,
+    durability: DurabilityTracker,
     ghost assigned: { 1 ≤ volume },
-    ghost raised: { AreRaised (standings_plan standings) (groups_in standings) },
-    ghost joined: { HaveJoined (standings_plan standings) (groups_in standings) },
-    ghost front: { AreLastsOfFront lasts (packets_in log) },
-    ghost covers: { CoversLog covered (group_point_of (groups_in standings)) (packets_in log) },
+    ghost raised: { AreRaised (group_states_plan group_states) (groups_in group_states) },
+    ghost joined: { HaveJoined (group_states_plan group_states) (groups_in group_states) },
+    ghost front: { AreLastsOfFront last_lsns (packets_in log) },
+    ghost covers: { CoversLog durability (group_point_of (groups_in group_states)) (packets_in log) },
 }
 
 impl Writer {
@@ -72,40 +72,40 @@ impl Writer {
         ensures volume { IfOk result (λ w. writer_volume w ≡ 1) }
     {
         Ok(Writer {
-            standings: Standings::at_roots(alloc, plan)?,
+            group_states: GroupStates::at_roots(alloc, plan)?,
             volume: 1,
             lineage: Lineage::birth(alloc)?,
             log: Log::begin(alloc, RecordSet::new(alloc)),
-            lasts: Lasts::new(alloc),
-            covered: Covered::none(),
+            last_lsns: LastLsns::new(alloc),
+            durability: DurabilityTracker::none(),
         })
     }
 
     /// Returns the writer of a later volume epoch, from what its recovery keeps of the groups, with the recovery's lineage and the
     /// log that it found. In each group a write set must have acknowledged what the recovery installed
     /// ([`Standings::has_installed`]). Takes no memory.
-    pub fn opened(standings: Standings, volume: u32, lineage: Lineage, found: RecordSet) -> Writer
+    pub fn opened(group_states: GroupStates, volume: u32, lineage: Lineage, found: RecordSet) -> Writer
         requires assigned { 1 ≤ volume }
-        requires installed { has_installed (standings_plan standings) (keeping (groups_in standings)) ≡ true }
+        requires installed { has_installed (group_states_plan group_states) (keeping (groups_in group_states)) ≡ true }
         requires growing { is_growing (log_of_set found) ≡ true }
-        ensures client { client_of result ≡ writing (standings_plan standings) (installing (groups_in standings) (lineage_of lineage) (log_of_set found)) }
-        ensures plan { writer_plan result ≡ standings_plan standings }
+        ensures client { client_of result ≡ writing (group_states_plan group_states) (installing (groups_in group_states) (lineage_of lineage) (log_of_set found)) }
+        ensures plan { writer_plan result ≡ group_states_plan group_states }
         ensures volume { writer_volume result ≡ volume }
     {
-        let mut standings = standings;
-        standings.raise();
-        let alloc = standings.alloc();
+        let mut group_states = group_states;
+        group_states.raise();
+        let alloc = group_states.alloc();
         let log = Log::begin(alloc, found);
-        let lasts = Lasts::new(alloc);
-        let mut covered = Covered::none();
-        covered.follow(&log, &standings);
+        let last_lsns = LastLsns::new(alloc);
+        let mut durability = DurabilityTracker::none();
+        durability.follow(&log, &group_states);
         Writer {
-            standings,
+            group_states,
             volume,
             lineage,
             log,
-            lasts,
-            covered,
+            last_lsns,
+            durability,
         }
     }
 
@@ -120,7 +120,7 @@ impl Writer {
     pub fn groups(&self) -> u8
         ensures { result ≡ (writer_plan self.now).groups }
     {
-        self.standings.plan().groups()
+        self.group_states.plan().groups()
     }
 
     /// Returns the lineage under which it writes.
@@ -155,7 +155,7 @@ impl Writer {
     pub fn complete_point(&self) -> u64
         ensures { result ≡ complete_point (client_of self.now) }
     {
-        self.covered.complete
+        self.durability.complete
     }
 
     /// Returns the greatest consistency point that is not above the complete point, else 0. A commit is complete
@@ -163,7 +163,7 @@ impl Writer {
     pub fn durable_point(&self) -> u64
         ensures { result ≡ durable_point (client_of self.now) }
     {
-        self.covered.durable
+        self.durability.durable
     }
 
     /// Returns whether an acknowledgement can be taken: `NotAddressed` if it isn't one to this writer, of a group of
@@ -190,15 +190,15 @@ impl Writer {
         ensures volume { writer_volume self.new ≡ writer_volume self.old }
     {
         self.admits_ack(ack)?;
-        if ack.label.member > self.standings.epoch(ack.group) {
+        if ack.label.member > self.group_states.epoch(ack.group) {
             return Ok(());
         }
-        self.standings.count(ack)?;
-        if ack.scl <= self.standings.point(ack.group) && self.standings.has_joined(ack.group) {
+        self.group_states.count(ack)?;
+        if ack.scl <= self.group_states.point(ack.group) && self.group_states.has_joined(ack.group) {
             return Ok(());
         }
-        self.standings.raise_group(ack.group);
-        self.covered.follow(&self.log, &self.standings);
+        self.group_states.raise_group(ack.group);
+        self.durability.follow(&self.log, &self.group_states);
         Ok(())
     }
 
@@ -214,7 +214,7 @@ impl Writer {
         if view.volume != self.volume {
             return Err(Fault::NotAddressed);
         }
-        if !self.standings.are_places(view.places.as_slice()) {
+        if !self.group_states.are_places(view.places.as_slice()) {
             return Err(Fault::NotInPlan);
         }
         Ok(())
@@ -236,13 +236,13 @@ impl Writer {
         let messages = unjoined_installs(
             alloc,
             self.volume,
-            &self.standings,
+            &self.group_states,
             &self.lineage,
             places,
         )?;
-        self.standings.follow(places)?;
-        self.standings.raise();
-        self.covered.follow(&self.log, &self.standings);
+        self.group_states.follow(places)?;
+        self.group_states.raise();
+        self.durability.follow(&self.log, &self.group_states);
         Ok(messages)
     }
 
@@ -253,7 +253,7 @@ impl Writer {
         ensures own { IfErr result (λ fault. fault ≢ NoMemory) }
     {
         match self.log.record_at(lsn) {
-            Some(packet) => Ok(carry(self.volume, &self.standings, packet)),
+            Some(packet) => Ok(carry(self.volume, &self.group_states, packet)),
             None => Err(Fault::NoLogRecord),
         }
     }
@@ -264,14 +264,14 @@ impl Writer {
         ensures answers { AnswersAlways asked (page_asked (writer_volume self.now) (client_of self.now) group block) (client_of self.now) result (client_of self.now) }
         ensures own { IfErr result (λ fault. fault ≢ NoMemory) }
     {
-        if group >= self.standings.groups() {
+        if group >= self.group_states.groups() {
             return Err(Fault::NoGroup);
         }
         Ok(Message::PageAsk(PageAsk {
             group,
-            label: self.standings.label(self.volume, group),
+            label: self.group_states.label(self.volume, group),
             block,
-            point: self.covered.durable_last(group),
+            point: self.durability.durable_last(group),
         }))
     }
 
@@ -280,8 +280,8 @@ impl Writer {
     pub fn group_point(&self, group: u8) -> Result<u64, Fault>
         ensures { MatchResult result (λ point. (group < length (client_of self.now).groups) × (group_point_of (client_of self.now).groups group ≡ point)) (λ fault. (length (client_of self.now).groups ≤ group) × (fault ≡ NoGroup)) }
     {
-        match self.standings.get(group) {
-            Some(standing) => Ok(standing.point),
+        match self.group_states.get(group) {
+            Some(group_state) => Ok(group_state.point),
             None => Err(Fault::NoGroup),
         }
     }
@@ -303,10 +303,10 @@ impl Writer {
         ensures can { OnOk result (CanIssue (writer_plan self.now) (client_of self.now) (changes_of changes.now)) }
         ensures own { IfErr result (λ fault. fault ≢ NoMemory) }
     {
-        if !is_transaction(usize::from(self.standings.groups()), changes) {
+        if !is_transaction(usize::from(self.group_states.groups()), changes) {
             return Err(Fault::BadTransaction);
         }
-        if !have_joined(&self.standings, changes) {
+        if !have_joined(&self.group_states, changes) {
             return Err(Fault::NotJoined);
         }
         let start = self.start();
@@ -321,7 +321,7 @@ impl Writer {
         let limit = self
             .durable_point()
             .max(start)
-            .saturating_add(self.standings.plan().lal());
+            .saturating_add(self.group_states.plan().lal());
         if limit < last {
             return Err(Fault::LimitReached);
         }
@@ -345,18 +345,18 @@ impl Writer {
         match append(
             alloc,
             span,
-            &self.standings,
+            &self.group_states,
             &mut self.log,
-            &mut self.lasts,
+            &mut self.last_lsns,
             changes,
             &mut messages,
         ) {
             Ok(()) => {
-                self.covered.follow(&self.log, &self.standings);
+                self.durability.follow(&self.log, &self.group_states);
                 Ok(messages)
             }
             Err(fault) => {
-                self.lasts.go_back(&self.log, length);
+                self.last_lsns.go_back(&self.log, length);
                 self.log.truncate(length);
                 Err(fault)
             }
