@@ -6,8 +6,8 @@ mod chains;
 mod earlier;
 mod numbers;
 mod recent;
-mod wait;
+mod pending_record;
 mod waiters;
-mod waits;
+mod pending_records;
 
 pub use chains::Chains;

@@ -10,9 +10,9 @@ pub enum Link {
     /// Its chain is complete, and no record is pending under it.
     Ends,
     /// Its chain is complete, and it releases these LSNs, its own first.
-    Wakes(Vec<u64>),
+    Releases(Vec<u64>),
     /// It is pending under the LSN before it.
-    Waits,
+    Pending,
 }
 
 /// A record that is prepared to stand among those of its block.
@@ -47,8 +47,8 @@ impl Link {
     {
         match self {
             Link::Ends => chains.point_with(&[packet.lsn()]),
-            Link::Wakes(woken) => chains.point_with(woken.as_slice()),
-            Link::Waits => chains.point(),
+            Link::Releases(released) => chains.point_with(released.as_slice()),
+            Link::Pending => chains.point(),
         }
     }
 
@@ -60,8 +60,8 @@ impl Link {
     {
         match self {
             Link::Ends => chains.land(&[packet.lsn()]),
-            Link::Wakes(woken) => chains.land(woken.as_slice()),
-            Link::Waits => chains.wait(packet.prev_group(), packet.lsn()),
+            Link::Releases(released) => chains.land(released.as_slice()),
+            Link::Pending => chains.add_pending(packet.prev_group(), packet.lsn()),
         }
     }
 }

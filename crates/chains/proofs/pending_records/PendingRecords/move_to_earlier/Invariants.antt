@@ -1,6 +1,6 @@
 use Rattle.std.proofs.Common.{◌≡◌, ℕ, length}
-use Rattle.chains.specs.Waits.{waiters}
-use Rattle.chains.proofs.waits.Waits.settle.Given as goal
+use Rattle.chains.specs.PendingRecords.{waiters}
+use Rattle.chains.proofs.pending_records.PendingRecords.move_to_earlier.Given as goal
 
 -- the same wait, in the same order
 abbrev pub invariant-loop-alloc : goal.invariant-loop-alloc

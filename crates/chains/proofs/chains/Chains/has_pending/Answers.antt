@@ -1,5 +1,5 @@
 use Rattle.std.proofs.Common.{Bool, true, false, MatchBool}
-use Rattle.chains.proofs.chains.Chains.is_waited_for.Goals as goal
+use Rattle.chains.proofs.chains.Chains.has_pending.Goals as goal
 
 -- what one case gives another one has
 each_case : {A B C D : Type 0} (b : Bool) → (A → C) → (B → D) → MatchBool b A B → MatchBool b C D
@@ -7,4 +7,4 @@ each_case true f g m = f m
 each_case false f g m = g m
 
 pub returns : goal.returns
-returns c records chains = each_case c.is_awaited.result (λ p. let (m, w) = p in (m, chains.wait c.args.number m w)) (λ none m w. none m (chains.kept c.args.number m w)) c.is_awaited.ensures
+returns c records chains = each_case c.has_pending.result (λ p. let (m, w) = p in (m, chains.add_pending c.args.number m w)) (λ none m w. none m (chains.kept c.args.number m w)) c.has_pending.ensures

@@ -8,8 +8,8 @@ ghost use Rattle.chains.specs.Recent.{recent_waiters};
 
 use crate::earlier::Earlier;
 use crate::numbers::add_all;
-use crate::recent::{add_waiters, is_awaited, wake};
-use crate::wait::Wait;
+use crate::recent::{add_waiters, has_pending, release};
+use crate::pending_record::PendingRecord;
 use std::alloc::{AllocError, Global};
 
 /// The initial room for LSNs that are released at once.
@@ -21,22 +21,22 @@ const RECENT: usize = 16;
 /// The pending records, by the LSN that they wait for: the newest in a short list, which mostly holds all, and the
 /// older ones in a tree.
 #[derive(Drop)]
-pub struct Waits {
+pub struct PendingRecords {
     earlier: Earlier,
-    recent: Vec<Wait>,
+    recent: Vec<PendingRecord>,
     ghost above: { (k m : ℕ) → IsIn m (earlier_waiters earlier k ++ recent_waiters recent.items k) → k < m } by { Prim.hlevel props },
 }
 
-impl Waits {
+impl PendingRecords {
     ghost use Rattle.std.specs.Prelude.{ℕ, ◌≡◌, ◌<◌, [], ◌∷◌, ◌++◌, if◌then◌else◌, ◌==◌, length, vec_capacity, IfOk, OnOk, MatchBool};
     ghost use Rattle.volume_model.specs.Lists.{any};
-    ghost use Rattle.chains.specs.Waits.{waiters, HasRoomFor, WaitsIn, AreWoken};
+    ghost use Rattle.chains.specs.PendingRecords.{waiters, HasRoomFor, IsPendingIn, AreReleased};
 
     /// Makes an empty structure: no record is pending.
-    pub fn new(alloc: Global) -> Waits
+    pub fn new(alloc: Global) -> PendingRecords
         ensures { (k : ℕ) → waiters result k ≡ [] }
     {
-        Waits {
+        PendingRecords {
             earlier: Earlier::new(alloc),
             recent: Vec::new(alloc),
         }
@@ -44,10 +44,10 @@ impl Waits {
 
     /// Returns whether a record is pending under an LSN.
     #[inline(always)]
-    pub fn is_awaited(&self, number: u64) -> bool
-        ensures { MatchBool result ((m : ℕ) × WaitsIn self.now number m) ((m : ℕ) → WaitsIn self.now number m → ⊥) }
+    pub fn has_pending(&self, number: u64) -> bool
+        ensures { MatchBool result ((m : ℕ) × IsPendingIn self.now number m) ((m : ℕ) → IsPendingIn self.now number m → ⊥) }
     {
-        is_awaited(self.recent.as_slice(), number) || !self.earlier.of(number).is_empty()
+        has_pending(self.recent.as_slice(), number) || !self.earlier.of(number).is_empty()
     }
 
     /// Reserves room for one more pending record.
@@ -62,7 +62,7 @@ impl Waits {
         if self.recent.len() < self.recent.capacity() {
             Ok(())
         } else {
-            self.settle(alloc)
+            self.move_to_earlier(alloc)
         }
     }
 
@@ -71,14 +71,14 @@ impl Waits {
     /// # Errors
     /// `AllocError` if there is no memory; then some may have been moved.
     #[inline(never)]
-    fn settle(&mut self, alloc: Global) -> Result<(), AllocError>
+    fn move_to_earlier(&mut self, alloc: Global) -> Result<(), AllocError>
         ensures same { (k : ℕ) → waiters self.new k ≡ waiters self.old k }
         ensures room { OnOk result (length self.new.recent.items < vec_capacity self.new.recent) }
     {
         while !self.recent.is_empty() {
-            let Wait { before, number } = self.recent[0];
+            let PendingRecord { before, number } = self.recent[0];
             self.earlier.make_room(alloc, before)?;
-            self.earlier.wait(before, number);
+            self.earlier.add_pending(before, number);
             self.recent.remove(0);
         }
         self.recent.reserve_exact(RECENT)
@@ -86,12 +86,12 @@ impl Waits {
 
     /// Adds a record that is pending under an LSN.
     #[inline(always)]
-    pub fn wait(&mut self, number: u64, waiter: u64)
+    pub fn add_pending(&mut self, number: u64, waiter: u64)
         requires room { HasRoomFor number self.old }
         requires above { number < waiter }
         ensures { (k : ℕ) → waiters self.new k ≡ (if k == number then waiters self.old k ++ waiter ∷ [] else waiters self.old k) }
     {
-        self.recent.push_reserved(Wait {
+        self.recent.push_reserved(PendingRecord {
             before: number,
             number: waiter,
         });
@@ -99,11 +99,11 @@ impl Waits {
 
     /// Removes the records pending under these LSNs.
     #[inline(always)]
-    pub fn wake(&mut self, woken: &[u64])
-        ensures { (k : ℕ) → waiters self.new k ≡ (if any (λ n. n == k) woken.now then [] else waiters self.old k) }
+    pub fn release(&mut self, released: &[u64])
+        ensures { (k : ℕ) → waiters self.new k ≡ (if any (λ n. n == k) released.now then [] else waiters self.old k) }
     {
-        wake(&mut self.recent, woken);
-        self.earlier.wake(woken);
+        release(&mut self.recent, released);
+        self.earlier.release(released);
     }
 
     /// Returns an LSN and all that it releases, in growing order: the records pending under it, those pending under
@@ -111,18 +111,18 @@ impl Waits {
     ///
     /// # Errors
     /// `AllocError` if there is no memory for the list.
-    pub fn woken(&self, alloc: Global, number: u64) -> Result<Vec<u64>, AllocError>
-        ensures { IfOk result (λ woken. AreWoken (WaitsIn self.now) number woken.items) }
+    pub fn released(&self, alloc: Global, number: u64) -> Result<Vec<u64>, AllocError>
+        ensures { IfOk result (λ released. AreReleased (IsPendingIn self.now) number released.items) }
     {
-        let mut woken = Vec::with_capacity(alloc, FEW)?;
-        woken.push_reserved(number);
+        let mut released = Vec::with_capacity(alloc, FEW)?;
+        released.push_reserved(number);
         let mut next = 0;
-        while next < woken.len() {
-            let number = woken[next];
-            add_all(&mut woken, self.earlier.of(number))?;
-            add_waiters(self.recent.as_slice(), number, &mut woken)?;
+        while next < released.len() {
+            let number = released[next];
+            add_all(&mut released, self.earlier.of(number))?;
+            add_waiters(self.recent.as_slice(), number, &mut released)?;
             next += 1;
         }
-        Ok(woken)
+        Ok(released)
     }
 }

@@ -1,10 +1,10 @@
 use Rattle.std.proofs.Common.{◌≡◌, ◌==◌, ◌++◌, ◌∙◌, ℕ, [], ◌∷◌, if◌then◌else◌, ap}
 use Rattle.chains.specs.Earlier.{earlier_waiters}
 use Rattle.chains.specs.Recent.{recent_waiters}
-use Rattle.chains.specs.Waits.{waiters}
+use Rattle.chains.specs.PendingRecords.{waiters}
 use Rattle.chains.proofs.Latest.{one_behind_all}
-use Rattle.chains.proofs.Wakes.{above_more}
-use Rattle.chains.proofs.waits.Waits.wait.Goals as goal
+use Rattle.chains.proofs.Releases.{above_more}
+use Rattle.chains.proofs.pending_records.PendingRecords.add_pending.Goals as goal
 
 pub invariant_of-self : goal.invariant_of-self
 invariant_of-self c =

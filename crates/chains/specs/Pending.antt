@@ -17,10 +17,10 @@ abbrev pub IsLink : List Redo → ℕ → ℕ → Type 0
 IsLink records k m = (r : Redo) × IsIn r records × (r.prev_group ≡ k) × (r.lsn ≡ m)
 
 -- the second number waits for the first: a record leads from it there, and the first isn't reached
-abbrev pub IsWaiting : List Redo → ℕ → ℕ → Type 0
-IsWaiting records k m = (IsReached records k → ⊥) × IsLink records k m
+abbrev pub IsPending : List Redo → ℕ → ℕ → Type 0
+IsPending records k m = (IsReached records k → ⊥) × IsLink records k m
 
 -- The numbers that one number wakes: itself, and those that wait for a number that is woken.
-pub data IsWoken (waits : ℕ → ℕ → Type 0) (n : ℕ) : ℕ → Type 0 where
-  itself : IsWoken waits n n
-  next : (k m : ℕ) → IsWoken waits n k → waits k m → IsWoken waits n m
+pub data IsReleased (pending : ℕ → ℕ → Type 0) (n : ℕ) : ℕ → Type 0 where
+  itself : IsReleased pending n n
+  next : (k m : ℕ) → IsReleased pending n k → pending k m → IsReleased pending n m

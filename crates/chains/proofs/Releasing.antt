@@ -4,8 +4,8 @@ use Rattle.volume_model.specs.Redo.{Redo, with_record}
 use Rattle.volume_model.specs.Grounded.{IsGrounded, IsGroundedNumber}
 use Rattle.volume_model.specs.Grounded.IsGrounded.{from_none, from_one}
 use Rattle.volume_model.proofs.Records.{with_record-has, with_record-keeps, with_record-from}
-use Rattle.chains.specs.Waiting.{IsReached, IsWaiting, IsWoken}
-use Rattle.chains.specs.Waiting.IsWoken.{itself, next}
+use Rattle.chains.specs.Pending.{IsReached, IsPending, IsReleased}
+use Rattle.chains.specs.Pending.IsReleased.{itself, next}
 
 -- whether a number is reached can be told
 abbrev pub CanTell : List Redo → Type 0
@@ -47,7 +47,7 @@ module _ (r : Redo) (records : List Redo) where
     still_reached n (inr p) = inr (still_number n p)
 
     -- it waits, and so do those that waited before
-    pub one_waits : (k m : ℕ) → IsWaiting all k m → IsWaiting records k m ⊎ ((r.prev_group ≡ k) × (r.lsn ≡ m))
+    pub one_waits : (k m : ℕ) → IsPending all k m → IsPending records k m ⊎ ((r.prev_group ≡ k) × (r.lsn ≡ m))
     one_waits k m w =
         let (off, (q, i, a, b)) = w in
         elim (with_record-from r records q i) [
@@ -55,53 +55,53 @@ module _ (r : Redo) (records : List Redo) where
           | inr j ↦ inl ((λ reached. off (keeps_reached k reached)), (q, j, a, b))
         ]
 
-    pub waits_still : (k m : ℕ) → IsWaiting records k m → IsWaiting all k m
+    pub waits_still : (k m : ℕ) → IsPending records k m → IsPending all k m
     waits_still k m w = let (off, (q, i, a, b)) = w in ((λ reached. off (still_reached k reached)), (q, with_record-keeps r records q i, a, b))
 
-    pub waits_now : IsWaiting all r.prev_group r.lsn
+    pub waits_now : IsPending all r.prev_group r.lsn
     waits_now = ((λ reached. far (still_reached r.prev_group reached)), (r, with_record-has r records, refl, refl))
 
   -- ---- the number before it is reached
 
   module _ (near : IsReached records r.prev_group) (tell : CanTell records) where
-    abbrev pub Woken : ℕ → Type 0
-    Woken = IsWoken (IsWaiting records) r.lsn
+    abbrev pub Released : ℕ → Type 0
+    Released = IsReleased (IsPending records) r.lsn
 
     -- a number that is grounded now was so before, or is woken
-    reaches : (q : Redo) → IsGrounded all q → IsGroundedNumber records q.lsn ⊎ Woken q.lsn
+    reaches : (q : Redo) → IsGrounded all q → IsGroundedNumber records q.lsn ⊎ Released q.lsn
     reaches t (from_none q i e) = elim (with_record-from r records q i) [
-      | inl p ↦ inr (subst (λ (s : Redo). Woken s.lsn) (sym p) itself)
+      | inl p ↦ inr (subst (λ (s : Redo). Released s.lsn) (sym p) itself)
       | inr j ↦ inl (q, from_none q j e, refl)
     ]
     reaches t (from_one q before i g e) = elim (with_record-from r records q i) [
-      | inl p ↦ inr (subst (λ (s : Redo). Woken s.lsn) (sym p) itself)
+      | inl p ↦ inr (subst (λ (s : Redo). Released s.lsn) (sym p) itself)
       | inr j ↦ elim (tell q.prev_group) [
         | inl (inl z) ↦ inl (q, from_none q j z, refl)
         | inl (inr p) ↦ (let (b, h, f) = p in inl (q, from_one q b j h f, refl))
         | inr off ↦ elim (reaches before g) [
           | inl p ↦ absurd (off (inr (subst (IsGroundedNumber records) e p)))
-          | inr w ↦ inr (next before.lsn q.lsn w (subst (λ (k : ℕ). IsWaiting records k q.lsn) (sym e) (off, (q, j, refl, refl))))
+          | inr w ↦ inr (next before.lsn q.lsn w (subst (λ (k : ℕ). IsPending records k q.lsn) (sym e) (off, (q, j, refl, refl))))
         ]
       ]
     ]
 
-    pub reaches_number : (n : ℕ) → IsGroundedNumber all n → IsGroundedNumber records n ⊎ Woken n
-    reaches_number n p = let (q, g, e) = p in subst (λ (m : ℕ). IsGroundedNumber records m ⊎ Woken m) e (reaches q g)
+    pub reaches_number : (n : ℕ) → IsGroundedNumber all n → IsGroundedNumber records n ⊎ Released n
+    reaches_number n p = let (q, g, e) = p in subst (λ (m : ℕ). IsGroundedNumber records m ⊎ Released m) e (reaches q g)
 
     lands : IsReached all r.prev_group → IsGrounded all r
     lands (inl z) = from_none r (with_record-has r records) z
     lands (inr p) = let (b, g, e) = p in from_one r b (with_record-has r records) g e
 
     -- what is woken is grounded
-    pub woken_number : (n : ℕ) → Woken n → IsGroundedNumber all n
+    pub woken_number : (n : ℕ) → Released n → IsGroundedNumber all n
     woken_number n itself = (r, lands (keeps_reached r.prev_group near), refl)
-    woken_number n (next k m w waits) =
+    woken_number n (next k m w pending) =
         let (b, g, e) = woken_number k w in
-        let (off, (q, i, a, c)) = waits in
+        let (off, (q, i, a, c)) = pending in
         (q, from_one q b (with_record-keeps r records q i) g (e ∙ sym a), c)
 
     -- those wait that waited before, for a number that isn't woken
-    pub waited : (k m : ℕ) → IsWaiting all k m → IsWaiting records k m
+    pub waited : (k m : ℕ) → IsPending all k m → IsPending records k m
     waited k m w =
         let (off, (q, i, a, b)) = w in
         elim (with_record-from r records q i) [
@@ -109,14 +109,14 @@ module _ (r : Redo) (records : List Redo) where
           | inr j ↦ ((λ reached. off (keeps_reached k reached)), (q, j, a, b))
         ]
 
-    pub not_woken : (k m : ℕ) → IsWaiting all k m → Woken k → ⊥
-    not_woken k m w woken = w.0 (inr (woken_number k woken))
+    pub not_woken : (k m : ℕ) → IsPending all k m → Released k → ⊥
+    not_woken k m w released = w.0 (inr (woken_number k released))
 
-    pub waits_on : (k m : ℕ) → IsWaiting records k m → (Woken k → ⊥) → IsWaiting all k m
+    pub waits_on : (k m : ℕ) → IsPending records k m → (Released k → ⊥) → IsPending all k m
     waits_on k m w asleep =
         let (off, (q, i, a, b)) = w in
         ((λ reached. gone k off asleep reached), (q, with_record-keeps r records q i, a, b))
       where
-        gone : (k : ℕ) → (IsReached records k → ⊥) → (Woken k → ⊥) → IsReached all k → ⊥
+        gone : (k : ℕ) → (IsReached records k → ⊥) → (Released k → ⊥) → IsReached all k → ⊥
         gone k off asleep (inl z) = off (inl z)
         gone k off asleep (inr p) = elim (reaches_number k p) [ inl g ↦ off (inr g) | inr w ↦ asleep w ]

@@ -3,19 +3,19 @@ use Rattle.std.proofs.Common.{◌≡◌, ℕ, suc, ◌<◌, ◌≤◌, ◌+◌, 
 use Rattle.std.proofs.lemmas.Bool.{cases_lt}
 use Rattle.volume_model.specs.Lists.{IsIn}
 use Rattle.chains.specs.Rising.{AreGrowing, with_number, with_numbers}
-use Rattle.chains.specs.Waiting.{IsWoken}
-use Rattle.chains.specs.Waiting.IsWoken.{itself, next}
+use Rattle.chains.specs.Pending.{IsReleased}
+use Rattle.chains.specs.Pending.IsReleased.{itself, next}
 use Rattle.chains.proofs.Rise.{is_in, with_number-keeps, with_number-from, with_number-growing, with_number-longer, with_number-front}
 
 -- numbers in growing order, all woken by the first
-pub record AreSome (waits : ℕ → ℕ → Type 0) (n : ℕ) (xs : List ℕ) : Type 0 where
+pub record AreSome (pending : ℕ → ℕ → Type 0) (n : ℕ) (xs : List ℕ) : Type 0 where
   pub growing : AreGrowing xs
-  pub only : (m : ℕ) → IsIn m xs → IsWoken waits n m
+  pub only : (m : ℕ) → IsIn m xs → IsReleased pending n m
   pub start : IsIn n xs
 
 -- whoever waits for one of the first so many is among them
 abbrev pub AreClosed : (ℕ → ℕ → Type 0) → List ℕ → ℕ → Type 0
-AreClosed waits xs k = (i d m : ℕ) → i < k → waits (get_or xs i d) m → IsIn m xs
+AreClosed pending xs k = (i d m : ℕ) → i < k → pending (get_or xs i d) m → IsIn m xs
 
 -- the later numbers begin as the earlier ones, up to a place, and have all of them
 pub record AreMore (xs ys : List ℕ) (k : ℕ) : Type 0 where
@@ -29,28 +29,28 @@ place_of [] x i = absurd i
 place_of (y ∷ ys) x (inl e) = (0, omega arith, sym e)
 place_of (y ∷ ys) x (inr i) = let (j, l, e) = place_of ys x i in (suc j, omega arith, e)
 
-module _ (waits : ℕ → ℕ → Type 0) (n : ℕ) where
-  pub one : AreSome waits n (n ∷ [])
+module _ (pending : ℕ → ℕ → Type 0) (n : ℕ) where
+  pub one : AreSome pending n (n ∷ [])
   one = record { growing = ((λ y i. absurd i), tt); only = λ m i. first m i; start = inl refl }
     where
-      first : (m : ℕ) → IsIn m (n ∷ []) → IsWoken waits n m
-      first m (inl e) = subst (IsWoken waits n) (sym e) itself
+      first : (m : ℕ) → IsIn m (n ∷ []) → IsReleased pending n m
+      first m (inl e) = subst (IsReleased pending n) (sym e) itself
       first m (inr i) = absurd i
 
-  pub one_more : (xs : List ℕ) (k m d : ℕ) → AreSome waits n xs → k < length xs → waits (get_or xs k d) m → AreSome waits n (with_number m xs)
+  pub one_more : (xs : List ℕ) (k m d : ℕ) → AreSome pending n xs → k < length xs → pending (get_or xs k d) m → AreSome pending n (with_number m xs)
   one_more xs k m d some l w = record {
     growing = with_number-growing m xs some.growing;
     only = λ y i. elim (with_number-from m xs y i) [
-      | inl e ↦ subst (IsWoken waits n) (sym e) (next (get_or xs k d) m (some.only (get_or xs k d) (is_in xs k d l)) w)
+      | inl e ↦ subst (IsReleased pending n) (sym e) (next (get_or xs k d) m (some.only (get_or xs k d) (is_in xs k d l)) w)
       | inr j ↦ some.only y j
     ];
     start = with_number-keeps m xs n some.start;
   }
 
   -- once each is closed all that are woken are there
-  pub all_there : (xs : List ℕ) → AreSome waits n xs → AreClosed waits xs (length xs) → (m : ℕ) → IsWoken waits n m → IsIn m xs
+  pub all_there : (xs : List ℕ) → AreSome pending n xs → AreClosed pending xs (length xs) → (m : ℕ) → IsReleased pending n m → IsIn m xs
   all_there xs some closed m itself = some.start
-  all_there xs some closed m (next k j w h) = let (i, l, e) = place_of xs k (all_there xs some closed k w) in closed i 0 m l (subst (λ z. waits z m) (sym e) h)
+  all_there xs some closed m (next k j w h) = let (i, l, e) = place_of xs k (all_there xs some closed k w) in closed i 0 m l (subst (λ z. pending z m) (sym e) h)
 
 pub same_so_far : (xs : List ℕ) (k : ℕ) → k < length xs → AreMore xs xs k
 same_so_far xs k l = record { longer = l; front = λ i d m. refl; keeps = λ m i. i }
@@ -63,23 +63,23 @@ longer_by xs ys k m d more growing b = record {
 }
 
 -- those that wait for the number at a place are added
-pub many_more : (waits : ℕ → ℕ → Type 0) (n : ℕ) (ms xs ys : List ℕ) (k x : ℕ) → AreSome waits n ys → AreMore xs ys k → get_or ys k x ≡ x → ((m : ℕ) → IsIn m ms → waits x m × (x < m)) → AreSome waits n (with_numbers ms ys) × AreMore xs (with_numbers ms ys) k
-many_more waits n [] xs ys k x some more at wait = (some, more)
-many_more waits n (m ∷ ms) xs ys k x some more at wait =
-    let (w, l) = wait m (inl refl) in
+pub many_more : (pending : ℕ → ℕ → Type 0) (n : ℕ) (ms xs ys : List ℕ) (k x : ℕ) → AreSome pending n ys → AreMore xs ys k → get_or ys k x ≡ x → ((m : ℕ) → IsIn m ms → pending x m × (x < m)) → AreSome pending n (with_numbers ms ys) × AreMore xs (with_numbers ms ys) k
+many_more pending n [] xs ys k x some more at add_pending = (some, more)
+many_more pending n (m ∷ ms) xs ys k x some more at add_pending =
+    let (w, l) = add_pending m (inl refl) in
     let b : get_or ys k x < m = omega (arith, at, l) in
-    many_more waits n ms xs (with_number m ys) k x
-    (one_more waits n ys k m x some more.longer (subst (λ z. waits z m) (sym at) w))
+    many_more pending n ms xs (with_number m ys) k x
+    (one_more pending n ys k m x some more.longer (subst (λ z. pending z m) (sym at) w))
     (longer_by xs ys k m x more some.growing b)
     (with_number-front m ys k x some.growing more.longer b k x (le_refl k) ∙ at)
-    (λ y i. wait y (inr i))
+    (λ y i. add_pending y (inr i))
 
 -- numbers after those that were closed
-pub closed_more : (waits : ℕ → ℕ → Type 0) (xs ys : List ℕ) (k : ℕ) → AreClosed waits xs k → AreMore xs ys k → ((d m : ℕ) → waits (get_or xs k d) m → IsIn m ys) → AreClosed waits ys (k + 1)
-closed_more waits xs ys k closed more this i d m l w =
+pub closed_more : (pending : ℕ → ℕ → Type 0) (xs ys : List ℕ) (k : ℕ) → AreClosed pending xs k → AreMore xs ys k → ((d m : ℕ) → pending (get_or xs k d) m → IsIn m ys) → AreClosed pending ys (k + 1)
+closed_more pending xs ys k closed more this i d m l w =
     elim (split i l) [
-      | inl a ↦ more.keeps m (closed i d m a (subst (λ z. waits z m) (more.front i d (omega arith)) w))
-      | inr e ↦ this d m (subst (λ z. waits z m) (ap (λ j. get_or ys j d) e ∙ more.front k d (omega arith)) w)
+      | inl a ↦ more.keeps m (closed i d m a (subst (λ z. pending z m) (more.front i d (omega arith)) w))
+      | inr e ↦ this d m (subst (λ z. pending z m) (ap (λ j. get_or ys j d) e ∙ more.front k d (omega arith)) w)
     ]
   where
     split : (i : ℕ) → i < k + 1 → (i < k) ⊎ (i ≡ k)
