@@ -25,7 +25,7 @@ const LINE_BYTES: usize = 12;
 /// The bytes of most lines of writers and recoveries.
 const END_BYTES: usize = 40;
 
-/// Returns how many bytes to reserve for the lines of so many steps, writers and recoveries.
+/// Returns how many bytes to reserve for the lines of this many steps, writers and recoveries.
 fn room_for(steps: usize, ends: usize) -> usize {
     let lines = steps.saturating_mul(LINE_BYTES);
     lines.saturating_add(ends.saturating_mul(END_BYTES))

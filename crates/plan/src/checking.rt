@@ -22,7 +22,7 @@ use refutation::Certificate;
 use std::alloc::Global;
 use volume_model::Fault;
 
-/// Whether a certificate refutes a claim.
+/// Returns whether a certificate refutes a claim.
 fn check_certificate(
     alloc: Global,
     claim: &ClaimRef<'_>,
@@ -45,7 +45,7 @@ fn check_certificate(
     }
 }
 
-/// Whether the configuration has a certificate that its read sets meet its write sets.
+/// Returns whether the configuration has a certificate that its read sets meet its write sets.
 fn check_meets(
     alloc: Global,
     group: u8,
@@ -72,7 +72,7 @@ fn check_meets(
     }
 }
 
-/// Whether the child has a certificate that its read sets without a fresh member are read sets of its parent.
+/// Returns whether the child has a certificate that its read sets without a fresh member are read sets of its parent.
 fn check_step(
     alloc: Global,
     group: u8,
@@ -101,7 +101,7 @@ fn check_step(
     }
 }
 
-/// The first fault of a configuration: its parent, its fresh members, its claim and that of its step.
+/// Returns the first fault of a configuration: its parent, its fresh members, its claim and that of its step.
 fn check_configuration(
     alloc: Global,
     group: u8,
@@ -126,7 +126,7 @@ fn check_configuration(
     }
 }
 
-/// The first fault of a group's configurations.
+/// Returns the first fault of a group's configurations.
 fn check_group(alloc: Global, group: u8, configurations: &[Configuration]) -> Result<(), PlanFault>
     requires { length configurations.now ≤ 64 }
     ensures { Finds result (group_fault group (map configuration_data configurations.now)) }
@@ -137,7 +137,7 @@ fn check_group(alloc: Global, group: u8, configurations: &[Configuration]) -> Re
     Ok(())
 }
 
-/// The first fault of all groups.
+/// Returns the first fault of all groups.
 fn check_groups(alloc: Global, groups: &[Group]) -> Result<(), PlanFault>
     requires { length groups.now ≤ 16 }
     ensures { Finds result (groups_fault (map group_data groups.now)) }
@@ -148,12 +148,12 @@ fn check_groups(alloc: Global, groups: &[Group]) -> Result<(), PlanFault>
     Ok(())
 }
 
-/// The plan, checked.
+/// Returns the plan, checked.
 ///
 /// # Errors
 /// The first fault with the plan: configuration by configuration [`PlanFault::BadParent`], then
-/// [`PlanFault::MemberReused`], then [`PlanFault::NoCertificate`] or [`PlanFault::Certificate`] of its claim that read sets
-/// meet write sets, then those of its step.
+/// [`PlanFault::MemberReused`], then [`PlanFault::NoCertificate`] or [`PlanFault::Certificate`] of its claim that
+/// read sets meet write sets, then those of its step.
 #[tactic(auto, unfolding(crate::specs::PlanFaults::plan_fault))]
 pub fn check_plan(alloc: Global, plan: Plan) -> Result<CheckedPlan, (PlanFault, Plan)>
     ensures { ChecksTo result plan }

@@ -72,10 +72,10 @@ impl ClaimRef<'_> {
     ghost use Rattle.quorum_checker.specs.FirstFault.{first_fault};
     ghost use Rattle.plan.specs.LentClaims.{lent_state};
 
-    /// What a certificate has to refute, in memory of its own.
+    /// Returns what a certificate has to refute, in memory of its own.
     ///
     /// # Errors
-    /// `NoMemory` where a growth was refused.
+    /// `NoMemory` if there is no memory.
     pub fn claim_in<B: Allocator + Clone>(&self, alloc: B) -> Result<Claim<B>, Fault>
         ensures { Gives first_state result (Ok (lent_state self.now)) }
     {
@@ -85,10 +85,10 @@ impl ClaimRef<'_> {
         }
     }
 
-    /// Whether a certificate refutes it. Nothing that the plan lends is copied.
+    /// Returns whether a certificate refutes it. Nothing that the plan lends is copied.
     ///
     /// # Errors
-    /// The certificate's first fault, with its path; or `NoMemory` where a growth was refused.
+    /// The certificate's first fault, with its path; or `NoMemory` if there is no memory.
     pub fn check<B: Allocator>(
         &self,
         alloc: Global,

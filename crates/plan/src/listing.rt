@@ -17,7 +17,7 @@ use crate::placed::NamedClaim;
 use crate::shapes::check_shapes;
 use std::alloc::Global;
 
-/// The claims of a configuration.
+/// Returns the claims of a configuration.
 fn of_configuration<'p>(
     alloc: Global,
     group: u8,
@@ -48,7 +48,7 @@ fn of_configuration<'p>(
     Ok(list)
 }
 
-/// The claims of a group's configurations.
+/// Returns the claims of a group's configurations.
 fn of_group<'p>(
     alloc: Global,
     group: u8,
@@ -65,7 +65,7 @@ fn of_group<'p>(
     Ok(list)
 }
 
-/// The claims of all groups.
+/// Returns the claims of all groups.
 fn of_groups<'p>(alloc: Global, groups: &'p [Group]) -> Result<Vec<ClaimRef<'p>>, PlanFault>
     requires { length groups.now ≤ 16 }
     ensures { Reads (λ v. all_lent v.items) result (claims_of_groups (map group_data groups.entry.now)) }
@@ -78,11 +78,11 @@ fn of_groups<'p>(alloc: Global, groups: &'p [Group]) -> Result<Vec<ClaimRef<'p>>
     Ok(list)
 }
 
-/// The claims of a plan by what it lends, in order of group and configuration and that of a step last.
+/// Returns the claims of a plan by what it lends, in order of group and configuration and that of a step last.
 ///
 /// # Errors
-/// The first [`PlanFault::BadParent`] or [`PlanFault::MemberReused`], which is found before any memory is taken; or else
-/// that memory ran out.
+/// The first [`PlanFault::BadParent`] or [`PlanFault::MemberReused`], which is found before any memory is taken; or
+/// else that memory ran out.
 #[tactic(auto, unfolding(crate::specs::PlanClaims::claims_in))]
 pub fn lent_claims<'p>(alloc: Global, plan: &'p Plan) -> Result<Vec<ClaimRef<'p>>, PlanFault>
     ensures claims { Reads (λ v. all_lent v.items) result (claims_in (plan_data plan.entry.now)) }
@@ -92,7 +92,7 @@ pub fn lent_claims<'p>(alloc: Global, plan: &'p Plan) -> Result<Vec<ClaimRef<'p>
     of_groups(alloc, &plan.groups)
 }
 
-/// The same claims in memory of their own.
+/// Returns the same claims in memory of their own.
 fn named(alloc: Global, lent: &[ClaimRef<'_>]) -> Result<Vec<NamedClaim>, PlanFault>
     ensures { Reads (λ v. all_placed v.items) result (Ok (all_lent lent.now)) }
 {
@@ -108,7 +108,7 @@ fn named(alloc: Global, lent: &[ClaimRef<'_>]) -> Result<Vec<NamedClaim>, PlanFa
     Ok(list)
 }
 
-/// The claims of a plan, in order of group and configuration and that of a step last.
+/// Returns the claims of a plan, in order of group and configuration and that of a step last.
 ///
 /// # Errors
 /// Those of [`lent_claims`].

@@ -90,7 +90,7 @@ fn is_silent(line: &[u8]) -> bool
     line.is_empty() || line[0] == b'#'
 }
 
-/// What a line does, or that it isn't one of a script. `events` has the index of each earlier line's event.
+/// Returns what a line does, or that it isn't one of a script. `events` has the index of each earlier line's event.
 #[inline(always)]
 pub fn line_of(alloc: Global, text: &[u8], events: &[Option<u32>]) -> Result<Line, Fault>
     ensures { ReadsBy seen (option_map (seen_deed events.now) (deed_of (length events.now) text.now)) result }

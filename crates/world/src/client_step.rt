@@ -15,7 +15,7 @@ use std::alloc::Global;
 use volume_model::{Fault, steps_are_few};
 use wire::Message;
 
-/// What an order asks for, among these messages. `NoMessage` if it names none of them.
+/// Returns what an order asks for, among these messages. `NoMessage` if it names none of them.
 pub fn act_of<'a>(order: ClientOrder<'a>, messages: &'a [Message]) -> Result<ClientAct<'a>, Fault>
     ensures { MatchResult result (λ act. IsOrderOf (added (messages_of messages.entry.now) []) order.entry act) (λ fault. (fault ≡ NoMessage) × IsRefusedOrder (added (messages_of messages.entry.now) []) order.entry) }
 {

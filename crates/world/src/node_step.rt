@@ -17,7 +17,7 @@ use std::alloc::Global;
 use volume_model::Fault;
 use wire::Message;
 
-/// What an order asks for, among these messages. `NoMessage` if it names none of them.
+/// Returns what an order asks for, among these messages. `NoMessage` if it names none of them.
 fn act_of<'a>(order: NodeOrder<'a>, messages: &'a [Message]) -> Result<NodeAct<'a>, Fault>
     ensures { MatchResult result (λ act. IsNodeOrderOf (added (messages_of messages.entry.now) []) order.entry act) (λ fault. (fault ≡ NoMessage) × IsRefusedNodeOrder (added (messages_of messages.entry.now) []) order.entry) }
 {
@@ -44,7 +44,7 @@ fn take(
     Ok(enter(messages, made))
 }
 
-/// The general case of [`act`], out of line so that the write path keeps a small stack frame.
+/// Returns the general case of [`act`], out of line so that the write path keeps a small stack frame.
 #[inline(never)]
 fn act_at_large(
     alloc: Global,
