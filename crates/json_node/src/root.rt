@@ -1,0 +1,57 @@
+//! The root of a tape as a node.
+
+ghost use Rattle.std.specs.Prelude.{◌≡◌, ◌<◌, ◌≤◌, ◌+◌, ◌^◌, ℕ, List, ◌∷◌, IsSome, IfSome, MatchOption, option_map, map, false};
+ghost use Rattle.json.specs.Token.{Token};
+ghost use Rattle.json.specs.Lex.{tokens};
+ghost use Rattle.json.specs.Json.{document};
+ghost use Rattle.json.specs.Tape.{node_token};
+ghost use Rattle.serde_json.specs.Read.{read};
+ghost use Rattle.json_node.specs.Placed.{data_at, or_null, passes};
+
+use crate::number::is_in_range;
+use crate::on_tape::TapeNode;
+use json::{Node, Tape};
+
+/// The most levels of arrays and objects.
+const LEVELS: u128 = 127;
+
+/// Returns the levels that remain after a node, or `None` if it nests too deep or its number is out of range.
+#[tactic(auto, unfolding(crate::specs::Placed::passes))]
+fn after(node: &Node<'_>, left: u128) -> Option<u128>
+    requires { left < 2 ^ 100 }
+    ensures passes { MatchOption result ((ts : List Token) → passes left (node_token node.now ∷ ts) ≡ false) (λ l. (ts : List Token) → passes left (node_token node.now ∷ ts) ≡ passes l ts) }
+    ensures few { IfSome result (λ l. l ≤ left + 1) }
+{
+    match node {
+        Node::Object(_) | Node::Array(_) => { if left == 0 { None } else { Some(left - 1) } }
+        Node::EndObject | Node::EndArray => Some(left + 1),
+        Node::Number(text) => { if is_in_range(text) { Some(left) } else { None } }
+        Node::Key(_) | Node::String(_) | Node::Bool(_) | Node::Null => Some(left),
+    }
+}
+
+/// Returns whether each number is in range and nothing nests deeper than 127.
+fn is_readable(nodes: &[Node<'_>]) -> bool
+    ensures { result ≡ passes 127 (map node_token nodes.now) }
+{
+    let mut left = LEVELS;
+    for node in nodes {
+        match after(node, left) {
+            Some(more) => left = more,
+            None => return false,
+        }
+    }
+    true
+}
+
+/// Returns the root of a tape, if `serde_json` reads its text.
+pub fn tape_root<'t, 'a>(tape: &'t Tape<'a>) -> Option<TapeNode<'t, 'a>>
+    ensures { (text : List ℕ) → tape.now ≡ tokens text → IsSome (document text) → option_map (λ n. or_null (data_at n.element)) result ≡ read text }
+{
+    if !is_readable(tape.nodes()) {
+        return None;
+    }
+    Some(TapeNode {
+        element: tape.root(),
+    })
+}
