@@ -1,12 +1,10 @@
 //! The impl of `Node` for a place of a tape.
 
-ghost use Rattle.std.specs.Prelude.{◌≡◌, ◌≤◌, is_some, true, min, Some};
+ghost use Rattle.std.specs.Prelude.{◌≡◌, ◌≤◌, is_some, true};
 ghost use Rattle.json.specs.Json as json;
-ghost use Rattle.json.specs.Find.{InMembers};
-ghost use Rattle.serde_json.specs.Data as spec;
-ghost use Rattle.serde_json.specs.Events.{members_len};
-ghost use Rattle.serde_json.specs.Read.{of_members};
-ghost use Rattle.json_node.specs.Placed.{data_at, items_at, or_null, or_none, among};
+ghost use Rattle.std.specs.Str.{bytes_eq};
+ghost use Rattle.json.specs.Find.{BeginsWith, Finds, get};
+ghost use Rattle.json_node.specs.Placed.{data_at, items_at, or_null, or_none, among, HasKeys};
 
 use crate::node::Node;
 use crate::number::whole_number;
@@ -29,12 +27,40 @@ pub struct TapeItems<'t, 'a> {
 /// The most distinct keys that `distinct` counts.
 const KEYS: usize = 8;
 
+/// Returns whether two texts are equal. Most unequal ones differ in length or in their first byte.
+fn is_equal(a: &str, b: &str) -> bool
+    ensures { result ≡ bytes_eq a.now b.now }
+{
+    let (left, right) = (a.as_bytes(), b.as_bytes());
+    if left.len() != right.len() {
+        return false;
+    }
+    if left.is_empty() || left[0] != right[0] {
+        return left.is_empty();
+    }
+    a == b
+}
+
+/// Returns the last member with a key, as [`Element::get`] does.
+fn find<'t, 'a>(element: &Element<'t, 'a>, key: &str) -> Option<Element<'t, 'a>>
+    ensures { (j : json.Json) → BeginsWith element.now j → Finds result (get key.now j) }
+{
+    let mut members = element.members()?;
+    let mut found = None;
+    while let Some((name, member)) = members.next() {
+        if is_equal(name, key) {
+            found = Some(member);
+        }
+    }
+    found
+}
+
 /// Returns whether a key is one of `seen`.
 fn is_among(seen: &[&str], key: &str) -> bool
     ensures { result ≡ among key.now seen.now }
 {
     for other in seen {
-        if *other == key {
+        if is_equal(other, key) {
             return true;
         }
     }
@@ -44,7 +70,7 @@ fn is_among(seen: &[&str], key: &str) -> bool
 /// Counts the distinct keys of members, up to `most`.
 fn distinct(members: &mut Members<'_, '_>, most: usize) -> usize
     requires { most ≤ 8 }
-    ensures { (ms : json.Members) (es : spec.Members) → InMembers members.old ms → of_members ms spec.no_members ≡ Some es → result ≡ min (members_len es) most }
+    ensures { HasKeys members.old most result }
 {
     let mut seen = [""; KEYS];
     let mut count = 0usize;
@@ -102,7 +128,7 @@ impl<'t, 'a> Node for TapeNode<'t, 'a> {
     }
 
     fn get(&self, key: &str) -> Option<TapeNode<'t, 'a>> {
-        match self.element.get(key) {
+        match find(&self.element, key) {
             Some(element) => Some(TapeNode { element }),
             None => None,
         }

@@ -1,12 +1,9 @@
 //! The root of a tape as a node.
 
-ghost use Rattle.std.specs.Prelude.{◌≡◌, ◌<◌, ◌≤◌, ◌+◌, ◌^◌, ℕ, List, ◌∷◌, IsSome, IfSome, MatchOption, option_map, map, false};
-ghost use Rattle.json.specs.Token.{Token};
-ghost use Rattle.json.specs.Lex.{tokens};
-ghost use Rattle.json.specs.Json.{document};
+ghost use Rattle.std.specs.Prelude.{◌≡◌, ◌<◌, ◌≤◌, ◌+◌, ◌^◌, IfSome, map};
 ghost use Rattle.json.specs.Tape.{node_token};
-ghost use Rattle.serde_json.specs.Read.{read};
-ghost use Rattle.json_node.specs.Placed.{data_at, or_null, passes};
+ghost use Rattle.json_node.specs.Placed.{passes, PassesTo};
+ghost use Rattle.json_node.specs.Tapes.{IsRootOf};
 
 use crate::number::is_in_range;
 use crate::on_tape::TapeNode;
@@ -19,7 +16,7 @@ const LEVELS: u128 = 127;
 #[tactic(auto, unfolding(crate::specs::Placed::passes))]
 fn after(node: &Node<'_>, left: u128) -> Option<u128>
     requires { left < 2 ^ 100 }
-    ensures passes { MatchOption result ((ts : List Token) → passes left (node_token node.now ∷ ts) ≡ false) (λ l. (ts : List Token) → passes left (node_token node.now ∷ ts) ≡ passes l ts) }
+    ensures passes { PassesTo left (node_token node.now) result }
     ensures few { IfSome result (λ l. l ≤ left + 1) }
 {
     match node {
@@ -46,7 +43,7 @@ fn is_readable(nodes: &[Node<'_>]) -> bool
 
 /// Returns the root of a tape, if `serde_json` reads its text.
 pub fn tape_root<'t, 'a>(tape: &'t Tape<'a>) -> Option<TapeNode<'t, 'a>>
-    ensures { (text : List ℕ) → tape.now ≡ tokens text → IsSome (document text) → option_map (λ n. or_null (data_at n.element)) result ≡ read text }
+    ensures { IsRootOf tape.now result }
 {
     if !is_readable(tape.nodes()) {
         return None;
