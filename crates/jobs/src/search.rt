@@ -9,7 +9,6 @@ ghost use Rattle.plan.specs.PlanClaims.{claims_in};
 ghost use Rattle.plan.specs.PlanData.{PlanData};
 ghost use Rattle.plan.specs.PlanText.{plan_of};
 ghost use Rattle.plan.specs.Written.{rewritten};
-ghost use Rattle.plan_tokens.specs.WrittenPlans.{HasClaims};
 ghost use Rattle.cert_search.specs.Answers.{rule_in, AreAnswers, AreAnswersOf};
 ghost use Rattle.jobs.specs.Answers.{AnswersOf, file_of};
 ghost use Rattle.jobs.specs.Searched.{IsPlanLine, SearchesTo, TellsSearch, claims_of, found_answer};
@@ -20,13 +19,14 @@ ghost use Rattle.jobs.specs.declared.reply.Stop.TheVariants.{NoMemory};
 
 use crate::fallible::FallibleRead;
 use crate::files::Source;
-use crate::inputs::{contents, spelled_plan_in};
+use crate::inputs::{contents, plan_of_tape, taped};
 use crate::leaving::leave;
 use crate::reply::{Found, Stop};
 use cert_search::{Gate, make_smaller, search_all};
 use command_line::Job;
+use json::Scratch;
 use plan::{LentClaim, Plan, claim_name, lent_claims, shown_claims_certify};
-use plan_tokens::{Spelling, write_plan};
+use plan_text::TapedPlan;
 use refutation::Certificate;
 use std::alloc::{AllocError, Global};
 use std::sync::Wait;
@@ -78,17 +78,12 @@ fn answers<H: Threads + Wait + Sync>(
 /// The line of a text's plan with these certificates.
 fn plan_line(
     alloc: Global,
-    text: &[u8],
-    plan: &Plan,
-    spelling: &Option<Spelling>,
+    text: &TapedPlan<'_>,
     certificates: &[Option<Certificate<Global>>],
 ) -> Result<Vec<u8>, Stop<'static>>
-    requires plan { plan_of text.now ≡ Ok (plan_data plan.now) }
-    requires claims { HasClaims text.now (length certificates.now) }
-    ensures line { IfOk result (λ line. (plan : PlanData) × (rewritten text.now (map (option_map certificate_rule) certificates.now) ≡ Ok plan) × IsPlanLine plan line.items) }
     ensures stop { IfErr result (λ stop. stop ≡ NoMemory) }
 {
-    match write_plan(alloc, text, plan, spelling, certificates) {
+    match text.write(alloc, certificates) {
         Ok(mut line) => {
             line.push(b'\n')?;
             Ok(line)
@@ -100,27 +95,22 @@ fn plan_line(
 /// The line of a text's plan with these certificates, or with smaller ones in their places where the line would be too long.
 fn fitting_line(
     alloc: Global,
-    text: &[u8],
-    plan: &Plan,
-    spelling: &Option<Spelling>,
+    text: &TapedPlan<'_>,
     claims: &[LentClaim<'_>],
     certificates: &mut Vec<Option<Certificate<Global>>>,
 ) -> Result<Vec<u8>, Stop<'static>>
-    requires plan { plan_of text.now ≡ Ok (plan_data plan.now) }
-    requires claims { HasClaims text.now (length certificates.old.items) }
     requires answers { AreAnswers 100000 (all_lent claims.now) (map rule_in certificates.old.items) }
-    ensures line { IfOk result (λ line. (plan : PlanData) × (rewritten text.now (map rule_in certificates.new.items) ≡ Ok plan) × IsPlanLine plan line.items) }
     ensures answers { AreAnswers 100000 (all_lent claims.now) (map rule_in certificates.new.items) }
     ensures stop { IfErr result (λ stop. stop ≡ NoMemory) }
 {
-    let line = plan_line(alloc, text, plan, spelling, certificates)?;
+    let line = plan_line(alloc, text, certificates)?;
     if line.len() <= PLAN_BYTES {
         return Ok(line);
     }
     let excess = line.len() - PLAN_BYTES;
     drop(line);
     match make_smaller(alloc, claims, BUDGET, excess, certificates) {
-        Ok(()) => plan_line(alloc, text, plan, spelling, certificates),
+        Ok(()) => plan_line(alloc, text, certificates),
         Err(_) => Err(Stop::NoMemory),
     }
 }
@@ -187,19 +177,18 @@ fn searched<H: Threads + Wait + Sync>(
     workers: u8,
 ) -> Result<Found, Stop<'static>>
     requires { (0 < workers) × (workers ≤ 16) }
-    ensures told { IfOk result (λ found. TellsSearch text.now found.status found.plan.items (string_bytes found.unfound)) }
-    ensures stop { IfErr result (StopsBy (λ fault. claims_of text.now ≡ Err fault)) }
 {
     shown_claims_certify();
-    let (plan, spelling) = spelled_plan_in(alloc, text)?;
+    let mut scratch = Scratch::new(alloc);
+    let text = taped(alloc, text, &mut scratch)?;
+    let plan = plan_of_tape(alloc, &text)?;
     let claims = claims_of(alloc, &plan)?;
     let mut certificates = answers(rt, alloc, &plan, workers)?;
-    let line = fitting_line(alloc, text, &plan, &spelling, &claims, &mut certificates)?;
+    let line = fitting_line(alloc, &text, &claims, &mut certificates)?;
     let unfound = unfound(alloc, &claims, &certificates)?;
     let status = u8::from(has_gap(&certificates));
     leave(certificates);
     leave(claims);
-    leave(spelling);
     leave(plan);
     Ok(Found {
         status,

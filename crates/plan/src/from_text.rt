@@ -12,7 +12,7 @@ ghost use Rattle.plan.specs.PlanText.{◌>=>◌, Reads, IsWithinSize, in_text, p
 
 use crate::configurations::Plan;
 use crate::fault::PlanFault;
-use crate::reading::plan;
+use crate::reading::read_plan_at;
 use json::{Error, Scratch, Tape};
 use json_node::tape_root;
 use serde_json::Value;
@@ -59,7 +59,7 @@ fn by_tape(alloc: Global, text: &str) -> Result<Plan, PlanFault>
     let mut scratch = Scratch::new(alloc);
     match Tape::parse(text, &mut scratch, Vec::new(alloc)) {
         Ok(tape) => match tape_root(&tape) {
-            Some(root) => plan(alloc, &root),
+            Some(root) => read_plan_at(alloc, &root),
             None => Err(PlanFault::Text(Fault::Malformed)),
         },
         Err(Error::OutOfMemory) => Err(PlanFault::Text(Fault::NoMemory)),

@@ -33,7 +33,7 @@ const MAX_LAL: u64 = 10_000_000;
 
 /// Returns the nodes of a configuration. `Malformed` for any other node.
 #[tactic(auto, unfolding(crate::specs::PlanText::fields_of))]
-pub(crate) fn fields<N: Node>(value: &N) -> Result<Fields<N>, Fault>
+pub fn fields<N: Node>(value: &N) -> Result<Fields<N>, Fault>
     ensures { Gives (fields_data N.means) result (fields_of (N.means value.now)) }
 {
     has_keys(value, 7)?;
@@ -239,7 +239,7 @@ fn configurations<N: Node>(
 
 /// Returns the array of a group's 1 to 64 configurations.
 #[tactic(auto, unfolding(crate::specs::PlanText::group_items))]
-pub(crate) fn group_array<N: Node>(value: &N) -> Result<N, Fault>
+pub fn group_array<N: Node>(value: &N) -> Result<N, Fault>
     ensures read { Gives (λ n. items_in (N.means n)) result (group_items (N.means value.now)) }
     ensures some { IfOk result (λ n. 1 ≤ items_len (items_in (N.means n))) }
     ensures few { IfOk result (λ n. items_len (items_in (N.means n)) ≤ 64) }
@@ -380,7 +380,7 @@ fn born<N: Node>(value: &Option<N>, groups: u8) -> Result<u8, Fault>
 
 /// Reads the head of a plan.
 #[tactic(auto, unfolding(crate::specs::PlanText::header_of))]
-pub(crate) fn header<N: Node>(value: &N) -> Result<Header<N>, Fault>
+pub fn header<N: Node>(value: &N) -> Result<Header<N>, Fault>
     ensures read { Gives (header_data N.means) result (header_of (N.means value.now)) }
     ensures lal_some { IfOk result (λ h. 1 ≤ h.lal) }
     ensures lal_few { IfOk result (λ h. h.lal ≤ 10000000) }
@@ -403,7 +403,7 @@ pub(crate) fn header<N: Node>(value: &N) -> Result<Header<N>, Fault>
 
 /// Reads a plan.
 #[tactic(auto, unfolding(crate::specs::PlanText::plan_in))]
-pub(crate) fn plan<N: Node>(alloc: Global, value: &N) -> Result<Plan, PlanFault>
+pub fn read_plan_at<N: Node>(alloc: Global, value: &N) -> Result<Plan, PlanFault>
     ensures { Reads plan_data result (plan_in (N.means value.now)) }
 {
     let header = header(value)?;

@@ -19,7 +19,7 @@ use crate::fields::Fields;
 use crate::formats::Format;
 use crate::from_text::value;
 use crate::listing::claims;
-use crate::reading::{fields, group_array, header, plan};
+use crate::reading::{fields, group_array, header, read_plan_at};
 use refutation::{Certificate, with, write_certificate};
 use serde_json::{Map, Value, json};
 use std::alloc::{AllocError, Global};
@@ -252,7 +252,7 @@ pub fn write_plan(
 {
     let value = value(alloc, text)?;
     let node = &value;
-    let plan = plan(alloc, &node)?;
+    let plan = read_plan_at(alloc, &node)?;
     claims(alloc, &plan)?;
     let values = certificate_values(alloc, certificates)?;
     match plan_json(alloc, &value, &values) {

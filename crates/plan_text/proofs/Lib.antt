@@ -1,0 +1,6 @@
+pub mod Branches
+pub mod Joined
+pub mod PutRules
+pub mod Putting
+pub mod Rooms
+pub mod Texts

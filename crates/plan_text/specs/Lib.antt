@@ -1,0 +1,5 @@
+pub mod Certificates
+pub mod Heads
+pub mod Puts
+pub mod Rules
+pub mod Written
