@@ -29,5 +29,5 @@ pub use laws::{no_fault_is_certified, reuse_is_found, shown_claims_certify};
 pub use lent::LentClaim;
 pub use listing::{claims, lent_claims};
 pub use placed::NamedClaim;
-pub use reading::{fields, group_array, header, read_plan_at};
+pub use reading::{fields_at, group_array, header, read_plan_at};
 pub use writing::write_plan;

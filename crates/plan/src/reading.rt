@@ -33,7 +33,7 @@ const MAX_LAL: u64 = 10_000_000;
 
 /// Returns the nodes of a configuration. `Malformed` for any other node.
 #[tactic(auto, unfolding(crate::specs::PlanText::fields_of))]
-pub fn fields<N: Node>(value: &N) -> Result<Fields<N>, Fault>
+pub fn fields_at<N: Node>(value: &N) -> Result<Fields<N>, Fault>
     ensures { Gives (fields_data N.means) result (fields_of (N.means value.now)) }
 {
     has_keys(value, 7)?;
@@ -197,7 +197,7 @@ fn configuration<N: Node>(
 ) -> Result<Configuration, PlanFault>
     ensures { Reads configuration_data result (configuration_in is_weighted group number (N.means value.now)) }
 {
-    let fields = fields(value)?;
+    let fields = fields_at(value)?;
     let parent = parent(&fields.parent)?;
     let lists = lists(is_weighted, &fields)?;
     let read = expression(alloc, group, number, Quorum::Read, &fields.read, &lists)?;

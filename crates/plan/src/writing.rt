@@ -19,7 +19,7 @@ use crate::fields::Fields;
 use crate::formats::Format;
 use crate::from_text::value;
 use crate::listing::claims;
-use crate::reading::{fields, group_array, header, read_plan_at};
+use crate::reading::{fields_at, group_array, header, read_plan_at};
 use refutation::{Certificate, with, write_certificate};
 use serde_json::{Map, Value, json};
 use std::alloc::{AllocError, Global};
@@ -146,7 +146,7 @@ fn configuration_json(
     requires { number < 64 }
     ensures { Gives view result (configuration_written number (view value.now) (map view certificates.now)) }
 {
-    let fields = fields(&value)?;
+    let fields = fields_at(&value)?;
     let meets = value_or_null(certificates, (2 * number).saturating_sub(1))?;
     let step = step_value(number, certificates)?;
     Ok(fields_json(alloc, &fields, meets, step)?)

@@ -4,3 +4,6 @@ pub mod PutRules
 pub mod Putting
 pub mod Rooms
 pub mod Texts
+pub mod Copied
+pub mod Known
+pub mod Made

@@ -3,3 +3,4 @@ pub mod Heads
 pub mod Puts
 pub mod Rules
 pub mod Written
+pub mod Known

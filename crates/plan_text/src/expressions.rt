@@ -2,6 +2,7 @@
 
 ghost use Rattle.std.specs.Prelude.{OnSome};
 ghost use Rattle.json_node.specs.Tapes.{data_of};
+ghost use Rattle.plan_text.specs.Known.{EndsThreshold};
 ghost use Rattle.plan_text.specs.Puts.{Puts};
 
 use crate::puts::{
@@ -48,12 +49,25 @@ fn put_name(writer: &mut Writer, node: &TapeNode<'_, '_>) -> Option<()>
     }
 }
 
-/// Writes the weights of a threshold, if it has `keys` keys, and the end of it.
-fn close_threshold(writer: &mut Writer, node: &TapeNode<'_, '_>, keys: usize) -> Option<()> {
+/// Writes the weights and the end of a threshold of three keys.
+fn close_weighted(writer: &mut Writer, node: &TapeNode<'_, '_>) -> Option<()>
+    ensures { OnSome result (EndsThreshold 3 (data_of node.now) writer.old writer.new) }
+{
+    put_key(writer, "weights")?;
+    let weights = node.get("weights")?;
+    put_wholes(writer, &weights)?;
+    close_object(writer)
+}
+
+/// Writes what follows the children of a threshold of `keys` keys.
+fn close_threshold(writer: &mut Writer, node: &TapeNode<'_, '_>, keys: usize) -> Option<()>
+    ensures { OnSome result (EndsThreshold keys (data_of node.now) writer.old writer.new) }
+{
     if keys == 3 {
-        put_key(writer, "weights")?;
-        let weights = node.get("weights")?;
-        put_wholes(writer, &weights)?;
+        return close_weighted(writer, node);
+    }
+    if keys != 2 {
+        return None;
     }
     close_object(writer)
 }

@@ -16,7 +16,7 @@ use crate::puts::{
 };
 use json::Writer;
 use json_node::{Node, TapeNode, count_items};
-use plan::{Fields, Format, fields, group_array, header};
+use plan::{Fields, Format, fields_at, group_array, header};
 use refutation::Certificate;
 use std::alloc::Global;
 
@@ -83,7 +83,7 @@ fn put_configuration(
     requires { number < 64 }
     ensures { OnSome result (PutsMade (configuration_written number (data_of node.now) (certificate_values certificates.now)) writer.old writer.new) }
 {
-    match fields(node) {
+    match fields_at(node) {
         Ok(fields) => put_fields(writer, &fields, number, certificates),
         Err(_) => None,
     }

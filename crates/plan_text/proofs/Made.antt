@@ -1,0 +1,70 @@
+-- Values that a definition gives one after another, put in a list.
+use Rattle.std.proofs.Common.{◌≡◌, ℕ, ◌+◌, ◌-◌, ◌*◌, List, [], ◌∷◌, ◌++◌, drop, map, refl, ap, sym, subst, ◌∙◌, append_assoc, append-nil, Result, Ok, Err}
+use Rattle.std.specs.Prelude.{codes, if◌then◌else◌, ◌==◌, true, false}
+use Rattle.json.specs.Token.{begin_array, end_array}
+use Rattle.json.specs.Written.{Written}
+use Rattle.serde_json.specs.Data.{Data, array, Items, no_items, item}
+use Rattle.serde_json.specs.Events.{items_len}
+use Rattle.serde_json.specs.View.{items_of}
+use Rattle.volume_model.specs.declared.fault.Fault.{Fault}
+use Rattle.volume_model.specs.Answer.{◌>>=◌}
+use Rattle.plan.specs.PlanText.{Fields, fields_of, group_items}
+use Rattle.plan.specs.Rewriting.{fields_object, meets_value, step_value, configuration_written, configurations_written, group_written, groups_written}
+use Rattle.plan_text.specs.Puts.{Puts, PutsToken, Lists}
+use Rattle.plan_text.specs.Written.{PutsMade}
+use Rattle.plan_text.proofs.Joined.{joined}
+use Rattle.plan_text.proofs.Putting.{listing, one_listed, listed}
+
+abbrev pub after_front : List Data → Result (List Data) Fault → Result (List Data) Fault
+after_front front made = made >>= λ xs. Ok (front ++ xs)
+
+none_before : (r : Result (List Data) Fault) → after_front [] r ≡ r
+none_before (Ok xs) = refl
+none_before (Err e) = refl
+
+front-more : (front : List Data) (y : Data) (r : Result (List Data) Fault) → after_front front (r >>= λ xs. Ok (y ∷ xs)) ≡ after_front (front ++ y ∷ []) r
+front-more front y (Ok xs) = ap Ok (sym (append_assoc front (y ∷ []) xs))
+front-more front y (Err e) = refl
+
+items-joined : (ds : List Data) → items_of ds ≡ joined ds no_items
+items-joined [] = refl
+items-joined (d ∷ ds) = ap (item d) (items-joined ds)
+
+-- A list was begun, and has all values that are made but for the rest.
+pub record Makes (all rest : Result (List Data) Fault) (start now : Written) : Type 0 where
+  pub ds : List Data
+  pub lists : Lists ds start now
+  pub so_far : after_front ds rest ≡ all
+
+pub makes_none : (all : Result (List Data) Fault) (old new : Written) → PutsToken begin_array old new → Makes all all old new
+makes_none all old new t = record { ds = []; lists = listing old new t; so_far = none_before all }
+
+pub makes_more : (all rest more : Result (List Data) Fault) (x : Data) (start mid new : Written) → Makes all rest start mid → rest ≡ (more >>= λ xs. Ok (x ∷ xs)) → Puts x mid new → Makes all more start new
+makes_more all rest more x start mid new m is p = record {
+  ds = m.ds ++ x ∷ [];
+  lists = one_listed m.ds x start mid new m.lists p;
+  so_far = sym (front-more m.ds x more) ∙ ap (after_front m.ds) (sym is) ∙ m.so_far;
+}
+
+pub makes_done : (all rest : Result (List Data) Fault) (start now new : Written) → Makes all rest start now → rest ≡ Ok [] → PutsToken end_array now new → PutsMade (all >>= λ xs. Ok (array (items_of xs))) start new
+makes_done all rest start now new m none t =
+    let is : all ≡ Ok m.ds = sym m.so_far ∙ ap (after_front m.ds) none ∙ ap Ok (append-nil m.ds) in
+    record {
+      value = array (items_of m.ds);
+      is = ap (λ r. r >>= λ xs. Ok (array (items_of xs))) is;
+      puts = subst (λ x. Puts (array x) start new) (sym (items-joined m.ds)) (listed m.ds start now new m.lists t);
+    }
+
+-- ---- configurations and groups
+
+pub made-configuration : (n : ℕ) (d : Data) (f : Fields) (cs : List Data) → fields_of d ≡ Ok f → configuration_written n d cs ≡ Ok (fields_object f (meets_value n cs) (step_value n cs))
+unfolding configuration_written
+made-configuration n d f cs e = rw e refl
+
+pub made-next : (n : ℕ) (d x : Data) (ds : Items) (cs : List Data) → configuration_written n d cs ≡ Ok x → configurations_written n (item d ds) cs ≡ (configurations_written (n + 1) ds cs >>= λ xs. Ok (x ∷ xs))
+made-next n d x ds cs e = ap (λ r. r >>= λ y. configurations_written (n + 1) ds cs >>= λ xs. Ok (y ∷ xs)) e
+
+pub made-group : (d x : Data) (ds cs : Items) (vs : List Data) → group_items d ≡ Ok cs → group_written cs vs ≡ Ok x → groups_written (item d ds) vs ≡ (groups_written ds (drop (2 * items_len cs - 1) vs) >>= λ xs. Ok (x ∷ xs))
+made-group d x ds cs vs e made =
+    ap (λ (r : Result Items Fault). r >>= λ es. group_written es vs >>= λ y. groups_written ds (drop (2 * items_len es - 1) vs) >>= λ xs. Ok (y ∷ xs)) e
+    ∙ ap (λ r. r >>= λ y. groups_written ds (drop (2 * items_len cs - 1) vs) >>= λ xs. Ok (y ∷ xs)) made
