@@ -5,6 +5,7 @@ use Rattle.json.specs.Token.{begin_array, end_array}
 use Rattle.json.specs.Written.{Written}
 use Rattle.serde_json.specs.Data.{unsigned, negative, float, Data, null, boolean, number, string, array, object, Items, no_items, item}
 use Rattle.serde_json.specs.Find.{as_array, as_number, as_u64}
+use Rattle.json_node.specs.Nodes.{items_in}
 use Rattle.refutation.specs.Writing.{number_data}
 use Rattle.plan_text.specs.Puts.{Puts, PutsToken, Lists}
 use Rattle.plan_text.proofs.Joined.{joined, joined-one}
@@ -46,3 +47,11 @@ one_copied d e start mid new old rest c is p = record {
 
 pub ended : (d : Data) (start now new : Written) (rest : Items) → Copies d start now rest → rest ≡ no_items → PutsToken end_array now new → Puts d start new
 ended d start now new rest c none t = subst (λ x. Puts x start new) (sym (c.all ∙ ap (λ r. array (joined c.ds r)) none)) (listed c.ds start now new c.lists t)
+
+pub items-array : (d : Data) (ds : Items) → Some ds ≡ as_array d → items_in d ≡ ds
+items-array null ds h = absurd (cc)
+items-array (boolean b) ds h = absurd (cc)
+items-array (number n) ds h = absurd (cc)
+items-array (string s) ds h = absurd (cc)
+items-array (array es) ds h = let same : ds ≡ es = cc in sym same
+items-array (object ms) ds h = absurd (cc)
