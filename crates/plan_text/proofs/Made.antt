@@ -3,15 +3,21 @@ use Rattle.std.proofs.Common.{◌≡◌, ℕ, ◌+◌, ◌-◌, ◌*◌, List, [
 use Rattle.std.specs.Prelude.{codes, if◌then◌else◌, ◌==◌, true, false}
 use Rattle.json.specs.Token.{begin_array, end_array}
 use Rattle.json.specs.Written.{Written}
-use Rattle.serde_json.specs.Data.{Data, array, Items, no_items, item}
+use Rattle.std.specs.Prelude.{Option, option_map}
+use Rattle.std.specs.declared.alloc.Global.{Global}
+use Rattle.std.proofs.lemmas.List.{drop-map}
+use Rattle.serde_json.specs.Data.{Data, array, object, Items, no_items, item, no_members, member}
 use Rattle.serde_json.specs.Events.{items_len}
 use Rattle.serde_json.specs.View.{items_of}
 use Rattle.volume_model.specs.declared.fault.Fault.{Fault}
 use Rattle.volume_model.specs.Answer.{◌>>=◌}
 use Rattle.plan.specs.PlanText.{Fields, fields_of, group_items}
-use Rattle.plan.specs.Rewriting.{fields_object, meets_value, step_value, configuration_written, configurations_written, group_written, groups_written}
+use Rattle.plan.specs.Rewriting.{fields_object, meets_value, step_value, configuration_written, configurations_written, group_object, group_written, groups_written}
+use Rattle.refutation.specs.Certificate.{certificate_rule}
+use Rattle.refutation.specs.declared.certificate.Certificate.{Certificate}
+use Rattle.plan_text.specs.Certificates.{certificate_value, certificate_values}
 use Rattle.plan_text.specs.Puts.{Puts, PutsToken, Lists}
-use Rattle.plan_text.specs.Written.{PutsMade}
+use Rattle.plan_text.specs.Written.{PutsMade, configurations_array}
 use Rattle.plan_text.proofs.Joined.{joined}
 use Rattle.plan_text.proofs.Putting.{listing, one_listed, listed}
 
@@ -68,3 +74,15 @@ pub made-group : (d x : Data) (ds cs : Items) (vs : List Data) → group_items d
 made-group d x ds cs vs e made =
     ap (λ (r : Result Items Fault). r >>= λ es. group_written es vs >>= λ y. groups_written ds (drop (2 * items_len es - 1) vs) >>= λ xs. Ok (y ∷ xs)) e
     ∙ ap (λ r. r >>= λ y. groups_written ds (drop (2 * items_len cs - 1) vs) >>= λ xs. Ok (y ∷ xs)) made
+
+pub made-object : (r : Result (List Data) Fault) (v : Data) → (r >>= λ xs. Ok (array (items_of xs))) ≡ Ok v → (r >>= λ xs. Ok (group_object xs)) ≡ Ok (object (member (codes "configurations") v no_members))
+made-object (Ok xs) v h = let same : array (items_of xs) ≡ v = cc in ap (λ x. Ok (object (member (codes "configurations") x no_members))) same
+made-object (Err e) v h = absurd (cc)
+
+pub made-whole : (ds : Items) (cs : List Data) (v : Data) → configurations_array ds cs ≡ Ok v → group_written ds cs ≡ Ok (object (member (codes "configurations") v no_members))
+unfolding group_written
+made-whole ds cs v h = made-object (configurations_written 0 ds cs) v h
+
+-- those that others leave
+pub values-after : (n m : ℕ) (cs rest : List (Option (Certificate Global))) → n ≡ m → rest ≡ drop n cs → drop m (certificate_values cs) ≡ certificate_values rest
+values-after n m cs rest same is = ap (λ k. drop k (certificate_values cs)) (sym same) ∙ drop-map (λ c. certificate_value (option_map certificate_rule c)) n cs ∙ ap certificate_values (sym is)

@@ -150,7 +150,9 @@ fn put_groups(
     open_array(writer)?;
     let mut left = certificates;
     'groups: while let Some(node) = TapeNode::next(&mut rest) {
-        let configurations = group_array(&node).ok()?;
+        let Ok(configurations) = group_array(&node) else {
+            return None;
+        };
         put_group(writer, &configurations, left)?;
         left = after(left, 2 * count_items(&configurations, 65) - 1);
     }
@@ -173,7 +175,9 @@ pub(crate) fn put_plan(
 ) -> Option<()>
     ensures { OnSome result (PutsMade (plan_written (data_of node.now) (certificate_values certificates.now)) writer.old writer.new) }
 {
-    let header = header(node).ok()?;
+    let Ok(header) = header(node) else {
+        return None;
+    };
     open_object(writer)?;
     put_born(writer, header.format, header.born)?;
     put_number_at(writer, "format", header.format.number())?;
