@@ -1,7 +1,7 @@
 -- Values that a definition gives one after another, put in a list.
 use Rattle.std.proofs.Common.{◌≡◌, ℕ, ◌+◌, ◌-◌, ◌*◌, List, [], ◌∷◌, ◌++◌, drop, map, refl, ap, sym, subst, ◌∙◌, append_assoc, append-nil, Result, Ok, Err}
 use Rattle.std.specs.Prelude.{codes, if◌then◌else◌, ◌==◌, true, false}
-use Rattle.json.specs.Token.{begin_array, end_array}
+use Rattle.json.specs.Token.{begin_array, end_array, end_object}
 use Rattle.json.specs.Written.{Written}
 use Rattle.std.specs.Prelude.{Option, option_map}
 use Rattle.std.specs.declared.alloc.Global.{Global}
@@ -11,15 +11,19 @@ use Rattle.serde_json.specs.Events.{items_len}
 use Rattle.serde_json.specs.View.{items_of}
 use Rattle.volume_model.specs.declared.fault.Fault.{Fault}
 use Rattle.volume_model.specs.Answer.{◌>>=◌}
-use Rattle.plan.specs.PlanText.{Fields, fields_of, group_items}
-use Rattle.plan.specs.Rewriting.{fields_object, meets_value, step_value, configuration_written, configurations_written, group_object, group_written, groups_written}
+use Rattle.plan.specs.declared.formats.Format.{Format}
+use Rattle.plan.specs.declared.formats.Format.TheVariants.{Plain, Weighted, Growing}
+use Rattle.plan.specs.Formats.{number_of}
+use Rattle.plan.specs.PlanText.{Fields, fields_of, group_items, Header, header_of}
+use Rattle.refutation.specs.Writing.{number_data}
+use Rattle.plan.specs.Rewriting.{fields_object, meets_value, step_value, configuration_written, configurations_written, group_object, group_written, groups_written, plan_object, plan_written}
 use Rattle.refutation.specs.Certificate.{certificate_rule}
 use Rattle.refutation.specs.declared.certificate.Certificate.{Certificate}
 use Rattle.plan_text.specs.Certificates.{certificate_value, certificate_values}
-use Rattle.plan_text.specs.Puts.{Puts, PutsToken, Lists}
-use Rattle.plan_text.specs.Written.{PutsMade, configurations_array}
+use Rattle.plan_text.specs.Puts.{Puts, PutsToken, PutsMember, Opens, Lists}
+use Rattle.plan_text.specs.Written.{PutsMade, configurations_array, groups_array, born_members}
 use Rattle.plan_text.proofs.Joined.{joined}
-use Rattle.plan_text.proofs.Putting.{listing, one_listed, listed}
+use Rattle.plan_text.proofs.Putting.{listing, one_listed, listed, one_more, closed}
 
 abbrev pub after_front : List Data → Result (List Data) Fault → Result (List Data) Fault
 after_front front made = made >>= λ xs. Ok (front ++ xs)
@@ -86,3 +90,37 @@ made-whole ds cs v h = made-object (configurations_written 0 ds cs) v h
 -- those that others leave
 pub values-after : (n m : ℕ) (cs rest : List (Option (Certificate Global))) → n ≡ m → rest ≡ drop n cs → drop m (certificate_values cs) ≡ certificate_values rest
 values-after n m cs rest same is = ap (λ k. drop k (certificate_values cs)) (sym same) ∙ drop-map (λ c. certificate_value (option_map certificate_rule c)) n cs ∙ ap certificate_values (sym is)
+
+-- ---- the whole
+
+abbrev pub object_of : Format → ℕ → ℕ → Data → Data
+object_of Plain lal born v = object (member (codes "format") (number_data (number_of Plain)) (member (codes "groups") v (member (codes "lal") (number_data lal) no_members)))
+object_of Weighted lal born v = object (member (codes "format") (number_data (number_of Weighted)) (member (codes "groups") v (member (codes "lal") (number_data lal) no_members)))
+object_of Growing lal born v = object (member (codes "born") (number_data born) (member (codes "format") (number_data (number_of Growing)) (member (codes "groups") v (member (codes "lal") (number_data lal) no_members))))
+
+same-object : (format : Format) (lal born : ℕ) (xs : List Data) → plan_object format lal born xs ≡ object_of format lal born (array (items_of xs))
+same-object Plain lal born xs = refl
+same-object Weighted lal born xs = refl
+same-object Growing lal born xs = refl
+
+made-at : (format : Format) (lal born : ℕ) (r : Result (List Data) Fault) (v : Data) → (r >>= λ xs. Ok (array (items_of xs))) ≡ Ok v → (r >>= λ xs. Ok (plan_object format lal born xs)) ≡ Ok (object_of format lal born v)
+made-at format lal born (Ok xs) v h = let same : array (items_of xs) ≡ v = cc in ap Ok (same-object format lal born xs ∙ ap (object_of format lal born) same)
+made-at format lal born (Err e) v h = absurd (cc)
+
+pub made-plan : (d : Data) (h : Header) (cs : List Data) (v : Data) → header_of d ≡ Ok h → groups_array h.groups cs ≡ Ok v → plan_written d cs ≡ Ok (object_of h.format h.lal h.born v)
+unfolding plan_written
+made-plan d h cs v e g = ap (λ (r : Result Header Fault). r >>= λ x. groups_written x.groups cs >>= λ xs. Ok (plan_object x.format x.lal x.born xs)) e ∙ made-at h.format h.lal h.born (groups_written h.groups cs) v g
+
+pub plan-put : (format : Format) (lal born : ℕ) (v : Data) (start w1 w2 w3 w4 new : Written) → Opens (born_members format born) start w1 → PutsMember (codes "format") (number_data (number_of format)) w1 w2 → PutsMember (codes "groups") v w2 w3 → PutsMember (codes "lal") (number_data lal) w3 w4 → PutsToken end_object w4 new → Puts (object_of format lal born v) start new
+plan-put Plain lal born v start w1 w2 w3 w4 new o f g l t =
+    let m1 = one_more no_members (codes "format") (number_data (number_of Plain)) start w1 w2 refl o f in
+    let m2 = one_more _ (codes "groups") v start w2 w3 refl m1 g in
+    closed _ start w4 new (one_more _ (codes "lal") (number_data lal) start w3 w4 refl m2 l) t
+plan-put Weighted lal born v start w1 w2 w3 w4 new o f g l t =
+    let m1 = one_more no_members (codes "format") (number_data (number_of Weighted)) start w1 w2 refl o f in
+    let m2 = one_more _ (codes "groups") v start w2 w3 refl m1 g in
+    closed _ start w4 new (one_more _ (codes "lal") (number_data lal) start w3 w4 refl m2 l) t
+plan-put Growing lal born v start w1 w2 w3 w4 new o f g l t =
+    let m1 = one_more (member (codes "born") (number_data born) no_members) (codes "format") (number_data (number_of Growing)) start w1 w2 refl o f in
+    let m2 = one_more _ (codes "groups") v start w2 w3 refl m1 g in
+    closed _ start w4 new (one_more _ (codes "lal") (number_data lal) start w3 w4 refl m2 l) t

@@ -7,7 +7,7 @@ ghost use Rattle.plan.specs.Rewriting.{fields_object, meets_value, step_value, c
 ghost use Rattle.plan.specs.TextForms.{fields_data};
 ghost use Rattle.plan_text.specs.Certificates.{certificate_values};
 ghost use Rattle.plan_text.specs.Puts.{Puts};
-ghost use Rattle.plan_text.specs.Written.{PutsMade, configurations_array, groups_array};
+ghost use Rattle.plan_text.specs.Written.{PutsBorn, PutsMade, configurations_array, groups_array};
 
 use crate::certificates::put_certificate_at;
 use crate::expressions::{put_expression, put_whole, put_wholes};
@@ -160,7 +160,9 @@ fn put_groups(
 }
 
 /// Writes how many groups there are at birth, which format 3 alone says.
-fn put_born(writer: &mut Writer, format: Format, born: u8) -> Option<()> {
+fn put_born(writer: &mut Writer, format: Format, born: u8) -> Option<()>
+    ensures { OnSome result (PutsBorn format born writer.old writer.new) }
+{
     match format {
         Format::Growing => put_number_at(writer, "born", u64::from(born)),
         Format::Plain | Format::Weighted => Some(()),
