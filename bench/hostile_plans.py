@@ -36,15 +36,15 @@ def compact(value):
     return json.dumps(value, separators=(",", ":"))
 
 
-def plan(count, expression, form=1, parents=True):
-    """So many configurations, 64 a group, each with a read and a write expression of its own."""
+def plan(count, expression, form=1):
+    """A plan of `count` configurations, 64 a group, each with a read and a write expression of its own."""
     groups = []
     while count > 0:
         here = min(64, count)
         count -= here
         groups.append(
             {"configurations": [
-                {"parent": 0 if parents and i else None if not i else 0, "members": MEMBERS, "full": [], "read": expression(), "write": expression(), "meets": None, "step": None}
+                {"parent": 0 if i else None, "members": MEMBERS, "full": [], "read": expression(), "write": expression(), "meets": None, "step": None}
                 for i in range(here)
             ]}
         )

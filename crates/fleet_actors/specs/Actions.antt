@@ -15,7 +15,7 @@ use Rattle.journal.specs.Standing.{durable_of}
 use Rattle.fleet_actors.specs.declared.client_action.ClientAction.{ClientAction}
 use Rattle.fleet_actors.specs.declared.client_action.ClientAction.TheVariants as action
 
--- the event that a deed of the client of a volume epoch is
+-- the event of an action of the client of a volume epoch
 abbrev pub event_by : ℕ → ClientAction → Event
 event_by volume (action.Issue changes) = Event.Issue volume (changes_of changes.items)
 event_by volume (action.Take message) = Event.Take volume message
@@ -33,22 +33,22 @@ action_acted found action.Open plan volume now = opened plan now
 action_acted found (action.Resend lsn) plan volume now = resent volume now lsn
 action_acted found (action.Read group block) plan volume now = page_asked volume now group block
 
--- the refusals that may come after want of memory
+-- the refusals that may come after a growth
 abbrev pub action_late : ClientAction → Fault → Bool
 action_late action.Cut = is_spent
 action_late other = never_late
 
--- a message was found among these, if the deed is to take one, and it is this
+-- a message was found among these, if the action takes one, and it is this
 abbrev pub IsFound : List Message → ClientAction → Option Message → Type 0
 IsFound made (action.Take message) found = IsSome found × (numbered made message ≡ found)
 IsFound made other found = Unit {0}
 
--- a message was found, if the deed is to take one
+-- a message was found, if the action takes one
 abbrev pub HasFound : ClientAction → Option Message → Type 0
 HasFound (action.Take message) found = IsSome found
 HasFound other found = Unit {0}
 
--- the durable point that a step shows: the client's, where the deed may move it
+-- the durable point that a step shows: the client's, if the action may move it
 abbrev pub action_durable : ClientAction → Client → ℕ
 action_durable (action.Take message) now = durable_of now
 action_durable action.Open now = durable_of now

@@ -7,7 +7,7 @@ use Rattle.volume_model.specs.Message.{Message}
 use Rattle.volume_model.specs.World.{Authority, AuthorityStep}
 
 -- What a refusal shows of what is defined: that it is refused so. But that the slots are spent means this, no cell is left
--- where nothing else is refused, and want of memory says nothing.
+-- where nothing else is refused, and running out of memory says nothing.
 abbrev pub Judged : {T : Type 0} → Type 0 → Bool → Result T Fault → Fault → Type 0
 Judged spent full defined NoMemory = Unit {0}
 Judged spent full defined NoMessage = ⊥

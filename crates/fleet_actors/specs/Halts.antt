@@ -11,7 +11,7 @@ use Rattle.journal.specs.Standing.{Made}
 use Rattle.fleet_actors.specs.declared.halt.Halt.{Halt}
 use Rattle.fleet_actors.specs.declared.halt.Halt.TheVariants.{StaleCursor, Refused}
 
--- what a refusal adds to the notes: nothing where it is want of memory or of a message
+-- what a refusal adds to the notes: nothing if memory ran out or there is no such message
 pub record AddsNote (event : Event) (fault : Fault) (steps : List Made) (before after : List Refusal) : Type 0 where
   pub noted : IsNoted fault → AddsRefusal event fault steps before after
   pub silent : (IsNoted fault → ⊥) → after ≡ before

@@ -11,7 +11,7 @@ use Rattle.fleet_actors.specs.declared.action.NodeAction.{NodeAction}
 use Rattle.fleet_actors.specs.declared.action.NodeAction.TheVariants as action
 use Rattle.fleet_actors.specs.declared.node.NodeActor.{NodeActor}
 
--- the event that a node's deed is
+-- the event of a node's action
 abbrev pub event_by : ℕ → ℕ → NodeAction → Event
 event_by group member action.Hydrate = Event.Hydrate group member
 event_by group member action.Restart = Event.Restart group member

@@ -12,7 +12,7 @@ use Rattle.fleet_actors.specs.declared.halt.Halt.{Halt}
 use Rattle.fleet_actors.specs.declared.halt.Halt.TheVariants.{StaleCursor, Refused}
 use Rattle.volume_model.specs.declared.fault.Fault.TheVariants.{NoMemory}
 
--- The actor stands in the journal as at its mark, the pass has seen the whole journal, and there is room for a step and a note.
+-- The actor stands in the journal as at its cursor, the pass has seen the whole journal, and there is room for a step and a note.
 pub record IsPoised {X : Type 0} {s : SiteGhosts X} {l : LedgerGhosts X} (cursor : ActorCursor X s l) (log : Log X s l) (pass : Pass X s) : Type 0 where
   pub agree : Agree (marked cursor) (world_at s.plan (seen_at cursor)) (world_of log)
   pub last : cursor_number cursor ≡ last_of (marked cursor) (journal_of log)
@@ -27,6 +27,6 @@ IsEarly StaleCursor = Unit {0}
 IsEarly (Refused NoMemory) = Unit {0}
 IsEarly (Refused fault) = ⊥
 
--- where the journal keeps the actor's last number, it isn't that of its mark
+-- where the journal keeps the actor's last number, it isn't that of its cursor
 abbrev pub IsStale : {X : Type 0} {s : SiteGhosts X} {l : LedgerGhosts X} → ActorCursor X s l → Log X s l → Type 0
 IsStale cursor log = HasPlace log (marked cursor) → cursor_number cursor ≡ last_of (marked cursor) (journal_of log) → ⊥

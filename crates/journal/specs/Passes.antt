@@ -73,11 +73,11 @@ module _ {X : Type 0} {s : SiteGhosts X} {l : LedgerGhosts X} where
   abbrev pub SeesAll : Pass X s → Log X s l → Type 0
   SeesAll pass log = front_log pass.seen ≡ kept_in log
 
-  -- the actor of a mark
+  -- the actor of a cursor
   abbrev pub marked : ActorCursor X s l → Actor
   marked cursor = seen_who cursor.who
 
-  -- the number of the actor's last entry, as its mark says
+  -- the number of the actor's last entry, as its cursor says
   abbrev pub cursor_number : ActorCursor X s l → ℕ
   cursor_number cursor = cursor.number
 
@@ -85,7 +85,7 @@ module _ {X : Type 0} {s : SiteGhosts X} {l : LedgerGhosts X} where
   abbrev pub seen_at : ActorCursor X s l → List model.Entry
   seen_at cursor = entries_of (front_log cursor.seen)
 
-  -- the number of a letter's message
+  -- the number of the message that is referred to
   abbrev pub message_ref_number : MessageRef X s l → ℕ
   message_ref_number message_ref = message_ref.number
 
@@ -93,7 +93,7 @@ module _ {X : Type 0} {s : SiteGhosts X} {l : LedgerGhosts X} where
   abbrev pub letter_step : MessageRef X s l → ℕ
   letter_step message_ref = message_ref.cell
 
-  -- the message that a letter is
+  -- the message that is referred to
   abbrev pub message_ref_message : MessageRef X s l → Option Message
   message_ref_message message_ref = option_map message_of (slice_get (listed message_ref.entry.now.made) message_ref.index)
 

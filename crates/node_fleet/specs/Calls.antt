@@ -33,7 +33,7 @@ IsOfNone plan (Restart group member) = is_named plan group member ≡ false
 IsOfNone plan (Offer group member lsn) = is_named plan group member ≡ false
 IsOfNone plan event = ⊥
 
--- whether a deed may move the durable point of its client
+-- whether an action may move the durable point of its client
 abbrev pub is_moving : ClientAction → Bool
 is_moving (action.Take message) = true
 is_moving action.Open = true

@@ -41,7 +41,7 @@ impl<'a, L: FleetSite> Fleet<'a, L> {
     }
 
     // Refuses what is asked of a client that no View can have reached, with the message that was found if it is to take
-    // one. `Again` where it would be born, which nothing brings about.
+    // one. `StaleCursor` where it would be born, which nothing brings about.
     fn refuse_unborn(
         &self,
         log: &Log<'a, L>,

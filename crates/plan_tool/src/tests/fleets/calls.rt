@@ -107,9 +107,8 @@ fn is_lent(call: Call, made: &Result<Receipt, Fault>, before: Lent, after: Lent)
     }
 }
 
-/// The first place where another thing is told than is to be, where the gate was lent another thing than the step made, or
-/// where a step's number isn't above those before it. The
-/// passes make the calls in turn.
+/// Makes the calls, the passes in turn, and returns the place of the first wrong one: its result isn't the expected one, its gate
+/// was lent something else than the step made, or its number isn't above the earlier ones.
 pub fn first_wrong<'a, L: FleetSite, R: Wait>(
     rt: &R,
     alloc: Global,
