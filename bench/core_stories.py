@@ -14,7 +14,7 @@ use crate::Told;
 use crate::texts::PLANS;
 use cert_search::{Gate, search_all, search_one};
 use plan::{
-    CheckedPlan, Configuration, LentClaim, NamedClaim, Plan, PlanFault, check_plan, claims, lent_claims,
+    CheckedPlan, Configuration, ClaimRef, NamedClaim, Plan, PlanFault, check_plan, claims, lent_claims,
 };
 use plan_tokens::{Spelling, read_spelled};
 use quorum_checker::{Claim, FaultAt, check};
@@ -83,7 +83,7 @@ fn read_by_value(alloc: Global, text: &[u8]) -> Result<Plan, PlanFault> {
     }
 }
 
-fn lent<'p>(alloc: Global, plan: &'p Plan) -> Result<Vec<LentClaim<'p>>, PlanFault>
+fn lent<'p>(alloc: Global, plan: &'p Plan) -> Result<Vec<ClaimRef<'p>>, PlanFault>
     ensures { IfOk result (λ v. claims_in (plan_data plan.entry.now) ≡ Ok (all_lent v.items)) }
 {
     match lent_claims(alloc, plan) {
@@ -142,7 +142,7 @@ fn refuted(
 
 fn refuted_lent(
     alloc: Global,
-    claim: &LentClaim<'_>,
+    claim: &ClaimRef<'_>,
     certificate: &Certificate<Global>,
 ) -> Result<(), FaultAt> {
     match claim.check(alloc, certificate) {
@@ -156,7 +156,7 @@ fn refuted_lent(
     }
 }
 
-fn claim_of(alloc: Global, lent: &LentClaim<'_>) -> Result<Claim<Global>, Fault> {
+fn claim_of(alloc: Global, lent: &ClaimRef<'_>) -> Result<Claim<Global>, Fault> {
     match lent.claim_in(alloc) {
         Ok(claim) => Ok(claim),
         Err(_) => lent.claim_in(alloc),
@@ -337,7 +337,7 @@ fn of_claim(claim: &Claim<Global>, members: MemberSet, story: &mut String) -> Re
 }
 
 /// Adds a claim that is lent, and the same in memory of its own.
-fn of_lent(alloc: Global, lent: &LentClaim<'_>, story: &mut String) -> Result<(), AllocError> {
+fn of_lent(alloc: Global, lent: &ClaimRef<'_>, story: &mut String) -> Result<(), AllocError> {
     let (group, configuration, step) = (lent.group, lent.configuration, lent.parent.is_some());
     write!(story, "{group} {configuration} {step} ")?;
     match claim_of(alloc, lent) {
@@ -380,7 +380,7 @@ fn listing(alloc: Global, plan: &Plan, story: &mut String) -> Result<(), AllocEr
 }
 
 /// The certificate of a claim that the plan has.
-fn certificate_of<'p>(lent: &LentClaim<'p>) -> Option<&'p Certificate<Global>> {
+fn certificate_of<'p>(lent: &ClaimRef<'p>) -> Option<&'p Certificate<Global>> {
     match lent.parent {
         Some(_) => lent.this.step.as_ref(),
         None => lent.this.meets.as_ref(),
@@ -390,7 +390,7 @@ fn certificate_of<'p>(lent: &LentClaim<'p>) -> Option<&'p Certificate<Global>> {
 /// `check`, of a claim that is lent and of one that isn't.
 fn checking_claim(
     alloc: Global,
-    lent: &LentClaim<'_>,
+    lent: &ClaimRef<'_>,
     certificate: &Certificate<Global>,
     story: &mut String,
 ) -> Result<(), AllocError> {
@@ -404,7 +404,7 @@ fn checking_claim(
 /// `copy_in`, of a certificate and of the expressions of its claim's configuration, whose copies are checked.
 fn copying_claim(
     alloc: Global,
-    lent: &LentClaim<'_>,
+    lent: &ClaimRef<'_>,
     certificate: &Certificate<Global>,
     story: &mut String,
 ) -> Result<(), AllocError> {
@@ -453,7 +453,7 @@ fn checking_plan(alloc: Global, plan: Plan, story: &mut String) -> Result<(), Al
 /// Adds what was found of a claim, and whether it refutes it.
 fn of_found(
     alloc: Global,
-    claim: &LentClaim<'_>,
+    claim: &ClaimRef<'_>,
     found: Option<&Certificate<Global>>,
     story: &mut String,
 ) -> Result<(), AllocError> {
@@ -466,7 +466,7 @@ fn of_found(
 /// `search_one`
 fn searching_one(
     alloc: Global,
-    lent: &LentClaim<'_>,
+    lent: &ClaimRef<'_>,
     story: &mut String,
 ) -> Result<(), AllocError> {
     let Ok(claim) = claim_of(alloc, lent) else {

@@ -6,7 +6,7 @@ ghost use Rattle.plan.specs.PlanClaims.{PlacedClaim};
 ghost use Rattle.cert_search.specs.Places.{ArePlaces, IsFound, IsWork};
 
 use crate::working::Found;
-use plan::LentClaim;
+use plan::ClaimRef;
 use refutation::Certificate;
 use std::alloc::{AllocError, Global};
 
@@ -16,7 +16,7 @@ pub type Answer = Option<Certificate<Global>>;
 /// Makes an empty place for each claim.
 pub fn empty_places(
     alloc: Global,
-    claims: &[LentClaim<'_>],
+    claims: &[ClaimRef<'_>],
 ) -> Result<Vec<Option<Answer>>, AllocError>
     ensures { IfOk result (λ v. (budget : ℕ) → ArePlaces budget (all_lent claims.now) v.items) }
 {

@@ -11,7 +11,7 @@ use refutation::Certificate;
 use std::alloc::{AllocError, Global};
 use volume_model::Fault;
 
-/// The length of a certificate at the place k, where it isn't behind one of that length at the place i.
+/// Returns the length of a certificate at the place k, where it isn't behind one of that length at the place i.
 fn length_before(long: u32, k: usize, other: u32, i: usize) -> u32
     ensures { result ≡ length_before long k other i }
 {
@@ -22,7 +22,7 @@ fn length_before(long: u32, k: usize, other: u32, i: usize) -> u32
     }
 }
 
-/// Whether those that aren't behind the one at a place have room together.
+/// Returns whether those that aren't behind the one at a place have room together.
 fn is_kept(lengths: &[u32], at: usize, room: u32) -> bool
     requires { at < length lengths.now }
     ensures { result ≡ nat_le (length_up_to (get_or lengths.now at 0) at 0 lengths.now) room }

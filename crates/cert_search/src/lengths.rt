@@ -12,7 +12,7 @@ use std::alloc::Allocator;
 /// The most bytes of a plan's text.
 pub const PLAN_BYTES: u32 = 16_777_216;
 
-/// How many digits a number has.
+/// Returns how many digits a number has.
 fn digits(number: u16) -> u32
     ensures { result ≡ digits number }
 {
@@ -39,21 +39,21 @@ fn name_length(side: Side) -> u32
     }
 }
 
-/// The room that is left behind so many bytes and a number.
+/// Returns the room that is left behind this many bytes and a number.
 fn behind_number(room: u32, bytes: u32, number: u16) -> u32
     ensures { result ≡ room - bytes - digits number }
 {
     room.saturating_sub(bytes).saturating_sub(digits(number))
 }
 
-/// The room that is left behind so many bytes and the numbers of two items.
+/// Returns the room that is left behind this many bytes and the numbers of two items.
 fn behind_items(room: u32, bytes: u32, left: u16, right: u16) -> u32
     ensures { result ≡ room - bytes - digits left - digits right }
 {
     behind_number(room, bytes, left).saturating_sub(digits(right))
 }
 
-/// The room that is left behind so many bytes, the name of a side and the number of an item.
+/// Returns the room that is left behind this many bytes, the name of a side and the number of an item.
 fn behind_item(room: u32, bytes: u32, side: Side, item: u16) -> u32
     ensures { result ≡ room - bytes - name_length side - digits item }
 {
@@ -62,7 +62,7 @@ fn behind_item(room: u32, bytes: u32, side: Side, item: u16) -> u32
         .saturating_sub(digits(item))
 }
 
-/// The room that is left behind the numbers of a list.
+/// Returns the room that is left behind the numbers of a list.
 fn behind_numbers(numbers: &[u8], room: u32) -> u32
     ensures { result ≡ room - numbers_length numbers.now }
 {
@@ -73,7 +73,7 @@ fn behind_numbers(numbers: &[u8], room: u32) -> u32
     left
 }
 
-/// The room that is left behind the pairs of a list.
+/// Returns the room that is left behind the pairs of a list.
 fn behind_pairs(pairs: &[(u8, u8)], room: u32) -> u32
     ensures { result ≡ room - pairs_length pairs.now }
 {
@@ -84,7 +84,7 @@ fn behind_pairs(pairs: &[(u8, u8)], room: u32) -> u32
     left
 }
 
-/// The room that is left behind a rule without its branches.
+/// Returns the room that is left behind a rule without its branches.
 fn behind_head<A: Allocator>(rule: &Refutation<A>, room: u32) -> u32
     ensures { result ≡ room - head_length (rule_of rule.now) }
 {
@@ -108,7 +108,7 @@ fn behind_head<A: Allocator>(rule: &Refutation<A>, room: u32) -> u32
     }
 }
 
-/// The room that is left behind a rule and its branches.
+/// Returns the room that is left behind a rule and its branches.
 #[cycle(length)]
 fn behind_rule<A: Allocator>(rule: &Refutation<A>, room: u32) -> u32
     ensures { result ≡ room - rule_length (rule_of rule.now) }
@@ -134,8 +134,8 @@ fn behind_branches<A: Allocator>(branches: &[Refutation<A>], room: u32) -> u32
     left
 }
 
-/// How many bytes the text of a certificate takes, each entry of a list and each rule with a comma behind it; at most one more than a plan's
-/// text may have.
+/// Returns how many bytes the text of a certificate takes, each entry of a list and each rule with a comma behind it;
+/// at most one more than a plan's text may have.
 pub fn length_of<A: Allocator>(certificate: &Certificate<A>) -> u32
     ensures { result ≡ length_of (certificate_rule certificate.now) }
 {

@@ -25,7 +25,7 @@ const PLAIN_NODES: u64 = 100;
 /// How many nodes the searches of all claims may try together.
 const ALL_NODES: u64 = 1_200_000;
 
-/// How many nodes the search of each of so many claims may try, with this budget for each.
+/// Returns how many nodes the search of each of this many claims may try, with this budget for each.
 fn share(budget: u64, claims: usize) -> u64 {
     let claims = (claims as u64).max(1);
     budget.min(ALL_NODES / claims)
@@ -101,8 +101,8 @@ fn plain<A: Allocator>(
     certified(alloc, claim, tree)
 }
 
-/// The certificate of a claim, where it is found otherwise than by being plain. Tables and items lie in an arena, and trees that aren't
-/// read off the pairs of subexpressions that close.
+/// Returns the certificate of a claim, where it is found otherwise than by being plain. Tables and items lie in an
+/// arena, and trees that aren't read off the pairs of subexpressions that close.
 fn unplain<A: Allocator, B: Allocator + Clone>(
     alloc: Global,
     arena: &B,
@@ -119,8 +119,8 @@ fn unplain<A: Allocator, B: Allocator + Clone>(
     }
 }
 
-/// The certificate of one of so many claims, or none where the search gave up, by a search whose tables lie in an arena. Its share of all nodes
-/// bounds how many it tries, where the budget doesn't.
+/// Returns the certificate of one of this many claims, or none where the search gave up, by a search whose tables lie
+/// in an arena. Its share of all nodes bounds how many it tries, where the budget doesn't.
 ///
 /// # Errors
 /// [`NoMemory`](Fault::NoMemory).
@@ -148,7 +148,7 @@ pub fn search_in<A: Allocator, B: Allocator + Clone>(
     Ok(None)
 }
 
-/// The same in an arena of its own.
+/// Returns the same in an arena of its own.
 pub fn search_shared<A: Allocator>(
     alloc: Global,
     claim: &Claim<A>,
@@ -162,8 +162,8 @@ pub fn search_shared<A: Allocator>(
     search_in(alloc, &&arena, claim, budget, claims)
 }
 
-/// A certificate that refutes a claim, or none where the search gave up: the budget bounds how many nodes it tries. A claim that
-/// holds by the number of equal members alone is found with a budget of at least 100.
+/// Returns a certificate that refutes a claim, or none where the search gave up: the budget bounds how many nodes it
+/// tries. A claim that holds by the number of equal members alone is found with a budget of at least 100.
 ///
 /// # Errors
 /// [`NoMemory`](Fault::NoMemory).

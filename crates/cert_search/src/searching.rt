@@ -19,7 +19,7 @@ use crate::one::search_shared;
 use crate::settling::settle;
 use crate::working::{Found, Worked, work};
 use crate::worth::worth;
-use plan::{LentClaim, Plan, lent_claims};
+use plan::{ClaimRef, Plan, lent_claims};
 use refutation::Certificate;
 use std::alloc::{AllocError, Global};
 use std::sync::Wait;
@@ -30,7 +30,7 @@ use volume_model::Fault;
 /// Returns the answer at a claim's place, or searches the claim if the place is empty.
 fn answer(
     alloc: Global,
-    claims: &[LentClaim<'_>],
+    claims: &[ClaimRef<'_>],
     budget: u64,
     places: &mut Vec<Option<Answer>>,
     at: usize,
@@ -50,7 +50,7 @@ fn answer(
 /// Returns the answers at the places, and searches the claims of empty ones.
 fn answers(
     alloc: Global,
-    claims: &[LentClaim<'_>],
+    claims: &[ClaimRef<'_>],
     budget: u64,
     places: &mut Vec<Option<Answer>>,
 ) -> Result<Vec<Answer>, Fault>
@@ -69,7 +69,7 @@ fn answers(
 fn worked_by<R: Threads + Wait + Sync, G: Gate + Sync>(
     rt: &R,
     alloc: Global,
-    claims: &[LentClaim<'_>],
+    claims: &[ClaimRef<'_>],
     hands: Vec<Hand>,
     budget: u64,
     gate: &G,
@@ -102,7 +102,7 @@ fn parts_of(alloc: Global, works: Vec<Worked>) -> Result<(Vec<Vec<Found>>, Vec<H
 fn found_by<R: Threads + Wait + Sync, G: Gate + Sync>(
     rt: &R,
     alloc: Global,
-    claims: &[LentClaim<'_>],
+    claims: &[ClaimRef<'_>],
     hands: Vec<Hand>,
     budget: u64,
     gate: &G,
@@ -122,7 +122,7 @@ fn found_by<R: Threads + Wait + Sync, G: Gate + Sync>(
 fn searched<R: Threads + Wait + Sync, G: Gate + Sync>(
     rt: &R,
     alloc: Global,
-    claims: &[LentClaim<'_>],
+    claims: &[ClaimRef<'_>],
     workers: usize,
     budget: u64,
     gate: &G,

@@ -9,7 +9,7 @@ use crate::gate::Gate;
 use crate::hand::Hand;
 use crate::one::search_in;
 use bumpalo::Bump;
-use plan::LentClaim;
+use plan::ClaimRef;
 use refutation::Certificate;
 use std::alloc::Global;
 use std::sync::Wait;
@@ -41,7 +41,7 @@ fn emptied(alloc: Global, mut arena: Bump) -> Bump {
 fn answer_in(
     alloc: Global,
     arena: &Bump,
-    lent: &LentClaim<'_>,
+    lent: &ClaimRef<'_>,
     budget: u64,
     claims: usize,
 ) -> Result<Option<Certificate<Global>>, Fault>
@@ -55,7 +55,7 @@ fn answer_in(
 fn found_of(
     alloc: Global,
     arena: &Bump,
-    claims: &[LentClaim<'_>],
+    claims: &[ClaimRef<'_>],
     claim: usize,
     budget: u64,
 ) -> Option<Found>
@@ -70,7 +70,7 @@ fn found_of(
 fn add<G: Gate>(
     alloc: Global,
     arena: &Bump,
-    claims: &[LentClaim<'_>],
+    claims: &[ClaimRef<'_>],
     claim: usize,
     budget: u64,
     gate: &G,
@@ -94,7 +94,7 @@ fn add<G: Gate>(
 pub fn work<R: Wait, G: Gate>(
     rt: &R,
     alloc: Global,
-    claims: &[LentClaim<'_>],
+    claims: &[ClaimRef<'_>],
     budget: u64,
     gate: &G,
     mut hand: Hand,

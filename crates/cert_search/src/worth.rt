@@ -2,7 +2,7 @@
 
 ghost use Rattle.std.specs.Prelude.{◌<◌, ◌≤◌};
 
-use plan::LentClaim;
+use plan::ClaimRef;
 use quorum_checker::children;
 use quorum_expr::Expr;
 use std::alloc::Allocator;
@@ -39,7 +39,7 @@ fn is_flat<A: Allocator>(expr: &Expr<A>) -> bool {
 }
 
 /// Returns the number of pairs of subexpressions of a claim's two sides. Pairs of thresholds over members count less.
-fn pairs_of(claim: &LentClaim<'_>) -> usize {
+fn pairs_of(claim: &ClaimRef<'_>) -> usize {
     let left = &claim.this.read;
     let right = match claim.parent {
         None => &claim.this.write,
@@ -54,7 +54,7 @@ fn pairs_of(claim: &LentClaim<'_>) -> usize {
 }
 
 /// Returns how many of `workers` workers are worth their threads for these claims.
-pub fn worth(claims: &[LentClaim<'_>], workers: usize) -> usize
+pub fn worth(claims: &[ClaimRef<'_>], workers: usize) -> usize
     requires { 0 < workers }
     ensures { (0 < result) × (result ≤ workers) }
 {

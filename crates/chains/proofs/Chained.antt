@@ -12,11 +12,11 @@ use Rattle.volume_model.proofs.Records.{with_record-keeps}
 use Rattle.chains.specs.declared.chains.Chains.{Chains}
 use Rattle.chains.specs.Chains.{AreChainsOf}
 use Rattle.chains.specs.Rising.{AreGrowing}
-use Rattle.chains.specs.Waiting.{IsReached, IsWaiting, IsWoken}
-use Rattle.chains.specs.Waiting.IsWoken.{itself, next}
-use Rattle.chains.specs.Waits.{waiters, WaitsIn, AreWoken}
+use Rattle.chains.specs.Pending.{IsReached, IsPending, IsReleased}
+use Rattle.chains.specs.Pending.IsReleased.{itself, next}
+use Rattle.chains.specs.PendingRecords.{waiters, IsPendingIn, AreReleased}
 use Rattle.chains.proofs.Rise.{is_in}
-use Rattle.chains.proofs.Waking.{CanTell, keeps_number, one_waits, waits_still, waits_now, still_number, waited, not_woken, waits_on, reaches_number, woken_number}
+use Rattle.chains.proofs.Releasing.{CanTell, keeps_number, one_waits, waits_still, waits_now, still_number, waited, not_woken, waits_on, reaches_number, woken_number}
 
 -- whether a number is reached can be told
 pub can_tell : (records : List Redo) → GroupLinksFall records → CanTell records
@@ -42,24 +42,24 @@ one_greatest P Q a b to from p q =
     let m : b ≤ a = elim q.is_one [ inl z ↦ omega arith | inr h ↦ p.at_least_each b (from b h) ] in
     omega arith
 
-pub same_chains : (records : List Redo) (old new : Chains) → ((k : ℕ) → waiters new.waits k ≡ waiters old.waits k) → new.point ≡ old.point → AreChainsOf records old → AreChainsOf records new
+pub same_chains : (records : List Redo) (old new : Chains) → ((k : ℕ) → waiters new.pending k ≡ waiters old.pending k) → new.point ≡ old.point → AreChainsOf records old → AreChainsOf records new
 same_chains records old new same point c = record {
   kept = λ k m w. subst (IsIn m) (sym (same k)) (c.kept k m w);
-  wait = λ k m w. c.wait k m (subst (IsIn m) (same k) w);
+  add_pending = λ k m w. c.add_pending k m (subst (IsIn m) (same k) w);
   point = point ∙ c.point;
 }
 
 -- a record that waits leaves the complete point
-pub scl-waits : (r : Redo) (records : List Redo) → (IsReached records r.prev_group → ⊥) → GroupLinksFall (with_record r records) → scl records ≡ scl (with_record r records)
-scl-waits r records far fall = one_greatest (IsGroundedNumber records) (IsGroundedNumber (with_record r records)) (scl records) (scl (with_record r records)) (keeps_number r records) (still_number r records far) (complete_point_is_greatest records (fewer_fall r records fall)) (complete_point_is_greatest (with_record r records) fall)
+pub scl-pending : (r : Redo) (records : List Redo) → (IsReached records r.prev_group → ⊥) → GroupLinksFall (with_record r records) → scl records ≡ scl (with_record r records)
+scl-pending r records far fall = one_greatest (IsGroundedNumber records) (IsGroundedNumber (with_record r records)) (scl records) (scl (with_record r records)) (keeps_number r records) (still_number r records far) (complete_point_is_greatest records (fewer_fall r records fall)) (complete_point_is_greatest (with_record r records) fall)
 
 -- a record waits
 pub one_more_waits : (r : Redo) (records : List Redo) (old new : Chains) → (IsReached records r.prev_group → ⊥) → GroupLinksFall (with_record r records)
-    → ((k : ℕ) → waiters new.waits k ≡ (if k == r.prev_group then waiters old.waits k ++ r.lsn ∷ [] else waiters old.waits k)) → new.point ≡ old.point → AreChainsOf records old → AreChainsOf (with_record r records) new
+    → ((k : ℕ) → waiters new.pending k ≡ (if k == r.prev_group then waiters old.pending k ++ r.lsn ∷ [] else waiters old.pending k)) → new.point ≡ old.point → AreChainsOf records old → AreChainsOf (with_record r records) new
 one_more_waits r records old new far fall is point c = record {
   kept = λ k m w. kept k m (one_waits r records far k m w);
-  wait = λ k m w. wait k m w;
-  point = point ∙ c.point ∙ scl-waits r records far fall;
+  add_pending = λ k m w. add_pending k m w;
+  point = point ∙ c.point ∙ scl-pending r records far fall;
 }
   where
     last_in : (xs : List ℕ) (x : ℕ) → IsIn x (xs ++ x ∷ [])
@@ -77,20 +77,20 @@ one_more_waits r records old new far fall is point c = record {
     in_of (z ∷ zs) x y (inl e) = inl (inl e)
     in_of (z ∷ zs) x y (inr i) = elim (in_of zs x y i) [ inl j ↦ inl (inr j) | inr e ↦ inr e ]
 
-    kept : (k m : ℕ) → IsWaiting records k m ⊎ ((r.prev_group ≡ k) × (r.lsn ≡ m)) → IsIn m (waiters new.waits k)
+    kept : (k m : ℕ) → IsPending records k m ⊎ ((r.prev_group ≡ k) × (r.lsn ≡ m)) → IsIn m (waiters new.pending k)
     kept k m (inl w) = elim (cases_eq k r.prev_group) [
-      | inl e ↦ subst (IsIn m) (sym (is k ∙ (rw (eq-eqb k r.prev_group e) refl))) (front_in (waiters old.waits k) r.lsn m (c.kept k m w))
+      | inl e ↦ subst (IsIn m) (sym (is k ∙ (rw (eq-eqb k r.prev_group e) refl))) (front_in (waiters old.pending k) r.lsn m (c.kept k m w))
       | inr ne ↦ subst (IsIn m) (sym (is k ∙ (rw (ne_eqb k r.prev_group ne) refl))) (c.kept k m w)
     ]
-    kept k m (inr p) = subst (IsIn m) (sym (is k ∙ (rw (eq-eqb k r.prev_group (sym p.0)) refl))) (subst (λ x. IsIn x (waiters old.waits k ++ r.lsn ∷ [])) p.1 (last_in (waiters old.waits k) r.lsn))
+    kept k m (inr p) = subst (IsIn m) (sym (is k ∙ (rw (eq-eqb k r.prev_group (sym p.0)) refl))) (subst (λ x. IsIn x (waiters old.pending k ++ r.lsn ∷ [])) p.1 (last_in (waiters old.pending k) r.lsn))
 
-    wait : (k m : ℕ) → IsIn m (waiters new.waits k) → IsWaiting (with_record r records) k m
-    wait k m i = elim (cases_eq k r.prev_group) [
-      | inl e ↦ elim (in_of (waiters old.waits k) r.lsn m (subst (IsIn m) (is k ∙ (rw (eq-eqb k r.prev_group e) refl)) i)) [
-        | inl j ↦ waits_still r records far k m (c.wait k m j)
-        | inr f ↦ subst (λ x. IsWaiting (with_record r records) x m) (sym e) (subst (IsWaiting (with_record r records) r.prev_group) (sym f) (waits_now r records far))
+    add_pending : (k m : ℕ) → IsIn m (waiters new.pending k) → IsPending (with_record r records) k m
+    add_pending k m i = elim (cases_eq k r.prev_group) [
+      | inl e ↦ elim (in_of (waiters old.pending k) r.lsn m (subst (IsIn m) (is k ∙ (rw (eq-eqb k r.prev_group e) refl)) i)) [
+        | inl j ↦ waits_still r records far k m (c.add_pending k m j)
+        | inr f ↦ subst (λ x. IsPending (with_record r records) x m) (sym e) (subst (IsPending (with_record r records) r.prev_group) (sym f) (waits_now r records far))
       ]
-      | inr ne ↦ waits_still r records far k m (c.wait k m (subst (IsIn m) (is k ∙ (rw (ne_eqb k r.prev_group ne) refl)) i))
+      | inr ne ↦ waits_still r records far k m (c.add_pending k m (subst (IsIn m) (is k ∙ (rw (ne_eqb k r.prev_group ne) refl)) i))
     ]
 
 -- of growing numbers the last is the greatest
@@ -106,34 +106,34 @@ last_most (x ∷ y ∷ ys) d m g i = elim i [
 ]
 
 -- what wakes what in one way does so in a wider one
-wakes_as : (V W : ℕ → ℕ → Type 0) (n : ℕ) → ((k m : ℕ) → V k m → W k m) → (m : ℕ) → IsWoken V n m → IsWoken W n m
+wakes_as : (V W : ℕ → ℕ → Type 0) (n : ℕ) → ((k m : ℕ) → V k m → W k m) → (m : ℕ) → IsReleased V n m → IsReleased W n m
 wakes_as V W n to m itself = itself
 wakes_as V W n to m (next k j w h) = next k j (wakes_as V W n to k w) (to k j h)
 
 -- a record lands, and wakes those that waited for it
-module _ (r : Redo) (records : List Redo) (woken : List ℕ) (old : Chains) (near : IsReached records r.prev_group) (fall : GroupLinksFall (with_record r records)) (are : AreWoken (WaitsIn old.waits) r.lsn woken) (c : AreChainsOf records old) where
+module _ (r : Redo) (records : List Redo) (released : List ℕ) (old : Chains) (near : IsReached records r.prev_group) (fall : GroupLinksFall (with_record r records)) (are : AreReleased (IsPendingIn old.pending) r.lsn released) (c : AreChainsOf records old) where
   abbrev all : List Redo
   all = with_record r records
 
   tell : CanTell records
   tell = can_tell records (fewer_fall r records fall)
 
-  wakes : (n : ℕ) → IsIn n woken → IsWoken (IsWaiting records) r.lsn n
-  wakes n i = wakes_as (WaitsIn old.waits) (IsWaiting records) r.lsn c.wait n (are.only n i)
+  wakes : (n : ℕ) → IsIn n released → IsReleased (IsPending records) r.lsn n
+  wakes n i = wakes_as (IsPendingIn old.pending) (IsPending records) r.lsn c.add_pending n (are.only n i)
 
-  woke : (n : ℕ) → IsWoken (IsWaiting records) r.lsn n → IsIn n woken
-  woke n w = are.each n (wakes_as (IsWaiting records) (WaitsIn old.waits) r.lsn c.kept n w)
+  woke : (n : ℕ) → IsReleased (IsPending records) r.lsn n → IsIn n released
+  woke n w = are.each n (wakes_as (IsPending records) (IsPendingIn old.pending) r.lsn c.kept n w)
 
   -- the greatest number that is woken is the complete point, where it is above the old one
-  pub point_lands : (last : ℕ) → last ≡ get_or woken (length woken - 1) last → max old.point last ≡ scl (with_record r records)
+  pub point_lands : (last : ℕ) → last ≡ get_or released (length released - 1) last → max old.point last ≡ scl (with_record r records)
   point_lands last at = one_greatest (IsGroundedNumber all) (IsGroundedNumber all) (max old.point last) (scl all) (λ n p. p) (λ n p. p) greatest (complete_point_is_greatest all fall)
     where
       some_in : (x : ℕ) (xs : List ℕ) → IsIn x xs → length xs - 1 < length xs
       some_in x [] i = absurd i
       some_in x (y ∷ ys) i = omega arith
 
-      top : IsIn last woken
-      top = subst (λ n. IsIn n woken) (sym at) (is_in woken (length woken - 1) last (some_in r.lsn woken (are.each r.lsn itself)))
+      top : IsIn last released
+      top = subst (λ n. IsIn n released) (sym at) (is_in released (length released - 1) last (some_in r.lsn released (are.each r.lsn itself)))
 
       before : IsGreatest (IsGroundedNumber records) (scl records)
       before = complete_point_is_greatest records (fewer_fall r records fall)
@@ -145,33 +145,33 @@ module _ (r : Redo) (records : List Redo) (woken : List ℕ) (old : Chains) (nea
         | inr p ↦ inr (subst (IsGroundedNumber all) e (keeps_number r records (scl records) p))
       ]
 
-      each : (m : ℕ) → IsGroundedNumber records m ⊎ IsWoken (IsWaiting records) r.lsn m → m ≤ max old.point last
+      each : (m : ℕ) → IsGroundedNumber records m ⊎ IsReleased (IsPending records) r.lsn m → m ≤ max old.point last
       each m (inl g) = let l : m ≤ scl records = before.at_least_each m g in let f : old.point ≡ scl records = c.point in omega arith
-      each m (inr w) = let l : m ≤ get_or woken (length woken - 1) last = last_most woken last m are.growing (woke m w) in omega (arith, at, l)
+      each m (inr w) = let l : m ≤ get_or released (length released - 1) last = last_most released last m are.growing (woke m w) in omega (arith, at, l)
 
       greatest : IsGreatest (IsGroundedNumber all) (max old.point last)
       greatest = record { is_one = one (cases_lt old.point last); at_least_each = λ m p. each m (reaches_number r records near tell m p) }
 
-  pub one_more_lands : (new : Chains) → ((k : ℕ) → waiters new.waits k ≡ (if any (λ n. n == k) woken then [] else waiters old.waits k)) → new.point ≡ scl (with_record r records) → AreChainsOf (with_record r records) new
-  one_more_lands new is point = record { kept = λ k m w. kept k m w; wait = λ k m i. wait k m i; point = point }
+  pub one_more_lands : (new : Chains) → ((k : ℕ) → waiters new.pending k ≡ (if any (λ n. n == k) released then [] else waiters old.pending k)) → new.point ≡ scl (with_record r records) → AreChainsOf (with_record r records) new
+  one_more_lands new is point = record { kept = λ k m w. kept k m w; add_pending = λ k m i. add_pending k m i; point = point }
     where
       eq_of : (x k : ℕ) → (x == k) ≡ true → x ≡ k
       eq_of x k h = grind (arith, nat_tests)
 
-      asleep : (k : ℕ) → any (λ n. n == k) woken ≡ false → (if any (λ n. n == k) woken then [] else waiters old.waits k) ≡ waiters old.waits k
+      asleep : (k : ℕ) → any (λ n. n == k) released ≡ false → (if any (λ n. n == k) released then [] else waiters old.pending k) ≡ waiters old.pending k
       asleep k e = rw e refl
 
-      awake : (k : ℕ) → any (λ n. n == k) woken ≡ true → (if any (λ n. n == k) woken then [] else waiters old.waits k) ≡ []
+      awake : (k : ℕ) → any (λ n. n == k) released ≡ true → (if any (λ n. n == k) released then [] else waiters old.pending k) ≡ []
       awake k e = rw e refl
 
-      kept : (k m : ℕ) → IsWaiting all k m → IsIn m (waiters new.waits k)
-      kept k m w = elim (cases_Bool (any (λ n. n == k) woken)) [
-        | inl e ↦ absurd (let (x, i, f) = any_passes (λ n. n == k) woken e in not_woken r records near tell k m w (wakes k (subst (λ n. IsIn n woken) (eq_of x k f) i)))
+      kept : (k m : ℕ) → IsPending all k m → IsIn m (waiters new.pending k)
+      kept k m w = elim (cases_Bool (any (λ n. n == k) released)) [
+        | inl e ↦ absurd (let (x, i, f) = any_passes (λ n. n == k) released e in not_woken r records near tell k m w (wakes k (subst (λ n. IsIn n released) (eq_of x k f) i)))
         | inr e ↦ subst (IsIn m) (sym (is k ∙ asleep k e)) (c.kept k m (waited r records near tell k m w))
       ]
 
-      wait : (k m : ℕ) → IsIn m (waiters new.waits k) → IsWaiting all k m
-      wait k m i = elim (cases_Bool (any (λ n. n == k) woken)) [
+      add_pending : (k m : ℕ) → IsIn m (waiters new.pending k) → IsPending all k m
+      add_pending k m i = elim (cases_Bool (any (λ n. n == k) released)) [
         | inl e ↦ absurd (subst (IsIn m) (is k ∙ awake k e) i)
-        | inr e ↦ waits_on r records near tell k m (c.wait k m (subst (IsIn m) (is k ∙ asleep k e) i)) (λ w. true≢false (sym (any_from (λ n. n == k) woken k (woke k w) (eq-eqb k k refl)) ∙ e))
+        | inr e ↦ waits_on r records near tell k m (c.add_pending k m (subst (IsIn m) (is k ∙ asleep k e) i)) (λ w. true≢false (sym (any_from (λ n. n == k) released k (woke k w) (eq-eqb k k refl)) ∙ e))
       ]

@@ -1,7 +1,7 @@
-pub mod Waking
-pub mod Wakes
+pub mod Releasing
+pub mod Releases
 pub mod Rise
-pub mod Woken
+pub mod Released
 pub mod Chained
 pub mod Telling
 pub mod OneChains

@@ -9,8 +9,8 @@ use Rattle.volume_model.proofs.Grounded.{complete_point_is_greatest}
 use Rattle.chains.specs.declared.chains.Chains.{Chains}
 use Rattle.chains.specs.Chains.{AreChainsOf}
 use Rattle.chains.specs.OneChain.{IsOneChain}
-use Rattle.chains.specs.Waiting.{IsReached}
-use Rattle.chains.specs.Waits.{waiters}
+use Rattle.chains.specs.Pending.{IsReached}
+use Rattle.chains.specs.PendingRecords.{waiters}
 use Rattle.chains.proofs.Chained.{one_greatest}
 
 -- one record more, right behind the last
@@ -62,9 +62,9 @@ last_is_point records m fall is = one_greatest (IsGroundedNumber records) (IsGro
     greatest = record { is_one = last_reached records 0 m records (λ r i. i) is (inl refl); at_least_each = each }
 
 -- where nobody is kept waiting, the chains are those of the records
-pub one_chain : (records : List Redo) (chains : Chains) (m : ℕ) → ((k : ℕ) → waiters chains.waits k ≡ []) → chains.point ≡ m → GroupLinksFall records → IsOneChain 0 records m → AreChainsOf records chains
+pub one_chain : (records : List Redo) (chains : Chains) (m : ℕ) → ((k : ℕ) → waiters chains.pending k ≡ []) → chains.point ≡ m → GroupLinksFall records → IsOneChain 0 records m → AreChainsOf records chains
 one_chain records chains m none point fall is = record {
   kept = λ k n w. let (r, i, e, f) = w.1 in absurd (w.0 (subst (IsReached records) e (each_reached records 0 m records (λ t j. j) is (inl refl) r i)));
-  wait = λ k n i. absurd (subst (IsIn n) (none k) i);
+  add_pending = λ k n i. absurd (subst (IsIn n) (none k) i);
   point = point ∙ last_is_point records m fall is;
 }

@@ -6,14 +6,14 @@ use Rattle.volume_model.specs.Redo.{Redo, grounded, scl}
 use Rattle.volume_model.proofs.Grounded.{grounded_from, grounded_to, complete_point_is_greatest}
 use Rattle.volume_model.specs.Grounded.{IsGrounded, GroupLinksFall}
 use Rattle.volume_model.specs.Grounded.IsGrounded.{from_none, from_one}
-use Rattle.chains.specs.Waiting.{IsReached, IsWaiting, IsWoken, is_reached}
-use Rattle.chains.specs.Waiting.IsWoken.{itself, next}
-use Rattle.chains.specs.Waits.{AreWoken}
+use Rattle.chains.specs.Pending.{IsReached, IsPending, IsReleased, is_reached}
+use Rattle.chains.specs.Pending.IsReleased.{itself, next}
+use Rattle.chains.specs.PendingRecords.{AreReleased}
 use Rattle.chains.proofs.Chained.{can_tell}
 
 module _ (records : List Redo) (fall : GroupLinksFall records) where
   -- a record's number is reached where nobody waits for the number before it
-  pub reached_where : (r : Redo) → IsIn r records → ((m : ℕ) → IsWaiting records r.prev_group m → ⊥) → IsReached records r.lsn
+  pub reached_where : (r : Redo) → IsIn r records → ((m : ℕ) → IsPending records r.prev_group m → ⊥) → IsReached records r.lsn
   reached_where r i none =
       elim (can_tell records fall r.prev_group) [
         | inl (inl z) ↦ inr (r, from_none r i z, refl)
@@ -22,7 +22,7 @@ module _ (records : List Redo) (fall : GroupLinksFall records) where
       ]
 
   -- a number above 0 isn't reached where somebody waits for the number before each record that has it
-  pub not_reached_where : (n : ℕ) → n ≢ 0 → ((r : Redo) → IsIn r records → r.lsn ≡ n → (m : ℕ) × IsWaiting records r.prev_group m) → IsReached records n → ⊥
+  pub not_reached_where : (n : ℕ) → n ≢ 0 → ((r : Redo) → IsIn r records → r.lsn ≡ n → (m : ℕ) × IsPending records r.prev_group m) → IsReached records n → ⊥
   not_reached_where n above waited (inl z) = above z
   not_reached_where n above waited (inr p) = let (r, g, e) = p in off r g e
     where
@@ -55,13 +55,13 @@ module _ (records : List Redo) (fall : GroupLinksFall records) where
   point-reached = (complete_point_is_greatest records fall).is_one
 
 -- a number for which nobody waits wakes nobody else
-pub wakes_none : (waits : ℕ → ℕ → Type 0) (n : ℕ) → ((m : ℕ) → waits n m → ⊥) → AreWoken waits n (n ∷ [])
-wakes_none waits n none = record {
+pub wakes_none : (pending : ℕ → ℕ → Type 0) (n : ℕ) → ((m : ℕ) → pending n m → ⊥) → AreReleased pending n (n ∷ [])
+wakes_none pending n none = record {
   growing = ((λ y i. absurd i), tt);
-  only = λ m i. elim i [ inl e ↦ subst (IsWoken waits n) (sym e) itself | inr h ↦ absurd h ];
+  only = λ m i. elim i [ inl e ↦ subst (IsReleased pending n) (sym e) itself | inr h ↦ absurd h ];
   each = λ m w. inl (same m w);
 }
   where
-    same : (m : ℕ) → IsWoken waits n m → m ≡ n
+    same : (m : ℕ) → IsReleased pending n m → m ≡ n
     same m itself = refl
-    same m (next k j w h) = absurd (none j (subst (λ x. waits x j) (same k w) h))
+    same m (next k j w h) = absurd (none j (subst (λ x. pending x j) (same k w) h))

@@ -1,8 +1,8 @@
-pub mod Waiting
+pub mod Pending
 pub mod Listed
 pub mod Earlier
 pub mod Recent
-pub mod Waits
+pub mod PendingRecords
 pub mod Rising
 pub mod Chains
 pub mod OneChain

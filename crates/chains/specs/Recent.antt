@@ -1,8 +1,8 @@
 -- Who has come to wait of late.
 use Rattle.std.specs.Prelude.{ℕ, ◌==◌, if◌then◌else◌, List, [], ◌∷◌}
-use Rattle.chains.specs.declared.wait.Wait.{Wait}
+use Rattle.chains.specs.declared.pending_record.PendingRecord.{PendingRecord}
 
 -- who waits for the number, in the order in which they came
-abbrev pub recent_waiters : List Wait → ℕ → List ℕ
+abbrev pub recent_waiters : List PendingRecord → ℕ → List ℕ
 recent_waiters [] k = []
-recent_waiters (wait ∷ rest) k = if wait.before == k then wait.number ∷ recent_waiters rest k else recent_waiters rest k
+recent_waiters (entry ∷ rest) k = if entry.before == k then entry.number ∷ recent_waiters rest k else recent_waiters rest k

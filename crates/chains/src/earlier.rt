@@ -1,10 +1,10 @@
-//! Who has waited for longer.
+//! The older pending records.
 
 use crate::waiters::Waiters;
 use std::alloc::{AllocError, Global};
 use std::collections::BTreeMap;
 
-/// Under each number, those that wait for it, in the order in which they came. Mostly there is none.
+/// The older pending records, under the LSN that they wait for, in the order they came. Mostly there are none.
 #[derive(Drop)]
 pub struct Earlier {
     waiting: BTreeMap<u64, Waiters>,
@@ -15,7 +15,7 @@ impl Earlier {
     ghost use Rattle.volume_model.specs.Lists.{any};
     ghost use Rattle.chains.specs.Earlier.{earlier_waiters, IsRoomyFor};
 
-    /// Nobody waits.
+    /// Makes an empty structure: no record is pending.
     pub fn new(alloc: Global) -> Earlier
         ensures { (k : ℕ) → earlier_waiters result k ≡ [] }
     {
@@ -24,7 +24,7 @@ impl Earlier {
         }
     }
 
-    /// Who waits for a number.
+    /// Returns the records pending under an LSN.
     #[inline(always)]
     pub fn of(&self, number: u64) -> &[u64]
         ensures { result.now ≡ earlier_waiters self.now number }
@@ -36,7 +36,7 @@ impl Earlier {
         }
     }
 
-    /// Who waits for a number: apart, since mostly nobody is here.
+    /// Looks an LSN up. Out of line, since mostly nothing is pending here.
     #[inline(never)]
     fn look_up(&self, number: u64) -> &[u64]
         ensures { result.now ≡ earlier_waiters self.now number }
@@ -47,10 +47,10 @@ impl Earlier {
         }
     }
 
-    /// Makes room for one more that waits for a number.
+    /// Reserves room for one more pending record.
     ///
     /// # Errors
-    /// Where a growth was refused; then nothing has changed.
+    /// `AllocError` if there is no memory; then nothing has changed.
     pub fn make_room(&mut self, alloc: Global, number: u64) -> Result<(), AllocError>
         ensures same { (k : ℕ) → earlier_waiters self.new k ≡ earlier_waiters self.old k }
         ensures room { OnOk result (IsRoomyFor number self.new) }
@@ -64,8 +64,8 @@ impl Earlier {
         }
     }
 
-    /// One more waits for a number.
-    pub fn wait(&mut self, number: u64, waiter: u64)
+    /// Adds a record that is pending under an LSN.
+    pub fn add_pending(&mut self, number: u64, waiter: u64)
         requires room { IsRoomyFor number self.old }
         ensures { (k : ℕ) → earlier_waiters self.new k ≡ (if k == number then earlier_waiters self.old k ++ waiter ∷ [] else earlier_waiters self.old k) }
     {
@@ -74,22 +74,22 @@ impl Earlier {
         }
     }
 
-    /// Nobody waits for these any more.
+    /// Removes the records pending under these LSNs.
     #[inline(always)]
-    pub fn wake(&mut self, woken: &[u64])
-        ensures { (k : ℕ) → earlier_waiters self.new k ≡ (if any (λ n. n == k) woken.now then [] else earlier_waiters self.old k) }
+    pub fn release(&mut self, released: &[u64])
+        ensures { (k : ℕ) → earlier_waiters self.new k ≡ (if any (λ n. n == k) released.now then [] else earlier_waiters self.old k) }
     {
         if !self.waiting.is_empty() {
-            self.take_out(woken);
+            self.take_out(released);
         }
     }
 
-    /// Nobody waits for these any more: apart, since mostly nobody is here.
+    /// Removes the records pending under these LSNs. Out of line, since mostly nothing is pending here.
     #[inline(never)]
-    fn take_out(&mut self, woken: &[u64])
-        ensures { (k : ℕ) → earlier_waiters self.new k ≡ (if any (λ n. n == k) woken.now then [] else earlier_waiters self.old k) }
+    fn take_out(&mut self, released: &[u64])
+        ensures { (k : ℕ) → earlier_waiters self.new k ≡ (if any (λ n. n == k) released.now then [] else earlier_waiters self.old k) }
     {
-        for number in woken {
+        for number in released {
             self.waiting.remove(number);
         }
     }

@@ -1,12 +1,13 @@
-//! How far the records of a group hang together, in whatever order they come.
+//! Tracks the complete point of a group's records while they arrive in any order. A record whose predecessor is
+//! missing is queued under the predecessor's LSN.
 #![tactic(auto)]
 
 mod chains;
 mod earlier;
 mod numbers;
 mod recent;
-mod wait;
+mod pending_record;
 mod waiters;
-mod waits;
+mod pending_records;
 
 pub use chains::Chains;

@@ -1,4 +1,4 @@
-//! Who has come to wait of late: a few, in the order in which they came.
+//! The newest pending records: a few, in the order they came.
 
 ghost use Rattle.std.specs.List.{list_any};
 ghost use Rattle.std.specs.Prelude.{ℕ, ◌≡◌, ◌==◌, [], if◌then◌else◌, OnOk};
@@ -7,38 +7,38 @@ ghost use Rattle.chains.specs.Recent.{recent_waiters};
 ghost use Rattle.chains.specs.Rising.{AreGrowing, with_numbers};
 
 use crate::numbers::add;
-use crate::wait::Wait;
+use crate::pending_record::PendingRecord;
 use std::alloc::AllocError;
 
-/// Whether somebody waits for a number.
+/// Returns whether a record is pending under an LSN.
 #[inline(always)]
-pub fn is_awaited(waits: &[Wait], before: u64) -> bool
-    ensures { result ≡ list_any (λ wait. wait.before == before) waits.now }
+pub fn has_pending(pending: &[PendingRecord], before: u64) -> bool
+    ensures { result ≡ list_any (λ entry. entry.before == before) pending.now }
 {
-    waits.iter().any(|wait| wait.before == before)
+    pending.iter().any(|entry| entry.before == before)
 }
 
-/// Adds those that wait for a number to others, where they aren't there.
+/// Adds the records pending under an LSN to a list that lacks them.
 ///
 /// # Errors
-/// Where a growth was refused.
+/// `AllocError` if there is no memory.
 #[inline(always)]
-pub fn add_waiters(waits: &[Wait], before: u64, numbers: &mut Vec<u64>) -> Result<(), AllocError>
+pub fn add_waiters(pending: &[PendingRecord], before: u64, numbers: &mut Vec<u64>) -> Result<(), AllocError>
     requires growing { AreGrowing numbers.old.items }
-    ensures added { OnOk result (numbers.new.items ≡ with_numbers (recent_waiters waits.now before) numbers.old.items) }
+    ensures added { OnOk result (numbers.new.items ≡ with_numbers (recent_waiters pending.now before) numbers.old.items) }
 {
-    for wait in waits {
-        if wait.before == before {
-            add(numbers, wait.number)?;
+    for entry in pending {
+        if entry.before == before {
+            add(numbers, entry.number)?;
         }
     }
     Ok(())
 }
 
-/// Takes out those that wait for one of these numbers.
+/// Removes the records pending under these LSNs.
 #[inline(always)]
-pub fn wake(waits: &mut Vec<Wait>, woken: &[u64])
-    ensures { (k : ℕ) → recent_waiters waits.new.items k ≡ (if any (λ n. n == k) woken.now then [] else recent_waiters waits.old.items k) }
+pub fn release(pending: &mut Vec<PendingRecord>, released: &[u64])
+    ensures { (k : ℕ) → recent_waiters pending.new.items k ≡ (if any (λ n. n == k) released.now then [] else recent_waiters pending.old.items k) }
 {
-    waits.retain(|wait| !woken.contains(&wait.before));
+    pending.retain(|entry| !released.contains(&entry.before));
 }

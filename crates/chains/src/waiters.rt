@@ -1,14 +1,14 @@
-//! Who waits for one number.
+//! The records pending under one LSN.
 
 ghost use Rattle.chains.specs.Listed.{numbers_of, HasRoom};
 
 use std::alloc::{AllocError, Global};
 use std::slice::from_ref;
 
-/// Those that wait for one number, in the order in which they came: mostly one, which needs no list.
+/// The records pending under one LSN, in the order they came: mostly one, which needs no list.
 #[derive(Drop)]
 pub enum Waiters {
-    /// Nobody yet.
+    /// None.
     Nobody,
     /// This one alone.
     One(u64),
@@ -19,7 +19,7 @@ pub enum Waiters {
 impl Waiters {
     ghost use Rattle.std.specs.Prelude.{◌≡◌, [], ◌∷◌, ◌++◌, IfOk, OnOk};
 
-    /// All of them.
+    /// Returns all of them.
     pub fn as_slice(&self) -> &[u64]
         ensures { result.now ≡ numbers_of self.now }
     {
@@ -30,7 +30,8 @@ impl Waiters {
         }
     }
 
-    /// A list of one, with room for one more: apart, since two seldom wait for one number. Fails for want of memory alone.
+    /// Returns a list of one, with room for one more. Out of line, since two are seldom pending under one LSN. Fails
+    /// only with `NoMemory`.
     #[inline(never)]
     fn listed(alloc: Global, waiter: u64) -> Result<Waiters, AllocError>
         ensures same { IfOk result (λ waiters. numbers_of waiters ≡ waiter ∷ []) }
@@ -44,7 +45,7 @@ impl Waiters {
     /// Makes room for one more.
     ///
     /// # Errors
-    /// Where a growth was refused; then nothing has changed.
+    /// `AllocError` if there is no memory; then nothing has changed.
     pub fn make_room(&mut self, alloc: Global) -> Result<(), AllocError>
         ensures same { numbers_of self.new ≡ numbers_of self.old }
         ensures room { OnOk result (HasRoom self.new) }
@@ -59,7 +60,7 @@ impl Waiters {
         }
     }
 
-    /// One more waits.
+    /// Adds a pending record.
     pub fn push(&mut self, waiter: u64)
         requires { HasRoom self.old }
         ensures { numbers_of self.new ≡ numbers_of self.old ++ waiter ∷ [] }

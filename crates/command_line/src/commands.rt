@@ -9,7 +9,7 @@ use crate::help;
 use clap::{Arg, ArgAction, Command, value_parser};
 use std::alloc::{AllocError, Global};
 
-/// An argument that names a file.
+/// Returns an argument that names a file.
 fn file<'a>(alloc: Global, id: &'a str, about: &'a str) -> Arg<'a>
     ensures rule { rule_of result ≡ file_rule id.entry.now }
     ensures local { result.global ≡ false }
@@ -20,7 +20,7 @@ fn file<'a>(alloc: Global, id: &'a str, about: &'a str) -> Arg<'a>
         .help(about)
 }
 
-/// The program before its subcommands.
+/// Returns the program before its subcommands.
 fn program<'a>(alloc: Global) -> Command<'a>
     ensures { app_of result ≡ program }
 {
@@ -31,7 +31,7 @@ fn program<'a>(alloc: Global) -> Command<'a>
         .after_help(help::PROGRAM)
 }
 
-/// A subcommand of a plan's file.
+/// Returns a subcommand of a plan's file.
 fn of_file<'a>(
     alloc: Global,
     name: &'a str,
@@ -60,7 +60,7 @@ fn workers<'a>(alloc: Global, about: &'a str) -> Arg<'a>
         .default_value("4")
 }
 
-/// A subcommand of a plan's file and a number of workers.
+/// Returns a subcommand of a plan's file and a number of workers.
 fn of_workers<'a>(
     alloc: Global,
     name: &'a str,
@@ -72,7 +72,7 @@ fn of_workers<'a>(
     of_file(alloc, name, about, notes)?.arg(workers(alloc, "How many workers search, 1 to 16"))
 }
 
-/// A subcommand of a plan and a script.
+/// Returns a subcommand of a plan and a script.
 fn of_script<'a>(
     alloc: Global,
     name: &'a str,
@@ -85,7 +85,7 @@ fn of_script<'a>(
     of_file(alloc, name, about, notes)?.arg(script)
 }
 
-/// A subcommand of a plan, a script and a number of workers.
+/// Returns a subcommand of a plan, a script and a number of workers.
 fn of_fleet<'a>(
     alloc: Global,
     name: &'a str,
@@ -108,7 +108,7 @@ fn add<'a>(command: Command<'a>, leaf: Command<'a>) -> Result<Command<'a>, Alloc
     command.subcommand(leaf)
 }
 
-/// The whole command line.
+/// Returns the whole command line.
 pub fn command_line<'a>(alloc: Global) -> Result<Command<'a>, AllocError>
     ensures { IfOk result (λ c. app_of c ≡ tool) }
 {

@@ -1,4 +1,4 @@
-//! What the help says behind its lists.
+//! The text of the help after its lists.
 
 /// Of the whole program.
 pub const PROGRAM: &str = "\

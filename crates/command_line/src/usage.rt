@@ -6,13 +6,14 @@ use thiserror::Error;
 /// What is printed in place of a job.
 #[derive(Debug, Drop, Error)]
 pub enum Usage {
-    /// What clap says: a mistake in the words, or the help or the version that they ask for; never want of memory.
+    /// What clap answers: a mistake in the words, or the help or the version that they ask for; never that memory ran
+    /// out.
     #[error(transparent)]
     Words(#[from] clap::Error),
     /// A subcommand, a file or a number that clap let pass, though it asks for it.
     #[error("error: {0}\n")]
     Missing(&'static str),
-    /// A growth was refused.
+    /// Memory ran out.
     #[error("input: 9 NoMemory\n")]
     Memory(#[from(alloc)] AllocError),
 }
@@ -21,7 +22,7 @@ impl Usage {
     ghost use Rattle.std.specs.Prelude.{◌↔◌, IsTrue};
     ghost use Rattle.command_line.specs.Usage.{IsAskedFor};
 
-    /// Whether the words asked for this text, so that it goes to the standard output and is no mistake.
+    /// Returns whether the words asked for this text, so that it goes to the standard output and is no mistake.
     pub fn is_asked_for(&self) -> bool
         ensures { IsTrue result ↔ IsAskedFor self.now }
     {

@@ -14,11 +14,11 @@ use clap::ArgMatches;
 use clap::error::ErrorKind;
 use std::alloc::{AllocError, Global};
 
-/// The job that the words of a command line name; the first is the program's own name.
+/// Returns the job that the words of a command line name; the first is the program's own name.
 ///
 /// # Errors
-/// What clap says of words that it doesn't take, or the help or version that they ask for; that clap's reading names no job; or want of
-/// memory.
+/// What clap says of words that it doesn't take, or the help or version that they ask for; that clap's reading names
+/// no job; or running out of memory.
 pub fn job<'a>(alloc: Global, words: &'a [&'a str]) -> Result<Job<'a>, Usage>
     ensures job { IfOk result (IsJob (subcommand_of tool (map (λ w. w.now) words.entry.now))) }
     ensures refused { IfErr result (IsRightFor (map (λ w. w.now) words.entry.now)) }
@@ -43,7 +43,7 @@ fn refusal(error: clap::Error) -> Usage
     }
 }
 
-/// The first value of an id.
+/// Returns the first value of an id.
 fn text_of<'a>(matches: &ArgMatches<'a>, id: &str) -> Option<&'a str>
     ensures { option_map (λ w. w.now) result ≡ first_of id.now (rows_of (found_of matches.now)) }
 {
@@ -63,7 +63,7 @@ fn action_of(name: &str) -> Option<Action>
     }
 }
 
-/// The number that the option of workers spells, 4 where there is none.
+/// Returns the number that the option of workers spells, 4 where there is none.
 fn number_of(matches: &ArgMatches<'_>) -> Option<u8>
     ensures number { IfSome result (IsNumberOf (one_of (codes "workers") (rows_of (found_of matches.now)))) }
     ensures none { IfNone result ((n : ℕ) → n < 2 ^ 8 → IsNumberOf (one_of (codes "workers") (rows_of (found_of matches.now))) n → ⊥) }
@@ -75,7 +75,7 @@ fn number_of(matches: &ArgMatches<'_>) -> Option<u8>
     }
 }
 
-/// How many workers there are to be, 4 where no option says so.
+/// Returns how many workers there are to be, 4 where no option says so.
 fn workers_of(matches: &ArgMatches<'_>) -> Option<u8>
     ensures number { IfSome result (IsNumberOf (one_of (codes "workers") (rows_of (found_of matches.now)))) }
     ensures range { IfSome result (λ n. (1 ≤ n) × (n ≤ 16)) }

@@ -13,14 +13,14 @@ use Rattle.segment_core.proofs.held.Held.TheSendSync as held
 use Rattle.segment_core.proofs.records.Records.TheSendSync as records
 use Rattle.hydration.proofs.hydration.Hydration.TheSendSync as hydration_type
 use Rattle.hydration.proofs.copied.Copied.TheSendSync as copied
-use Rattle.writer_core.proofs.lasts.Lasts.TheSendSync as lasts
-use Rattle.writer_core.proofs.covered.Covered.TheSendSync as covered
-use Rattle.writer_core.proofs.standing.Standing.TheSendSync as standing
+use Rattle.writer_core.proofs.last_lsns.LastLsns.TheSendSync as last_lsns
+use Rattle.writer_core.proofs.durability.DurabilityTracker.TheSendSync as durability
+use Rattle.writer_core.proofs.group_state.GroupState.TheSendSync as group_state
 use Rattle.recovery.proofs.found.Found.TheSendSync as found
 use Rattle.segment_core.specs.contracts.segment.Segment as Segment
 use Rattle.epochs.specs.contracts.authority.Authority as Authority
 use Rattle.plan.specs.contracts.checked.CheckedPlan as CheckedPlan
-use Rattle.writer_core.specs.contracts.standings.Standings as Standings
+use Rattle.writer_core.specs.contracts.group_states.GroupStates as GroupStates
 use Rattle.writer_core.specs.contracts.writer.Writer as Writer
 use Rattle.recovery.specs.contracts.recovery.Recovery as Recovery
 use Rattle.world.specs.contracts.client.Client as Client
@@ -37,7 +37,7 @@ use Rattle.fleet_actors.specs.contracts.node.NodeActor as NodeActor
 use Rattle.node_fleet.specs.contracts.fleet.Fleet as Fleet
 use Rattle.node_fleet.specs.declared.site.FleetSite as fleet_site
 
-ruleset parts = (sendable, crosses, record_type.the_send, record_type.the_field_send, record_type.the_sync, shared_record_type.the_send, shared_record_type.the_field_send, shared_record_type.the_sync, lineage_type.the_send, lineage_type.the_field_send, records.the_send, records.the_field_send, held.the_send, held.the_field_send, assembly.the_send, assembly.the_field_send, hydration_type.the_send, hydration_type.the_field_send, copied.the_send, copied.the_field_send, lasts.the_send, lasts.the_field_send, covered.the_send, covered.the_field_send, standing.the_send, standing.the_field_send, found.the_send, found.the_field_send)
+ruleset parts = (sendable, crosses, record_type.the_send, record_type.the_field_send, record_type.the_sync, shared_record_type.the_send, shared_record_type.the_field_send, shared_record_type.the_sync, lineage_type.the_send, lineage_type.the_field_send, records.the_send, records.the_field_send, held.the_send, held.the_field_send, assembly.the_send, assembly.the_field_send, hydration_type.the_send, hydration_type.the_field_send, copied.the_send, copied.the_field_send, last_lsns.the_send, last_lsns.the_field_send, durability.the_send, durability.the_field_send, group_state.the_send, group_state.the_field_send, found.the_send, found.the_field_send)
 
 pub plan_send : IsSend CheckedPlan.the_row
 plan_send = search (sendable, crosses, expr.crosses, cert.crosses) depth 60 fits 20000
@@ -57,10 +57,10 @@ segment_field = search (parts, plan_send, plan_sync) depth 30
 pub segment_send : IsSend Segment.the_row
 segment_send = search (sendable, segment_field) depth 30
 
-pub standings_field : IsSend (Standings.the_field).row
+pub standings_field : IsSend (GroupStates.the_field).row
 standings_field = search (parts, plan_send, plan_sync) depth 30
 
-pub standings_send : IsSend Standings.the_row
+pub standings_send : IsSend GroupStates.the_row
 standings_send = search (sendable, standings_field) depth 30
 
 pub writer_field : IsSend (Writer.the_field).row

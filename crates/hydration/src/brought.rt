@@ -16,7 +16,7 @@ use quorum_expr::MemberSet;
 use redo_record::RecordSet;
 use std::alloc::{AllocError, Global};
 
-/// The members whose copy is complete.
+/// Returns the members whose copy is complete.
 pub(crate) fn copied_by(copies: &[Collected]) -> MemberSet
     ensures { set.contains result ≡ copied_by (all_collected copies.now) }
 {
@@ -59,10 +59,10 @@ fn newest_brought<'a>(copies: &'a [Collected], last: &'a Lineage) -> &'a Lineage
     }
 }
 
-/// The newest lineage of the complete copies, and none where there is no such copy.
+/// Returns the newest lineage of the complete copies, and none where there is no such copy.
 ///
 /// # Errors
-/// Where a growth was refused.
+/// `AllocError` if there is no memory.
 pub(crate) fn newest_copied(alloc: Global, copies: &[Collected]) -> Result<Lineage, AllocError>
     ensures { IfOk result (λ lineage. lineage_of lineage ≡ newest (brought (all_collected copies.now))) }
 {
@@ -70,7 +70,7 @@ pub(crate) fn newest_copied(alloc: Global, copies: &[Collected]) -> Result<Linea
     newest_brought(copies, &none).clone()
 }
 
-/// The records of a copy where it is complete, and none where it isn't.
+/// Returns the records of a copy where it is complete, and none where it isn't.
 fn united_records(alloc: Global, copy: &Collected) -> Result<RecordSet, AllocError>
     ensures { IfOk result (λ set. records_of set ≡ united (brought_by (collected_of copy.now))) }
 {
@@ -81,10 +81,10 @@ fn united_records(alloc: Global, copy: &Collected) -> Result<RecordSet, AllocErr
     }
 }
 
-/// All records of the complete copies that are live in the lineage, copy by copy.
+/// Returns all records of the complete copies that are live in the lineage, copy by copy.
 ///
 /// # Errors
-/// Where a growth was refused.
+/// `AllocError` if there is no memory.
 pub(crate) fn copied_in(
     alloc: Global,
     lineage: &Lineage,

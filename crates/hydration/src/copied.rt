@@ -10,7 +10,7 @@ use wire::Contents;
 pub struct Copied {
     /// The member.
     pub from: u8,
-    /// What it holds, shared with the report that told it.
+    /// What it holds, shared with the report.
     pub contents: Arc<Contents>,
     pub ghost member: { from < 64 },
 }

@@ -14,7 +14,7 @@ use quorum_expr::MemberSet;
 use redo_record::RecordSet;
 use std::alloc::{AllocError, Global};
 
-/// The members from which there are copies.
+/// Returns the members from which there are copies.
 pub fn senders(copies: &[Copied]) -> MemberSet
     ensures { set.contains result ≡ senders (copies_in copies.now) }
 {
@@ -35,10 +35,10 @@ pub fn newest_with<'a>(copies: &'a [Copied], last: &'a Lineage) -> &'a Lineage
     }
 }
 
-/// A set of records with all those of the copies that are live in the lineage.
+/// Returns a set of records with all those of the copies that are live in the lineage.
 ///
 /// # Errors
-/// Where a growth was refused.
+/// `AllocError` if there is no memory.
 pub fn with_found(
     alloc: Global,
     lineage: &Lineage,

@@ -1,4 +1,4 @@
-//! Copies that are gathered until they are those of a read set.
+//! Copies, gathered until their senders are a read quorum.
 
 ghost use Rattle.std.specs.Prelude.{◌≡◌, ◌<◌, [], false, Err, Ok, Some, None, IfOk, IsSome, OnErr, option_map};
 ghost use Rattle.std.specs.FinSet as set;
@@ -20,7 +20,7 @@ use std::alloc::{AllocError, Global};
 use volume_model::Fault;
 use wire::{Contents, CopyReport};
 
-/// Copies of what members hold, in pieces: of each member those of one series.
+/// Copies of members' segments, in pieces: of each member those of one series.
 #[derive(Drop)]
 pub struct Hydration {
     alloc: Global,
@@ -28,7 +28,7 @@ pub struct Hydration {
 }
 
 impl Hydration {
-    /// No copy.
+    /// Makes a hydration without copies.
     pub fn new(alloc: Global) -> Hydration
         ensures { copies_of result ≡ [] }
     {
@@ -38,14 +38,14 @@ impl Hydration {
         }
     }
 
-    /// The members whose copy is complete.
+    /// Returns the members whose copy is complete.
     pub fn senders(&self) -> MemberSet
         ensures { set.contains result ≡ copied_by (copies_of self.now) }
     {
         copied_by(&self.copies)
     }
 
-    /// The place of a member's copy, `None` where no piece of it is kept.
+    /// Returns the place of a member's copy, `None` if no piece of it is kept.
     fn place(&self, from: u8) -> Option<usize>
         ensures { result ≡ place_of (copies_of self.now) from }
     {
@@ -57,7 +57,7 @@ impl Hydration {
         None
     }
 
-    /// The pieces that are kept of a member's copy, `None` where there is none.
+    /// Returns the pieces that are kept of a member's copy, `None` if there is none.
     fn pieces_from(&self, from: u8) -> Option<&Pieces>
         ensures { option_map (λ pieces. seen_pieces pieces.now) result ≡ pieces_from (copies_of self.now) from }
     {
@@ -65,7 +65,7 @@ impl Hydration {
         Some(&self.copies[place].pieces)
     }
 
-    /// Makes ready to keep a piece of a member of which none is kept: makes the room and the copy.
+    /// Prepares to keep a piece of a member of which none is kept: makes the room and the copy.
     fn prepare_new(&mut self, report: &CopyReport) -> Result<Collected, AllocError>
         requires member { report.now.from < 64 }
         requires piece { report.now.piece < report.now.of }
@@ -87,7 +87,7 @@ impl Hydration {
         })
     }
 
-    /// Makes ready to keep a piece of the member whose copy stands in this place.
+    /// Prepares to keep a piece of the member whose copy stands in this place.
     fn prepare_at(&mut self, place: usize, report: &CopyReport) -> Result<Change, AllocError>
         requires place { place_of (copies_of self.old) report.now.from ≡ Some place }
         requires piece { is_bad report.now (copies_of self.old) ≡ false }
@@ -106,11 +106,11 @@ impl Hydration {
         )
     }
 
-    /// Makes ready to keep a piece of what a member says that it holds: makes the room and the copy. What is kept stays what it was.
+    /// Prepares to keep a piece of a copy: reserves the room and copies the piece. What is kept is unchanged.
     ///
     /// # Errors
-    /// `NotAddressed` where the sender is no member, `BadPiece` where it can't be a piece beside those that are kept of the member, and
-    /// `NoMemory` where neither applies and a growth was refused.
+    /// `NotAddressed` if the sender is no member; `BadPiece` if it can't be a piece beside those that are kept of the
+    /// member; `NoMemory` if neither applies and memory ran out.
     pub fn prepare(&mut self, report: &CopyReport) -> Result<Keeping, Fault>
         ensures copy { Answers kept_by (kept_after report.now (copies_of self.old)) (copies_of self.old) result (copies_of self.old) }
         ensures ready { IfOk result (CanKeep self.new) }
@@ -135,7 +135,7 @@ impl Hydration {
         }
     }
 
-    /// Keeps the piece that was made ready last; takes no memory.
+    /// Keeps the piece that was prepared last; takes no memory.
     pub fn keep(&mut self, keeping: Keeping)
         requires { CanKeep self.old keeping }
         ensures { copies_of self.new ≡ kept_by keeping (copies_of self.old) }
@@ -146,10 +146,10 @@ impl Hydration {
         }
     }
 
-    /// Keeps a piece of what a member says that it holds: of each member one series is kept, and the first piece of each number.
+    /// Keeps a piece of a copy: of each member one series is kept, and the first piece of each number.
     ///
     /// # Errors
-    /// As [`Hydration::prepare`] says; what is kept is what it was then.
+    /// Those of [`Hydration::prepare`]; what is kept is unchanged.
     pub fn take(&mut self, report: &CopyReport) -> Result<(), Fault>
         ensures { Answers just (kept_after report.now (copies_of self.old)) (copies_of self.old) result (copies_of self.new) }
     {
@@ -165,10 +165,10 @@ impl Hydration {
         self.copies.clear();
     }
 
-    /// What a node becomes from the complete copies, where they are those of a read set.
+    /// Returns the state that the complete copies make, or `None` if their senders aren't a read quorum.
     ///
     /// # Errors
-    /// `NoMemory`, where they are those of a read set and a growth was refused.
+    /// `NoMemory`.
     pub fn finish(&self, alloc: Global, read: &Expr<Global>) -> Result<Option<State>, Fault>
         ensures state { Gives (option_map state_of) result (Ok (finished (formula_of read.now) (copies_of self.now))) }
         ensures memory { OnErr result (result ≡ Err NoMemory) }

@@ -30,10 +30,10 @@ impl Pieces {
     ghost use Rattle.hydration.specs.Pieces.{seen_pieces};
     ghost use Rattle.hydration.specs.Changes.{CanChange, changed};
 
-    /// The first piece of a series, of which no other is kept.
+    /// Returns the first piece of a series, of which no other is kept.
     ///
     /// # Errors
-    /// Where a growth was refused.
+    /// `AllocError` if there is no memory.
     pub fn first(
         alloc: Global,
         series: u64,
@@ -59,28 +59,28 @@ impl Pieces {
         })
     }
 
-    /// The volume epoch of the install, or the number of the copy.
+    /// Returns the volume epoch of the install, or the number of the copy.
     pub fn series(&self) -> u64
         ensures { result ≡ (seen_pieces self.now).series }
     {
         self.series
     }
 
-    /// How many pieces there are in all.
+    /// Returns how many pieces there are in all.
     pub fn of(&self) -> u16
         ensures { result ≡ (seen_pieces self.now).of }
     {
         self.of
     }
 
-    /// The pieces that are kept, in the order in which they came.
+    /// Returns the pieces that are kept, in the order in which they came.
     pub fn as_slice(&self) -> &[Kept]
         ensures { all_kept result.now ≡ (seen_pieces self.now).kept }
     {
         &self.kept
     }
 
-    /// Whether the piece of this number is kept.
+    /// Returns whether the piece of this number is kept.
     pub fn has(&self, number: u16) -> bool
         ensures { result ≡ has_piece (seen_pieces self.now) number }
     {
@@ -90,15 +90,15 @@ impl Pieces {
         self.marks[usize::from(number)]
     }
 
-    /// Whether all pieces are kept.
+    /// Returns whether all pieces are kept.
     pub fn is_complete(&self) -> bool
         ensures { result ≡ is_complete (seen_pieces self.now) }
     {
         self.kept.len() == usize::from(self.of)
     }
 
-    /// Whether the contents can't be the piece of this number beside those that are kept: they are no piece at all, or the kept ones
-    /// are of the same series and of another number of pieces.
+    /// Returns whether the contents can't be the piece of this number beside those that are kept: they are no piece
+    /// at all, or the kept ones are of the same series and of another number of pieces.
     pub fn is_bad(
         kept: Option<&Pieces>,
         series: u64,
@@ -117,11 +117,11 @@ impl Pieces {
         }
     }
 
-    /// Makes ready to keep a piece of this series: makes the room and the copy, and nothing where the piece of this number is kept
-    /// already. What is kept stays what it was.
+    /// Prepares to keep a piece of this series: makes the room and the copy, and nothing where the piece of this
+    /// number is kept already. What is kept stays what it was.
     ///
     /// # Errors
-    /// Where a growth was refused.
+    /// `AllocError` if there is no memory.
     pub fn prepare(&mut self, piece: u16, contents: &Contents) -> Result<Change, AllocError>
         requires { piece < (seen_pieces self.old).of }
         ensures change { IfOk result (λ change. changed change (seen_pieces self.old) ≡ with_piece (seen_pieces self.old) (piece_in piece (seen_pieces self.old).of) (contents_of contents.now)) }
@@ -138,11 +138,11 @@ impl Pieces {
         }))
     }
 
-    /// Makes ready to keep a piece of a copy: a complete copy is left as it is, a later one replaces the kept pieces, and an earlier one
-    /// changes nothing. What is kept stays what it was.
+    /// Prepares to keep a piece of a copy: a complete copy is left as it is, a later one replaces the kept pieces,
+    /// and an earlier one changes nothing. What is kept stays what it was.
     ///
     /// # Errors
-    /// Where a growth was refused.
+    /// `AllocError` if there is no memory.
     pub fn prepare_series(
         &mut self,
         alloc: Global,
@@ -169,7 +169,7 @@ impl Pieces {
         Ok(Change::Anew(pieces))
     }
 
-    /// Makes the change that was made ready last; takes no memory.
+    /// Makes the change that was prepared last; takes no memory.
     pub fn apply(&mut self, change: Change)
         requires { CanChange self.old change }
         ensures { seen_pieces self.new ≡ changed change (seen_pieces self.old) }
@@ -184,7 +184,7 @@ impl Pieces {
         }
     }
 
-    /// Whether all pieces are kept once the change is made.
+    /// Returns whether all pieces are kept once the change is made.
     pub fn is_complete_with(&self, change: &Change) -> bool
         requires { CanChange self.now change.now }
         ensures { result ≡ is_complete (changed change.now (seen_pieces self.now)) }
@@ -196,10 +196,10 @@ impl Pieces {
         }
     }
 
-    /// The records of all kept pieces, as a set.
+    /// Returns the records of all kept pieces, as a set.
     ///
     /// # Errors
-    /// Where a growth was refused.
+    /// `AllocError` if there is no memory.
     pub fn join(&self, alloc: Global) -> Result<RecordSet, AllocError>
         ensures { IfOk result (λ set. records_of set ≡ united (contents_in (seen_pieces self.now))) }
     {
@@ -207,10 +207,10 @@ impl Pieces {
         joined(alloc, parts)
     }
 
-    /// The records of all pieces that are kept once the change is made, as a set.
+    /// Returns the records of all pieces that are kept once the change is made, as a set.
     ///
     /// # Errors
-    /// Where a growth was refused.
+    /// `AllocError` if there is no memory.
     pub fn join_with(&self, alloc: Global, change: &Change) -> Result<RecordSet, AllocError>
         ensures { IfOk result (λ set. records_of set ≡ united (contents_in (changed change.now (seen_pieces self.now)))) }
     {
@@ -226,7 +226,7 @@ impl Pieces {
     }
 }
 
-/// The records of kept pieces, each a set of its own.
+/// Returns the records of kept pieces, each a set of its own.
 fn parts_of(alloc: Global, all: &[Kept]) -> Result<Vec<RecordSet>, AllocError>
     ensures { IfOk result (λ parts. map records_of parts.items ≡ sets_kept all.now) }
 {
@@ -237,7 +237,8 @@ fn parts_of(alloc: Global, all: &[Kept]) -> Result<Vec<RecordSet>, AllocError>
     Ok(parts)
 }
 
-/// The records of sets in any order, as one set. Of sets that stand one behind the other none is gone through twice.
+/// Returns the records of sets in any order, as one set. Of sets that stand one behind the other none is gone through
+/// twice.
 fn joined(alloc: Global, mut parts: Vec<RecordSet>) -> Result<RecordSet, AllocError>
     ensures { IfOk result (λ set. records_of set ≡ all_records (map records_of parts.items)) }
 {
@@ -245,7 +246,7 @@ fn joined(alloc: Global, mut parts: Vec<RecordSet>) -> Result<RecordSet, AllocEr
     RecordSet::join(alloc, &parts)
 }
 
-/// The least log sequence number of a set, 0 where it has no record.
+/// Returns the least LSN of a set, 0 where it has no record.
 fn first_lsn(set: &RecordSet) -> u64 {
     match set.as_slice().first() {
         Some(packet) => packet.lsn(),

@@ -8,7 +8,7 @@ use Rattle.std.proofs.Math.Seq.{drop-length}
 use Rattle.std.specs.declared.alloc.Global.{Global}
 use Rattle.refutation.specs.declared.certificate.Certificate.{Certificate}
 use Rattle.refutation.specs.Rule.{Rule}
-use Rattle.plan.specs.declared.lent.LentClaim.{LentClaim}
+use Rattle.plan.specs.declared.lent.ClaimRef.{ClaimRef}
 use Rattle.plan.specs.LentClaims.{all_lent, lent_placed}
 use Rattle.plan.specs.PlanClaims.{PlacedClaim}
 use Rattle.plan_tokens.specs.WrittenPlans.{HasClaims}
@@ -59,7 +59,7 @@ still_claims text room olds news has are = record {
 }
 
 -- one claim more
-pub unfound_more : (claims : List LentClaim) (left later : List (Option (Certificate Global))) (i : ℕ) (claim : LentClaim) (certificate : Option (Certificate Global)) (all old new : List ℕ)
+pub unfound_more : (claims : List ClaimRef) (left later : List (Option (Certificate Global))) (i : ℕ) (claim : ClaimRef) (certificate : Option (Certificate Global)) (all old new : List ℕ)
     → all ≡ old ++ unfound_lines (all_lent (drop i claims)) (map rule_in left) → i < length claims → claim ≡ get_or claims i claim → left ≡ certificate ∷ later
     → new ≡ old ++ unfound_line (lent_placed claim) (rule_in certificate) → all ≡ new ++ unfound_lines (all_lent (drop (i + 1) claims)) (map rule_in later)
 unfound_more claims left later i claim certificate all old new so_far within item split is_new =
@@ -80,7 +80,7 @@ unfound_out claims left all old so_far empty =
     sym (so_far ∙ (ap (λ t. old ++ t) nothing ∙ append-nil old))
 
 -- no claim is left
-pub unfound_all : (claims : List LentClaim) (left : List (Option (Certificate Global))) (i : ℕ) (all old : List ℕ) → all ≡ old ++ unfound_lines (all_lent (drop i claims)) (map rule_in left) → i ≡ length claims → old ≡ all
+pub unfound_all : (claims : List ClaimRef) (left : List (Option (Certificate Global))) (i : ℕ) (all old : List ℕ) → all ≡ old ++ unfound_lines (all_lent (drop i claims)) (map rule_in left) → i ≡ length claims → old ≡ all
 unfound_all claims left i all old so_far end =
     let nothing : drop i claims ≡ [] = rw end (drop-length claims) in
     sym (so_far ∙ (ap (λ cs. old ++ unfound_lines (all_lent cs) (map rule_in left)) nothing ∙ append-nil old))

@@ -23,7 +23,7 @@ use crate::leaving::leave;
 use crate::reply::{Found, Stop};
 use cert_search::{Gate, PLAN_BYTES, keep_shortest, search_all};
 use command_line::Job;
-use plan::{LentClaim, Plan, claim_name, lent_claims, shown_claims_certify};
+use plan::{ClaimRef, Plan, claim_name, lent_claims, shown_claims_certify};
 use plan_tokens::{Spelling, write_plan};
 use refutation::Certificate;
 use std::alloc::{AllocError, Global};
@@ -43,7 +43,7 @@ impl Gate for NoGate {
 }
 
 /// Returns the claims of a plan.
-fn claims_of<'p>(alloc: Global, plan: &'p Plan) -> Result<Vec<LentClaim<'p>>, Stop<'static>>
+fn claims_of<'p>(alloc: Global, plan: &'p Plan) -> Result<Vec<ClaimRef<'p>>, Stop<'static>>
     ensures claims { IfOk result (λ v. claims_in (plan_data plan.entry.now) ≡ Ok (all_lent v.items)) }
     ensures stop { IfErr result (StopsBy (λ fault. claims_in (plan_data plan.entry.now) ≡ Err fault)) }
 {
@@ -149,7 +149,7 @@ fn fitting_line(
 }
 
 /// Appends the line of a claim without a certificate.
-fn add_claim(text: &mut String, claim: &LentClaim<'_>) -> Result<(), AllocError>
+fn add_claim(text: &mut String, claim: &ClaimRef<'_>) -> Result<(), AllocError>
     ensures { OnOk result (string_bytes text.new ≡ string_bytes text.old ++ claim_line (lent_placed claim.now)) }
 {
     let group = claim.group;
@@ -164,7 +164,7 @@ fn add_claim(text: &mut String, claim: &LentClaim<'_>) -> Result<(), AllocError>
 /// Appends the line of a claim if it has no certificate.
 fn add_unfound(
     text: &mut String,
-    claim: &LentClaim<'_>,
+    claim: &ClaimRef<'_>,
     certificate: &Option<Certificate<Global>>,
 ) -> Result<(), AllocError>
     ensures { OnOk result (string_bytes text.new ≡ string_bytes text.old ++ unfound_line (lent_placed claim.now) (option_map certificate_rule certificate.now)) }
@@ -178,7 +178,7 @@ fn add_unfound(
 /// Returns a line for each claim without a certificate.
 fn unfound(
     alloc: Global,
-    claims: &[LentClaim<'_>],
+    claims: &[ClaimRef<'_>],
     certificates: &[Option<Certificate<Global>>],
 ) -> Result<String, AllocError>
     ensures { IfOk result (λ text. string_bytes text ≡ unfound_lines (all_lent claims.now) (map (option_map certificate_rule) certificates.now)) }

@@ -17,7 +17,7 @@ use plan::CheckedPlan;
 use script::Step;
 use std::alloc::{AllocError, Global};
 use volume_model::Fault;
-use world::{FindEnd, Outcome, WriterEnd};
+use world::{RecoveryOutcome, Outcome, WriterOutcome};
 
 /// The bytes of most lines of steps.
 const LINE_BYTES: usize = 12;
@@ -25,7 +25,7 @@ const LINE_BYTES: usize = 12;
 /// The bytes of most lines of writers and recoveries.
 const END_BYTES: usize = 40;
 
-/// Returns how many bytes to reserve for the lines of so many steps, writers and recoveries.
+/// Returns how many bytes to reserve for the lines of this many steps, writers and recoveries.
 fn room_for(steps: usize, ends: usize) -> usize {
     let lines = steps.saturating_mul(LINE_BYTES);
     lines.saturating_add(ends.saturating_mul(END_BYTES))
@@ -185,14 +185,14 @@ fn add_steps(
 
 /// Returns the LSN of the writer's next record: one above the greater of its log's last LSN (0 if empty) and its
 /// start.
-fn next_lsn(writer: &WriterEnd) -> u64
+fn next_lsn(writer: &WriterOutcome) -> u64
     ensures { result ≡ next_lsn (opened_of writer.now) }
 {
     writer.log.last_lsn().max(writer.start).saturating_add(1)
 }
 
 /// Appends the line of an opened writer.
-fn add_writer(text: &mut String, writer: &WriterEnd) -> Result<(), AllocError>
+fn add_writer(text: &mut String, writer: &WriterOutcome) -> Result<(), AllocError>
     ensures { OnOk result (string_bytes text.new ≡ string_bytes text.old ++ writer_line (opened_of writer.now)) }
 {
     let volume = writer.volume;
@@ -202,7 +202,7 @@ fn add_writer(text: &mut String, writer: &WriterEnd) -> Result<(), AllocError>
 }
 
 /// Appends the line of a recovery that has cut.
-fn add_find(text: &mut String, find: &FindEnd) -> Result<(), AllocError>
+fn add_find(text: &mut String, find: &RecoveryOutcome) -> Result<(), AllocError>
     ensures { OnOk result (string_bytes text.new ≡ string_bytes text.old ++ find_line (find_of find.now)) }
 {
     let volume = find.volume;
@@ -212,7 +212,7 @@ fn add_find(text: &mut String, find: &FindEnd) -> Result<(), AllocError>
 }
 
 /// Appends a line for each recovery that has cut.
-fn add_finds(text: &mut String, finds: &[FindEnd]) -> Result<(), AllocError>
+fn add_finds(text: &mut String, finds: &[RecoveryOutcome]) -> Result<(), AllocError>
     ensures { OnOk result (string_bytes text.new ≡ string_bytes text.old ++ each_line find_line (map find_of finds.now)) }
 {
     for find in finds {
@@ -222,7 +222,7 @@ fn add_finds(text: &mut String, finds: &[FindEnd]) -> Result<(), AllocError>
 }
 
 /// Appends a line for each opened writer.
-fn add_writers(text: &mut String, writers: &[WriterEnd]) -> Result<(), AllocError>
+fn add_writers(text: &mut String, writers: &[WriterOutcome]) -> Result<(), AllocError>
     ensures { OnOk result (string_bytes text.new ≡ string_bytes text.old ++ each_line writer_line (map opened_of writers.now)) }
 {
     for writer in writers {

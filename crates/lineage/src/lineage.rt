@@ -9,7 +9,7 @@ use std::alloc::{AllocError, Global};
 use std::sync::Arc;
 use volume_model::Fault;
 
-/// The greatest log sequence number.
+/// The greatest LSN.
 const LAST_LSN: u64 = 1 << 62;
 
 /// The entries of the recoveries that a volume went through, of growing volume epochs and starts. Clones and extensions share
@@ -32,7 +32,7 @@ impl Lineage {
     ghost use Rattle.lineage.specs.Entries.{entries_of, entry_of, kept_before};
     ghost use Rattle.lineage.specs.Lineage.{lineage_of};
 
-    /// No entry: what a segment has that was told nothing yet.
+    /// Makes a lineage without entries, as a segment has before it is whole.
     pub fn empty(alloc: Global) -> Lineage
         ensures { lineage_of result ≡ [] }
     {
@@ -43,7 +43,7 @@ impl Lineage {
         }
     }
 
-    /// The lineage that a volume is born with. Fails for want of memory alone.
+    /// Returns the lineage that a volume is born with. Fails only with `NoMemory`.
     pub fn birth(alloc: Global) -> Result<Lineage, AllocError>
         ensures { IfOk result (λ lineage. lineage_of lineage ≡ birth) }
     {
@@ -55,7 +55,7 @@ impl Lineage {
         Lineage::empty(alloc).with(first)
     }
 
-    /// The volume epoch of the last entry, 0 where there is none.
+    /// Returns the volume epoch of the last entry, 0 where there is none.
     pub fn last_epoch(&self) -> u32
         ensures { result ≡ last_epoch (lineage_of self.now) }
     {
@@ -65,7 +65,7 @@ impl Lineage {
         }
     }
 
-    /// The cut of the last entry, 0 where there is none.
+    /// Returns the cut of the last entry, 0 where there is none.
     pub fn last_cut(&self) -> u64
         ensures { result ≡ last_cut (lineage_of self.now) }
     {
@@ -75,7 +75,7 @@ impl Lineage {
         }
     }
 
-    /// The start of the last entry, 0 where there is none.
+    /// Returns the start of the last entry, 0 where there is none.
     pub fn last_start(&self) -> u64
         ensures { result ≡ last_start (lineage_of self.now) }
     {
@@ -85,8 +85,8 @@ impl Lineage {
         }
     }
 
-    /// Whether a record of this volume epoch and number is live: the epoch has an entry, the number is above its start, and no later
-    /// entry's cut is below it.
+    /// Returns whether a record of this volume epoch and number is live: the epoch has an entry, the number is above
+    /// its start, and no later entry's cut is below it.
     pub fn is_live(&self, volume_epoch: u32, lsn: u64) -> bool
         ensures { result ≡ is_live (lineage_of self.now) volume_epoch lsn }
     {
@@ -105,7 +105,7 @@ impl Lineage {
         }
     }
 
-    /// The newer of two lineages: the one whose last epoch is greater, and this one where both have the same.
+    /// Returns the newer of two lineages: the one whose last epoch is greater, and this one where both have the same.
     pub fn newer<'a>(&'a self, other: &'a Lineage) -> &'a Lineage
         ensures { lineage_of result.now ≡ newer (lineage_of self.now) (lineage_of other.now) }
     {
@@ -116,7 +116,7 @@ impl Lineage {
         }
     }
 
-    /// All of its entries, as those before one more. Fails for want of memory alone.
+    /// Returns all of its entries, as those before one more. Fails only with `NoMemory`.
     fn all(&self) -> Result<Option<Arc<Past>>, AllocError>
         ensures { IfOk result (λ before. kept_before before ≡ lineage_of self.now) }
     {
@@ -130,7 +130,7 @@ impl Lineage {
         Ok(Some(Arc::new(self.alloc, past)?))
     }
 
-    /// The lineage with one entry more. Fails for want of memory alone.
+    /// Returns the lineage with one entry more. Fails only with `NoMemory`.
     fn with(&self, entry: Entry) -> Result<Lineage, AllocError>
         requires { is_lineage (entry_of entry ∷ lineage_of self.now) ≡ true }
         ensures { IfOk result (λ lineage. lineage_of lineage ≡ entry_of entry ∷ lineage_of self.now) }
@@ -178,8 +178,9 @@ impl Lineage {
         Ok(list)
     }
 
-    /// The lineage with the entry that a recovery of a later volume epoch adds, whose own numbers begin `lal` above all that its log
-    /// can have. `LsnSpent` where they would begin above the greatest number, and else `NoMemory` where there is no memory.
+    /// Returns the lineage with the entry that a recovery of a later volume epoch adds, whose own numbers begin `lal`
+    /// above all that its log can have. `LsnSpent` if they would begin above the greatest number, and else `NoMemory`
+    /// if there is no memory.
     pub fn extend(&self, volume_epoch: u32, cut: u64, lal: u64) -> Result<Lineage, Fault>
         requires later { last_epoch (lineage_of self.now) < volume_epoch }
         requires allowance { 1 ≤ lal }

@@ -20,7 +20,7 @@ pub struct Past {
     recent: Vec<Entry>,
 }
 
-/// Whether a record is live, where these entries tell.
+/// Returns whether a record is live, where these entries tell.
 fn judge(entries: &[Entry], volume_epoch: u32, lsn: u64) -> Option<bool>
     ensures { MatchOption result ((older : model.Lineage) → is_live (entries_of entries.now ++ older) volume_epoch lsn ≡ is_live older volume_epoch lsn) (λ live. (older : model.Lineage) → is_live (entries_of entries.now ++ older) volume_epoch lsn ≡ live) }
 {
@@ -35,7 +35,7 @@ fn judge(entries: &[Entry], volume_epoch: u32, lsn: u64) -> Option<bool>
     None
 }
 
-/// These entries and one more, in a list with room for no more.
+/// Returns these entries and one more, in a list with room for no more.
 fn with_last(alloc: Global, entries: &[Entry], last: Entry) -> Result<Vec<Entry>, AllocError>
     ensures { IfOk result (λ list. list.items ≡ entries.now ++ last ∷ []) }
 {
@@ -56,7 +56,7 @@ impl Past {
         }
     }
 
-    /// Whether a record of this volume epoch and number is live in these entries.
+    /// Returns whether a record of this volume epoch and number is live in these entries.
     pub fn is_live(&self, volume_epoch: u32, lsn: u64) -> bool
         ensures { result ≡ is_live (entries_before self.now) volume_epoch lsn }
     {
@@ -71,7 +71,7 @@ impl Past {
         false
     }
 
-    /// Appends these entries to a list, oldest first. Fails only if memory is out.
+    /// Appends these entries to a list, oldest first. Fails only with `NoMemory`.
     pub fn append_to(&self, list: &mut Vec<Entry>) -> Result<(), AllocError>
         ensures { OnOk result (entries_of list.new.items ≡ entries_before self.now ++ entries_of list.old.items) }
     {
@@ -82,7 +82,7 @@ impl Past {
         Ok(())
     }
 
-    /// These entries and one more. Fails for want of memory alone.
+    /// Returns these entries and one more. Fails only with `NoMemory`.
     pub fn with(&self, alloc: Global, entry: Entry) -> Result<Past, AllocError>
         ensures { IfOk result (λ past. entries_before past ≡ entry_of entry ∷ entries_before self.now) }
     {

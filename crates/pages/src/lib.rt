@@ -11,8 +11,8 @@ use redo_record::{Record, SharedRecord};
 /// The bytes of a block.
 pub const BLOCK: usize = 512;
 
-/// How many packets are looked at before the first of them is written.
-/// Each lies in memory of its own: a loop that only looks at them waits for all of that memory at once, one that writes too waits for each.
+/// The number of records that are loaded before the first is written. Each lies in memory of its own; a loop that
+/// only loads them waits for that memory once, one that also writes waits for each.
 const AHEAD: usize = 16;
 
 /// Writes bytes into a page.
@@ -32,14 +32,14 @@ fn apply(page: &mut [u8], entry: &Record)
     write_at(page, usize::from(entry.offset), entry.bytes.as_slice());
 }
 
-/// Applies a packet's record.
+/// Applies a record.
 fn write_packet(page: &mut [u8; BLOCK], packet: &SharedRecord)
     ensures { page.new ≡ written (shared_redo packet.now) page.old }
 {
     apply(page, packet.record());
 }
 
-/// Applies a packet's record that isn't past the point.
+/// Applies a record that isn't past the point.
 fn write_packet_up_to(page: &mut [u8; BLOCK], packet: &SharedRecord, point: u64)
     ensures { page.new ≡ (if nat_le (shared_redo packet.now).lsn point then written (shared_redo packet.now) page.old else page.old) }
 {
@@ -48,7 +48,7 @@ fn write_packet_up_to(page: &mut [u8; BLOCK], packet: &SharedRecord, point: u64)
     }
 }
 
-/// Applies the packets' records that aren't past the point, testing each.
+/// Applies the records' records that aren't past the point, testing each.
 fn write_up_to(page: &mut [u8; BLOCK], packets: &[SharedRecord], block: u32, point: u64)
     requires { All (λ packet. (shared_redo packet).block ≡ block) packets.now }
     ensures { page.new ≡ page_from page.old block point (map shared_redo packets.now) }
@@ -58,7 +58,7 @@ fn write_up_to(page: &mut [u8; BLOCK], packets: &[SharedRecord], block: u32, poi
     }
 }
 
-/// Applies the packets' records, none of which is past the point.
+/// Applies the records' records, none of which is past the point.
 fn write_all(page: &mut [u8; BLOCK], packets: &[SharedRecord], block: u32, point: u64)
     requires own { All (λ packet. (shared_redo packet).block ≡ block) packets.now }
     requires up_to { All (λ packet. (shared_redo packet).lsn ≤ point) packets.now }
@@ -69,7 +69,7 @@ fn write_all(page: &mut [u8; BLOCK], packets: &[SharedRecord], block: u32, point
     }
 }
 
-/// A number that none of the packets' LSNs is above. Never branches on what is loaded.
+/// Returns a number that none of the records' LSNs is above. Never branches on what is loaded.
 fn greatest_of(packets: &[SharedRecord]) -> u64
     ensures { All (λ packet. (shared_redo packet).lsn ≤ result) packets.now }
 {
@@ -80,7 +80,7 @@ fn greatest_of(packets: &[SharedRecord]) -> u64
     greatest
 }
 
-/// Applies the packets' records that aren't past the point, having looked at all of them first.
+/// Applies the records' records that aren't past the point, having looked at all of them first.
 fn write_ahead(page: &mut [u8; BLOCK], packets: &[SharedRecord], block: u32, point: u64)
     requires { All (λ packet. (shared_redo packet).block ≡ block) packets.now }
     ensures { page.new ≡ page_from page.old block point (map shared_redo packets.now) }
@@ -92,8 +92,8 @@ fn write_ahead(page: &mut [u8; BLOCK], packets: &[SharedRecord], block: u32, poi
     }
 }
 
-/// The bytes of a block at a point: the writes of its records up to the point, in the order of the packets, over zeros.
-/// The packets are those of one group, in order of LSN, and all of the block.
+/// Returns the bytes of a block at a point: the writes of its records up to the point, in the order of the records,
+/// over zeros. The records are those of one group, in order of LSN, and all of the block.
 pub fn page_of(packets: &[SharedRecord], block: u32, point: u64) -> [u8; BLOCK]
     requires { All (λ packet. (shared_redo packet).block ≡ block) packets.now }
     ensures { result ≡ page_of (map shared_redo packets.now) block point }

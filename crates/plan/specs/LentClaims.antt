@@ -6,7 +6,7 @@ use Rattle.volume_model.specs.Formula.{dual_of}
 use Rattle.quorum_expr.specs.Expr.{formula_of}
 use Rattle.quorum_checker.specs.Refutes.{State, claim_state}
 use Rattle.plan.specs.declared.configurations.Configuration.{Configuration}
-use Rattle.plan.specs.declared.lent.LentClaim.{LentClaim}
+use Rattle.plan.specs.declared.lent.ClaimRef.{ClaimRef}
 use Rattle.plan.specs.Plan.{configuration_data}
 use Rattle.plan.specs.PlanFaults.{meets_claim}
 use Rattle.plan.specs.PlanClaims.{PlacedClaim}
@@ -16,11 +16,11 @@ abbrev pub state_from : Configuration → Option (Bor Configuration) → State
 state_from this None = meets_claim (configuration_data this)
 state_from this (Some parent) = claim_state (formula_of this.read) (dual_of (formula_of parent.now.read)) (difference this.members parent.now.members)
 
-abbrev pub lent_state : LentClaim → State
+abbrev pub lent_state : ClaimRef → State
 lent_state c = state_from c.this.now c.parent
 
-abbrev pub lent_placed : LentClaim → PlacedClaim
+abbrev pub lent_placed : ClaimRef → PlacedClaim
 lent_placed c = record { group = c.group; configuration = c.configuration; step = is_some c.parent; claim = lent_state c }
 
-abbrev pub all_lent : List LentClaim → List PlacedClaim
+abbrev pub all_lent : List ClaimRef → List PlacedClaim
 all_lent = map lent_placed

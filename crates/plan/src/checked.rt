@@ -22,7 +22,7 @@ impl CheckedPlan {
     ghost use Rattle.volume_model.specs.Plan.{IsCertified, has_member, is_full, is_named};
     ghost use Rattle.plan.specs.CheckedModel.{checked_model, ShowsConfiguration};
 
-    /// A plan without a fault, as a checked one.
+    /// Returns a plan without a fault, as a checked one.
     pub(crate) fn trusted(plan: Plan) -> CheckedPlan
         requires { plan_fault (plan_data plan) ≡ None }
         ensures { result.plan ≡ plan }
@@ -30,21 +30,21 @@ impl CheckedPlan {
         CheckedPlan { plan }
     }
 
-    /// A group by its number.
+    /// Returns a group by its number.
     pub(crate) fn group(&self, number: u8) -> Option<&Group>
         ensures { MatchOption result (group_at (plan_data self.now.plan) number ≡ []) (λ group. group_at (plan_data self.now.plan) number ≡ group_data group.now) }
     {
         self.plan.groups.get(usize::from(number))
     }
 
-    /// How far log sequence numbers may run ahead of the durable point.
+    /// Returns how far LSNs may run ahead of the durable point.
     pub fn lal(&self) -> u64
         ensures { result ≡ (checked_model self.now).lal }
     {
         self.plan.lal
     }
 
-    /// How many groups there are.
+    /// Returns how many groups there are.
     pub fn groups(&self) -> u8
         ensures groups { result ≡ (checked_model self.now).groups }
         ensures few { result ≤ 16 }
@@ -52,7 +52,8 @@ impl CheckedPlan {
         self.plan.groups.len() as u8
     }
 
-    /// How many groups, the first ones, are there when the volume is born. The others join it later, in order.
+    /// Returns how many groups, the first ones, are there when the volume is born. The others join it later, in
+    /// order.
     pub fn born(&self) -> u8
         ensures born { result ≡ (checked_model self.now).born }
         ensures some { 1 ≤ result }
@@ -61,7 +62,7 @@ impl CheckedPlan {
         self.plan.born
     }
 
-    /// How many configurations a group has, and 0 where there is no such group.
+    /// Returns how many configurations a group has, and 0 where there is no such group.
     pub fn configurations(&self, group: u8) -> u8
         ensures { result ≡ (checked_model self.now).configurations group }
     {
@@ -71,7 +72,7 @@ impl CheckedPlan {
         }
     }
 
-    /// A configuration of a group.
+    /// Returns a configuration of a group.
     pub fn configuration(&self, group: u8, configuration: u8) -> Option<&Configuration>
         ensures { ShowsConfiguration result (checked_model self.now) group configuration }
     {
@@ -79,7 +80,7 @@ impl CheckedPlan {
         group.configurations.get(usize::from(configuration))
     }
 
-    /// Whether a configuration of the group has the member.
+    /// Returns whether a configuration of the group has the member.
     pub fn names(&self, group: u8, member: u8) -> bool
         ensures { result ≡ is_named (checked_model self.now) group member }
     {
@@ -89,7 +90,7 @@ impl CheckedPlan {
         }
     }
 
-    /// Whether a configuration of a group has the member.
+    /// Returns whether a configuration of a group has the member.
     pub fn has_member(&self, group: u8, configuration: u8, member: u8) -> bool
         ensures { result ≡ has_member ((checked_model self.now).configuration group configuration) member }
     {
@@ -99,7 +100,7 @@ impl CheckedPlan {
         }
     }
 
-    /// Whether a configuration of a group has the member, and the member keeps whole pages there.
+    /// Returns whether a configuration of a group has the member, and the member keeps whole pages there.
     pub fn is_full(&self, group: u8, configuration: u8, member: u8) -> bool
         ensures { result ≡ is_full ((checked_model self.now).configuration group configuration) member }
     {
@@ -109,7 +110,7 @@ impl CheckedPlan {
         }
     }
 
-    /// Whether the root of the group has the member.
+    /// Returns whether the root of the group has the member.
     pub fn is_root_member(&self, group: u8, member: u8) -> bool
         ensures { result ≡ (nat_lt group (checked_model self.now).groups && has_member ((checked_model self.now).configuration group 0) member) }
     {

@@ -15,17 +15,17 @@ ghost use Rattle.quorum_checker.specs.FirstFault.{first_fault};
 use crate::checked::CheckedPlan;
 use crate::configurations::{Configuration, Group, Plan};
 use crate::fault::PlanFault;
-use crate::lent::LentClaim;
+use crate::lent::ClaimRef;
 use crate::parents::check_shape;
 use quorum_checker::no_fault_refutes;
 use refutation::Certificate;
 use std::alloc::Global;
 use volume_model::Fault;
 
-/// Whether a certificate refutes a claim.
+/// Returns whether a certificate refutes a claim.
 fn check_certificate(
     alloc: Global,
-    claim: &LentClaim<'_>,
+    claim: &ClaimRef<'_>,
     certificate: &Certificate<Global>,
 ) -> Result<(), PlanFault>
     ensures { Finds result (certificate_fault claim.now.group claim.now.configuration (is_some claim.now.parent) (first_fault (certificate_rule certificate.now) (lent_state claim.now))) }
@@ -45,7 +45,7 @@ fn check_certificate(
     }
 }
 
-/// Whether the configuration has a certificate that its read sets meet its write sets.
+/// Returns whether the configuration has a certificate that its read sets meet its write sets.
 fn check_meets(
     alloc: Global,
     group: u8,
@@ -61,7 +61,7 @@ fn check_meets(
             step: false,
         }),
         Some(certificate) => {
-            let claim = LentClaim {
+            let claim = ClaimRef {
                 group,
                 configuration,
                 this,
@@ -72,7 +72,7 @@ fn check_meets(
     }
 }
 
-/// Whether the child has a certificate that its read sets without a fresh member are read sets of its parent.
+/// Returns whether the child has a certificate that its read sets without a fresh member are read sets of its parent.
 fn check_step(
     alloc: Global,
     group: u8,
@@ -90,7 +90,7 @@ fn check_step(
             step: true,
         }),
         Some(certificate) => {
-            let claim = LentClaim {
+            let claim = ClaimRef {
                 group,
                 configuration,
                 this: child,
@@ -101,7 +101,7 @@ fn check_step(
     }
 }
 
-/// The first fault of a configuration: its parent, its fresh members, its claim and that of its step.
+/// Returns the first fault of a configuration: its parent, its fresh members, its claim and that of its step.
 fn check_configuration(
     alloc: Global,
     group: u8,
@@ -126,7 +126,7 @@ fn check_configuration(
     }
 }
 
-/// The first fault of a group's configurations.
+/// Returns the first fault of a group's configurations.
 fn check_group(alloc: Global, group: u8, configurations: &[Configuration]) -> Result<(), PlanFault>
     requires { length configurations.now ≤ 64 }
     ensures { Finds result (group_fault group (map configuration_data configurations.now)) }
@@ -137,7 +137,7 @@ fn check_group(alloc: Global, group: u8, configurations: &[Configuration]) -> Re
     Ok(())
 }
 
-/// The first fault of all groups.
+/// Returns the first fault of all groups.
 fn check_groups(alloc: Global, groups: &[Group]) -> Result<(), PlanFault>
     requires { length groups.now ≤ 16 }
     ensures { Finds result (groups_fault (map group_data groups.now)) }
@@ -148,12 +148,12 @@ fn check_groups(alloc: Global, groups: &[Group]) -> Result<(), PlanFault>
     Ok(())
 }
 
-/// The plan, checked.
+/// Returns the plan, checked.
 ///
 /// # Errors
 /// The first fault with the plan: configuration by configuration [`PlanFault::BadParent`], then
-/// [`PlanFault::MemberReused`], then [`PlanFault::NoCertificate`] or [`PlanFault::Certificate`] of its claim that read sets
-/// meet write sets, then those of its step.
+/// [`PlanFault::MemberReused`], then [`PlanFault::NoCertificate`] or [`PlanFault::Certificate`] of its claim that
+/// read sets meet write sets, then those of its step.
 #[tactic(auto, unfolding(crate::specs::PlanFaults::plan_fault))]
 pub fn check_plan(alloc: Global, plan: Plan) -> Result<CheckedPlan, (PlanFault, Plan)>
     ensures { ChecksTo result plan }

@@ -43,13 +43,13 @@ pub struct Group {
     ghost few: { length configurations.items ≤ 64 },
 }
 
-/// How far log sequence numbers may run ahead of the durable point, from 1 to 10,000,000, and the 1 to 16 groups. The
-/// first of these, 1 at least, are there when the volume is born; the others join it one by one, in order.
+/// How far LSNs may run ahead of the durable point, from 1 to 10,000,000, and the 1 to 16 groups. The first of these,
+/// 1 at least, are there when the volume is born; the others join it one by one, in order.
 #[derive(Drop)]
 pub struct Plan {
     /// The format of its text.
     pub format: Format,
-    /// How far log sequence numbers may run ahead of the durable point.
+    /// How far LSNs may run ahead of the durable point.
     pub lal: u64,
     /// How many groups are there when the volume is born.
     pub born: u8,
@@ -70,7 +70,7 @@ impl Group {
     ghost use Rattle.plan.specs.PlanData.{configuration_at};
     ghost use Rattle.plan.specs.Plan.{group_data};
 
-    /// Whether one of its configurations has the member.
+    /// Returns whether one of its configurations has the member.
     pub fn names(&self, member: u8) -> bool
         ensures { result ≡ some_below (length (group_data self.now)) (λ c. nat_lt member 64 && contains (configuration_at (group_data self.now) c).members member) }
     {

@@ -74,7 +74,7 @@ impl PlanFault {
         }
     }
 
-    /// Whether the text isn't a plan's at all, or memory ran out.
+    /// Returns whether the text isn't a plan's at all, or memory ran out.
     pub fn is_input(&self) -> bool
         ensures { result ≡ is_input self.now }
     {
@@ -116,7 +116,7 @@ impl fmt::Display for Place {
     }
 }
 
-/// The name of a claim: that of a step, or that read sets meet write sets.
+/// Returns the name of a claim: that of a step, or that read sets meet write sets.
 pub fn claim_name(step: bool) -> &'static str
     ensures { result.now ≡ claim_text step }
 {

@@ -16,14 +16,14 @@ pub enum Format {
 impl Format {
     ghost use Rattle.plan.specs.Formats.{is_weighted, key_count, number_of};
 
-    /// Whether expressions may have weights.
+    /// Returns whether expressions may have weights.
     pub fn is_weighted(self) -> bool
         ensures { result ≡ is_weighted self }
     {
         self != Format::Plain
     }
 
-    /// How many keys a plan has.
+    /// Returns how many keys a plan has.
     pub(crate) fn key_count(self) -> usize
         ensures { result ≡ key_count self }
     {
@@ -33,7 +33,7 @@ impl Format {
         }
     }
 
-    /// The number that stands for it in the text.
+    /// Returns the number that stands for it in the text.
     pub(crate) fn number(self) -> u64
         ensures { result ≡ number_of self }
     {

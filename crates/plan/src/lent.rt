@@ -53,7 +53,7 @@ fn step_claim<B: Allocator + Clone>(
 /// A claim of a configuration, by what its plan lends: that its read sets meet its write sets or, where a parent stands beside it, that
 /// of its step from there.
 #[derive(Clone, Copy)]
-pub struct LentClaim<'p> {
+pub struct ClaimRef<'p> {
     /// The number of the configuration's group, from 0.
     pub group: u8,
     /// The number of the configuration in its group, from 0.
@@ -64,7 +64,7 @@ pub struct LentClaim<'p> {
     pub parent: Option<&'p Configuration>,
 }
 
-impl LentClaim<'_> {
+impl ClaimRef<'_> {
     ghost use Rattle.std.specs.Prelude.{◌≡◌, ◌≢◌, Some, OnOk, IfErr};
     ghost use Rattle.volume_model.specs.declared.fault.Fault.TheVariants.{NoMemory};
     ghost use Rattle.refutation.specs.Certificate.{certificate_rule};
@@ -72,10 +72,10 @@ impl LentClaim<'_> {
     ghost use Rattle.quorum_checker.specs.FirstFault.{first_fault};
     ghost use Rattle.plan.specs.LentClaims.{lent_state};
 
-    /// What a certificate has to refute, in memory of its own.
+    /// Returns what a certificate has to refute, in memory of its own.
     ///
     /// # Errors
-    /// `NoMemory` where a growth was refused.
+    /// `NoMemory` if there is no memory.
     pub fn claim_in<B: Allocator + Clone>(&self, alloc: B) -> Result<Claim<B>, Fault>
         ensures { Gives first_state result (Ok (lent_state self.now)) }
     {
@@ -85,10 +85,10 @@ impl LentClaim<'_> {
         }
     }
 
-    /// Whether a certificate refutes it. Nothing that the plan lends is copied.
+    /// Returns whether a certificate refutes it. Nothing that the plan lends is copied.
     ///
     /// # Errors
-    /// The certificate's first fault, with its path; or `NoMemory` where a growth was refused.
+    /// The certificate's first fault, with its path; or `NoMemory` if there is no memory.
     pub fn check<B: Allocator>(
         &self,
         alloc: Global,

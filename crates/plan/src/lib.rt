@@ -23,7 +23,7 @@ pub use configurations::{Configuration, Group, Plan};
 pub use fault::{PlanFault, Quorum, claim_name};
 pub use formats::Format;
 pub use laws::{no_fault_is_certified, reuse_is_found, shown_claims_certify};
-pub use lent::LentClaim;
+pub use lent::ClaimRef;
 pub use listing::{claims, lent_claims};
 pub use placed::NamedClaim;
 pub use reading::read_plan;

@@ -11,26 +11,26 @@ ghost use Rattle.plan.specs.PlanClaims.{configuration_claims, group_claims, clai
 
 use crate::configurations::{Configuration, Group, Plan};
 use crate::fault::PlanFault;
-use crate::lent::LentClaim;
+use crate::lent::ClaimRef;
 use crate::parents::check_shape;
 use crate::placed::NamedClaim;
 use crate::shapes::check_shapes;
 use std::alloc::Global;
 
-/// The claims of a configuration.
+/// Returns the claims of a configuration.
 fn of_configuration<'p>(
     alloc: Global,
     group: u8,
     configurations: &'p [Configuration],
     configuration: u8,
-) -> Result<Vec<LentClaim<'p>>, PlanFault>
+) -> Result<Vec<ClaimRef<'p>>, PlanFault>
     requires { configuration < length configurations.now }
     ensures { Reads (λ v. all_lent v.items) result (configuration_claims group (map configuration_data configurations.entry.now) configuration) }
 {
     check_shape(group, configurations, configuration)?;
     let this = &configurations[usize::from(configuration)];
     let mut list = Vec::new(alloc);
-    list.push(LentClaim {
+    list.push(ClaimRef {
         group,
         configuration,
         this,
@@ -39,7 +39,7 @@ fn of_configuration<'p>(
     let Some(parent) = this.parent else {
         return Ok(list);
     };
-    list.push(LentClaim {
+    list.push(ClaimRef {
         group,
         configuration,
         this,
@@ -48,12 +48,12 @@ fn of_configuration<'p>(
     Ok(list)
 }
 
-/// The claims of a group's configurations.
+/// Returns the claims of a group's configurations.
 fn of_group<'p>(
     alloc: Global,
     group: u8,
     configurations: &'p [Configuration],
-) -> Result<Vec<LentClaim<'p>>, PlanFault>
+) -> Result<Vec<ClaimRef<'p>>, PlanFault>
     requires { length configurations.now ≤ 64 }
     ensures { Reads (λ v. all_lent v.items) result (group_claims group (map configuration_data configurations.entry.now)) }
 {
@@ -65,8 +65,8 @@ fn of_group<'p>(
     Ok(list)
 }
 
-/// The claims of all groups.
-fn of_groups<'p>(alloc: Global, groups: &'p [Group]) -> Result<Vec<LentClaim<'p>>, PlanFault>
+/// Returns the claims of all groups.
+fn of_groups<'p>(alloc: Global, groups: &'p [Group]) -> Result<Vec<ClaimRef<'p>>, PlanFault>
     requires { length groups.now ≤ 16 }
     ensures { Reads (λ v. all_lent v.items) result (claims_of_groups (map group_data groups.entry.now)) }
 {
@@ -78,13 +78,13 @@ fn of_groups<'p>(alloc: Global, groups: &'p [Group]) -> Result<Vec<LentClaim<'p>
     Ok(list)
 }
 
-/// The claims of a plan by what it lends, in order of group and configuration and that of a step last.
+/// Returns the claims of a plan by what it lends, in order of group and configuration and that of a step last.
 ///
 /// # Errors
-/// The first [`PlanFault::BadParent`] or [`PlanFault::MemberReused`], which is found before any memory is taken; or else
-/// that memory ran out.
+/// The first [`PlanFault::BadParent`] or [`PlanFault::MemberReused`], which is found before any memory is taken; or
+/// else that memory ran out.
 #[tactic(auto, unfolding(crate::specs::PlanClaims::claims_in))]
-pub fn lent_claims<'p>(alloc: Global, plan: &'p Plan) -> Result<Vec<LentClaim<'p>>, PlanFault>
+pub fn lent_claims<'p>(alloc: Global, plan: &'p Plan) -> Result<Vec<ClaimRef<'p>>, PlanFault>
     ensures claims { Reads (λ v. all_lent v.items) result (claims_in (plan_data plan.entry.now)) }
     ensures memory { IfErr result (λ e. kind_of e ≡ NoMemory → IsOk (claims_in (plan_data plan.entry.now))) }
 {
@@ -92,8 +92,8 @@ pub fn lent_claims<'p>(alloc: Global, plan: &'p Plan) -> Result<Vec<LentClaim<'p
     of_groups(alloc, &plan.groups)
 }
 
-/// The same claims in memory of their own.
-fn named(alloc: Global, lent: &[LentClaim<'_>]) -> Result<Vec<NamedClaim>, PlanFault>
+/// Returns the same claims in memory of their own.
+fn named(alloc: Global, lent: &[ClaimRef<'_>]) -> Result<Vec<NamedClaim>, PlanFault>
     ensures { Reads (λ v. all_placed v.items) result (Ok (all_lent lent.now)) }
 {
     let mut list = Vec::new(alloc);
@@ -108,7 +108,7 @@ fn named(alloc: Global, lent: &[LentClaim<'_>]) -> Result<Vec<NamedClaim>, PlanF
     Ok(list)
 }
 
-/// The claims of a plan, in order of group and configuration and that of a step last.
+/// Returns the claims of a plan, in order of group and configuration and that of a step last.
 ///
 /// # Errors
 /// Those of [`lent_claims`].

@@ -11,7 +11,8 @@ use crate::configurations::Configuration;
 use crate::fault::PlanFault;
 use quorum_expr::MemberSet;
 
-/// Whether a configuration may have this parent: configuration 0 none, and each other one that stands before it.
+/// Returns whether a configuration may have this parent: configuration 0 none, and each other one that stands before
+/// it.
 fn is_good_parent(configuration: u8, parent: Option<u64>) -> bool
     ensures { result ≡ is_good_parent configuration parent }
 {
@@ -21,7 +22,7 @@ fn is_good_parent(configuration: u8, parent: Option<u64>) -> bool
     }
 }
 
-/// The fault of a configuration's parent.
+/// Returns the fault of a configuration's parent.
 fn fault_of_parent(
     group: u8,
     configurations: &[Configuration],
@@ -41,7 +42,7 @@ fn fault_of_parent(
     None
 }
 
-/// The members of the configuration with a number, and none where there is no such configuration.
+/// Returns the members of the configuration with a number, and none where there is no such configuration.
 fn members_at(configurations: &[Configuration], number: u64) -> MemberSet
     ensures { result ≡ (configuration_at (map configuration_data configurations.now) number).members }
 {
@@ -51,7 +52,7 @@ fn members_at(configurations: &[Configuration], number: u64) -> MemberSet
     }
 }
 
-/// The parent of the configuration with a number, where it stands before it.
+/// Returns the parent of the configuration with a number, where it stands before it.
 pub fn parent_of(configurations: &[Configuration], number: u64) -> Option<u64>
     ensures { result ≡ parent_at (map configuration_data configurations.now) number }
 {
@@ -59,7 +60,7 @@ pub fn parent_of(configurations: &[Configuration], number: u64) -> Option<u64>
     if parent < number { Some(parent) } else { None }
 }
 
-/// The members that the parent lacks.
+/// Returns the members that the parent lacks.
 fn fresh_members(configurations: &[Configuration], configuration: u8) -> MemberSet
     requires { configuration < length configurations.now }
     ensures { result ≡ fresh_at (map configuration_data configurations.now) configuration }
@@ -71,7 +72,7 @@ fn fresh_members(configurations: &[Configuration], configuration: u8) -> MemberS
     }
 }
 
-/// What is left of a set without the members of the configurations above, in at most so many steps up.
+/// Returns what is left of a set without the members of the configurations above, in at most this many steps up.
 fn unused(configurations: &[Configuration], steps: u8, number: u64, set: MemberSet) -> MemberSet
     ensures { result ≡ unused_within steps (map configuration_data configurations.now) number set }
 {
@@ -89,7 +90,7 @@ fn unused(configurations: &[Configuration], steps: u8, number: u64, set: MemberS
     }
 }
 
-/// The fault of a configuration's fresh members: the least of them that an ancestor has.
+/// Returns the fault of a configuration's fresh members: the least of them that an ancestor has.
 fn fault_of_fresh(
     group: u8,
     configurations: &[Configuration],
@@ -116,7 +117,7 @@ fn fault_of_fresh(
     }
 }
 
-/// The first fault of a configuration's parent and fresh members. Takes no memory.
+/// Returns the first fault of a configuration's parent and fresh members. Takes no memory.
 pub fn fault_of_shape(
     group: u8,
     configurations: &[Configuration],
@@ -132,7 +133,7 @@ pub fn fault_of_shape(
     }
 }
 
-/// The first fault of a configuration's parent and fresh members.
+/// Returns the first fault of a configuration's parent and fresh members.
 pub fn check_shape(
     group: u8,
     configurations: &[Configuration],

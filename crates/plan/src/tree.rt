@@ -8,8 +8,8 @@ use crate::checked::CheckedPlan;
 use crate::configurations::Configuration;
 use crate::parents::parent_of;
 
-/// The membership epoch of the configuration with a number, in at most so many steps up: 1 for a root, and one more than its
-/// parent's for a child.
+/// Returns the membership epoch of the configuration with a number, in at most this many steps up: 1 for a root, and
+/// one more than its parent's for a child.
 fn epoch_within(configurations: &[Configuration], steps: u8, number: u64) -> u32
     ensures epoch { result ≡ epoch_within steps (map configuration_data configurations.now) number }
     ensures small { result ≤ steps + 1 }
@@ -28,7 +28,7 @@ impl CheckedPlan {
     ghost use Rattle.volume_model.specs.Plan.{epoch_of, parent_of, is_configuration};
     ghost use Rattle.plan.specs.CheckedModel.{checked_model};
 
-    /// The membership epoch of a configuration: 1 for a root, and one more than its parent's for a child.
+    /// Returns the membership epoch of a configuration: 1 for a root, and one more than its parent's for a child.
     pub fn epoch(&self, group: u8, configuration: u8) -> u32
         ensures { result ≡ epoch_of (checked_model self.now) group configuration }
     {
@@ -42,14 +42,14 @@ impl CheckedPlan {
         }
     }
 
-    /// Whether the group has a configuration with this number and this membership epoch.
+    /// Returns whether the group has a configuration with this number and this membership epoch.
     pub fn is_configuration(&self, group: u8, configuration: u8, epoch: u32) -> bool
         ensures { result ≡ is_configuration (checked_model self.now) group configuration epoch }
     {
         configuration < self.configurations(group) && self.epoch(group, configuration) == epoch
     }
 
-    /// Whether a configuration of a group is a child of the one with the number `parent`.
+    /// Returns whether a configuration of a group is a child of the one with the number `parent`.
     pub fn is_child(&self, group: u8, configuration: u8, parent: u8) -> bool
         ensures { result ≡ (nat_lt 0 configuration && (nat_lt configuration ((checked_model self.now).configurations group) && parent_of (checked_model self.now) group configuration == parent)) }
     {

@@ -23,7 +23,7 @@ use serde_json::{Map, Value, json};
 use std::alloc::{AllocError, Global};
 use volume_model::Fault;
 
-/// The JSON of a certificate, and null where there is none.
+/// Returns the JSON of a certificate, and null if there is none.
 fn certificate_value(
     alloc: Global,
     certificate: &Option<Certificate<Global>>,
@@ -37,7 +37,7 @@ fn certificate_value(
     }
 }
 
-/// The JSON of certificates, in order.
+/// Returns the JSON of certificates, in order.
 fn certificate_values(
     alloc: Global,
     certificates: &[Option<Certificate<Global>>],
@@ -52,7 +52,7 @@ fn certificate_values(
     Ok(values)
 }
 
-/// The value at a place, or null.
+/// Returns the value at a place, or null.
 fn value_or_null(values: &[Value], place: usize) -> Result<Value, AllocError>
     ensures { IfOk result (λ v. view v ≡ value_or_null (map view values.now) place) }
 {
@@ -62,7 +62,7 @@ fn value_or_null(values: &[Value], place: usize) -> Result<Value, AllocError>
     }
 }
 
-/// The values after so many of them.
+/// Returns the values after this many of them.
 fn after(values: &[Value], places: usize) -> &[Value]
     ensures { result.now ≡ drop places values.now }
 {
@@ -73,7 +73,7 @@ fn after(values: &[Value], places: usize) -> &[Value]
     }
 }
 
-/// The certificate of a configuration's step, which configuration 0 doesn't have.
+/// Returns the certificate of a configuration's step, which configuration 0 doesn't have.
 fn step_value(number: usize, certificates: &[Value]) -> Result<Value, AllocError>
     requires { number < 64 }
     ensures { IfOk result (λ v. view v ≡ step_value number (map view certificates.now)) }
@@ -84,7 +84,7 @@ fn step_value(number: usize, certificates: &[Value]) -> Result<Value, AllocError
     value_or_null(certificates, 2 * number)
 }
 
-/// The members of an object, with a copy of one more.
+/// Returns the members of an object, with a copy of one more.
 fn with_copy(
     alloc: Global,
     map: Map<String, Value>,
@@ -97,7 +97,7 @@ fn with_copy(
     with(alloc, map, key, copy)
 }
 
-/// What a configuration has beside its certificates.
+/// Returns what a configuration has beside its certificates.
 fn own_fields(alloc: Global, fields: &Fields<'_>) -> Result<Map<String, Value>, AllocError>
     ensures { IfOk result (λ m. members_view m.entries ≡ member (codes "full") (view fields.now.full.now) (member (codes "members") (view fields.now.members.now) (member (codes "parent") (view fields.now.parent.now) (member (codes "read") (view fields.now.read.now) (member (codes "write") (view fields.now.write.now) no_members))))) }
 {
@@ -109,7 +109,7 @@ fn own_fields(alloc: Global, fields: &Fields<'_>) -> Result<Map<String, Value>, 
     with_copy(alloc, map, "write", fields.write)
 }
 
-/// A configuration's values with other certificates.
+/// Returns a configuration's values with other certificates.
 fn fields_json(
     alloc: Global,
     fields: &Fields<'_>,
@@ -123,7 +123,7 @@ fn fields_json(
     Ok(Value::Object(with(alloc, map, "step", step)?))
 }
 
-/// The configuration of a value, with its certificates of a group's.
+/// Returns the configuration of a value, with its certificates of a group's.
 #[tactic(auto, unfolding(crate::specs::Rewriting::configuration_written))]
 fn configuration_json(
     alloc: Global,
@@ -140,7 +140,7 @@ fn configuration_json(
     Ok(fields_json(alloc, &fields, meets, step)?)
 }
 
-/// The configurations of values, in order, with a group's certificates.
+/// Returns the configurations of values, in order, with a group's certificates.
 fn configurations_json(
     alloc: Global,
     values: &[Value],
@@ -163,7 +163,7 @@ fn group_object(alloc: Global, configurations: Vec<Value>) -> Result<Value, Allo
     json!(in alloc; {"configurations": configurations})
 }
 
-/// A group of these configurations, with its certificates.
+/// Returns a group of these configurations, with its certificates.
 #[tactic(auto, unfolding(crate::specs::Rewriting::group_written))]
 fn group_json(alloc: Global, values: &[Value], certificates: &[Value]) -> Result<Value, Fault>
     requires { length values.now ≤ 64 }
@@ -173,7 +173,7 @@ fn group_json(alloc: Global, values: &[Value], certificates: &[Value]) -> Result
     Ok(group_object(alloc, configurations)?)
 }
 
-/// The groups of values, in order, with a plan's certificates.
+/// Returns the groups of values, in order, with a plan's certificates.
 fn groups_json(alloc: Global, values: &[Value], certificates: &[Value]) -> Result<Vec<Value>, Fault>
     ensures { Gives (λ v. map view v.items) result (groups_written (items_view values.now) (map view certificates.now)) }
 {
@@ -208,7 +208,7 @@ fn plan_object(
     }
 }
 
-/// The plan of a value, with other certificates.
+/// Returns the plan of a value, with other certificates.
 #[tactic(auto, unfolding(crate::specs::Rewriting::plan_written))]
 fn plan_json(alloc: Global, value: &Value, certificates: &[Value]) -> Result<Value, Fault>
     ensures { Gives view result (plan_written (view value.now) (map view certificates.now)) }
@@ -218,8 +218,9 @@ fn plan_json(alloc: Global, value: &Value, certificates: &[Value]) -> Result<Val
     Ok(plan_object(alloc, header.format, header.lal, header.born, groups)?)
 }
 
-/// The text of a plan, as compact JSON, with these certificates for its claims in their order, and null for a claim
-/// without one. Its own certificates are dropped, and all else is as it was read. There is one place for each claim.
+/// Returns the text of a plan, as compact JSON, with these certificates for its claims in their order, and null for a
+/// claim without one. Its own certificates are dropped, and all else is as it was read. There is one place for each
+/// claim.
 ///
 /// # Errors
 /// The fault of the text, as [`read_plan`](crate::read_plan) gives it, then that of its claims, as

@@ -29,7 +29,7 @@ pub struct Item<'e, A: Allocator> {
 }
 
 impl<'e, A: Allocator> Item<'e, A> {
-    /// The expression itself.
+    /// Returns the expression itself.
     pub fn plain(expr: &'e Expr<A>) -> Item<'e, A>
         ensures { shown result ≡ formula_of expr.now }
     {
@@ -39,7 +39,7 @@ impl<'e, A: Allocator> Item<'e, A> {
         }
     }
 
-    /// The dual of the expression.
+    /// Returns the dual of the expression.
     pub fn dual(expr: &'e Expr<A>) -> Item<'e, A>
         ensures { shown result ≡ dual_of (formula_of expr.now) }
     {
@@ -49,7 +49,7 @@ impl<'e, A: Allocator> Item<'e, A> {
         }
     }
 
-    /// The expressions that its children lend, and of a member none.
+    /// Returns the expressions that its children lend, and of a member none.
     pub(crate) fn children(self) -> &'e [(u8, Expr<A>)]
         ensures { map (λ c. shown_as self.entry.is_dual c.1) result.now ≡ children_of (shown self.entry) }
     {
@@ -59,7 +59,7 @@ impl<'e, A: Allocator> Item<'e, A> {
         }
     }
 
-    /// The child with a number.
+    /// Returns the child with a number.
     pub(crate) fn child(self, number: u8) -> Item<'e, A>
         requires { number < length (children_of (shown self)) }
         ensures { shown result ≡ place (children_of (shown self.entry)) number }
@@ -96,7 +96,7 @@ impl<'e, A: Allocator> Item<'e, A> {
         }
     }
 
-    /// Whether it holds in a set of members.
+    /// Returns whether it holds in a set of members.
     pub(crate) fn holds(self, members: MemberSet) -> bool
         ensures { result ≡ sat (shown self.entry) (contains members) }
     {

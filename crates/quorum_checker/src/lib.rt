@@ -35,10 +35,11 @@ use rules::check_rule;
 use std::alloc::{Allocator, Global};
 use volume_model::Fault;
 
-/// Whether a certificate refutes a claim. The two may lie in different memory. Only the lists of items take any.
+/// Returns whether a certificate refutes a claim. The two may lie in different memory. Only the lists of items take
+/// any.
 ///
 /// # Errors
-/// The certificate's first fault, numbered from 20 to 27, with its path; or `NoMemory` where a growth was refused.
+/// The certificate's first fault, numbered from 20 to 27, with its path; or `NoMemory` if there is no memory.
 pub fn check<A: Allocator, B: Allocator>(
     alloc: Global,
     claim: &Claim<A>,
@@ -57,8 +58,8 @@ pub fn check<A: Allocator, B: Allocator>(
     check_lent(alloc, left, right, claim.clear, certificate)
 }
 
-/// Whether a certificate refutes the claim that each set that satisfies the left item, and is clear of the given members,
-/// meets each set that satisfies the right one. Nothing of the two is copied.
+/// Returns whether a certificate refutes the claim that each set that satisfies the left item, and is clear of the
+/// given members, meets each set that satisfies the right one. Nothing of the two is copied.
 ///
 /// # Errors
 /// As [`check`].

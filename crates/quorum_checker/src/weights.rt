@@ -20,7 +20,7 @@ pub fn total<A: Allocator>(of: &[(u8, Expr<A>)]) -> u128
     all
 }
 
-/// Whether each child weighs something.
+/// Returns whether each child weighs something.
 pub fn all_weigh<A: Allocator>(of: &[(u8, Expr<A>)]) -> bool
     ensures { result ≡ each_weighs (bare of.now) }
 {
@@ -32,7 +32,7 @@ pub fn all_weigh<A: Allocator>(of: &[(u8, Expr<A>)]) -> bool
     true
 }
 
-/// What the child with a number weighs, and nothing where there is none.
+/// Returns what the child with a number weighs, and nothing if there is none.
 fn weight_of<A: Allocator>(of: &[(u8, Expr<A>)], number: u8) -> u128
     ensures is { result ≡ weight_at (bare of.now) number }
     ensures small { result ≤ 255 }
@@ -43,7 +43,7 @@ fn weight_of<A: Allocator>(of: &[(u8, Expr<A>)], number: u8) -> u128
     }
 }
 
-/// What the children with these numbers weigh.
+/// Returns what the children with these numbers weigh.
 pub fn picked<A: Allocator>(of: &[(u8, Expr<A>)], numbers: &[u8]) -> u128
     ensures sum { result ≡ picked_weight (bare of.now) numbers.now }
     ensures small { result ≤ 255 * length numbers.now }

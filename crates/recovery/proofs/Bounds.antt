@@ -23,9 +23,9 @@ use Rattle.redo_record.specs.RecordSet.{records_of}
 use Rattle.hydration.specs.declared.copied.Copied.{Copied}
 use Rattle.hydration.specs.Copies.{copies_in}
 use Rattle.wire.specs.Contents as wire
-use Rattle.writer_core.specs.declared.standing.Standing.{Standing}
+use Rattle.writer_core.specs.declared.group_state.GroupState.{GroupState}
 use Rattle.writer_core.specs.Logs.{log_of_set}
-use Rattle.writer_core.specs.Standings.{groups_of}
+use Rattle.writer_core.specs.GroupStates.{groups_of}
 use Rattle.recovery.specs.declared.found.Found.{Found}
 use Rattle.recovery.specs.Reported.{reports_in}
 use Rattle.recovery.specs.Finds.{live_records}
@@ -84,7 +84,7 @@ copies-range [] c i r j = absurd i
 copies-range (x ∷ rest) c (inl e) r j = set-range (arc_value x.contents).records r (subst (λ (q : Contents). IsIn r q.records) e j)
 copies-range (x ∷ rest) c (inr i) r j = copies-range rest c i r j
 
-reports-range : (standings : List Standing) (c : Contents) → IsIn c (reports_in (groups_of standings)) → (r : Redo) → IsIn r c.records → HasRanges r
+reports-range : (group_states : List GroupState) (c : Contents) → IsIn c (reports_in (groups_of group_states)) → (r : Redo) → IsIn r c.records → HasRanges r
 reports-range [] c i r j = absurd i
 reports-range (s ∷ rest) c i r j =
     elim (IsIn-append (contents_of (copies_in s.copies.items)) (reports_in (groups_of rest)) c i) [
@@ -92,11 +92,11 @@ reports-range (s ∷ rest) c i r j =
       | inr k ↦ reports-range rest c k r j
     ]
 
-live-range : (standings : List Standing) (r : Redo) → IsIn r (live_records (groups_of standings)) → HasRanges r
-live-range standings r i =
-    let reports : List Contents = reports_in (groups_of standings) in
+live-range : (group_states : List GroupState) (r : Redo) → IsIn r (live_records (groups_of group_states)) → HasRanges r
+live-range group_states r i =
+    let reports : List Contents = reports_in (groups_of group_states) in
     let (c, j, k, live) = found_in-from (newest reports) reports r i in
-    reports-range standings c j r k
+    reports-range group_states c j r k
 
 -- ---- a log found has no more records than its last number
 
@@ -132,14 +132,14 @@ groups-are : (groups : List ClientGroup) (before : Option Found) → (client_wit
 groups-are groups None = refl
 groups-are groups (Some found) = refl
 
-pub found-most : (standings : List Standing) (before : Option Found) (count : ℕ) → StepsAreFew → count ≡ min (records_in (reports_in (groups_of standings))) (2 ^ 64 - 1)
-    → length (log_reported (client_with (groups_of standings) before)) ≤ count
-found-most standings before count law is =
-    let groups : List ClientGroup = groups_of standings in
+pub found-most : (group_states : List GroupState) (before : Option Found) (count : ℕ) → StepsAreFew → count ≡ min (records_in (reports_in (groups_of group_states))) (2 ^ 64 - 1)
+    → length (log_reported (client_with (groups_of group_states) before)) ≤ count
+found-most group_states before count law is =
+    let groups : List ClientGroup = groups_of group_states in
     let client : Client = client_with groups before in
     let same : reported client ≡ reports_in groups = ap (λ gs. all_reports (reports_of gs) (length gs)) (groups-are groups before) ∙ all-reports groups in
     let live : live_reported client ≡ live_records groups = ap (λ reports. found_in (newest reports) reports) same in
-    let ranges : (r : Redo) → IsIn r (live_reported client) → HasRanges r = λ r i. live-range standings r (subst (λ rs. IsIn r rs) live i) in
+    let ranges : (r : Redo) → IsIn r (live_reported client) → HasRanges r = λ r i. live-range group_states r (subst (λ rs. IsIn r rs) live i) in
     let fall : VolumeLinksFall (live_reported client) = λ r i. (ranges r i).prev_volume_before in
     let cut : ℕ = cut_of (live_reported client) in
     count-above (length (log_reported client)) (records_said client) cut count (law.found client fall) (chain-within cut (live_reported client) cut)

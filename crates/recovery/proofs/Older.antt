@@ -8,7 +8,7 @@ use Rattle.volume_model.specs.Message as model
 use Rattle.volume_model.specs.Node.{From, with_first, senders, contents_of}
 use Rattle.volume_model.specs.Client.{ClientGroup, group_of, newly_at, no_group}
 use Rattle.volume_model.specs.ClientMessages.{with_places, later_group, reread_group, is_later}
-use Rattle.writer_core.specs.Standings.{counted_group, counted_in, reported_group, reported_in}
+use Rattle.writer_core.specs.GroupStates.{counted_group, counted_in, reported_group, reported_in}
 use Rattle.recovery.specs.Cuts.{is_older, are_older}
 use Rattle.recovery.specs.Reported.{reports_in}
 

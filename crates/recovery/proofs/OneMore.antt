@@ -5,8 +5,8 @@ use Rattle.volume_model.specs.Lineage.{Contents, Lineage, found_in, newer, newes
 use Rattle.volume_model.specs.Node.{contents_of}
 use Rattle.volume_model.specs.Client.{ClientGroup}
 use Rattle.hydration.specs.Copies.{copies_in}
-use Rattle.writer_core.specs.declared.standing.Standing.{Standing}
-use Rattle.writer_core.specs.Standings.{groups_of}
+use Rattle.writer_core.specs.declared.group_state.GroupState.{GroupState}
+use Rattle.writer_core.specs.GroupStates.{groups_of}
 use Rattle.recovery.specs.Reported.{reports_in}
 
 pub reports-append : (xs ys : List ClientGroup) → reports_in (xs ++ ys) ≡ reports_in xs ++ reports_in ys
@@ -24,10 +24,10 @@ found-more lineage [] more = refl
 found-more lineage (c ∷ reports) more = ap (with_live lineage c.records) (found-more lineage reports more)
 
 -- the reports of the first group, and those of the others
-pub reports-first : (standings : List Standing) (s : Standing) → 0 < length standings → s ≡ get_or standings 0 s
-    → reports_in (groups_of standings) ≡ contents_of (copies_in s.copies.items) ++ reports_in (groups_of (take (length standings - 1) (drop 1 standings)))
+pub reports-first : (group_states : List GroupState) (s : GroupState) → 0 < length group_states → s ≡ get_or group_states 0 s
+    → reports_in (groups_of group_states) ≡ contents_of (copies_in s.copies.items) ++ reports_in (groups_of (take (length group_states - 1) (drop 1 group_states)))
 reports-first [] s within is = absurd (omega arith)
 reports-first (x ∷ rest) s within is =
     let many : length (x ∷ rest) - 1 ≡ length rest = omega arith in
-    ap (λ (y : Standing). contents_of (copies_in y.copies.items) ++ reports_in (groups_of rest)) (sym is)
+    ap (λ (y : GroupState). contents_of (copies_in y.copies.items) ++ reports_in (groups_of rest)) (sym is)
     ∙ ap (λ l. contents_of (copies_in s.copies.items) ++ reports_in (groups_of l)) (sym (ap (λ n. take n rest) many ∙ take_all (length rest) rest (omega arith)))

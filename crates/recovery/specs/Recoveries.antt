@@ -16,14 +16,14 @@ use Rattle.wire.specs.declared.message.Message.{Message}
 use Rattle.wire.specs.Message.{messages_of}
 use Rattle.writer_core.specs.declared.writer.Writer.{Writer}
 use Rattle.writer_core.specs.Logs.{log_of_set}
-use Rattle.writer_core.specs.Groups.{groups_in, keeping, standings_plan}
+use Rattle.writer_core.specs.Groups.{groups_in, keeping, group_states_plan}
 use Rattle.writer_core.specs.Writers as writers
 use Rattle.recovery.specs.declared.found.Found.{Found}
 use Rattle.recovery.specs.declared.recovery.Recovery.{Recovery}
 
 -- the plan that it was made over
 abbrev pub recovery_plan : Recovery → Plan
-recovery_plan r = standings_plan r.standings
+recovery_plan r = group_states_plan r.group_states
 
 -- its volume epoch
 abbrev pub recovery_volume : Recovery → ℕ
@@ -31,7 +31,7 @@ recovery_volume r = r.volume
 
 -- what it keeps of its groups
 abbrev pub recovery_groups : Recovery → List ClientGroup
-recovery_groups r = groups_in r.standings
+recovery_groups r = groups_in r.group_states
 
 -- in each group the members whose acknowledgement is counted are a write set
 abbrev pub HasInstalled : Recovery → Type 0
@@ -44,7 +44,7 @@ client_with groups (Some found) = writers.installing groups (lineage_of found.li
 
 -- the client that it is
 abbrev pub client_of : Recovery → Client
-client_of r = client_with (groups_in r.standings) r.found
+client_of r = client_with (groups_in r.group_states) r.found
 
 -- what the first message to a client makes of it: a View is its birth, and nothing else is
 abbrev pub birth_of : Plan → model.Message → ClientAnswer

@@ -10,10 +10,10 @@ use crate::cutting::are_growing;
 use redo_record::{RecordSet, SharedRecord};
 use std::alloc::{AllocError, Global};
 
-/// The first record of each LSN of a set: the set itself, shared with it, where no LSN stands twice.
+/// Returns the first record of each LSN of a set: the set itself, shared with it, where no LSN stands twice.
 ///
 /// # Errors
-/// Where a growth was refused.
+/// `AllocError` if there is no memory.
 pub fn firsts(alloc: Global, set: &RecordSet) -> Result<RecordSet, AllocError>
     ensures growing { IfOk result (λ firsts. is_growing (log_of_set firsts) ≡ true) }
     ensures same { IfOk result (λ firsts. (n : ℕ) → record_at (log_of_set firsts) n ≡ record_at (records_of set.now) n) }
@@ -32,7 +32,8 @@ pub fn firsts(alloc: Global, set: &RecordSet) -> Result<RecordSet, AllocError>
     Ok(firsts)
 }
 
-/// How many packets from the first on are the chain by `prev_volume` from an LSN down to 0; `None` where others stand between.
+/// Returns how many records from the first on are the chain by `prev_volume` from an LSN down to 0; `None` if others
+/// stand between.
 fn chain_length(packets: &[SharedRecord], lsn: u64) -> Option<usize>
     ensures chain { IfSome result (λ len. IsChainTo lsn (log_of (take len packets.now))) }
     ensures within { IfSome result (λ len. len ≤ length packets.now) }
@@ -55,7 +56,7 @@ fn chain_length(packets: &[SharedRecord], lsn: u64) -> Option<usize>
     }
 }
 
-/// The packets of the chain by `prev_volume` from an LSN down to 0, in growing LSN.
+/// Returns the records of the chain by `prev_volume` from an LSN down to 0, in growing LSN.
 fn chain_packets(
     alloc: Global,
     records: &[SharedRecord],
@@ -79,10 +80,11 @@ fn chain_packets(
     Ok(log)
 }
 
-/// The chain by `prev_volume` from an LSN down to 0: a part of the records, shared with them, where no others stand between.
+/// Returns the chain by `prev_volume` from an LSN down to 0: a part of the records, shared with them, where no others
+/// stand between.
 ///
 /// # Errors
-/// Where a growth was refused.
+/// `AllocError` if there is no memory.
 pub fn chain_of(alloc: Global, records: &RecordSet, lsn: u64) -> Result<RecordSet, AllocError>
     requires growing { is_growing (log_of_set records.now) ≡ true }
     requires there { is_some (chain_from lsn (log_of_set records.now) lsn) ≡ true }

@@ -38,7 +38,7 @@ impl Cutting {
     /// Reads one record more, whose LSN is above those read so far.
     ///
     /// # Errors
-    /// Where a growth was refused.
+    /// `AllocError` if there is no memory.
     #[inline]
     fn read(&mut self, record: &Record) -> Result<(), AllocError>
         requires { (n : ℕ) → is_led self.old.led n ≡ true → n ≤ «record».now.lsn }
@@ -70,7 +70,7 @@ pub fn are_growing(records: &[SharedRecord]) -> bool
 /// Returns the cut of shared records, as [`cut_of`] does.
 ///
 /// # Errors
-/// `NoMemory` where a growth was refused.
+/// `NoMemory` if there is no memory.
 pub fn shared_cut_of(alloc: Global, records: &[SharedRecord]) -> Result<u64, Fault>
     requires { is_growing (log_of records.now) ≡ true }
     ensures { Gives (λ cut. cut) result (Ok (cut_of (log_of records.now))) }
@@ -99,7 +99,7 @@ pub fn is_growing(records: &[Record]) -> bool
 /// `prev_volume` leads through the records down to 0, and 0 where there is none.
 ///
 /// # Errors
-/// `NoMemory` where a growth was refused.
+/// `NoMemory` if there is no memory.
 pub fn cut_of(alloc: Global, records: &[Record]) -> Result<u64, Fault>
     requires { is_growing (log_of_records records.now) ≡ true }
     ensures { Gives (λ cut. cut) result (Ok (cut_of (log_of_records records.now))) }

@@ -5,7 +5,7 @@ ghost use Rattle.volume_model.specs.Answer.{Gives};
 ghost use Rattle.volume_model.specs.Lineage.{extension, newest};
 ghost use Rattle.volume_model.specs.Redo.{cut_of, log_found};
 ghost use Rattle.lineage.specs.Lineage.{lineage_of};
-ghost use Rattle.writer_core.specs.Groups.{groups_in, standings_plan};
+ghost use Rattle.writer_core.specs.Groups.{groups_in, group_states_plan};
 ghost use Rattle.writer_core.specs.Logs.{log_of_set};
 ghost use Rattle.recovery.specs.Cuts.{are_older};
 ghost use Rattle.recovery.specs.Finds.{live_records};
@@ -17,28 +17,29 @@ use crate::found::Found;
 use crate::reported::{found_in, newest_lineage};
 use std::alloc::Global;
 use volume_model::Fault;
-use writer_core::Standings;
+use writer_core::GroupStates;
 
 /// What a recovery of this volume epoch finds in the reports that it has.
 ///
 /// # Errors
-/// `LsnSpent` where its own numbers would begin above the greatest, and `NoMemory`, which may come before it, where a growth was refused.
-pub fn find(alloc: Global, volume: u32, standings: &Standings) -> Result<Found, Fault>
+/// `LsnSpent` if its own numbers would begin above the greatest, and `NoMemory`, which may come before it, if there
+/// is no memory.
+pub fn find(alloc: Global, volume: u32, group_states: &GroupStates) -> Result<Found, Fault>
     requires assigned { 1 ≤ volume }
-    requires older { are_older volume (groups_in standings.now) ≡ true }
-    ensures lineage { Gives (λ found. lineage_of found.lineage) result (extension (newest (reports_in (groups_in standings.now))) volume (cut_of (live_records (groups_in standings.now))) (standings_plan standings.now).lal) }
-    ensures log { IfOk result (λ found. log_of_set found.log ≡ log_found (live_records (groups_in standings.now))) }
+    requires older { are_older volume (groups_in group_states.now) ≡ true }
+    ensures lineage { Gives (λ found. lineage_of found.lineage) result (extension (newest (reports_in (groups_in group_states.now))) volume (cut_of (live_records (groups_in group_states.now))) (group_states_plan group_states.now).lal) }
+    ensures log { IfOk result (λ found. log_of_set found.log ≡ log_found (live_records (groups_in group_states.now))) }
 {
-    standings.plan().certified();
-    let parent = newest_lineage(alloc, standings.as_slice())?;
-    let records = found_in(alloc, &parent, standings.as_slice())?;
+    group_states.plan().certified();
+    let parent = newest_lineage(alloc, group_states.as_slice())?;
+    let records = found_in(alloc, &parent, group_states.as_slice())?;
     let records = firsts(alloc, &records)?;
     let cut = match shared_cut_of(alloc, records.as_slice()) {
         Ok(cut) => cut,
         Err(fault) => return Err(fault),
     };
     let log = chain_of(alloc, &records, cut)?;
-    match parent.extend(volume, cut, standings.plan().lal()) {
+    match parent.extend(volume, cut, group_states.plan().lal()) {
         Ok(lineage) => Ok(Found { log, cut, lineage }),
         Err(fault) => Err(fault),
     }

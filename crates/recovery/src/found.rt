@@ -28,11 +28,11 @@ impl Found {
     ghost use Rattle.writer_core.specs.Writers.{client_of};
     ghost use Rattle.recovery.specs.Finds.{IsFindOf};
 
-    /// What the recovery had found that has become this writer. The writer that a volume is born with was none: of it that is no record,
-    /// and its lineage.
+    /// What the recovery had found that has become this writer. The writer that a volume is born with was none: of it
+    /// that is no record, and its lineage.
     ///
     /// # Errors
-    /// Where a growth was refused.
+    /// `AllocError` if there is no memory.
     pub fn of_writer(writer: &Writer) -> Result<Found, AllocError>
         ensures { IfOk result (IsFindOf (client_of writer.now)) }
     {

@@ -24,7 +24,7 @@ impl Led {
         }
     }
 
-    /// Whether the number is one of these: often it is the last.
+    /// Returns whether the number is one of these: often it is the last.
     pub fn contains(&self, number: u64) -> bool
         ensures { result ≡ is_led self.now number }
     {
@@ -39,7 +39,7 @@ impl Led {
     /// Adds a number that none of these is above.
     ///
     /// # Errors
-    /// Where a growth was refused.
+    /// `AllocError` if there is no memory.
     pub fn push(&mut self, number: u64) -> Result<(), AllocError>
         requires { (n : ℕ) → is_led self.old n ≡ true → n ≤ number }
         ensures { OnOk result ((n : ℕ) → is_led self.new n ≡ (if number == n then true else is_led self.old n)) }

@@ -13,17 +13,17 @@ use std::alloc::Global;
 use std::sync::Arc;
 use volume_model::{Fault, steps_are_few};
 use wire::{Ack, Message, Report, View};
-use writer_core::{Standings, Writer, are_places};
+use writer_core::{GroupStates, Writer, are_places};
 
 /// A recovery of a volume epoch: it reads until it cuts, and then installs what it has found.
 #[derive(Drop)]
 pub struct Recovery {
-    standings: Standings,
+    group_states: GroupStates,
     volume: u32,
     /// What it has found, once it has cut.
     found: Option<Found>,
     ghost assigned: { 1 ≤ volume },
-    ghost older: { are_older volume (groups_in standings) ≡ true },
+    ghost older: { are_older volume (groups_in group_states) ≡ true },
 }
 
 impl Recovery {
@@ -40,7 +40,7 @@ impl Recovery {
     ghost use Rattle.recovery.specs.Recoveries.{client_of, recovery_groups, recovery_plan, recovery_volume, admitted, begun, birth_of, found_step, view_volume, HasInstalled, Opens};
     ghost use Rattle.recovery.specs.Finds.{is_spent, IsFindOf};
 
-    /// The View that makes a recovery, refused as [`Recovery::admits_birth`] says.
+    /// Returns the View that makes a recovery, refused as [`Recovery::admits_birth`] says.
     fn first_view<'a>(plan: &CheckedPlan, message: &'a Message) -> Result<&'a View, Fault>
         ensures refusal { refusal_of result ≡ refusal_of (birth_of (checked_model plan.now) (message_of message.now)) }
         ensures view { IfOk result (λ view. message.now ≡ Message.View view.now) }
@@ -56,11 +56,11 @@ impl Recovery {
         Ok(view)
     }
 
-    /// Whether a message makes a recovery. Takes no memory.
+    /// Returns whether a message makes a recovery. Takes no memory.
     ///
     /// # Errors
-    /// `NotAddressed` where it is no View, and `NotInPlan` where its places aren't those of the plan's first groups, of all that are there
-    /// at birth at least, each at one of its configurations.
+    /// `NotAddressed` if it is no View, and `NotInPlan` if its places aren't those of the plan's first groups, of all
+    /// that are there at birth at least, each at one of its configurations.
     pub fn admits_birth(plan: &CheckedPlan, message: &Message) -> Result<(), Fault>
         ensures refusal { result ≡ refusal_of (birth_of (checked_model plan.now) (message_of message.now)) }
         ensures own { IfErr result (λ fault. fault ≢ NoMemory) }
@@ -71,10 +71,10 @@ impl Recovery {
         }
     }
 
-    /// A recovery from its first View, with one Fence a group of the View.
+    /// Returns a recovery from its first View, with one Fence a group of the View.
     ///
     /// # Errors
-    /// As [`Recovery::admits_birth`] says, and `NoMemory` where a growth was refused.
+    /// As [`Recovery::admits_birth`] says; `NoMemory`.
     pub fn new(
         alloc: Global,
         plan: Arc<CheckedPlan>,
@@ -88,36 +88,36 @@ impl Recovery {
             Ok(view) => view,
             Err(fault) => return Err(fault),
         };
-        let standings = Standings::at_places(alloc, plan, view.places.as_slice())?;
-        let messages = fences(alloc, view.volume, &standings)?;
+        let group_states = GroupStates::at_places(alloc, plan, view.places.as_slice())?;
+        let messages = fences(alloc, view.volume, &group_states)?;
         let recovery = Recovery {
-            standings,
+            group_states,
             volume: view.volume,
             found: None,
         };
         Ok((recovery, messages))
     }
 
-    /// The volume epoch.
+    /// Returns the volume epoch.
     pub fn volume(&self) -> u32
         ensures { result ≡ recovery_volume self.now }
     {
         self.volume
     }
 
-    /// How many groups the volume has.
+    /// Returns how many groups the volume has.
     pub fn groups(&self) -> u8
         ensures all { result ≡ (recovery_plan self.now).groups }
         ensures view { length (client_of self.now).groups ≤ result }
     {
-        self.standings.plan().groups()
+        self.group_states.plan().groups()
     }
 
-    /// Whether a later View can be taken. Takes no memory.
+    /// Returns whether a later View can be taken. Takes no memory.
     ///
     /// # Errors
-    /// `NotAddressed` where it is one of another volume epoch, and `NotInPlan` where its places aren't those of the plan's first groups, of
-    /// all that are there at birth at least, each at one of its configurations.
+    /// `NotAddressed` if it is one of another volume epoch, and `NotInPlan` if its places aren't those of the plan's
+    /// first groups, of all that are there at birth at least, each at one of its configurations.
     pub fn admits_view(&self, view: &View) -> Result<(), Fault>
         ensures refusal { result ≡ refusal_of (taken (recovery_plan self.now) (recovery_volume self.now) (client_of self.now) (message_of (Message.View view.now))) }
         ensures epoch { OnOk result (view.now.volume ≡ recovery_volume self.now) }
@@ -127,17 +127,18 @@ impl Recovery {
         if view.volume != self.volume {
             return Err(Fault::NotAddressed);
         }
-        if !self.standings.are_places(view.places.as_slice()) {
+        if !self.group_states.are_places(view.places.as_slice()) {
             return Err(Fault::NotInPlan);
         }
         Ok(())
     }
 
-    /// Takes a later View. Each group moves to its place where that is one of a later epoch, which a group that is new always is; for each
-    /// such group it makes a Fence before its cut, when the group's reports no longer count, and the group's Installs after it.
+    /// Takes a later View. Each group moves to its place where that is one of a later epoch, which a group that is
+    /// new always is; for each such group it makes a Fence before its cut, when the group's reports no longer count,
+    /// and the group's Installs after it.
     ///
     /// # Errors
-    /// As [`Recovery::admits_view`] says, and `NoMemory` where a growth was refused; the recovery is what it was then.
+    /// As [`Recovery::admits_view`] says; `NoMemory`; the recovery is unchanged.
     pub fn view(&mut self, alloc: Global, view: &View) -> Result<Vec<Message>, Fault>
         ensures answers { Answers acted (taken (recovery_plan self.old) (recovery_volume self.old) (client_of self.old) (message_of (Message.View view.now))) (client_of self.old) result (client_of self.new) }
         ensures plan { recovery_plan self.new ≡ recovery_plan self.old }
@@ -147,22 +148,23 @@ impl Recovery {
         let places = view.places.as_slice();
         match &self.found {
             None => {
-                let messages = later_fences(alloc, self.volume, &self.standings, places)?;
-                self.standings.reread(places)?;
+                let messages = later_fences(alloc, self.volume, &self.group_states, places)?;
+                self.group_states.reread(places)?;
                 Ok(messages)
             }
             Some(found) => {
-                let messages = later_installs(alloc, self.volume, &self.standings, found, places)?;
-                self.standings.follow(places)?;
+                let messages = later_installs(alloc, self.volume, &self.group_states, found, places)?;
+                self.group_states.follow(places)?;
                 Ok(messages)
             }
         }
     }
 
-    /// Whether what a node says that it holds can be taken. Takes no memory.
+    /// Returns whether a report can be taken. Takes no memory.
     ///
     /// # Errors
-    /// `NotAddressed` where it isn't said to this recovery, of a group of the volume with records of that group, by a member.
+    /// `NotAddressed` if it isn't for this recovery, of a group of the volume with records of that group, from a
+    /// member.
     pub fn admits_report(&self, report: &Report) -> Result<(), Fault>
         ensures refusal { result ≡ refusal_of (taken (recovery_plan self.now) (recovery_volume self.now) (client_of self.now) (message_of (Message.Report report.now))) }
         ensures can { OnOk result (is_for (recovery_volume self.now) (recovery_plan self.now).groups (message_of (Message.Report report.now)) ≡ true) }
@@ -174,11 +176,11 @@ impl Recovery {
         Ok(())
     }
 
-    /// Takes what a node says that it holds. It counts before the cut, where its membership epoch is the group's and its lineage is older
+    /// Takes a report. It counts before the cut, where its membership epoch is the group's and its lineage is older
     /// than the recovery, and it is the member's first; else it changes nothing.
     ///
     /// # Errors
-    /// As [`Recovery::admits_report`] says, and `NoMemory` where a growth was refused; the recovery is what it was then.
+    /// As [`Recovery::admits_report`] says; `NoMemory`; the recovery is unchanged.
     pub fn take_report(&mut self, report: &Report) -> Result<(), Fault>
         ensures answers { Answers silent (taken (recovery_plan self.old) (recovery_volume self.old) (client_of self.old) (message_of (Message.Report report.now))) (client_of self.old) result (client_of self.new) }
         ensures plan { recovery_plan self.new ≡ recovery_plan self.old }
@@ -186,19 +188,19 @@ impl Recovery {
     {
         self.admits_report(report)?;
         if self.found.is_some()
-            || report.label.member != self.standings.epoch(report.group)
+            || report.label.member != self.group_states.epoch(report.group)
             || report.contents.lineage.last_epoch() >= self.volume
         {
             return Ok(());
         }
-        self.standings.keep(report)?;
+        self.group_states.keep(report)?;
         Ok(())
     }
 
-    /// Whether an acknowledgement can be taken. Takes no memory.
+    /// Returns whether an acknowledgement can be taken. Takes no memory.
     ///
     /// # Errors
-    /// `NotAddressed` where it isn't one to this recovery, of a group of the volume and a member.
+    /// `NotAddressed` if it isn't one to this recovery, of a group of the volume and a member.
     pub fn admits_ack(&self, ack: &Ack) -> Result<(), Fault>
         ensures refusal { result ≡ refusal_of (taken (recovery_plan self.now) (recovery_volume self.now) (client_of self.now) (message_of (Message.Ack ack.now))) }
         ensures can { OnOk result (is_for (recovery_volume self.now) (recovery_plan self.now).groups (message_of (Message.Ack ack.now)) ≡ true) }
@@ -210,42 +212,43 @@ impl Recovery {
         Ok(())
     }
 
-    /// Takes an acknowledgement. It is counted after the cut, where its membership epoch is at most the group's; else it changes nothing.
+    /// Takes an acknowledgement. It is counted after the cut, where its membership epoch is at most the group's; else
+    /// it changes nothing.
     ///
     /// # Errors
-    /// As [`Recovery::admits_ack`] says, and `NoMemory` where a growth was refused; the recovery is what it was then.
+    /// As [`Recovery::admits_ack`] says; `NoMemory`; the recovery is unchanged.
     pub fn take_ack(&mut self, ack: &Ack) -> Result<(), Fault>
         ensures answers { Answers silent (taken (recovery_plan self.old) (recovery_volume self.old) (client_of self.old) (message_of (Message.Ack ack.now))) (client_of self.old) result (client_of self.new) }
         ensures plan { recovery_plan self.new ≡ recovery_plan self.old }
         ensures volume { recovery_volume self.new ≡ recovery_volume self.old }
     {
         self.admits_ack(ack)?;
-        if self.found.is_none() || ack.label.member > self.standings.epoch(ack.group) {
+        if self.found.is_none() || ack.label.member > self.group_states.epoch(ack.group) {
             return Ok(());
         }
-        self.standings.count(ack)?;
+        self.group_states.count(ack)?;
         Ok(())
     }
 
-    /// What a cut finds, refused as [`Recovery::admits_cut`] says.
+    /// Finds the log that a cut would find, refused as [`Recovery::admits_cut`] says.
     fn find_cut(&self, alloc: Global) -> Result<Found, Fault>
         ensures { AnswersLate is_spent (found_step (recovery_volume self.now)) (cut_client (recovery_plan self.now) (recovery_volume self.now) (client_of self.now)) (recovery_groups self.now) result (recovery_groups self.now) }
     {
         if self.found.is_some() {
             return Err(Fault::AlreadyDone);
         }
-        if !self.standings.has_read() {
+        if !self.group_states.has_read() {
             return Err(Fault::NotReady);
         }
-        find(alloc, self.volume, &self.standings)
+        find(alloc, self.volume, &self.group_states)
     }
 
-    /// Whether it can cut the log that the reports hold.
+    /// Returns whether it can cut the log that the reports hold.
     ///
     /// # Errors
-    /// `AlreadyDone` where it has cut, `NotReady` where in some group the senders of its reports are no read set, and `LsnSpent` where its
-    /// own numbers would begin above the greatest; `NoMemory`, which may come before `LsnSpent`, since the log is found first, where a
-    /// growth was refused.
+    /// `AlreadyDone` if it has cut, `NotReady` if in some group the senders of its reports are no read set, and
+    /// `LsnSpent` if its own numbers would begin above the greatest; `NoMemory`, which may come before `LsnSpent`,
+    /// since the log is found first, if there is no memory.
     pub fn admits_cut(&self, alloc: Global) -> Result<(), Fault>
         ensures { AnswersLate is_spent admitted (refusal_of (cut_client (recovery_plan self.now) (recovery_volume self.now) (client_of self.now))) tt result tt }
     {
@@ -255,11 +258,11 @@ impl Recovery {
         }
     }
 
-    /// Cuts the log that the reports hold, and makes the Installs of what it has found, one a piece of a group: the newest
-    /// lineage with its own entry, and the log up to the cut.
+    /// Cuts the log that the reports hold, and makes the Installs of what it has found, one a piece of a group: the
+    /// newest lineage with its own entry, and the log up to the cut.
     ///
     /// # Errors
-    /// As [`Recovery::admits_cut`] says; the recovery is what it was then.
+    /// As [`Recovery::admits_cut`] says; the recovery is unchanged.
     pub fn cut(&mut self, alloc: Global) -> Result<Vec<Message>, Fault>
         ensures answers { AnswersLate is_spent acted (cut_client (recovery_plan self.old) (recovery_volume self.old) (client_of self.old)) (client_of self.old) result (client_of self.new) }
         ensures plan { recovery_plan self.new ≡ recovery_plan self.old }
@@ -269,20 +272,20 @@ impl Recovery {
             Ok(found) => found,
             Err(fault) => return Err(fault),
         };
-        let messages = installs(alloc, self.volume, &self.standings, &found)?;
+        let messages = installs(alloc, self.volume, &self.group_states, &found)?;
         self.found = Some(found);
         Ok(messages)
     }
 
-    /// No more records than this many has the log that its reports hold.
+    /// Returns a bound on the number of records of the log that its reports hold.
     pub fn reported(&self) -> usize
         ensures { length (log_reported (client_of self.now)) ≤ result }
     {
         steps_are_few();
-        records_said(self.standings.as_slice())
+        records_said(self.group_states.as_slice())
     }
 
-    /// How many records the log has that it has found, and 0 before its cut.
+    /// Returns how many records the log has that it has found, and 0 before its cut.
     pub fn found_len(&self) -> usize
         ensures { result ≡ length (client_of self.now).found }
     {
@@ -292,33 +295,34 @@ impl Recovery {
         }
     }
 
-    /// What it has found, and none before its cut.
+    /// Returns what it has found, `None` before its cut.
     pub fn found(&self) -> Option<&Found>
         ensures { MatchOption result (has_cut (client_of self.now).stage ≡ false) (λ found. (has_cut (client_of self.now).stage ≡ true) × IsFindOf (client_of self.now) found.now) }
     {
         self.found.as_ref()
     }
 
-    /// Whether it can become a writer. Takes no memory.
+    /// Returns the refusal of [`Recovery::open`] without acting. Takes no memory.
     ///
     /// # Errors
-    /// `NotReady` before its cut, and until the members of a write set of each group have acknowledged what it installed.
+    /// `NotReady` before its cut, and until a write quorum of each group has acknowledged its install.
     pub fn admits_open(&self) -> Result<(), Fault>
         ensures refusal { result ≡ refusal_of (opened (recovery_plan self.now) (client_of self.now)) }
         ensures cut { OnOk result (has_cut (client_of self.now).stage ≡ true) }
         ensures installed { OnOk result (HasInstalled self.now) }
         ensures own { IfErr result (λ fault. fault ≢ NoMemory) }
     {
-        if self.found.is_none() || !self.standings.has_installed() {
+        if self.found.is_none() || !self.group_states.has_installed() {
             return Err(Fault::NotReady);
         }
         Ok(())
     }
 
-    /// The writer that it becomes once the members of a write set of each group have acknowledged what it installed. Takes no memory.
+    /// Opens: returns the writer that the recovery becomes once a write quorum of each group has acknowledged its
+    /// install. Takes no memory.
     ///
     /// # Errors
-    /// As [`Recovery::admits_open`] says, with the recovery as it was.
+    /// Those of [`Recovery::admits_open`], with the recovery unchanged.
     pub fn open(self) -> Result<Writer, (Fault, Recovery)>
         ensures opens { Opens (opened (recovery_plan self) (client_of self)) self result }
         ensures plan { IfOk result (λ w. writer_plan w ≡ recovery_plan self) }
@@ -328,14 +332,14 @@ impl Recovery {
             return Err((fault, self));
         }
         let Recovery {
-            standings,
+            group_states,
             volume,
             found,
         } = self;
         match found {
             Some(found) => {
                 let Found { log, lineage, .. } = found;
-                Ok(Writer::opened(standings, volume, lineage, log))
+                Ok(Writer::opened(group_states, volume, lineage, log))
             }
             None => unreachable!(),
         }

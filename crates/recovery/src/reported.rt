@@ -7,48 +7,48 @@ ghost use Rattle.volume_model.specs.Node.{contents_of};
 ghost use Rattle.hydration.specs.Copies.{copies_in};
 ghost use Rattle.lineage.specs.Lineage.{lineage_of};
 ghost use Rattle.redo_record.specs.RecordSet.{records_of};
-ghost use Rattle.writer_core.specs.Standings.{groups_of};
+ghost use Rattle.writer_core.specs.GroupStates.{groups_of};
 ghost use Rattle.recovery.specs.Reported.{reports_in};
 
 use hydration::{Copied, newest_with, with_found};
 use lineage::Lineage;
 use redo_record::RecordSet;
 use std::alloc::{AllocError, Global};
-use writer_core::Standing;
+use writer_core::GroupState;
 
 /// The newest of the lineages of all reports and of one that comes behind them.
-fn newest_reported<'a>(standings: &'a [Standing], last: &'a Lineage) -> &'a Lineage
-    ensures { lineage_of result.now ≡ newest_with (lineage_of last.now) (reports_in (groups_of standings.now)) }
+fn newest_reported<'a>(group_states: &'a [GroupState], last: &'a Lineage) -> &'a Lineage
+    ensures { lineage_of result.now ≡ newest_with (lineage_of last.now) (reports_in (groups_of group_states.now)) }
 {
-    match standings {
+    match group_states {
         [] => last,
         [first, rest @ ..] => newest_with(first.copies.as_slice(), newest_reported(rest, last)),
     }
 }
 
-/// The newest lineage of all reports, and none where there is no report.
+/// Returns the newest lineage of all reports, and none where there is no report.
 ///
 /// # Errors
-/// Where a growth was refused.
-pub fn newest_lineage(alloc: Global, standings: &[Standing]) -> Result<Lineage, AllocError>
-    ensures { IfOk result (λ lineage. lineage_of lineage ≡ newest (reports_in (groups_of standings.now))) }
+/// `AllocError` if there is no memory.
+pub fn newest_lineage(alloc: Global, group_states: &[GroupState]) -> Result<Lineage, AllocError>
+    ensures { IfOk result (λ lineage. lineage_of lineage ≡ newest (reports_in (groups_of group_states.now))) }
 {
     let none = Lineage::empty(alloc);
-    newest_reported(standings, &none).clone()
+    newest_reported(group_states, &none).clone()
 }
 
-/// All reported records that are live in the lineage.
+/// Returns all reported records that are live in the lineage.
 ///
 /// # Errors
-/// Where a growth was refused.
+/// `AllocError` if there is no memory.
 pub fn found_in(
     alloc: Global,
     lineage: &Lineage,
-    standings: &[Standing],
+    group_states: &[GroupState],
 ) -> Result<RecordSet, AllocError>
-    ensures { IfOk result (λ set. records_of set ≡ found_in (lineage_of lineage.now) (reports_in (groups_of standings.now))) }
+    ensures { IfOk result (λ set. records_of set ≡ found_in (lineage_of lineage.now) (reports_in (groups_of group_states.now))) }
 {
-    match standings {
+    match group_states {
         [] => Ok(RecordSet::new(alloc)),
         [first, rest @ ..] => {
             let found = found_in(alloc, lineage, rest)?;
@@ -57,7 +57,8 @@ pub fn found_in(
     }
 }
 
-/// How many records the reports of a group hold, each counted as often as it is held; at most the greatest number.
+/// Returns how many records the reports of a group hold, each counted as often as it is held; at most the greatest
+/// number.
 fn records_in(copies: &[Copied]) -> usize
     ensures { result ≡ min (records_in (contents_of (copies_in copies.now))) (2 ^ 64 - 1) }
 {
@@ -67,11 +68,12 @@ fn records_in(copies: &[Copied]) -> usize
     }
 }
 
-/// How many records the reports of all groups hold, each counted as often as it is held; at most the greatest number.
-pub fn records_said(standings: &[Standing]) -> usize
-    ensures { result ≡ min (records_in (reports_in (groups_of standings.now))) (2 ^ 64 - 1) }
+/// Returns how many records the reports of all groups hold, each counted as often as it is held; at most the greatest
+/// number.
+pub fn records_said(group_states: &[GroupState]) -> usize
+    ensures { result ≡ min (records_in (reports_in (groups_of group_states.now))) (2 ^ 64 - 1) }
 {
-    match standings {
+    match group_states {
         [] => 0,
         [first, rest @ ..] => {
             records_said(rest).saturating_add(records_in(first.copies.as_slice()))

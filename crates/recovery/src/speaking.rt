@@ -1,4 +1,4 @@
-//! What a recovery says to nodes.
+//! The messages of a recovery to nodes.
 
 ghost use Rattle.std.specs.Prelude.{◌≡◌, ◌≤◌, true, length, map, IfOk};
 ghost use Rattle.volume_model.specs.Message.{place_in};
@@ -14,20 +14,20 @@ ghost use Rattle.writer_core.specs.Groups.{groups_in};
 use crate::found::Found;
 use std::alloc::{AllocError, Global};
 use wire::{Fence, Message, Place};
-use writer_core::{Standings, group_installs, label_at};
+use writer_core::{GroupStates, group_installs, label_at};
 
 /// One Fence a group of the view.
 ///
 /// # Errors
-/// Where a growth was refused.
-pub fn fences(alloc: Global, volume: u32, standings: &Standings) -> Result<Vec<Message>, AllocError>
-    ensures { IfOk result (λ messages. messages_of messages.items ≡ fences (length (groups_in standings.now)) volume (place_of (groups_in standings.now)) (λ group. true)) }
+/// `AllocError` if there is no memory.
+pub fn fences(alloc: Global, volume: u32, group_states: &GroupStates) -> Result<Vec<Message>, AllocError>
+    ensures { IfOk result (λ messages. messages_of messages.items ≡ fences (length (groups_in group_states.now)) volume (place_of (groups_in group_states.now)) (λ group. true)) }
 {
     let mut messages = Vec::new(alloc);
-    for group in 0..standings.groups() {
+    for group in 0..group_states.groups() {
         messages.push(Message::Fence(Fence {
             group,
-            label: standings.label(volume, group),
+            label: group_states.label(volume, group),
         }))?;
     }
     Ok(messages)
@@ -36,20 +36,20 @@ pub fn fences(alloc: Global, volume: u32, standings: &Standings) -> Result<Vec<M
 /// One Fence for each group that these places raise.
 ///
 /// # Errors
-/// Where a growth was refused.
+/// `AllocError` if there is no memory.
 pub fn later_fences(
     alloc: Global,
     volume: u32,
-    standings: &Standings,
+    group_states: &GroupStates,
     places: &[Place],
 ) -> Result<Vec<Message>, AllocError>
     requires { length places.now ≤ 16 }
-    ensures { IfOk result (λ messages. messages_of messages.items ≡ fences (length places.now) volume (place_in (map wire.place_of places.now)) (later_in (place_of (groups_in standings.now)) (place_in (map wire.place_of places.now)))) }
+    ensures { IfOk result (λ messages. messages_of messages.items ≡ fences (length places.now) volume (place_in (map wire.place_of places.now)) (later_in (place_of (groups_in group_states.now)) (place_in (map wire.place_of places.now)))) }
 {
     let mut messages = Vec::new(alloc);
     for group in 0..places.len() as u8 {
         let place = places[usize::from(group)];
-        if standings.epoch(group) < place.epoch {
+        if group_states.epoch(group) < place.epoch {
             messages.push(Message::Fence(Fence {
                 group,
                 label: label_at(volume, place),
@@ -59,45 +59,45 @@ pub fn later_fences(
     Ok(messages)
 }
 
-/// The Installs of what was found for all groups of the view, in order of group, then piece.
+/// Returns the Installs of what was found for all groups of the view, in order of group, then piece.
 ///
 /// # Errors
-/// Where a growth was refused.
+/// `AllocError` if there is no memory.
 pub fn installs(
     alloc: Global,
     volume: u32,
-    standings: &Standings,
+    group_states: &GroupStates,
     found: &Found,
 ) -> Result<Vec<Message>, AllocError>
-    ensures { IfOk result (λ messages. messages_of messages.items ≡ installs (length (groups_in standings.now)) volume (place_of (groups_in standings.now)) (lineage_of found.now.lineage) (log_of_set found.now.log) (λ group. true)) }
+    ensures { IfOk result (λ messages. messages_of messages.items ≡ installs (length (groups_in group_states.now)) volume (place_of (groups_in group_states.now)) (lineage_of found.now.lineage) (log_of_set found.now.log) (λ group. true)) }
 {
     let mut messages = Vec::new(alloc);
-    for group in 0..standings.groups() {
-        let label = standings.label(volume, group);
+    for group in 0..group_states.groups() {
+        let label = group_states.label(volume, group);
         let mut pieces = group_installs(alloc, group, label, &found.lineage, &found.log)?;
         messages.append(&mut pieces)?;
     }
     Ok(messages)
 }
 
-/// The Installs of what was found for each group that these places raise, in order of group, then piece.
+/// Returns the Installs of what was found for each group that these places raise, in order of group, then piece.
 ///
 /// # Errors
-/// Where a growth was refused.
+/// `AllocError` if there is no memory.
 pub fn later_installs(
     alloc: Global,
     volume: u32,
-    standings: &Standings,
+    group_states: &GroupStates,
     found: &Found,
     places: &[Place],
 ) -> Result<Vec<Message>, AllocError>
     requires { length places.now ≤ 16 }
-    ensures { IfOk result (λ messages. messages_of messages.items ≡ installs (length places.now) volume (place_in (map wire.place_of places.now)) (lineage_of found.now.lineage) (log_of_set found.now.log) (later_in (place_of (groups_in standings.now)) (place_in (map wire.place_of places.now)))) }
+    ensures { IfOk result (λ messages. messages_of messages.items ≡ installs (length places.now) volume (place_in (map wire.place_of places.now)) (lineage_of found.now.lineage) (log_of_set found.now.log) (later_in (place_of (groups_in group_states.now)) (place_in (map wire.place_of places.now)))) }
 {
     let mut messages = Vec::new(alloc);
     for group in 0..places.len() as u8 {
         let place = places[usize::from(group)];
-        if standings.epoch(group) < place.epoch {
+        if group_states.epoch(group) < place.epoch {
             let label = label_at(volume, place);
             let mut pieces = group_installs(alloc, group, label, &found.lineage, &found.log)?;
             messages.append(&mut pieces)?;

@@ -10,7 +10,8 @@ use crate::payload::Payload;
 use crate::record::Record;
 use std::cmp::Ordering;
 
-/// Which of two payloads comes first: the shorter one, and of two as long as one another that whose first other byte is less.
+/// Returns which of two payloads comes first: the shorter one, and of two as long as one another that whose first
+/// other byte is less.
 fn compare_bytes(own: &Payload, others: &Payload) -> Ordering
     ensures same { is_eq result ≡ same_numbers (length (payload_bytes own.now) ∷ payload_bytes own.now) (length (payload_bytes others.now) ∷ payload_bytes others.now) }
     ensures before { is_lt result ≡ numbers_before (length (payload_bytes own.now) ∷ payload_bytes own.now) (length (payload_bytes others.now) ∷ payload_bytes others.now) }
@@ -19,7 +20,7 @@ fn compare_bytes(own: &Payload, others: &Payload) -> Ordering
     own.len().cmp(&others.len()).then(own.cmp(&others))
 }
 
-/// Which of two records comes first in the order of their bytes, worked out field by field.
+/// Returns which of two records comes first in the order of their bytes, worked out field by field.
 pub fn compare(own: &Record, others: &Record) -> Ordering
     ensures same { is_eq result ≡ is_same (redo_of own.now) (redo_of others.now) }
     ensures before { is_lt result ≡ numbers_before (spelling (redo_of own.now)) (spelling (redo_of others.now)) }

@@ -13,7 +13,7 @@ use volume_model::Fault;
 /// Checks that the bytes spell a record, and returns the numbers at their beginning.
 ///
 /// # Errors
-/// `Short` where there are too few bytes, `BadField` where a number isn't allowed, `Trailing` where there are too many.
+/// `Short` if there are too few bytes, `BadField` if a field isn't allowed, `Trailing` if there are too many.
 #[tactic(auto, unfolding(crate::specs::Spelling::decoded))]
 pub fn checked_head(bytes: &[u8]) -> Result<Head, Fault>
     ensures head { IfOk result (λ head. head ≡ head_in bytes.now) }
@@ -59,10 +59,10 @@ pub fn record_from(head: &Head, written: &[u8]) -> Record
     }
 }
 
-/// The record that the bytes spell. Takes no memory.
+/// Returns the record that the bytes spell. Takes no memory.
 ///
 /// # Errors
-/// `Short` where there are too few bytes, `BadField` where a number isn't allowed, `Trailing` where there are too many.
+/// `Short` if there are too few bytes, `BadField` if a field isn't allowed, `Trailing` if there are too many.
 pub fn decode(bytes: &[u8]) -> Result<Record, Fault>
     ensures exact { MatchResult result (λ r. decoded bytes.now ≡ Ok (redo_of r)) (λ fault. decoded bytes.now ≡ Err fault) }
     ensures found { IfOk result (λ r. bytes.now ≡ spelled (redo_of r)) }

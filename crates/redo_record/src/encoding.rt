@@ -13,7 +13,7 @@ use crate::text::Text;
 use std::alloc::Global;
 use volume_model::Fault;
 
-/// The spelling of a record, in place.
+/// Returns the spelling of a record, in place.
 pub fn spell(record: &Record) -> Text
     ensures spelled { text_bytes result ≡ spelled (redo_of «record».now) }
     ensures spellable { IsSpellable (redo_of «record».now) }
@@ -33,10 +33,10 @@ pub fn spell(record: &Record) -> Text
     text
 }
 
-/// The spelling of a record.
+/// Returns the spelling of a record.
 ///
 /// # Errors
-/// `NoMemory` where there is no memory for it.
+/// `NoMemory` if there is no memory.
 pub fn encode(alloc: Global, record: &Record) -> Result<Vec<u8>, Fault>
     ensures spelled { IfOk result (λ v. v.items ≡ spelled (redo_of «record».now)) }
     ensures decoded { IfOk result (λ v. decoded v.items ≡ Ok (redo_of «record».now)) }

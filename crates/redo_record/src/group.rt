@@ -1,4 +1,4 @@
-//! Which group packets are of.
+//! Which group records are of.
 
 ghost use Rattle.std.specs.Prelude.{◌≡◌, ◌==◌, map};
 ghost use Rattle.volume_model.specs.Lists.{every};
@@ -6,7 +6,7 @@ ghost use Rattle.redo_record.specs.SharedRecord.{shared_redo};
 
 use crate::shared_record::SharedRecord;
 
-/// Whether each of the packets' records is one of the group.
+/// Returns whether each record is of the group.
 pub fn are_of(packets: &[SharedRecord], group: u8) -> bool
     ensures { result ≡ every (λ r. r.group == group) (map shared_redo packets.now) }
 {

@@ -1,4 +1,4 @@
-//! Redo records: what a writer gives to storage, how they are spelled, and in what order they stand.
+//! Redo records: their values, their bytes, and their order.
 #![tactic(auto)]
 
 mod comparing;

@@ -39,7 +39,7 @@ impl Packet {
     /// Returns the packet of these bytes. Takes no memory.
     ///
     /// # Errors
-    /// `Short` where there are too few bytes, `BadField` where a number isn't allowed, `Trailing` where there are too many.
+    /// `Short` if there are too few bytes, `BadField` if a field isn't allowed, `Trailing` if there are too many.
     pub fn from_bytes(bytes: &[u8]) -> Result<Packet, Fault>
         ensures { MatchResult result (λ packet. decoded bytes.now ≡ Ok (packet_redo packet)) (λ fault. decoded bytes.now ≡ Err fault) }
     {

@@ -18,7 +18,7 @@ impl Payload {
     ghost use Rattle.std.specs.Prelude.{◌≡◌, ◌↔◌, length, IsSome, IfSome};
     ghost use Rattle.redo_record.specs.Payload.{payload_bytes, HasRoom};
 
-    /// These bytes, where there are 1 to 64.
+    /// Returns these bytes, where there are 1 to 64.
     pub fn new(bytes: &[u8]) -> Option<Payload>
         ensures when { IsSome result ↔ HasRoom (length bytes.now) }
         ensures value { IfSome result (λ payload. payload_bytes payload ≡ bytes.now) }
@@ -35,7 +35,7 @@ impl Payload {
         })
     }
 
-    /// The bytes.
+    /// Returns the bytes.
     pub fn as_slice(&self) -> &[u8]
         ensures value { result.now ≡ payload_bytes self.now }
         ensures room { HasRoom (length result.now) }

@@ -1,4 +1,4 @@
-//! Where a packet would stand among others.
+//! Where a record would stand among others.
 
 ghost use Rattle.std.specs.Prelude.{◌≡◌, ◌≤◌, map, length, true, false, MatchOption};
 ghost use Rattle.std.specs.List.Sorted.{IsPartitionPoint};
@@ -9,7 +9,7 @@ ghost use Rattle.redo_record.specs.Places.{IsCountBefore, IsHeldIn, IsPlaceFor};
 
 use crate::shared_record::SharedRecord;
 
-/// How many packets in order come before this one: often all of them, which takes one look.
+/// Returns how many records in order come before this one: often all of them, which takes one look.
 fn count_before(packets: &[SharedRecord], packet: &SharedRecord) -> usize
     requires { IsInOrder (map shared_redo packets.now) }
     ensures bound { result ≤ length packets.now }
@@ -23,7 +23,7 @@ fn count_before(packets: &[SharedRecord], packet: &SharedRecord) -> usize
     packets.partition_point(|other| other.is_before(packet))
 }
 
-/// Where a packet would stand among these, which are in order; `None` where its record is one of theirs.
+/// Where a record would stand among these, which are in order; `None` if its record is one of theirs.
 pub fn place_among(packets: &[SharedRecord], packet: &SharedRecord) -> Option<usize>
     requires { IsInOrder (map shared_redo packets.now) }
     ensures { MatchOption result (IsHeldIn (map shared_redo packets.now) (shared_redo packet.now)) (λ place. IsPlaceFor (map shared_redo packets.now) (shared_redo packet.now) place) }

@@ -5,10 +5,10 @@ ghost use Rattle.redo_record.specs.Payload.{payload_bytes};
 
 use crate::payload::Payload;
 
-/// A change to a block: which number it has, after which records it comes, and what it writes where.
+/// A redo record: one change to a block, with its LSN and the LSNs before it.
 #[derive(Clone, Copy)]
 pub struct Record {
-    /// Its log sequence number (LSN).
+    /// Its LSN (LSN).
     pub lsn: u64,
     /// The volume epoch of its writer.
     pub volume_epoch: u32,

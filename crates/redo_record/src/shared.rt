@@ -1,10 +1,10 @@
-//! Packets that are shared with their clones.
+//! Lists of records that clones share.
 
 use crate::shared_record::SharedRecord;
 use std::alloc::{AllocError, Global};
 use std::sync::Arc;
 
-/// Packets that are shared with their clones, and copied where one of these is written.
+/// A list of records that its clones share, copied on write.
 #[derive(Drop)]
 pub struct Shared {
     alloc: Global,
@@ -17,7 +17,7 @@ impl Shared {
     ghost use Rattle.redo_record.specs.SharedRecord.{shared_redo};
     ghost use Rattle.redo_record.specs.Shared.{packets_in, redos_in};
 
-    /// No packet.
+    /// Makes an empty set.
     pub fn new(alloc: Global) -> Shared
         ensures { redos_in result ≡ [] }
     {
@@ -27,7 +27,7 @@ impl Shared {
         }
     }
 
-    /// These packets. Fails for want of memory alone.
+    /// Returns these records. Fails only with `NoMemory`.
     pub fn from_vec(alloc: Global, packets: Vec<SharedRecord>) -> Result<Shared, AllocError>
         ensures { IfOk result (λ shared. redos_in shared ≡ map shared_redo packets.items) }
     {
@@ -37,7 +37,7 @@ impl Shared {
         })
     }
 
-    /// The packets.
+    /// Returns the records.
     pub fn as_slice(&self) -> &[SharedRecord]
         ensures { result.now ≡ packets_in self.now.packets }
     {
@@ -47,14 +47,14 @@ impl Shared {
         }
     }
 
-    /// How many packets there are.
+    /// Returns how many records there are.
     pub fn len(&self) -> usize
         ensures { result ≡ length (redos_in self.now) }
     {
         self.as_slice().len()
     }
 
-    /// Copies of so many packets, from one of them on, which are shared with nobody. Fails for want of memory alone.
+    /// Copies of this many records, from one of them on, which are shared with nobody. Fails only with `NoMemory`.
     pub fn part(&self, from: usize, len: usize) -> Result<Shared, AllocError>
         requires { from + len ≤ length (redos_in self.now) }
         ensures { IfOk result (λ part. redos_in part ≡ take len (drop from (redos_in self.now))) }
@@ -64,7 +64,7 @@ impl Shared {
         Shared::from_vec(self.alloc, packets)
     }
 
-    /// Adds a packet at the end. Where memory runs out the packets are what they were.
+    /// Adds a record at the end. On error the records are unchanged.
     pub fn push(&mut self, packet: SharedRecord) -> Result<(), AllocError>
         ensures ok { OnOk result (redos_in self.new ≡ redos_in self.old ++ shared_redo packet ∷ []) }
         ensures err { OnErr result (redos_in self.new ≡ redos_in self.old) }
@@ -82,7 +82,7 @@ impl Shared {
         Ok(())
     }
 
-    /// Adds a packet at this place. Where memory runs out the packets are what they were.
+    /// Adds a record at this place. On error the records are unchanged.
     pub fn insert(&mut self, place: usize, packet: SharedRecord) -> Result<(), AllocError>
         requires { place ≤ length (redos_in self.old) }
         ensures ok { OnOk result (redos_in self.new ≡ insert (redos_in self.old) place (shared_redo packet)) }
@@ -98,7 +98,7 @@ impl Shared {
         }
     }
 
-    /// Adds packets at the end. Where memory runs out the packets are what they were.
+    /// Adds records at the end. On error the records are unchanged.
     pub fn extend_from_slice(&mut self, more: &[SharedRecord]) -> Result<(), AllocError>
         ensures ok { OnOk result (redos_in self.new ≡ redos_in self.old ++ map shared_redo more.now) }
         ensures err { OnErr result (redos_in self.new ≡ redos_in self.old) }

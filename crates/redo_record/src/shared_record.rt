@@ -1,4 +1,4 @@
-//! A record as it travels and is kept.
+//! Shared records.
 
 ghost use Rattle.redo_record.specs.SharedRecord.{shared_redo};
 
@@ -8,7 +8,7 @@ use std::alloc::{AllocError, Global};
 use std::cmp::Ordering;
 use std::sync::Arc;
 
-/// A record as it travels and is kept: shared, not copied.
+/// A shared pointer to a record, as logs, messages and segments keep it.
 #[derive(Drop)]
 pub struct SharedRecord {
     shared: Arc<Record>,
@@ -20,7 +20,7 @@ impl SharedRecord {
     ghost use Rattle.volume_model.specs.Redo.{spelling, is_same, numbers_before};
     ghost use Rattle.redo_record.specs.Record.{redo_of};
 
-    /// The packet of a record. Fails for want of memory alone.
+    /// Shares a record. Fails only with `NoMemory`.
     #[tactic(auto, unfolding(crate::specs::SharedRecord::shared_redo))]
     pub fn pack(alloc: Global, record: Record) -> Result<SharedRecord, AllocError>
         ensures { IfOk result (λ packet. shared_redo packet ≡ redo_of «record») }
@@ -30,7 +30,7 @@ impl SharedRecord {
         })
     }
 
-    /// The record of the packet.
+    /// Returns the record.
     #[tactic(auto, unfolding(crate::specs::SharedRecord::shared_redo))]
     pub fn record(&self) -> &Record
         ensures { redo_of result.now ≡ shared_redo self.now }
@@ -38,35 +38,35 @@ impl SharedRecord {
         &self.shared
     }
 
-    /// The number of its record.
+    /// Returns the record's LSN.
     pub fn lsn(&self) -> u64
         ensures { result ≡ (shared_redo self.now).lsn }
     {
         self.record().lsn
     }
 
-    /// The volume epoch of its record's writer.
+    /// Returns the volume epoch of the record's writer.
     pub fn volume_epoch(&self) -> u32
         ensures { result ≡ (shared_redo self.now).volume }
     {
         self.record().volume_epoch
     }
 
-    /// The number before its record's in the group, 0 where there is none.
+    /// Returns the LSN before the record's in its group, 0 if there is none.
     pub fn prev_group(&self) -> u64
         ensures { result ≡ (shared_redo self.now).prev_group }
     {
         self.record().prev_group
     }
 
-    /// The group of its record.
+    /// Returns the record's group.
     pub fn group(&self) -> u8
         ensures { result ≡ (shared_redo self.now).group }
     {
         self.record().group
     }
 
-    /// Which of two packets comes first in the order of their records' bytes.
+    /// Compares two records in the order of their bytes.
     pub(crate) fn compare(&self, other: &SharedRecord) -> Ordering
         ensures same { is_eq result ≡ is_same (shared_redo self.now) (shared_redo other.now) }
         ensures before { is_lt result ≡ numbers_before (spelling (shared_redo self.now)) (spelling (shared_redo other.now)) }
@@ -74,14 +74,14 @@ impl SharedRecord {
         compare(self.record(), other.record())
     }
 
-    /// Whether both are packets of the same record.
+    /// Returns whether both records are equal.
     pub fn is_same(&self, other: &SharedRecord) -> bool
         ensures { result ≡ is_same (shared_redo self.now) (shared_redo other.now) }
     {
         self.lsn() == other.lsn() && self.compare(other).is_eq()
     }
 
-    /// Whether this packet's record comes before the other's, number by number in the order of the fields.
+    /// Returns whether this record comes before the other, compared field by field.
     pub fn is_before(&self, other: &SharedRecord) -> bool
         ensures { result ≡ numbers_before (spelling (shared_redo self.now)) (spelling (shared_redo other.now)) }
     {

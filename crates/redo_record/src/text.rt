@@ -37,7 +37,7 @@ impl Text {
         self.length = end;
     }
 
-    /// The bytes.
+    /// Returns the bytes.
     pub fn as_slice(&self) -> &[u8]
         ensures { result.now ≡ text_bytes self.now }
     {

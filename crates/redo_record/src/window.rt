@@ -1,4 +1,4 @@
-//! A part of packets that are shared.
+//! Windows of shared lists of records.
 
 ghost use Rattle.std.specs.Prelude.{◌+◌, ◌≤◌, length};
 ghost use Rattle.redo_record.specs.Shared.{redos_in};
@@ -7,7 +7,7 @@ use crate::shared::Shared;
 use crate::shared_record::SharedRecord;
 use std::alloc::{AllocError, Global};
 
-/// Packets that are shared with their clones: all of a list, or some that stand one behind the other in it.
+/// A window of a shared list of records: all of it, or a range.
 #[derive(Drop)]
 pub struct Window {
     shared: Shared,
@@ -22,7 +22,7 @@ impl Window {
     ghost use Rattle.redo_record.specs.SharedRecord.{shared_redo};
     ghost use Rattle.redo_record.specs.Window.{packets_seen, redos_seen, IsWhole};
 
-    /// No packet.
+    /// Makes an empty set.
     pub fn new(alloc: Global) -> Window
         ensures { redos_seen result ≡ [] }
     {
@@ -33,7 +33,7 @@ impl Window {
         }
     }
 
-    /// These packets. Fails for want of memory alone.
+    /// Returns these records. Fails only with `NoMemory`.
     pub fn from_vec(alloc: Global, packets: Vec<SharedRecord>) -> Result<Window, AllocError>
         ensures { IfOk result (λ window. redos_seen window ≡ map shared_redo packets.items) }
     {
@@ -46,7 +46,7 @@ impl Window {
         })
     }
 
-    /// The packets.
+    /// Returns the records.
     pub fn as_slice(&self) -> &[SharedRecord]
         ensures packets { result.now ≡ packets_seen self.now }
         ensures records { map shared_redo result.now ≡ redos_seen self.now }
@@ -54,7 +54,7 @@ impl Window {
         &self.shared.as_slice()[self.from..self.from + self.len]
     }
 
-    /// So many of the packets, from one of them on, without a copy of them. Fails for want of memory alone.
+    /// So many of the records, from one of them on, without a copy of them. Fails only with `NoMemory`.
     pub fn part(&self, from: usize, len: usize) -> Result<Window, AllocError>
         requires { from + len ≤ length (redos_seen self.now) }
         ensures { IfOk result (λ part. redos_seen part ≡ take len (drop from (redos_seen self.now))) }
@@ -66,7 +66,7 @@ impl Window {
         })
     }
 
-    /// Leaves the list to its other owners where it has other packets too, and takes copies of its own.
+    /// Leaves the list to its other owners where it has other records too, and takes copies of its own.
     fn make_whole(&mut self) -> Result<(), AllocError>
         ensures ok { OnOk result (IsWhole self.new) }
         ensures same { redos_seen self.new ≡ redos_seen self.old }
@@ -78,7 +78,7 @@ impl Window {
         Ok(())
     }
 
-    /// Adds a packet at the end. Where memory runs out the packets are what they were.
+    /// Adds a record at the end. On error the records are unchanged.
     pub fn push(&mut self, packet: SharedRecord) -> Result<(), AllocError>
         ensures ok { OnOk result (redos_seen self.new ≡ redos_seen self.old ++ shared_redo packet ∷ []) }
         ensures err { OnErr result (redos_seen self.new ≡ redos_seen self.old) }
@@ -89,7 +89,7 @@ impl Window {
         Ok(())
     }
 
-    /// Adds a packet at this place. Where memory runs out the packets are what they were.
+    /// Adds a record at this place. On error the records are unchanged.
     pub fn insert(&mut self, place: usize, packet: SharedRecord) -> Result<(), AllocError>
         requires { place ≤ length (redos_seen self.old) }
         ensures ok { OnOk result (redos_seen self.new ≡ insert (redos_seen self.old) place (shared_redo packet)) }
@@ -101,7 +101,7 @@ impl Window {
         Ok(())
     }
 
-    /// Adds packets at the end. Where memory runs out the packets are what they were.
+    /// Adds records at the end. On error the records are unchanged.
     pub fn extend_from_slice(&mut self, more: &[SharedRecord]) -> Result<(), AllocError>
         ensures ok { OnOk result (redos_seen self.new ≡ redos_seen self.old ++ map shared_redo more.now) }
         ensures err { OnErr result (redos_seen self.new ≡ redos_seen self.old) }

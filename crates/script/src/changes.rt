@@ -46,7 +46,7 @@ fn all_changes(alloc: Global, words: Parts) -> Result<Vec<Change>, Fault>
     each_change(alloc, words)
 }
 
-/// The same, word by word.
+/// Returns the same, word by word.
 fn each_change(alloc: Global, mut words: Parts) -> Result<Vec<Change>, Fault>
     ensures { ReadsBy (λ v. changes_of v.items) (changes_in (parts_left words.entry)) result }
 {

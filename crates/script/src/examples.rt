@@ -1,8 +1,8 @@
-//! Lines, and what the grammar says of them.
+//! Worked lines of the grammar.
 
 ghost use Rattle.script.specs.Examples.{SayTheirLines};
 
-/// What some lines say: it holds of the grammar, and nothing is computed.
+/// A law: what the grammar says of some lines.
 pub fn say_their_lines()
     ensures { SayTheirLines }
 {}

@@ -1,4 +1,4 @@
-//! What one line of a script says.
+//! Reading one line of a script.
 
 ghost use Rattle.std.specs.Prelude.{◌≡◌, [], IfOk, length, option_map};
 ghost use Rattle.world.specs.Events.{event_of};
@@ -72,7 +72,7 @@ fn verb_of(word: &str) -> Option<Verb>
     }
 }
 
-/// The verb that these bytes are.
+/// Returns the verb that these bytes are.
 #[inline(always)]
 fn verb_by(word: &[u8]) -> Option<Verb>
     ensures { result ≡ verb_in word.now }
@@ -83,14 +83,14 @@ fn verb_by(word: &[u8]) -> Option<Verb>
     }
 }
 
-/// Whether a line does nothing.
+/// Returns whether a line does nothing.
 fn is_silent(line: &[u8]) -> bool
     ensures { result ≡ is_silent line.now }
 {
     line.is_empty() || line[0] == b'#'
 }
 
-/// What a line does, or that it isn't one of a script. `events` has the index of each earlier line's event.
+/// Returns what a line does, or that it isn't one of a script. `events` has the index of each earlier line's event.
 #[inline(always)]
 pub fn line_of(alloc: Global, text: &[u8], events: &[Option<u32>]) -> Result<Line, Fault>
     ensures { ReadsBy seen (option_map (seen_deed events.now) (deed_of (length events.now) text.now)) result }
@@ -108,7 +108,7 @@ pub fn line_of(alloc: Global, text: &[u8], events: &[Option<u32>]) -> Result<Lin
     said_by(alloc, verb, words, events)
 }
 
-/// What a verb says with the words after it.
+/// Reads the words after a verb.
 #[inline(always)]
 fn said_by(alloc: Global, verb: Verb, words: Parts, events: &[Option<u32>]) -> Result<Line, Fault>
     requires { words.separator ≡ 32 }
@@ -133,7 +133,7 @@ fn said_by(alloc: Global, verb: Verb, words: Parts, events: &[Option<u32>]) -> R
     }
 }
 
-/// The line that makes an event happen.
+/// Returns the line that makes an event happen.
 #[inline(always)]
 fn line_by(alloc: Global, event: Event) -> Result<Line, AllocError>
     ensures { IfOk result (λ line. seen line ≡ Seen.Asks (Asked.Fixed (event_of event))) }

@@ -9,7 +9,7 @@ use world::Order;
 /// With a number up to this one any digit more makes a number below 2^32.
 const TAKES_ANY_DIGIT: u32 = 429_496_728;
 
-/// The number at the head of a text, of whose digits the first isn't 0, and what comes after it.
+/// Returns the number at the head of a text, of whose digits the first isn't 0, and what comes after it.
 #[inline(always)]
 fn digits(text: &[u8]) -> (u32, &[u8])
     requires some { 0 < length text.now }

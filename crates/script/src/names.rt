@@ -12,7 +12,7 @@ use std::alloc::{AllocError, Global};
 use volume_model::Fault;
 use world::{Event, Order};
 
-/// `L.K`, where L is one of so many earlier lines: the line and the place.
+/// `L.K`, where L is one of this many earlier lines: the line and the place.
 #[inline(always)]
 fn name_of(name: &[u8], earlier: usize) -> Result<(u64, u64), Fault>
     ensures { ReadsBy (λ n. (n.0, n.1)) (name_in earlier (sides_in name.now)) result }
@@ -26,7 +26,7 @@ fn name_of(name: &[u8], earlier: usize) -> Result<(u64, u64), Fault>
     Ok((line, place))
 }
 
-/// The same of the only word that is left.
+/// Returns the same of the only word that is left.
 #[inline(always)]
 fn last_name(words: Parts, earlier: usize) -> Result<(u64, u64), Fault>
     requires { words.separator ≡ 32 }
@@ -51,7 +51,7 @@ pub fn deliver(alloc: Global, mut words: Parts, events: &[Option<u32>]) -> Resul
     Ok(delivery(alloc, group, member, place, event)?)
 }
 
-/// The delivery of a message of a line with this event.
+/// Returns the delivery of a message of a line with this event.
 #[inline(always)]
 fn delivery(
     alloc: Global,
@@ -92,7 +92,7 @@ pub fn take(alloc: Global, mut words: Parts, events: &[Option<u32>]) -> Result<O
     Ok(taking(alloc, volume, place, event)?)
 }
 
-/// The taking of a message of a line with this event.
+/// Returns the taking of a message of a line with this event.
 fn taking(alloc: Global, volume: u32, place: u64, event: Option<u32>) -> Result<Order, AllocError>
     ensures { IfOk result (λ order. asked_by order ≡ take_from volume place event) }
 {

@@ -1,4 +1,4 @@
-//! Events that numbers alone say.
+//! Events that have numbers alone.
 
 ghost use Rattle.world.specs.Events.{event_of};
 ghost use Rattle.script.specs.Grammar.{advance_in, assign_in, cut_in, grow_in, hydrate_in, offer_in, open_in, read_in, refresh_in, resend_in, restart_in};

@@ -18,7 +18,7 @@ pub struct Parts<'a> {
     left: Option<&'a [u8]>,
 }
 
-/// The first part of a text and, after a separator, the others.
+/// Returns the first part of a text and, after a separator, the others.
 #[inline(always)]
 fn split_first(text: &[u8], separator: u8) -> (&[u8], Option<&[u8]>)
     ensures { slice_split (λ b. b == separator) text.now ≡ result.0.now ∷ left_of separator result.1 }
@@ -30,7 +30,7 @@ fn split_first(text: &[u8], separator: u8) -> (&[u8], Option<&[u8]>)
 }
 
 impl<'a> Parts<'a> {
-    /// All parts of a text.
+    /// Returns all parts of a text.
     pub fn new(text: &'a [u8], separator: u8) -> Self
         ensures parts { parts_left result ≡ slice_split (λ b. b == separator) text.now }
         ensures between { result.separator ≡ separator }
@@ -41,7 +41,7 @@ impl<'a> Parts<'a> {
         }
     }
 
-    /// How many are left.
+    /// Returns how many are left.
     #[inline(always)]
     pub fn len(&self) -> usize
         ensures { result ≡ length (parts_left self.now) }
@@ -52,7 +52,7 @@ impl<'a> Parts<'a> {
         }
     }
 
-    /// Whether none is left.
+    /// Returns whether none is left.
     #[inline(always)]
     pub fn is_empty(&self) -> bool
         ensures { IsTrue result ↔ (parts_left self.now ≡ []) }
@@ -132,7 +132,7 @@ impl<'a> Parts<'a> {
         }
     }
 
-    /// All that are left, with the separators between them.
+    /// Returns all that are left, with the separators between them.
     #[inline(always)]
     pub fn rest(self) -> Option<&'a [u8]>
         ensures { left_of self.entry.separator result ≡ parts_left self.entry }

@@ -11,7 +11,7 @@ use volume_model::Fault;
 /// The most bytes of a change.
 pub const MOST_BYTES: usize = 64;
 
-/// The value of a hexadecimal digit in lower case.
+/// Returns the value of a hexadecimal digit in lower case.
 #[inline(always)]
 fn digit(byte: u8) -> Result<u8, Fault>
     ensures { Reads (digit_in byte) result }
@@ -25,7 +25,7 @@ fn digit(byte: u8) -> Result<u8, Fault>
     }
 }
 
-/// The byte of two hexadecimal digits.
+/// Returns the byte of two hexadecimal digits.
 #[inline(always)]
 pub fn byte_of(high: u8, low: u8) -> Result<u8, Fault>
     ensures { Reads (byte_in high low) result }

@@ -51,7 +51,7 @@ fn put_bytes<'a>(text: &'a [u8], bytes: &mut [u8; MOST_BYTES]) -> Option<(usize,
     Some((count, rest))
 }
 
-/// Changes with a space between two of them, where each is read as it comes. Room is made for so many at once.
+/// Changes with a space between two of them, where each is read as it comes. Room is made for this many at once.
 pub fn plain_changes(
     alloc: Global,
     text: &[u8],

@@ -45,7 +45,7 @@ pub struct Script {
 pub enum ScriptFault {
     /// The line with this number, from 1, isn't one of a script.
     Line(usize),
-    /// A growth was refused.
+    /// Memory ran out.
     NoMemory,
 }
 
@@ -60,7 +60,7 @@ impl From<AllocError> for ScriptFault {
     }
 }
 
-/// The index of an event behind so many. More than an order can name are as if memory ran out.
+/// Returns the index of an event behind this many. More than an order can name are as if memory ran out.
 fn index_of(events: usize) -> Result<u32, AllocError>
     ensures { IfOk result (λ index. index ≡ events) }
 {
@@ -110,14 +110,14 @@ fn keep(script: &mut Script, events: &mut Vec<Option<u32>>, line: Line) -> Resul
     Ok(())
 }
 
-/// Whether bytes are UTF-8.
+/// Returns whether bytes are UTF-8.
 fn is_utf8(bytes: &[u8]) -> bool
     ensures { IsTrue result ↔ IsUtf8 bytes.now }
 {
     str::from_utf8(bytes).is_ok()
 }
 
-/// Adds what a line says: apart from the reading of most lines, which take none of it.
+/// Adds a line. Out of line, since most lines are read without it.
 #[inline(never)]
 fn add_line(
     alloc: Global,
@@ -140,7 +140,7 @@ fn add_line(
     }
 }
 
-/// Adds what the first line of a text says, and gives what comes after the line.
+/// Adds the first line of a text, and returns the text after it.
 #[inline(always)]
 fn add_first<'a>(
     alloc: Global,
@@ -180,8 +180,10 @@ fn lines_at_most(text: &[u8]) -> usize
     (count_of(text, b'\n') + 1).min(SCRIPT_LINES)
 }
 
-/// What a text does as a script, or its first line that isn't one of a script: at most 100,000 lines in 16,777,216 bytes,
-/// each of them UTF-8. Want of memory may be told in the place of a bad line.
+/// Reads a script: at most 100,000 lines in 16,777,216 bytes, each of them UTF-8.
+///
+/// # Errors
+/// The number of the first bad line; or `NoMemory`, which may come in place of a bad line.
 pub fn read_script(alloc: Global, text: &[u8]) -> Result<Script, ScriptFault>
     ensures { ReadsScript text.now result }
 {

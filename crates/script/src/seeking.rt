@@ -4,10 +4,10 @@ ghost use Rattle.std.specs.Prelude.{◌≡◌, ◌+◌, ◌^◌, ◌<◌, ◌≤
 
 use memchr::memchr;
 
-/// How many bytes are counted at a time: no more than a count of one byte can say.
+/// The number of bytes counted at a time: at most what a count of one byte holds.
 const PIECE: usize = 192;
 
-/// The first place of a byte in a text.
+/// Returns the first place of a byte in a text.
 #[inline(always)]
 pub fn first_place(text: &[u8], byte: u8) -> Option<usize>
     ensures { result ≡ position (λ b. b == byte) text.now }

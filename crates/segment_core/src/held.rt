@@ -1,4 +1,4 @@
-//! What a segment holds, and what it told of it last.
+//! What a segment holds, and its last report.
 
 ghost use Rattle.std.specs.Prelude.{option_map};
 ghost use Rattle.std.specs.Arc.{arc_value};
@@ -6,7 +6,7 @@ ghost use Rattle.lineage.specs.Lineage.{lineage_of};
 ghost use Rattle.segment_core.specs.Records.{records_of};
 ghost use Rattle.segment_core.specs.Told.{TellsAll, told_of};
 
-use crate::entrant::Entrant;
+use crate::pending_insert::PendingInsert;
 use crate::records::Records;
 use lineage::Lineage;
 use pages::BLOCK;
@@ -16,14 +16,14 @@ use std::alloc::{AllocError, Global};
 use std::sync::Arc;
 use wire::Contents;
 
-/// What a segment holds, and what it told of it last, which later reports share until a record comes.
+/// What a segment holds, and its last report, which later reports share until a record comes.
 #[derive(Drop)]
 pub struct Held {
-    /// The recoveries that its volume went through.
+    /// The lineage.
     pub lineage: Lineage,
     /// Its records.
     pub records: Records,
-    /// All that is held, as it was told last, where no record has come since.
+    /// The last report's contents, if no record has come since.
     told: Option<Arc<Contents>>,
     ghost tells: { ∥ TellsAll (option_map arc_value told) (told_of lineage records) ∥₁ },
 }
@@ -38,7 +38,7 @@ impl Held {
     ghost use Rattle.segment_core.specs.Ordered.{StandsAt};
     ghost use Rattle.segment_core.specs.Records.{CanEnter};
 
-    /// This lineage and these records.
+    /// Returns this lineage and these records.
     pub fn new(lineage: Lineage, records: Records) -> Held
         ensures { held_in result ≡ told_of lineage records }
     {
@@ -49,7 +49,7 @@ impl Held {
         }
     }
 
-    /// What contents tell, which are shared with what is told of it. Fails for want of memory alone.
+    /// Makes the state of these contents, which reports share. Fails only with `NoMemory`.
     pub fn of(alloc: Global, contents: Arc<Contents>) -> Result<Held, AllocError>
         ensures { IfOk result (λ held. held_in held ≡ contents_of (arc_value contents)) }
     {
@@ -62,7 +62,7 @@ impl Held {
         })
     }
 
-    /// All that is held, which is shared with later calls until a record comes. Fails for want of memory alone.
+    /// All that is held, which is shared with later calls until a record comes. Fails only with `NoMemory`.
     pub fn contents(&mut self, alloc: Global) -> Result<Arc<Contents>, AllocError>
         ensures contents { IfOk result (λ contents. contents_of (arc_value contents) ≡ held_in self.new) }
         ensures same { held_in self.new ≡ held_in self.old }
@@ -79,10 +79,11 @@ impl Held {
         Ok(shared)
     }
 
-    /// The bytes of a block, made from its records up to the point. The first page parts all records by their blocks.
+    /// Returns the bytes of a block, made from its records up to the point. The first page parts all records by their
+    /// blocks.
     ///
     /// # Errors
-    /// Where a growth was refused.
+    /// `AllocError` if there is no memory.
     #[inline(always)]
     pub fn page(&mut self, alloc: Global, block: u32, point: u64) -> Result<[u8; BLOCK], AllocError>
         ensures page { IfOk result (λ page. page ≡ page_of (held_in self.new).records block point) }
@@ -91,32 +92,32 @@ impl Held {
         self.records.page(alloc, block, point)
     }
 
-    /// Makes ready to take a record into its place: makes every growth, and changes none of the records.
+    /// Prepares to take a record into its place: makes every growth, and changes none of the records.
     ///
     /// # Errors
-    /// Where a growth was refused.
+    /// `AllocError` if there is no memory.
     #[inline(always)]
     pub fn prepare(
         &mut self,
         alloc: Global,
         place: Place,
         packet: &SharedRecord,
-    ) -> Result<Entrant, AllocError>
+    ) -> Result<PendingInsert, AllocError>
         requires { StandsAt place self.old.records.ordered (shared_redo packet.now) }
-        ensures ready { IfOk result (λ entrant. CanEnter self.new.records entrant) }
-        ensures packet { IfOk result (λ entrant. shared_redo entrant.packet ≡ shared_redo packet.now) }
+        ensures ready { IfOk result (λ pending_insert. CanEnter self.new.records pending_insert) }
+        ensures packet { IfOk result (λ pending_insert. shared_redo pending_insert.packet ≡ shared_redo packet.now) }
         ensures same { held_in self.new ≡ held_in self.old }
     {
         self.records.prepare(alloc, place, packet)
     }
 
-    /// Takes a record that is made ready to enter. Takes no memory.
+    /// Takes a record that is prepared to enter. Takes no memory.
     #[inline(always)]
-    pub fn enter(&mut self, entrant: Entrant)
-        requires { CanEnter self.old.records entrant }
-        ensures { held_in self.new ≡ entered (shared_redo entrant.packet) (held_in self.old) }
+    pub fn enter(&mut self, pending_insert: PendingInsert)
+        requires { CanEnter self.old.records pending_insert }
+        ensures { held_in self.new ≡ entered (shared_redo pending_insert.packet) (held_in self.old) }
     {
         self.told = None;
-        self.records.enter(entrant);
+        self.records.enter(pending_insert);
     }
 }

@@ -6,7 +6,7 @@ mod assembly;
 mod block_list;
 mod block_places;
 mod blocks;
-mod entrant;
+mod pending_insert;
 mod held;
 mod one_chain;
 mod ordered;

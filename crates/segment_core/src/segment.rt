@@ -36,19 +36,19 @@ pub struct Segment {
     plan: Arc<CheckedPlan>,
     group: u8,
     member: u8,
-    /// The volume epoch that it has promised.
+    /// The promised volume epoch.
     volume: u32,
-    /// The configuration of its group that it was told last.
+    /// The configuration of the last step that it took.
     configuration: u8,
-    /// The membership epoch of that configuration, 0 before it was told any.
+    /// The membership epoch of that configuration, 0 before its first step.
     epoch: u32,
     whole: bool,
     held: Held,
-    /// What it was sent while it wasn't whole, of each sender the pieces of one copy.
+    /// The copies that it was sent while it wasn't whole: of each sender the pieces of one copy.
     copies: Hydration,
     /// The pieces that it has of an install that isn't complete.
     assembly: Assembly,
-    /// How many copies it has told.
+    /// How many copies it has made.
     copied: u64,
     ghost named: { is_named (checked_model (arc_value plan)) group member ≡ true },
 }
@@ -71,10 +71,10 @@ impl Segment {
     ghost use Rattle.segment_core.specs.Prepared.{answers_of, effected, step_of};
     ghost use Rattle.segment_core.specs.Segment.{node_of, segment_plan, segment_group, segment_member, act_of, answered, born, offered_step, reaction_of, replaced, CanTake, IsSegmentOf, IsSameActor, IsReady};
 
-    /// The segment of a member of a group, as it is born.
+    /// Makes the segment of a member of a group, as it is at the volume's birth.
     ///
     /// # Errors
-    /// `NoActor` where the plan names no such member, `NoMemory` where it does and there is no memory for it.
+    /// `NoActor` if the plan names no such member; `NoMemory`.
     pub fn new(
         alloc: Global,
         plan: Arc<CheckedPlan>,
@@ -119,14 +119,14 @@ impl Segment {
         }
     }
 
-    /// The greatest number up to which it has all records of its group.
+    /// Returns the segment complete point (SCL): the greatest LSN up to which it holds all records of its group.
     pub fn scl(&self) -> u64
         ensures { result ≡ scl (node_of self.now).contents.records }
     {
         self.held.records.complete_point()
     }
 
-    /// Starts anew with what it keeps: all but the pieces of copies and of an install.
+    /// Restarts: drops the pieces of copies and of an install, and keeps all else.
     pub fn restart(&mut self)
         ensures node { node_of self.new ≡ restarted (node_of self.old) }
         ensures actor { IsSameActor self.old self.new }
@@ -135,7 +135,7 @@ impl Segment {
         self.assembly = Assembly::new();
     }
 
-    /// The tests of a message's label.
+    /// Returns the tests of a message's label.
     fn check_label(&self, label: Label) -> Result<(), Fault>
         ensures own { IfErr result (λ fault. fault ≢ NoMemory) }
         ensures checks { MatchResult result (λ _. (rest : NodeAnswer) → label_checks (node_of self.now) (label_of label) rest ≡ rest) (λ fault. (rest : NodeAnswer) → label_checks (node_of self.now) (label_of label) rest ≡ Err fault) }
@@ -155,7 +155,7 @@ impl Segment {
         Ok(())
     }
 
-    /// The step that acknowledges what is held after it.
+    /// Returns the step that acknowledges what is held after it.
     #[inline(always)]
     fn acknowledged(&self, label: Label, scl: u64, effect: Effect) -> Prepared
         ensures made { messages_of (answers_of result) ≡ model.Message.Ack (segment_group self.now) (label_of label) (segment_member self.now) scl ∷ [] }
@@ -174,7 +174,7 @@ impl Segment {
         }
     }
 
-    /// Makes ready to promise a recovery its volume epoch.
+    /// Prepares the reaction to a `Fence`.
     #[inline(always)]
     fn fenced(&mut self, alloc: Global, fence: &Fence) -> Result<Prepared, Fault>
         ensures step { Answers step_of (reaction_of self.old (message_of (Message.Fence fence.now))) (node_of self.old) result (node_of self.old) }
@@ -198,7 +198,7 @@ impl Segment {
         })
     }
 
-    /// The step that replaces what is held by what a recovery found.
+    /// Returns the step that replaces what is held by what a recovery found.
     fn replaced(
         &self,
         alloc: Global,
@@ -219,7 +219,8 @@ impl Segment {
         Ok(self.acknowledged(install.label, scl, effect))
     }
 
-    /// Makes ready for a piece of an install that isn't refused: keeps it, or holds what was found where it was the last that was missing.
+    /// Prepares for a piece of an install that isn't refused: keeps it, or holds what was found where it was the last
+    /// that was missing.
     fn prepare_piece(&mut self, alloc: Global, install: &Install) -> Result<Prepared, AllocError>
         requires { is_bad_piece (node_of self.old).install install.now.label.volume (piece_in install.now.piece install.now.of) (contents_of install.now.contents.value) ≡ false }
         ensures step { IfOk result (λ prepared. step_of prepared (node_of self.old) ≡ installed (segment_group self.old) (segment_member self.old) (node_of self.old) (label_of install.now.label) (piece_in install.now.piece install.now.of) (contents_of install.now.contents.value)) }
@@ -249,7 +250,7 @@ impl Segment {
         }
     }
 
-    /// Makes ready to hold what a recovery found, of which this is a piece.
+    /// Prepares to hold what a recovery found, of which this is a piece.
     #[inline(always)]
     fn installed(&mut self, alloc: Global, install: &Install) -> Result<Prepared, Fault>
         ensures step { Answers step_of (reaction_of self.old (message_of (Message.Install install.now))) (node_of self.old) result (node_of self.old) }
@@ -270,7 +271,7 @@ impl Segment {
         Ok(self.prepare_piece(alloc, install)?)
     }
 
-    /// Makes ready to take a record of its group.
+    /// Prepares to take a record of its group.
     #[inline(always)]
     fn prepare_record(
         &mut self,
@@ -294,12 +295,12 @@ impl Segment {
         if self.held.records.len() >= MOST_RECORDS {
             return Err(Fault::Full);
         }
-        let entrant = self.held.prepare(alloc, place, packet)?;
-        let scl = self.held.records.point_with(&entrant);
-        Ok(self.acknowledged(label, scl, Effect::Enter(entrant)))
+        let pending_insert = self.held.prepare(alloc, place, packet)?;
+        let scl = self.held.records.point_with(&pending_insert);
+        Ok(self.acknowledged(label, scl, Effect::Enter(pending_insert)))
     }
 
-    /// Makes ready to stand elsewhere.
+    /// Prepares to take a membership step.
     fn prepare_step(&self, step: &StepTo) -> Result<Prepared, Fault>
         ensures step { Answers step_of (reaction_of self.now (message_of (Message.StepTo step.now))) (node_of self.now) result (node_of self.now) }
         ensures ready { IfOk result (λ prepared. CanTake self.now prepared.effect) }
@@ -353,12 +354,12 @@ impl Segment {
         })
     }
 
-    /// A record that it holds, for the other nodes of its group, of several with the number the first in the order of their bytes. Takes
-    /// no memory.
+    /// A record that it holds, for the other nodes of its group, of several with the number the first in the order of
+    /// their bytes. Takes no memory.
     ///
     /// # Errors
-    /// `NotWhole` before the segment is whole, `NotInstalled` where its lineage isn't that of the volume epoch that it has promised,
-    /// `NoRecord` where it holds no such record.
+    /// `NotWhole` before the segment is whole, `NotInstalled` if its lineage isn't that of the volume epoch that it
+    /// has promised, `NoRecord` if it holds no such record.
     pub fn offer(&self, lsn: u64) -> Result<Carried<'_>, Fault>
         ensures own { IfErr result (λ fault. fault ≢ NoMemory) }
         ensures answers { AnswersAlways offered_step (offered (segment_group self.now) (node_of self.now) lsn) (node_of self.now) result (node_of self.now) }
@@ -370,7 +371,7 @@ impl Segment {
         }
     }
 
-    /// Makes ready for a record that a client writes.
+    /// Prepares for a record that a client writes.
     #[inline(always)]
     fn written(&mut self, alloc: Global, write: &Write) -> Result<Prepared, Fault>
         ensures step { Answers step_of (reaction_of self.old (message_of (Message.Write write.now))) (node_of self.old) result (node_of self.old) }
@@ -384,7 +385,7 @@ impl Segment {
         self.prepare_record(alloc, write.label, &write.packet)
     }
 
-    /// Makes ready for a message, as [`Segment::prepare`] does.
+    /// Prepares for a message, as [`Segment::prepare`] does.
     #[inline(always)]
     fn prepared(&mut self, alloc: Global, message: &Message) -> Result<Prepared, Fault>
         ensures step { Answers step_of (reaction_of self.old (message_of message.now)) (node_of self.old) result (node_of self.old) }
@@ -407,12 +408,13 @@ impl Segment {
         }
     }
 
-    /// Makes ready to take a message: gives every refusal, makes every growth, and works out the answers. Nothing that the segment
-    /// holds has changed, and what was made ready is a step of the segment as it is now.
+    /// Prepares the reaction to a message: finds every refusal, makes every growth, and works out the answers. The
+    /// segment is unchanged, and what is prepared is a step of the segment as it is now.
     ///
     /// # Errors
-    /// The first refusal that applies to a message of its kind, from `StaleVolume` to `SeriesSpent`, or `NotAddressed` for one that isn't
-    /// for this segment and `NotInPlan` for a step that the plan doesn't have; `NoMemory` where none applies and a growth was refused.
+    /// The first refusal that applies to a message of its kind, from `StaleVolume` to `SeriesSpent`, `NotAddressed`
+    /// for one that isn't for this segment, `NotInPlan` for a step that the plan doesn't have; `NoMemory` if none
+    /// applies and memory ran out.
     #[inline(always)]
     pub fn prepare(&mut self, alloc: Global, message: &Message) -> Result<Prepared, Fault>
         ensures step { Answers step_of (reaction_of self.old (message_of message.now)) (node_of self.old) result (node_of self.old) }
@@ -423,10 +425,10 @@ impl Segment {
         self.prepared(alloc, message)
     }
 
-    /// Makes ready to take a record that a client writes, as [`Segment::prepare`] does for its message. Most messages are such.
+    /// Prepares the reaction to a `Write`, as [`Segment::prepare`] does. Most messages are Writes.
     ///
     /// # Errors
-    /// As [`Segment::prepare`].
+    /// Those of [`Segment::prepare`].
     #[inline(always)]
     pub fn prepare_write(&mut self, alloc: Global, write: &Write) -> Result<Prepared, Fault>
         ensures step { Answers step_of (reaction_of self.old (message_of (Message.Write write.now))) (node_of self.old) result (node_of self.old) }
@@ -437,10 +439,10 @@ impl Segment {
         self.written(alloc, write)
     }
 
-    /// Makes ready to promise a recovery its volume epoch, as [`Segment::prepare`] does for its message.
+    /// Prepares the reaction to a `Fence`, as [`Segment::prepare`] does.
     ///
     /// # Errors
-    /// As [`Segment::prepare`].
+    /// Those of [`Segment::prepare`].
     #[inline(always)]
     pub fn prepare_fence(&mut self, alloc: Global, fence: &Fence) -> Result<Prepared, Fault>
         ensures step { Answers step_of (reaction_of self.old (message_of (Message.Fence fence.now))) (node_of self.old) result (node_of self.old) }
@@ -451,10 +453,10 @@ impl Segment {
         self.fenced(alloc, fence)
     }
 
-    /// Makes ready to take a piece of what a recovery found, as [`Segment::prepare`] does for its message.
+    /// Prepares the reaction to an `Install`, as [`Segment::prepare`] does.
     ///
     /// # Errors
-    /// As [`Segment::prepare`].
+    /// Those of [`Segment::prepare`].
     #[inline(always)]
     pub fn prepare_install(&mut self, alloc: Global, install: &Install) -> Result<Prepared, Fault>
         ensures step { Answers step_of (reaction_of self.old (message_of (Message.Install install.now))) (node_of self.old) result (node_of self.old) }
@@ -465,7 +467,7 @@ impl Segment {
         self.installed(alloc, install)
     }
 
-    /// Makes ready to offer a record, as [`Segment::offer`] does.
+    /// Prepares to offer a record, as [`Segment::offer`] does.
     fn prepare_offer(&self, alloc: Global, lsn: u64) -> Result<Prepared, Fault>
         ensures step { Answers step_of (offered (segment_group self.now) (node_of self.now) lsn) (node_of self.now) result (node_of self.now) }
         ensures ready { IfOk result (λ prepared. CanTake self.now prepared.effect) }
@@ -477,12 +479,12 @@ impl Segment {
         })
     }
 
-    /// Makes ready for what it is asked to do: gives every refusal, makes every growth, and works out the messages that it makes. Nothing
-    /// that the segment holds has changed, and what was made ready is a step of the segment as it is now.
+    /// Prepares an action: finds every refusal, makes every growth, and works out the messages. The segment is
+    /// unchanged, and what is prepared is a step of the segment as it is now.
     ///
     /// # Errors
-    /// Of [`NodeAct::Deliver`] as [`Segment::prepare`], of [`NodeAct::Hydrate`] as [`Segment::hydrate`], of [`NodeAct::Offer`] as
-    /// [`Segment::offer`]; `NoMemory` where none applies and a growth was refused.
+    /// Those of [`Segment::prepare`] for [`NodeAct::Deliver`], of [`Segment::hydrate`] for [`NodeAct::Hydrate`], of
+    /// [`Segment::offer`] for [`NodeAct::Offer`]; `NoMemory` if none applies and memory ran out.
     #[inline(always)]
     pub fn prepare_act(&mut self, alloc: Global, act: NodeAct<'_>) -> Result<Prepared, Fault>
         ensures step { AnswersLate (act_late act.entry) step_of (act_of self.old act.entry) (node_of self.old) result (node_of self.old) }
@@ -501,7 +503,7 @@ impl Segment {
         }
     }
 
-    /// Takes the effect of a step.
+    /// Applies the effect of a step.
     #[inline(always)]
     fn take(&mut self, effect: Effect)
         requires { CanTake self.old effect }
@@ -510,7 +512,7 @@ impl Segment {
     {
         match effect {
             Effect::Nothing => {}
-            Effect::Enter(entrant) => self.held.enter(entrant),
+            Effect::Enter(pending_insert) => self.held.enter(pending_insert),
             Effect::Promise(volume) => self.volume = volume,
             Effect::Move(place) => {
                 self.configuration = place.configuration;
@@ -546,7 +548,7 @@ impl Segment {
         }
     }
 
-    /// Takes a step that it was made ready for, and answers the messages that the step makes. Takes no memory.
+    /// Applies a prepared step and returns its messages. Takes no memory.
     #[inline(always)]
     pub fn apply(&mut self, prepared: Prepared) -> Messages
         requires { IsReady self.old prepared }
@@ -559,10 +561,10 @@ impl Segment {
         answers
     }
 
-    /// Takes a message: makes its effect, and gives its answers.
+    /// Delivers a message: applies its effect and returns the answers.
     ///
     /// # Errors
-    /// As [`Segment::prepare`]; then the segment is what it was.
+    /// Those of [`Segment::prepare`]; then the segment is unchanged.
     pub fn deliver(&mut self, alloc: Global, message: &Message) -> Result<Messages, Fault>
         ensures answers { Answers answered (reaction_of self.old (message_of message.now)) (node_of self.old) result (node_of self.new) }
         ensures actor { IsSameActor self.old self.new }

@@ -33,7 +33,7 @@ fn try_cases<H: Threads + Wait + Sync>(
     Ok(is_right)
 }
 
-/// Tries the book of a file. False where something is wrong with it, which is printed.
+/// Tries the book of a file. Returns false if something is wrong with it, which is printed.
 fn try_book<H: Threads + Wait + Sync>(
     rt: &HostRuntime,
     threads: &H,

@@ -10,7 +10,7 @@ use std::io;
 use std::sync::Wait;
 use std::thread::Threads;
 
-/// A plan's check.
+/// Returns a plan's check.
 pub fn check() -> Job<'static> {
     Job {
         action: Action::Check,
@@ -20,7 +20,7 @@ pub fn check() -> Job<'static> {
     }
 }
 
-/// A script's run over a plan.
+/// Returns a script's run over a plan.
 pub fn run() -> Job<'static> {
     Job {
         action: Action::Run,
@@ -30,7 +30,7 @@ pub fn run() -> Job<'static> {
     }
 }
 
-/// A script's run on threads by so many drivers.
+/// Returns a script's run on threads by this many drivers.
 pub fn fleet(workers: u8) -> Job<'static>
     requires some { 1 ≤ workers }
     requires few { workers ≤ 16 }

@@ -5,7 +5,7 @@ use crate::judge::check_promises;
 use crate::outcome::Outcome;
 use fuzzing::CommandOutput;
 
-/// Whether a fleet's journal is a run of all events, and its status and its recoveries are right.
+/// Returns whether a fleet's journal is a run of all events, and its status and its recoveries are right.
 pub fn check_fleet(
     output: &CommandOutput,
     fleet: &Outcome,
@@ -34,7 +34,7 @@ pub fn check_fleet(
     Ok(())
 }
 
-/// Whether a fleet with one driver says what the run says.
+/// Returns whether a fleet with one driver says what the run says.
 pub fn check_alike(run: &Outcome, fleet: &Outcome) -> Result<(), Broken> {
     let what = if run.writers != fleet.writers {
         "writers"

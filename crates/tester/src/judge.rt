@@ -22,7 +22,7 @@ pub struct Shown {
     pub finds: u64,
 }
 
-/// Whether each line of a script has its answer, in order.
+/// Returns whether each line of a script has its answer, in order.
 fn check_answers(outcome: &Outcome, lines: u64) -> Result<(), Broken> {
     let mut place = 0u64;
     for answer in outcome.answers.iter() {
@@ -57,7 +57,7 @@ fn cut_of(outcome: &Outcome, client: u64) -> u64 {
     }
 }
 
-/// The last record that a writer has issued, of these transactions.
+/// Returns the last record that a writer has issued, of these transactions.
 fn last_of(outcome: &Outcome, ends: &[End], client: u64) -> u64 {
     let mut last = start_of(outcome, client);
     for end in ends.iter() {
@@ -68,7 +68,7 @@ fn last_of(outcome: &Outcome, ends: &[End], client: u64) -> u64 {
     last
 }
 
-/// How many messages a line made, where it wasn't refused.
+/// Returns how many messages a line made, where it wasn't refused.
 fn made_by(outcome: &Outcome, line: u64) -> Option<u64> {
     outcome
         .answers
@@ -77,7 +77,7 @@ fn made_by(outcome: &Outcome, line: u64) -> Option<u64> {
         .made
 }
 
-/// The ends of the transactions that were issued.
+/// Returns the ends of the transactions that were issued.
 fn ends_of(alloc: Global, outcome: &Outcome, issues: &[Issue]) -> Result<Vec<End>, Broken> {
     let mut ends: Vec<End> = Vec::new(alloc);
     for issue in issues.iter() {
@@ -108,19 +108,20 @@ fn push_end(ends: &mut Vec<End>, end: End) -> Result<(), AllocError> {
     Ok(())
 }
 
-/// Whether a transaction of a client ends at this number.
+/// Returns whether a transaction of a client ends at this number.
 fn ends_at(ends: &[End], client: u64, last: u64) -> bool {
     ends.iter()
         .any(|end| end.client == client && end.last == last)
 }
 
-/// Whether a transaction of an earlier client ends at this number.
+/// Returns whether a transaction of an earlier client ends at this number.
 fn ends_before(ends: &[End], client: u64, last: u64) -> bool {
     ends.iter()
         .any(|end| end.client < client && end.last == last)
 }
 
-/// Whether a writer's points are below its next number, and its durable point isn't below the cut of its own recovery.
+/// Returns whether a writer's points are below its next number, and its durable point isn't below the cut of its own
+/// recovery.
 fn check_points(outcome: &Outcome, writer: Writer) -> Result<(), Broken> {
     let Writer {
         client,
@@ -145,7 +146,7 @@ fn check_points(outcome: &Outcome, writer: Writer) -> Result<(), Broken> {
     Ok(())
 }
 
-/// Whether a recovery starts at its cut or above.
+/// Returns whether a recovery starts at its cut or above.
 fn check_start(find: Find) -> Result<(), Broken> {
     let Find { client, cut, start } = find;
     if !is_kept(cut, start) {
@@ -158,7 +159,8 @@ fn check_start(find: Find) -> Result<(), Broken> {
     Ok(())
 }
 
-/// Whether a writer has numbered the records of its transactions one after the other, and its durable point parts none of them.
+/// Returns whether a writer has numbered the records of its transactions one after the other, and its durable point
+/// parts none of them.
 fn check_log(outcome: &Outcome, ends: &[End], writer: Writer) -> Result<(), Broken> {
     let Writer {
         client,
@@ -182,7 +184,7 @@ fn check_log(outcome: &Outcome, ends: &[End], writer: Writer) -> Result<(), Brok
     Ok(())
 }
 
-/// Whether the cut of a recovery parts no transaction.
+/// Returns whether the cut of a recovery parts no transaction.
 fn check_cut(ends: &[End], find: Find) -> Result<(), Broken> {
     let Find { client, cut, .. } = find;
     if cut != 0 && !ends_before(ends, client, cut) {
@@ -194,7 +196,7 @@ fn check_cut(ends: &[End], find: Find) -> Result<(), Broken> {
     Ok(())
 }
 
-/// Whether a writer's commits stand in a later recovery, which gives none of the writer's numbers again.
+/// Returns whether a writer's commits stand in a later recovery, which gives none of the writer's numbers again.
 fn check_pair(writer: Writer, find: Find) -> Result<(), Broken> {
     if !is_kept(writer.durable, find.cut) {
         return Err(Broken::Lost {
@@ -215,7 +217,7 @@ fn check_pair(writer: Writer, find: Find) -> Result<(), Broken> {
     Ok(())
 }
 
-/// Whether all earlier writers go with a recovery; how many these are.
+/// Returns whether all earlier writers go with a recovery; how many these are.
 fn check_commits(writers: &[Writer], find: Find) -> Result<u64, Broken> {
     let mut compared = 0u64;
     for writer in writers.iter() {
@@ -227,7 +229,7 @@ fn check_commits(writers: &[Writer], find: Find) -> Result<u64, Broken> {
     Ok(compared)
 }
 
-/// How many of a writer's transactions are acknowledged.
+/// Returns how many of a writer's transactions are acknowledged.
 fn acknowledged_by(ends: &[End], writer: Writer) -> u64 {
     let mut acknowledged = 0u64;
     for end in ends.iter() {
@@ -238,7 +240,7 @@ fn acknowledged_by(ends: &[End], writer: Writer) -> u64 {
     acknowledged
 }
 
-/// Whether writers and recoveries go with each other as the volume promises; how many pairs were compared.
+/// Returns whether writers and recoveries go with each other as the volume promises; how many pairs were compared.
 pub fn check_promises(outcome: &Outcome) -> Result<u64, Broken> {
     for writer in outcome.writers.iter() {
         check_points(outcome, *writer)?;
@@ -251,7 +253,8 @@ pub fn check_promises(outcome: &Outcome) -> Result<u64, Broken> {
     Ok(compared)
 }
 
-/// Whether what a run prints of a script is as the volume promises: the answer to each line, and the points of all clients.
+/// Returns whether what a run prints of a script is as the volume promises: the answer to each line, and the points
+/// of all clients.
 pub fn check_run(
     alloc: Global,
     outcome: &Outcome,

@@ -10,7 +10,7 @@ const TRANSACTIONS: u8 = 9;
 /// How many records each of them has, all of the first group.
 const CHANGES: u64 = 32;
 
-/// How many pieces so many records make.
+/// How many pieces this many records make.
 const PIECES: u64 = 2;
 
 impl Schedule {
@@ -55,7 +55,7 @@ impl Schedule {
         Ok(())
     }
 
-    /// Begins a script by so many records of the first group that they make two pieces.
+    /// Begins a script by this many records of the first group that they make two pieces.
     pub fn lengthen(&mut self) -> Result<(), AllocError> {
         for _ in 0..TRANSACTIONS {
             self.commit_many()?;

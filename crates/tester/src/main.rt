@@ -1,5 +1,6 @@
-//! Tries the program: `tester [BOOK..] [SEED [COUNT]]`. Each word that ends in `.book` is a book, whose cases are tried; then come
-//! the random plans and scripts of so many seeds, of which what is printed alone tells whether the volume's promises are kept.
+//! Tries the program: `tester [BOOK..] [SEED [COUNT]]`. Each word that ends in `.book` is a book, whose cases are
+//! tried; then come the random plans and scripts of this many seeds, of which what is printed alone tells whether the
+//! volume's promises are kept.
 #![tactic(auto)]
 
 mod books;

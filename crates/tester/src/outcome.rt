@@ -54,12 +54,12 @@ pub struct Outcome {
     pub strange: u64,
 }
 
-/// A number in decimal.
+/// Returns a number in decimal.
 fn number(word: &str) -> Option<u64> {
     word.parse::<u64>().ok()
 }
 
-/// The line of a writer, of these numbers.
+/// Returns the line of a writer, of these numbers.
 fn of_writer(client: &str, durable: &str, next: &str) -> Option<Printed> {
     Some(Printed::Writer(Writer {
         client: number(client)?,
@@ -68,7 +68,7 @@ fn of_writer(client: &str, durable: &str, next: &str) -> Option<Printed> {
     }))
 }
 
-/// The line of a recovery, of these numbers.
+/// Returns the line of a recovery, of these numbers.
 fn of_find(client: &str, cut: &str, start: &str) -> Option<Printed> {
     Some(Printed::Find(Find {
         client: number(client)?,
@@ -77,7 +77,7 @@ fn of_find(client: &str, cut: &str, start: &str) -> Option<Printed> {
     }))
 }
 
-/// An answer that isn't a refusal.
+/// Returns an answer that isn't a refusal.
 fn done(line: &str, made: &str) -> Option<Printed> {
     Some(Printed::Answer(Answer {
         line: number(line)?,
@@ -85,7 +85,7 @@ fn done(line: &str, made: &str) -> Option<Printed> {
     }))
 }
 
-/// A refusal.
+/// Returns a refusal.
 fn refusal(line: &str, fault: &str) -> Option<Printed> {
     number(fault)?;
     Some(Printed::Answer(Answer {
@@ -94,7 +94,7 @@ fn refusal(line: &str, fault: &str) -> Option<Printed> {
     }))
 }
 
-/// What a line of six words says.
+/// Returns what a line of six words says.
 fn of_six(words: [&str; 6]) -> Option<Printed> {
     let [who, client, first, low, second, high] = words;
     if who == "writer" && first == "durable" && second == "next" {
@@ -106,7 +106,7 @@ fn of_six(words: [&str; 6]) -> Option<Printed> {
     None
 }
 
-/// What a line of two words says.
+/// Returns what a line of two words says.
 fn of_two(what: &str, word: &str) -> Option<Printed> {
     if what == "steps" {
         return Some(Printed::Steps(number(word)?));
@@ -120,7 +120,7 @@ fn of_two(what: &str, word: &str) -> Option<Printed> {
     None
 }
 
-/// What a line says.
+/// Returns what a line says.
 fn of_line(words: &[&str]) -> Option<Printed> {
     match words {
         [who, client, first, low, second, high] => {
@@ -173,7 +173,7 @@ impl Outcome {
         Ok(outcome)
     }
 
-    /// What a job of this name printed, where it wasn't refused.
+    /// Returns what a job of this name printed, where it wasn't refused.
     pub fn of(
         alloc: Global,
         output: &CommandOutput,
@@ -190,17 +190,17 @@ impl Outcome {
         Ok(outcome)
     }
 
-    /// How many lines weren't refused.
+    /// Returns how many lines weren't refused.
     pub fn happened(&self) -> u64 {
         (self.answers.len() as u64).saturating_sub(self.refusals())
     }
 
-    /// How many lines were refused.
+    /// Returns how many lines were refused.
     pub fn refusals(&self) -> u64 {
         self.answers.iter().filter(|a| a.made.is_none()).count() as u64
     }
 
-    /// What the recovery of a client has found.
+    /// Returns what the recovery of a client has found.
     pub fn find_of(&self, client: u64) -> Option<Find> {
         self.finds
             .iter()

@@ -35,7 +35,7 @@ const SEVEN: &[u8] = &[0, 1, 2, 3, 4, 5, 6];
 const EIGHT: &[u8] = &[0, 1, 2, 3, 4, 5, 6, 7];
 
 impl Family {
-    /// The text of a group.
+    /// Returns the text of a group.
     fn text(self) -> &'static str {
         match self {
             Family::SixCopies => SIX_COPIES,
@@ -46,7 +46,7 @@ impl Family {
         }
     }
 
-    /// The format of a plan of such groups: that of large and small members has weights.
+    /// Returns the format of a plan of such groups: that of large and small members has weights.
     fn format(self) -> u8 {
         match self {
             Family::LargeAndSmall => 2,
@@ -57,7 +57,7 @@ impl Family {
         }
     }
 
-    /// The members of a configuration.
+    /// Returns the members of a configuration.
     pub fn members(self, configuration: u8) -> &'static [u8] {
         match (self, configuration) {
             (Family::LargeAndSmall, _) => FIVE,
@@ -68,7 +68,7 @@ impl Family {
         }
     }
 
-    /// The configurations to which a group may step from this one.
+    /// Returns the configurations to which a group may step from this one.
     pub fn children(self, configuration: u8) -> &'static [u8] {
         match (self, configuration) {
             (Family::LargeAndSmall | Family::MemberReplaced | Family::TwoReplaced, 0) => &[1],
@@ -78,7 +78,7 @@ impl Family {
         }
     }
 
-    /// The member that a configuration has and its parent lacks.
+    /// Returns the member that a configuration has and its parent lacks.
     pub fn fresh(self, configuration: u8) -> Option<u8> {
         match (self, configuration) {
             (Family::MemberReplaced | Family::TwoReplaced, 1) => Some(6),
@@ -114,7 +114,7 @@ impl Family {
         Side { members, least }
     }
 
-    /// Members of which so many read.
+    /// Members of which this many read.
     pub fn read_side(self, configuration: u8, rng: &mut Rng) -> Side {
         let choice = rng.below(4);
         if self == Family::LargeAndSmall {
@@ -131,7 +131,7 @@ impl Family {
         Side { members, least: 3 }
     }
 
-    /// Members of which so many write.
+    /// Members of which this many write.
     pub fn write_side(self, configuration: u8, rng: &mut Rng) -> Side {
         if self == Family::LargeAndSmall {
             return Family::weighed_writers(configuration, rng.below(4));
@@ -161,7 +161,7 @@ pub struct Plan {
 }
 
 impl Plan {
-    /// A plan by chance.
+    /// Returns a plan by chance.
     pub fn draw(rng: &mut Rng) -> Plan {
         let family = match rng.below(7) {
             0 | 1 => Family::MemberReplaced,
@@ -183,12 +183,12 @@ impl Plan {
         }
     }
 
-    /// Whether its allowance is great enough for a long log.
+    /// Returns whether its allowance is great enough for a long log.
     pub fn is_long(&self) -> bool {
         self.allowance == LONG
     }
 
-    /// Its text, on one line.
+    /// Returns its text, on one line.
     pub fn text(&self, alloc: Global) -> Result<String, AllocError> {
         let allowance = self.allowance;
         let format = self.family.format();

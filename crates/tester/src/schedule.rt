@@ -40,7 +40,7 @@ pub struct Schedule {
 }
 
 impl Schedule {
-    /// The beginning of a script over this plan.
+    /// Returns the beginning of a script over this plan.
     pub fn new(alloc: Global, plan: Plan, mut rng: Rng) -> Result<Schedule, AllocError> {
         let favourites = rng.shuffled(alloc, &[0, 1, 2, 3, 4, 5, 6, 7])?;
         let loss = rng.one_of(&[0, 0, 10, 40]).unwrap_or(0);
@@ -69,17 +69,17 @@ impl Schedule {
         if group == 0 { first } else { second }
     }
 
-    /// The members of a group.
+    /// Returns the members of a group.
     pub fn members(&self, group: u8) -> &'static [u8] {
         self.plan.family.members(self.place(group))
     }
 
-    /// The newest writer.
+    /// Returns the newest writer.
     pub fn newest(&self) -> u32 {
         self.open.last().copied().unwrap_or(1)
     }
 
-    /// A writer, mostly the newest.
+    /// Returns a writer, mostly the newest.
     pub fn writer(&mut self) -> u32 {
         if self.rng.chance(85) {
             return self.newest();
@@ -96,7 +96,7 @@ impl Schedule {
         Ok(members)
     }
 
-    /// The first of these members that writes prefer, as many as do.
+    /// Returns the first of these members that writes prefer, as many as do.
     fn preferred(&self, alloc: Global, side: Side) -> Result<Vec<u8>, AllocError> {
         let mut members = Vec::new(alloc);
         for member in self.favourites.iter() {
@@ -107,7 +107,7 @@ impl Schedule {
         Ok(members)
     }
 
-    /// The members of a group that a write reaches.
+    /// Returns the members of a group that a write reaches.
     fn write_reach(&mut self, alloc: Global, group: u8) -> Result<Vec<u8>, AllocError> {
         let family = self.plan.family;
         let place = self.place(group);
@@ -119,7 +119,7 @@ impl Schedule {
         }
     }
 
-    /// The members of a group that a recovery reads.
+    /// Returns the members of a group that a recovery reads.
     fn read_reach(&mut self, alloc: Global, group: u8) -> Result<Vec<u8>, AllocError> {
         let family = self.plan.family;
         let place = self.place(group);
@@ -151,7 +151,7 @@ impl Schedule {
         Ok(())
     }
 
-    /// How many messages a copy or an install of a group is.
+    /// Returns how many messages a copy or an install of a group is.
     pub fn pieces_of(&self, group: u8) -> u64 {
         if group == 0 { self.pieces } else { 1 }
     }
@@ -247,7 +247,7 @@ impl Schedule {
         Ok(())
     }
 
-    /// The next line of a task.
+    /// Returns the next line of a task.
     fn go_on(&mut self, alloc: Global, task: &mut Task) -> Result<(), AllocError> {
         let chosen = self.rng.below(task.deliveries.len());
         if chosen < task.deliveries.len() {
@@ -314,7 +314,7 @@ impl Schedule {
         }
     }
 
-    /// A message, mostly a recent one.
+    /// Returns a message, mostly a recent one.
     pub fn any_message(&mut self) -> Option<Message> {
         let all = self.written.messages.as_slice();
         let count = all.len();

@@ -26,7 +26,7 @@ fn try_one<H: Threads + Wait + Sync>(
     trial.try_all(rt, alloc, several, counts)
 }
 
-/// Tries the runs of so many seeds, every fourth on several drivers too, up to the first that breaks a promise.
+/// Tries the runs of this many seeds, every fourth on several drivers too, up to the first that breaks a promise.
 fn try_many<H: Threads + Wait + Sync>(
     rt: &H,
     alloc: Global,

@@ -19,7 +19,7 @@ impl Schedule {
         Ok(())
     }
 
-    /// The groups of a transaction's changes.
+    /// Returns the groups of a transaction's changes.
     fn groups_of_changes(&mut self, alloc: Global) -> Result<Vec<u8>, AllocError> {
         let mut groups = Vec::new(alloc);
         let changes = self.rng.from(1, 4);

@@ -24,7 +24,7 @@ struct Parties {
 }
 
 impl Schedule {
-    /// The parties of a step of a group from its first configuration, where there is one.
+    /// Returns the parties of a step of a group from its first configuration, where there is one.
     fn parties(&mut self, alloc: Global, group: u8) -> Result<Option<Parties>, AllocError> {
         let Some(fresh) = self.plan.family.fresh(1) else {
             return Ok(None);

@@ -6,23 +6,23 @@ use crate::written::{Delivery, Receiver};
 use std::alloc::{AllocError, Global};
 
 impl Schedule {
-    /// A group by chance.
+    /// Returns a group by chance.
     fn any_group(&mut self) -> u8 {
         u8::from(self.plan.groups == 2 && self.rng.chance(50))
     }
 
-    /// A member of a group by chance.
+    /// Returns a member of a group by chance.
     fn any_member(&mut self, group: u8) -> u8 {
         let members = self.members(group);
         self.rng.one_of(members).unwrap_or(0)
     }
 
-    /// The number of a record that there may be.
+    /// Returns the number of a record that there may be.
     fn any_record(&mut self) -> usize {
         self.rng.from(1, 24)
     }
 
-    /// A line that belongs to no task.
+    /// Returns a line that belongs to no task.
     pub fn stray(&mut self, alloc: Global) -> Result<(), AllocError> {
         match self.rng.below(20) {
             0..=9 => self.repeat(),
@@ -102,14 +102,14 @@ impl Schedule {
         self.written.note(line, 1, Receiver::Nodes(group))
     }
 
-    /// A client is told where the groups stand.
+    /// A client is told the places of the groups.
     fn tell(&mut self, alloc: Global) -> Result<(), AllocError> {
         let client = self.clients;
         let line = self.written.of_client("refresh", client)?;
         self.keep(Task::new(alloc, Stage::Learn(line), client))
     }
 
-    /// A line that is wrong on purpose.
+    /// Returns a line that is wrong on purpose.
     fn mistake(&mut self) -> Result<(), AllocError> {
         let client = self.writer();
         let line: &str = match self.rng.below(8) {

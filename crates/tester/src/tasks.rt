@@ -53,7 +53,7 @@ pub struct Task {
 }
 
 impl Task {
-    /// A task of a client with nothing to deliver yet.
+    /// Returns a task of a client with nothing to deliver yet.
     pub fn new(alloc: Global, stage: Stage, client: u32) -> Task {
         Task {
             stage,
@@ -64,14 +64,14 @@ impl Task {
         }
     }
 
-    /// Whether nothing is left to do.
+    /// Returns whether nothing is left to do.
     pub fn is_done(&self) -> bool {
         matches!(self.stage, Stage::Finished)
             && self.deliveries.is_empty()
             && self.answers.is_empty()
     }
 
-    /// Whether its client takes the answers.
+    /// Returns whether its client takes the answers.
     pub fn takes(&self) -> bool {
         !matches!(self.stage, Stage::Ask | Stage::Send | Stage::Hydrate)
     }

@@ -54,7 +54,7 @@ impl Counts {
 }
 
 impl Trial {
-    /// The plan and the script of this seed.
+    /// Returns the plan and the script of this seed.
     pub fn new(alloc: Global, seed: u64) -> Result<Trial, AllocError> {
         let mut rng = Rng::new(seed);
         let plan = Plan::draw(&mut rng);
@@ -67,12 +67,12 @@ impl Trial {
         })
     }
 
-    /// How many events a fleet counts.
+    /// Returns how many events a fleet counts.
     fn events(&self) -> u64 {
         self.script.lines.saturating_sub(self.script.waits)
     }
 
-    /// What a job says of the plan and the script.
+    /// Returns what a job says of the plan and the script.
     fn output<H: Threads + Wait + Sync>(
         &self,
         rt: &H,
@@ -83,7 +83,7 @@ impl Trial {
         say(rt, alloc, job, plan, self.script.text.as_str())
     }
 
-    /// Runs the script on threads by so many drivers, and judges what it prints.
+    /// Runs the script on threads by this many drivers, and judges what it prints.
     fn try_fleet<H: Threads + Wait + Sync>(
         &self,
         rt: &H,

@@ -5,13 +5,13 @@
 pub enum Wish {
     /// Nothing else.
     Books,
-    /// Try the runs of so many seeds from this one on.
+    /// Try the runs of this many seeds from this one on.
     Try { seed: u64, count: u64 },
     /// Show the plan and the script of a seed.
     Show { seed: u64 },
 }
 
-/// Whether a word names a book.
+/// Returns whether a word names a book.
 pub fn is_book(word: &str) -> bool {
     word.ends_with(".book")
 }
@@ -36,7 +36,7 @@ pub fn asked_by(words: &[String]) -> Option<Wish> {
     }
 }
 
-/// A number in decimal.
+/// Returns a number in decimal.
 fn number(word: &String) -> Option<u64> {
     word.as_str().parse::<u64>().ok()
 }

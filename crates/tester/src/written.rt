@@ -50,7 +50,7 @@ pub struct Written {
 }
 
 impl Written {
-    /// An empty script.
+    /// Returns an empty script.
     pub fn new(alloc: Global) -> Written {
         Written {
             text: String::new(alloc),
@@ -80,7 +80,7 @@ impl Written {
         Ok(())
     }
 
-    /// Notes a message for each of so many groups.
+    /// Notes a message for each of this many groups.
     pub fn note_each(&mut self, line: u64, groups: u8) -> Result<(), AllocError> {
         for group in 0..groups {
             self.note(
@@ -112,19 +112,19 @@ impl Written {
         self.end()
     }
 
-    /// A line of a word and a client.
+    /// Returns a line of a word and a client.
     pub fn of_client(&mut self, word: &str, client: u32) -> Result<u64, AllocError> {
         write!(self.text, "{word} {client}")?;
         self.end()
     }
 
-    /// A line of a word, a group and a member.
+    /// Returns a line of a word, a group and a member.
     pub fn of_node(&mut self, word: &str, group: u8, member: u8) -> Result<u64, AllocError> {
         write!(self.text, "{word} {group} {member}")?;
         self.end()
     }
 
-    /// A line that does nothing.
+    /// Returns a line that does nothing.
     pub fn wait(&mut self) -> Result<(), AllocError> {
         self.put("wait")?;
         self.waits = self.waits.saturating_add(1);

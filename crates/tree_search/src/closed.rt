@@ -7,7 +7,7 @@ use crate::spending::Search;
 use refutation::{Refutation, Side};
 use std::alloc::{AllocError, Allocator};
 
-/// What refutes the state whose only items are these, where it is found in trees of so many levels.
+/// Returns what refutes the state whose only items are these, where it is found in trees of this many levels.
 #[cycle(closed)]
 pub fn closed<B: Allocator + Clone, C: Allocator>(
     search: &mut Search<B>,
@@ -28,7 +28,7 @@ pub fn closed<B: Allocator + Clone, C: Allocator>(
     }
 }
 
-/// Both sides, with a child in the place of the one.
+/// Returns both sides, with a child in the place of the one.
 fn pair<'p>(side: Side, both: (&'p Part, &'p Part), child: &'p Part) -> (&'p Part, &'p Part) {
     match side {
         Side::Left => (child, both.1),
@@ -36,7 +36,8 @@ fn pair<'p>(side: Side, both: (&'p Part, &'p Part), child: &'p Part) -> (&'p Par
     }
 }
 
-/// A bit for each of the first of these children of a side that close with the other side, of so much weight together.
+/// Returns a bit for each of the first of these children of a side that close with the other side, of so much weight
+/// together.
 fn chosen<C: Allocator>(
     closing: &Closing<C>,
     side: Side,
@@ -61,7 +62,8 @@ fn chosen<C: Allocator>(
     chosen
 }
 
-/// The pick of those children of a side's only item that close with that of the other side, of as much weight as is needed.
+/// Returns the pick of those children of a side's only item that close with that of the other side, of as much weight
+/// as is needed.
 #[cycle(closed)]
 fn picked<B: Allocator + Clone, C: Allocator>(
     search: &mut Search<B>,
@@ -100,7 +102,7 @@ fn picked<B: Allocator + Clone, C: Allocator>(
     }))
 }
 
-/// The match of children of the only items that close.
+/// Returns the match of children of the only items that close.
 #[cycle(closed)]
 fn matched<B: Allocator + Clone, C: Allocator>(
     search: &mut Search<B>,

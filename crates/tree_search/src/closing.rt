@@ -30,23 +30,23 @@ pub struct Closing<B: Allocator> {
     grid: Grid<B>,
 }
 
-/// What the pairs of a match of two choices weigh at least.
+/// Returns what the pairs of a match of two choices weigh at least.
 pub fn wanted(of: &Choice, others: &Choice) -> usize {
     (of.needed().saturating_add(others.needed())).saturating_sub(1)
 }
 
-/// How many members there are.
+/// Returns how many members there are.
 fn count(members: u64) -> usize {
     members.count_ones() as usize
 }
 
-/// How many children of a choice over members can't hold.
+/// Returns how many children of a choice over members can't hold.
 fn dead(choice: &Choice, part: &Part) -> usize {
     choice.len().saturating_sub(count(part.members))
 }
 
-/// How many pairs of equal members a match of two choices takes, where both are over members that may all be there and enough of
-/// these are equal.
+/// Returns how many pairs of equal members a match of two choices takes, where both are over members that may all be
+/// there and enough of these are equal.
 pub fn equal_members(one: &Part, of: &Choice, other: &Part, others: &Choice) -> Option<usize> {
     let are_there = dead(of, one) == 0 && dead(others, other) == 0;
     let wanted = wanted(of, others);
@@ -54,7 +54,7 @@ pub fn equal_members(one: &Part, of: &Choice, other: &Part, others: &Choice) -> 
     (of.is_flat && others.is_flat && are_there && is_enough).then_some(wanted)
 }
 
-/// The weights of up to 64 subexpressions.
+/// Returns the weights of up to 64 subexpressions.
 pub fn weights(parts: &[Part]) -> [u8; 64] {
     let mut weights = [0u8; 64];
     for (weight, part) in weights.iter_mut().zip(parts) {
@@ -64,18 +64,18 @@ pub fn weights(parts: &[Part]) -> [u8; 64] {
 }
 
 impl<B: Allocator> Closing<B> {
-    /// The left subexpression with a number.
+    /// Returns the left subexpression with a number.
     pub fn left(&self, at: usize) -> Option<&Part> {
         self.lefts.at(at)
     }
 
-    /// The right subexpression with a number.
+    /// Returns the right subexpression with a number.
     pub fn right(&self, at: usize) -> Option<&Part> {
         self.rights.at(at)
     }
 
-    /// Goes through all pairs of choices, those of children before those of their parents, as far as the search may. None where it may not even
-    /// make room for them.
+    /// Goes through all pairs of choices, those of children before those of their parents, as far as the search may.
+    /// `None` if it may not even make room for them.
     pub fn new(
         search: &mut Search<B>,
         lefts: Parts<B>,
@@ -100,7 +100,7 @@ impl<B: Allocator> Closing<B> {
         Ok(Some(closing))
     }
 
-    /// The members that matter on both sides, in the order in which their cases are tried.
+    /// Returns the members that matter on both sides, in the order in which their cases are tried.
     pub fn members(&self, arena: &B) -> Result<Vec<u8, B>, AllocError>
     where
         B: Clone,
@@ -108,7 +108,7 @@ impl<B: Allocator> Closing<B> {
         ordered(arena, self.lefts.all.as_slice(), self.rights.all.as_slice())
     }
 
-    /// How many subexpressions there are on both sides.
+    /// Returns how many subexpressions there are on both sides.
     pub fn size(&self) -> usize {
         self.lefts.len().saturating_add(self.rights.len())
     }
@@ -122,7 +122,8 @@ impl<B: Allocator> Closing<B> {
         }
     }
 
-    /// Whether a pair of choices closes, where the pairs of children are known and the search may look at these.
+    /// Returns whether a pair of choices closes, where the pairs of children are known and the search may look at
+    /// these.
     fn choices_close(&self, search: &mut Search<B>, row: usize, column: usize) -> bool {
         match (self.lefts.choice(row), self.rights.choice(column)) {
             (Some(one), Some(other)) => {
@@ -132,7 +133,7 @@ impl<B: Allocator> Closing<B> {
         }
     }
 
-    /// How many steps it takes at most to see how a pair is closed.
+    /// Returns how many steps it takes at most to see how a pair is closed.
     pub fn steps(&self, one: &Part, other: &Part) -> u64 {
         match (&one.form, &other.form) {
             (Form::KOf(of), Form::KOf(others)) if !of.is_flat || !others.is_flat => {
@@ -143,7 +144,7 @@ impl<B: Allocator> Closing<B> {
         }
     }
 
-    /// Whether a pair is known to close.
+    /// Returns whether a pair is known to close.
     pub fn closes(&self, one: &Part, other: &Part) -> bool {
         if !one.is_live || !other.is_live {
             return true;
@@ -191,7 +192,7 @@ impl<B: Allocator> Closing<B> {
         }
     }
 
-    /// A pick of a left choice's children, where enough of them close with the right side.
+    /// Returns a pick of a left choice's children, where enough of them close with the right side.
     fn pick_left(&self, one: &Part, of: &Choice, other: &Part) -> Option<Way> {
         let weight = if of.is_flat {
             dead(of, one).saturating_add(count(one.members & other.needs))
@@ -201,7 +202,7 @@ impl<B: Allocator> Closing<B> {
         (weight >= of.needed()).then_some(Way::Pick(Side::Left))
     }
 
-    /// A pick of a right choice's children, where enough of them close with the left side.
+    /// Returns a pick of a right choice's children, where enough of them close with the left side.
     fn pick_right(&self, one: &Part, other: &Part, others: &Choice) -> Option<Way> {
         let weight = if others.is_flat {
             dead(others, other).saturating_add(count(one.needs & other.members))
@@ -233,8 +234,8 @@ impl<B: Allocator> Closing<B> {
         weight
     }
 
-    /// Whether pairs of children that close weigh as much as a match of two choices takes. Of members, those are the equal ones and as
-    /// many as can't hold.
+    /// Returns whether pairs of children that close weigh as much as a match of two choices takes. Of members, those
+    /// are the equal ones and as many as can't hold.
     fn match_closes(&self, one: &Part, of: &Choice, other: &Part, others: &Choice) -> bool {
         if of.is_flat && others.is_flat {
             let pairs = count(one.members & other.members)
@@ -247,7 +248,7 @@ impl<B: Allocator> Closing<B> {
         }
     }
 
-    /// A bit for each of some right subexpressions that closes with a left one.
+    /// Returns a bit for each of some right subexpressions that closes with a left one.
     fn edge(&self, one: &Part, others: &[Part]) -> u64 {
         let mut edge = 0u64;
         let mut bit = 1u64;
@@ -278,12 +279,12 @@ impl<B: Allocator> Closing<B> {
         Mates::heaviest(edges, &weights(lefts), &weights(rights), wanted)
     }
 
-    /// The children of a left choice.
+    /// Returns the children of a left choice.
     pub fn lefts(&self, of: &Choice) -> &[Part] {
         self.lefts.children(of)
     }
 
-    /// The children of a right choice.
+    /// Returns the children of a right choice.
     pub fn rights(&self, others: &Choice) -> &[Part] {
         self.rights.children(others)
     }

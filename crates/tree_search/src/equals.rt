@@ -12,7 +12,7 @@ struct Chosen {
     numbers: [u8; 64],
 }
 
-/// The first so many of some children that are one of these members each.
+/// Returns the first so many of some children that are one of these members each.
 fn first_of(of: &[Part], members: u64, count: usize) -> Chosen {
     let mut chosen = Chosen {
         members: 0,
@@ -33,7 +33,8 @@ fn first_of(of: &[Part], members: u64, count: usize) -> Chosen {
     chosen
 }
 
-/// The match of so many pairs of equal members, which are among these, of the children of the only items: members that differ.
+/// Returns the match of this many pairs of equal members, which are among these, of the children of the only items:
+/// members that differ.
 pub fn equal_match<B: Allocator + Clone>(
     arena: &B,
     of: &[Part],

@@ -28,7 +28,7 @@ pub enum Tree<B: Allocator> {
     InArena(Refutation<B>),
 }
 
-/// The pairs of subexpressions of a claim that close. They take half of the steps at most.
+/// Returns the pairs of subexpressions of a claim that close. They take half of the steps at most.
 fn closing_of<A: Allocator, B: Allocator + Clone>(
     search: &mut Search<B>,
     claim: &Claim<A>,
@@ -46,7 +46,7 @@ fn closing_of<A: Allocator, B: Allocator + Clone>(
     Ok(closing)
 }
 
-/// What refutes a claim whose two expressions close by themselves.
+/// Returns what refutes a claim whose two expressions close by themselves.
 fn whole<B: Allocator>(
     search: &mut Search<Global>,
     closing: &Closing<B>,
@@ -57,8 +57,8 @@ fn whole<B: Allocator>(
     }
 }
 
-/// What refutes a claim that isn't closed by pairs: by the rules that look at items, then by the cases of members. Half of the nodes
-/// and of the steps are for the first, and what is left of all for the second.
+/// Returns what refutes a claim that isn't closed by pairs: by the rules that look at items, then by the cases of
+/// members. Half of the nodes and of the steps are for the first, and what is left of all for the second.
 fn searched<A: Allocator, B: Allocator + Clone>(
     search: &mut Search<B>,
     claim: &Claim<A>,
@@ -88,9 +88,10 @@ fn searched<A: Allocator, B: Allocator + Clone>(
     split(search, &state, Side::Left, members.as_slice(), MAX_DEPTH)
 }
 
-/// A tree that is to refute a claim, or none where the search gave up: first by the pairs of its subexpressions that close, each by
-/// itself, then by the rules that look at items and by the cases of members. The budget bounds how many nodes are tried, and with them the steps, and so
-/// the time and the memory of all of it. Tables and items lie in the arena, and so does a tree that isn't read off the pairs.
+/// Returns a tree that is to refute a claim, or none where the search gave up: first by the pairs of its
+/// subexpressions that close, each by itself, then by the rules that look at items and by the cases of members. The
+/// budget bounds how many nodes are tried, and with them the steps, and so the time and the memory of all of it.
+/// Tables and items lie in the arena, and so does a tree that isn't read off the pairs.
 ///
 /// # Errors
 /// [`AllocError`] where memory runs out.

@@ -11,24 +11,24 @@ pub struct Grid<B: Allocator> {
 }
 
 impl<B: Allocator> Grid<B> {
-    /// How many words so many rows of so many columns take.
+    /// Returns how many words this many rows of this many columns take.
     pub fn words(rows: usize, columns: usize) -> usize {
         rows.saturating_mul(columns / 64 + 1)
     }
 
-    /// So many rows of so many columns.
+    /// So many rows of this many columns.
     pub fn new(arena: B, rows: usize, columns: usize) -> Result<Grid<B>, AllocError> {
         let bits = vec![in arena; 0u64; Grid::<B>::words(rows, columns)]?;
         let words = columns / 64 + 1;
         Ok(Grid { words, bits })
     }
 
-    /// The place of the word with a bit.
+    /// Returns the place of the word with a bit.
     fn place(&self, row: usize, column: usize) -> usize {
         row.saturating_mul(self.words).saturating_add(column / 64)
     }
 
-    /// Whether a bit is set.
+    /// Returns whether a bit is set.
     pub fn has(&self, row: usize, column: usize) -> bool {
         let word = self.bits.get(self.place(row, column)).copied().unwrap_or(0);
         (word >> (column % 64)) & 1 == 1

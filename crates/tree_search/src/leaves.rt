@@ -39,7 +39,7 @@ fn clash<A: Allocator, B: Allocator>(state: &State<'_, A>) -> Option<Refutation<
     None
 }
 
-/// What refutes a state without branches.
+/// Returns what refutes a state without branches.
 pub fn leaf<A: Allocator, B: Allocator>(state: &State<'_, A>) -> Option<Refutation<B>> {
     match dead(state) {
         Some(tree) => Some(tree),
@@ -47,8 +47,8 @@ pub fn leaf<A: Allocator, B: Allocator>(state: &State<'_, A>) -> Option<Refutati
     }
 }
 
-/// Whether two disjoint sets that satisfy all items of both sides are found by giving each common member to the right
-/// side, where the left one can do without it, and else to the left.
+/// Returns whether two disjoint sets that satisfy all items of both sides are found by giving each common member to
+/// the right side, where the left one can do without it, and else to the left.
 fn leaves_enough<A: Allocator>(state: &State<'_, A>) -> bool {
     let mut left = state.left.absent.complement();
     let mut right = state.right.absent.complement();
@@ -66,7 +66,7 @@ fn leaves_enough<A: Allocator>(state: &State<'_, A>) -> bool {
     state.right.hold(right)
 }
 
-/// Whether two disjoint sets that satisfy all items of both sides are found. No item is dead.
+/// Returns whether two disjoint sets that satisfy all items of both sides are found. No item is dead.
 pub fn has_counterexample<A: Allocator>(state: &State<'_, A>) -> bool {
     leaves_enough(state) || leaves_enough(&state.turned())
 }

@@ -3,8 +3,8 @@
 /// No left child.
 const NOBODY: u8 = u8::MAX;
 
-/// How many steps a matching of so many children takes at most: one for each pair, or where they don't all weigh 1, as many times as there are
-/// children on the longer side.
+/// Returns how many steps a matching of this many children takes at most: one for each pair, or where they don't all
+/// weigh 1, as many times as there are children on the longer side.
 pub fn steps_of(lefts: usize, rights: usize, is_of_ones: bool) -> u64 {
     let pairs = (lefts as u64).saturating_mul(rights as u64);
     if is_of_ones {
@@ -61,7 +61,7 @@ struct Heaviest<'e> {
     right_prices: [i32; 65],
 }
 
-/// The number at a place, and 0 beyond the list.
+/// Returns the number at a place, and 0 beyond the list.
 fn at(list: &[i32; 65], place: usize) -> i32 {
     list.get(place).copied().unwrap_or(0)
 }
@@ -83,7 +83,7 @@ struct Reach {
 }
 
 impl Reach {
-    /// The column that costs the least more, of so many, where the search hasn't been.
+    /// Returns the column that costs the least more, of this many, where the search hasn't been.
     fn next(&self, columns: usize) -> (usize, i32) {
         let mut best = (START, i32::MAX);
         for column in 0..columns.min(64) {
@@ -97,7 +97,7 @@ impl Reach {
 }
 
 impl<'e> Heaviest<'e> {
-    /// What a pair weighs: the smaller of its two weights where it closes.
+    /// Returns what a pair weighs: the smaller of its two weights where it closes.
     fn weight(&self, left: u8, right: usize) -> i32 {
         let (edges, lefts, rights) = (self.edges, self.lefts, self.rights);
         let edge = edges.get(usize::from(left)).copied().unwrap_or(0);
@@ -110,7 +110,7 @@ impl<'e> Heaviest<'e> {
         i32::from(smaller)
     }
 
-    /// What a pair costs more than its prices.
+    /// Returns what a pair costs more than its prices.
     fn excess(&self, left: u8, right: usize) -> i32 {
         let prices = at(&self.left_prices, usize::from(left)).wrapping_add(at(
             &self.right_prices,
@@ -120,7 +120,7 @@ impl<'e> Heaviest<'e> {
             .wrapping_sub(prices)
     }
 
-    /// The left child at a column.
+    /// Returns the left child at a column.
     fn mate(&self, column: usize) -> u8 {
         self.mates.get(column).copied().unwrap_or(NOBODY)
     }
@@ -211,7 +211,8 @@ fn weight_of_closed(edges: &[u64], lefts: &[u8; 64]) -> usize {
     weight
 }
 
-/// How many columns a search for mates takes: one for each left child, and for each right one that closes with some other.
+/// Returns how many columns a search for mates takes: one for each left child, and for each right one that closes
+/// with some other.
 fn columns_of(edges: &[u64]) -> usize {
     let mut closed = 0u64;
     for edge in edges {
@@ -223,8 +224,8 @@ fn columns_of(edges: &[u64]) -> usize {
 }
 
 impl Mates {
-    /// A matching of pairs that close and weigh so much, where there is one. A pair weighs the smaller of its two weights;
-    /// `edges` has for each left child a bit for each right child with which it closes.
+    /// Returns a matching of pairs that close and weigh so much, where there is one. A pair weighs the smaller of its
+    /// two weights; `edges` has for each left child a bit for each right child with which it closes.
     pub fn heaviest(
         edges: &[u64],
         lefts: &[u8; 64],
@@ -259,8 +260,8 @@ impl Mates {
         (weight >= wanted).then_some(Mates { mates })
     }
 
-    /// A matching of so many pairs that can close, where there is one: `edges` has for each left child a bit for each
-    /// right child with which it closes.
+    /// Returns a matching of this many pairs that can close, where there is one: `edges` has for each left child a
+    /// bit for each right child with which it closes.
     pub fn find(edges: &[u64], wanted: usize) -> Option<Mates> {
         let mut mates = [NOBODY; 64];
         let mut pairs = 0usize;
@@ -279,12 +280,12 @@ impl Mates {
         Some(Mates { mates })
     }
 
-    /// How many pairs there are.
+    /// Returns how many pairs there are.
     pub fn len(&self) -> usize {
         self.mates.iter().filter(|mate| **mate != NOBODY).count()
     }
 
-    /// The left child that a right one is matched with.
+    /// Returns the left child that a right one is matched with.
     pub fn of(&self, right: u8) -> Option<u8> {
         match self.mates.get(usize::from(right)) {
             Some(left) if *left != NOBODY => Some(*left),
@@ -292,7 +293,7 @@ impl Mates {
         }
     }
 
-    /// Whether two children are mates.
+    /// Returns whether two children are mates.
     pub fn are_mates(&self, left: u8, right: u8) -> bool {
         self.of(right) == Some(left)
     }

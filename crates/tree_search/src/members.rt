@@ -4,7 +4,7 @@ use crate::state::{Row, State};
 use quorum_expr::{Expr, MEMBERS, MemberSet};
 use std::alloc::Allocator;
 
-/// The members that an expression speaks of.
+/// Returns the members that an expression speaks of.
 fn members_of<A: Allocator>(expr: &Expr<A>) -> MemberSet {
     match expr {
         Expr::Member(member) => {
@@ -24,7 +24,7 @@ fn members_of<A: Allocator>(expr: &Expr<A>) -> MemberSet {
     }
 }
 
-/// The members that may be there and that an item speaks of.
+/// Returns the members that may be there and that an item speaks of.
 fn members_in<A: Allocator>(row: &Row<'_, A>) -> MemberSet {
     let mut members = MemberSet::empty();
     for item in row.items {
@@ -33,7 +33,7 @@ fn members_in<A: Allocator>(row: &Row<'_, A>) -> MemberSet {
     members.difference(row.absent)
 }
 
-/// The members that matter on both sides.
+/// Returns the members that matter on both sides.
 pub fn common<A: Allocator>(state: &State<'_, A>) -> MemberSet {
     members_in(&state.left).intersection(members_in(&state.right))
 }

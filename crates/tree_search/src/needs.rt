@@ -11,7 +11,7 @@ pub struct Known {
     pub needs: u64,
 }
 
-/// Whether the children are members of weight 1, of which those that may be there differ.
+/// Returns whether the children are members of weight 1, of which those that may be there differ.
 fn are_flat(children: &[Part]) -> bool {
     let mut members = 0u64;
     for child in children {
@@ -38,7 +38,7 @@ fn weight_of(children: &[Part], members: u64) -> usize {
     weight
 }
 
-/// The members of which each is needed by children of so much weight that may hold.
+/// Returns the members of which each is needed by children of so much weight that may hold.
 fn needed_by(children: &[Part], needed: usize) -> u64 {
     let mut sure = 0u64;
     let mut some = 0u64;

@@ -63,13 +63,13 @@ pub struct Parts<B: Allocator> {
 }
 
 impl Choice {
-    /// The numbers of its children.
+    /// Returns the numbers of its children.
     pub fn children(&self) -> Range<usize> {
         let first = usize::from(self.first);
         first..first + usize::from(self.count)
     }
 
-    /// How many children there are.
+    /// Returns how many children there are.
     pub fn len(&self) -> usize {
         usize::from(self.count)
     }
@@ -79,7 +79,7 @@ impl Choice {
         (usize::from(self.total) + 1).saturating_sub(usize::from(self.k))
     }
 
-    /// Whether each child weighs 1.
+    /// Returns whether each child weighs 1.
     pub fn is_of_ones(&self) -> bool {
         self.total == self.count
     }
@@ -94,12 +94,12 @@ pub fn total<A: Allocator>(of: &[(u8, Expr<A>)]) -> usize {
     total
 }
 
-/// A number of up to 16 bits, as all are of an expression whose subexpressions aren't too many.
+/// Returns a number of up to 16 bits, as all are of an expression whose subexpressions aren't too many.
 fn short(number: usize) -> u16 {
     u16::try_from(number).unwrap_or(u16::MAX)
 }
 
-/// A member, where it may be there.
+/// Returns a member, where it may be there.
 fn member_part(member: u8, weight: u8, absent: MemberSet) -> Part {
     let bit = 1u64.checked_shl(u32::from(member)).unwrap_or(0);
     let is_live = !absent.contains(member);
@@ -112,7 +112,7 @@ fn member_part(member: u8, weight: u8, absent: MemberSet) -> Part {
     }
 }
 
-/// A choice of so many subexpressions from a number on, of which nothing is known yet.
+/// Returns a choice of this many subexpressions from a number on, of which nothing is known yet.
 fn choice_part(k: u16, weight: u8, number: usize) -> Part {
     let choice = Choice {
         k,
@@ -181,22 +181,22 @@ impl<'e, A: Allocator, B: Allocator> Listing<'e, A, B> {
 }
 
 impl<B: Allocator> Parts<B> {
-    /// The part with a number.
+    /// Returns the part with a number.
     pub fn at(&self, number: usize) -> Option<&Part> {
         self.all.get(number)
     }
 
-    /// The choice with a number among them.
+    /// Returns the choice with a number among them.
     pub fn choice(&self, number: usize) -> Option<&Part> {
         self.all.get(*self.choices.get(number)?)
     }
 
-    /// The children of a choice.
+    /// Returns the children of a choice.
     pub fn children(&self, choice: &Choice) -> &[Part] {
         self.all.get(choice.children()).unwrap_or(&[])
     }
 
-    /// How many there are.
+    /// Returns how many there are.
     pub fn len(&self) -> usize {
         self.all.len()
     }
@@ -237,7 +237,8 @@ impl<B: Allocator> Parts<B> {
     }
 }
 
-/// The subexpressions of an expression where these members are absent. None where they are too many, or more than the search may look at.
+/// Returns the subexpressions of an expression where these members are absent. `None` if they are too many, or more
+/// than the search may look at.
 pub fn parts_of<A: Allocator, B: Allocator + Clone>(
     search: &mut Search<B>,
     expr: &Expr<A>,

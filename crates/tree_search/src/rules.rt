@@ -25,7 +25,7 @@ struct Closing<B: Allocator> {
     edges: Vec<u64, B>,
 }
 
-/// The first item that asks for all its children.
+/// Returns the first item that asks for all its children.
 fn first_all<A: Allocator>(row: &Row<'_, A>) -> Option<usize> {
     row.items.iter().position(|item| match *item {
         Expr::Member(_) => false,
@@ -33,7 +33,7 @@ fn first_all<A: Allocator>(row: &Row<'_, A>) -> Option<usize> {
     })
 }
 
-/// The first item that asks for one of its children.
+/// Returns the first item that asks for one of its children.
 fn first_any<A: Allocator>(row: &Row<'_, A>) -> Option<usize> {
     row.items.iter().position(|item| match *item {
         Expr::Member(_) => false,
@@ -41,7 +41,7 @@ fn first_any<A: Allocator>(row: &Row<'_, A>) -> Option<usize> {
     })
 }
 
-/// What the first 64 children weigh.
+/// Returns what the first 64 children weigh.
 fn weights<A: Allocator>(of: &[(u8, Expr<A>)]) -> [u8; 64] {
     let mut weights = [0u8; 64];
     for (place, child) in weights.iter_mut().zip(of) {
@@ -50,7 +50,7 @@ fn weights<A: Allocator>(of: &[(u8, Expr<A>)]) -> [u8; 64] {
     weights
 }
 
-/// Whether it is worth while to look for what closes a pair of children.
+/// Returns whether it is worth while to look for what closes a pair of children.
 fn may_close<A: Allocator>(state: &State<'_, A>, left: &Expr<A>, right: &Expr<A>) -> bool {
     match (left, right) {
         (Expr::Member(one), Expr::Member(other)) => {
@@ -60,7 +60,7 @@ fn may_close<A: Allocator>(state: &State<'_, A>, left: &Expr<A>, right: &Expr<A>
     }
 }
 
-/// What refutes a state by its items, where it is found in trees of so many levels.
+/// Returns what refutes a state by its items, where it is found in trees of this many levels.
 #[cycle(rules)]
 pub fn refute<A: Allocator, B: Allocator + Clone>(
     search: &mut Search<B>,
@@ -92,7 +92,7 @@ pub fn refute<A: Allocator, B: Allocator + Clone>(
     }
 }
 
-/// What refutes a state whose item is replaced by all its children.
+/// Returns what refutes a state whose item is replaced by all its children.
 #[cycle(rules)]
 fn open<A: Allocator, B: Allocator + Clone>(
     search: &mut Search<B>,
@@ -119,7 +119,8 @@ fn open<A: Allocator, B: Allocator + Clone>(
     Ok(Some(Refutation::Open { side, item, then }))
 }
 
-/// What refutes a state whose item is replaced by one of its children, for so many of them that what is left weighs too little.
+/// Returns what refutes a state whose item is replaced by one of its children, for this many of them that what is
+/// left weighs too little.
 #[cycle(rules)]
 fn pick<A: Allocator, B: Allocator + Clone>(
     search: &mut Search<B>,
@@ -171,7 +172,7 @@ fn pick<A: Allocator, B: Allocator + Clone>(
     }))
 }
 
-/// What refutes a state by a match of two of its thresholds.
+/// Returns what refutes a state by a match of two of its thresholds.
 #[cycle(rules)]
 fn match_some<A: Allocator, B: Allocator + Clone>(
     search: &mut Search<B>,
@@ -191,7 +192,7 @@ fn match_some<A: Allocator, B: Allocator + Clone>(
     Ok(None)
 }
 
-/// What refutes a state by picks from one of its thresholds.
+/// Returns what refutes a state by picks from one of its thresholds.
 #[cycle(rules)]
 fn pick_some<A: Allocator, B: Allocator + Clone>(
     search: &mut Search<B>,
@@ -211,8 +212,8 @@ fn pick_some<A: Allocator, B: Allocator + Clone>(
     Ok(None)
 }
 
-/// The pairs of children of two thresholds that close, each by itself, and for each left child a bit for each right child with
-/// which it does.
+/// Returns the pairs of children of two thresholds that close, each by itself, and for each left child a bit for each
+/// right child with which it does.
 #[cycle(rules)]
 fn close_pairs<A: Allocator, B: Allocator + Clone>(
     search: &mut Search<B>,
@@ -245,7 +246,7 @@ fn close_pairs<A: Allocator, B: Allocator + Clone>(
     Ok(Closing { pairs, edges })
 }
 
-/// What refutes a state by a match of two of its items.
+/// Returns what refutes a state by a match of two of its items.
 #[cycle(rules)]
 fn match_two<A: Allocator, B: Allocator + Clone>(
     search: &mut Search<B>,
@@ -291,7 +292,7 @@ fn match_two<A: Allocator, B: Allocator + Clone>(
     Ok(Some(matched(&search.arena, left, right, &mates, closing.pairs)?))
 }
 
-/// The match of the pairs that are mates.
+/// Returns the match of the pairs that are mates.
 fn matched<B: Allocator + Clone>(
     arena: &B,
     left: u16,

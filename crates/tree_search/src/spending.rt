@@ -37,7 +37,8 @@ impl<B: Allocator> Search<B> {
         self.spend(1, self.state_steps)
     }
 
-    /// Whether a state may be looked at whose tree may have so many levels. Asked before a row is copied for it.
+    /// Returns whether a state may be looked at whose tree may have this many levels. Asked before a row is copied
+    /// for it.
     pub fn may_try(&self, levels: u8) -> bool {
         levels > 0 && self.nodes > 0 && self.state_steps <= self.steps
     }

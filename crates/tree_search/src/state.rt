@@ -24,7 +24,7 @@ pub struct State<'a, A: Allocator> {
 }
 
 impl<'a, A: Allocator> Row<'a, A> {
-    /// The number that an item has on its side.
+    /// Returns the number that an item has on its side.
     pub fn number(&self, at: usize) -> Option<u16> {
         u16::try_from(self.before.saturating_add(at)).ok()
     }
@@ -50,7 +50,7 @@ impl<'a, A: Allocator> Row<'a, A> {
         self.with(self.before.saturating_add(others), items)
     }
 
-    /// The same with one more member absent.
+    /// Returns the same with one more member absent.
     fn lacking(&self, member: u8) -> Row<'a, A>
         requires { member < 64 }
     {
@@ -61,7 +61,7 @@ impl<'a, A: Allocator> Row<'a, A> {
         }
     }
 
-    /// The same items.
+    /// Returns the same items.
     fn again(&self) -> Row<'a, A> {
         Row {
             before: self.before,
@@ -70,7 +70,7 @@ impl<'a, A: Allocator> Row<'a, A> {
         }
     }
 
-    /// The items without one of them.
+    /// Returns the items without one of them.
     fn rest<B: Allocator>(&self, alloc: B, at: usize) -> Result<Vec<&'a Expr<A>, B>, AllocError> {
         let mut rest = Vec::new(alloc);
         for (i, item) in self.items.iter().enumerate() {
@@ -81,7 +81,7 @@ impl<'a, A: Allocator> Row<'a, A> {
         Ok(rest)
     }
 
-    /// The items with one replaced by others at the end.
+    /// Returns the items with one replaced by others at the end.
     pub fn replaced<B: Allocator>(
         &self,
         alloc: B,
@@ -95,7 +95,7 @@ impl<'a, A: Allocator> Row<'a, A> {
         Ok(list)
     }
 
-    /// The items with one replaced by one of its children at the end.
+    /// Returns the items with one replaced by one of its children at the end.
     pub fn replaced_by_one<B: Allocator>(
         &self,
         alloc: B,
@@ -107,7 +107,7 @@ impl<'a, A: Allocator> Row<'a, A> {
         Ok(list)
     }
 
-    /// Whether all items hold in a set of members.
+    /// Returns whether all items hold in a set of members.
     pub fn hold(&self, members: MemberSet) -> bool {
         self.items.iter().all(|item| holds(*item, members))
     }
@@ -118,7 +118,7 @@ impl<'a, A: Allocator> Row<'a, A> {
         self.items.iter().position(|item| !holds(*item, present))
     }
 
-    /// The members that are items.
+    /// Returns the members that are items.
     pub fn members(&self) -> MemberSet {
         let mut members = MemberSet::empty();
         for item in self.items {
@@ -131,7 +131,7 @@ impl<'a, A: Allocator> Row<'a, A> {
         members
     }
 
-    /// The first item that is this member.
+    /// Returns the first item that is this member.
     pub fn place_of(&self, member: u8) -> Option<usize> {
         self.items.iter().position(|item| match *item {
             Expr::Member(own) => *own == member,
@@ -141,7 +141,7 @@ impl<'a, A: Allocator> Row<'a, A> {
 }
 
 impl<'a, A: Allocator> State<'a, A> {
-    /// The state with these items, and these members absent from the left side and from the right one.
+    /// Returns the state with these items, and these members absent from the left side and from the right one.
     pub fn new(
         lefts: &'a [&'a Expr<A>],
         rights: &'a [&'a Expr<A>],
@@ -161,7 +161,7 @@ impl<'a, A: Allocator> State<'a, A> {
         }
     }
 
-    /// The items of a side.
+    /// Returns the items of a side.
     pub fn row(&self, side: Side) -> Row<'a, A> {
         match side {
             Side::Left => self.left.again(),
@@ -169,7 +169,7 @@ impl<'a, A: Allocator> State<'a, A> {
         }
     }
 
-    /// The sides in each other's place.
+    /// Returns the sides in each other's place.
     pub fn turned(&self) -> State<'a, A> {
         State {
             left: self.right.again(),
@@ -177,7 +177,7 @@ impl<'a, A: Allocator> State<'a, A> {
         }
     }
 
-    /// The same with other items on a side.
+    /// Returns the same with other items on a side.
     pub fn changed<'b>(&self, side: Side, items: &'b [&'b Expr<A>]) -> State<'b, A>
     where
         'a: 'b,
@@ -194,7 +194,7 @@ impl<'a, A: Allocator> State<'a, A> {
         }
     }
 
-    /// The same with one more member absent from a side.
+    /// Returns the same with one more member absent from a side.
     pub fn lacking(&self, side: Side, member: u8) -> State<'a, A>
         requires { member < 64 }
     {

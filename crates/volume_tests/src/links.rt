@@ -16,7 +16,7 @@ struct Link {
 // Whether these records lead from the number down to 0.
 fn is_reached(chains: &Chains, held: &[Link], number: u64) -> bool {
     number == 0
-        || held.iter().any(|link| link.number == number && !chains.is_waited_for(link.before))
+        || held.iter().any(|link| link.number == number && !chains.has_pending(link.before))
 }
 
 // Takes a record up, and tells the complete point.
@@ -30,11 +30,11 @@ fn take(
     requires { before < number }
 {
     if is_reached(chains, held.as_slice(), before) {
-        let woken = chains.woken(alloc, number)?;
-        chains.land(woken.as_slice());
+        let released = chains.released(alloc, number)?;
+        chains.land(released.as_slice());
     } else {
         chains.make_room(alloc, before)?;
-        chains.wait(before, number);
+        chains.add_pending(before, number);
     }
     held.push(Link { number, before })?;
     Ok(chains.point())

@@ -1,4 +1,4 @@
-//! Records on their way out.
+//! Records that an actor lends for sending.
 
 ghost use Rattle.std.specs.Prelude.{◌≡◌, IfOk};
 ghost use Rattle.volume_model.specs.Message as model;
@@ -10,19 +10,19 @@ use crate::message::{Gossip, Message, Write};
 use redo_record::SharedRecord;
 use std::alloc::AllocError;
 
-/// A record that an actor lends, with the group and the label under which it is carried.
+/// A record that an actor lends for sending, with the message's group and label.
 #[derive(Clone, Copy)]
 pub struct Carried<'a> {
     /// The group.
     pub group: u8,
-    /// The epochs under which the actor speaks.
+    /// The message's epochs.
     pub label: Label,
     /// The record.
     pub packet: &'a SharedRecord,
 }
 
 impl Carried<'_> {
-    /// The `Write` that carries the record. Fails for want of memory alone.
+    /// Returns the `Write` that carries the record. Fails only with `NoMemory`.
     pub fn write(&self) -> Result<Message, AllocError>
         ensures { IfOk result (λ message. message_of message ≡ model.Message.Write self.now.group (label_of self.now.label) (shared_redo self.now.packet.now)) }
     {
@@ -33,7 +33,7 @@ impl Carried<'_> {
         }))
     }
 
-    /// The `Gossip` that carries the record. Fails for want of memory alone.
+    /// Returns the `Gossip` that carries the record. Fails only with `NoMemory`.
     pub fn gossip(&self) -> Result<Message, AllocError>
         ensures { IfOk result (λ message. message_of message ≡ model.Message.Gossip self.now.group (label_of self.now.label) (shared_redo self.now.packet.now)) }
     {

@@ -1,4 +1,4 @@
-//! What a segment holds.
+//! The contents of a segment.
 
 ghost use Rattle.std.specs.Prelude.{◌≡◌, length, IfOk};
 ghost use Rattle.volume_model.specs.Node.{in_group};
@@ -15,31 +15,31 @@ pub const MOST_PIECES: u16 = 4096;
 /// How many records a piece may have.
 const MOST_IN_PIECE: usize = 256;
 
-/// What a segment holds, says that it holds, or is to hold.
+/// The contents of a segment: what it holds, reports, or is to hold.
 #[derive(Drop)]
 pub struct Contents {
-    /// The recoveries that its volume went through.
+    /// The lineage.
     pub lineage: Lineage,
     /// Its records.
     pub records: RecordSet,
 }
 
 impl Contents {
-    /// Whether each of the records is one of the group.
+    /// Returns whether each of the records is one of the group.
     pub fn is_of(&self, group: u8) -> bool
         ensures { result ≡ in_group group (contents_of self.now) }
     {
         self.records.is_of(group)
     }
 
-    /// How many pieces it is cut into: one at least, none of them of more than 256 records.
+    /// Returns how many pieces it is cut into: one at least, none of them of more than 256 records.
     pub fn pieces(&self) -> usize
         ensures { result ≡ pieces_of (length (contents_of self.now).records) }
     {
         self.records.pieces()
     }
 
-    /// The piece of this number, counted from 0. Fails for want of memory alone.
+    /// Returns the piece of this number, counted from 0. Fails only with `NoMemory`.
     pub fn piece(&self, number: usize) -> Result<Contents, AllocError>
         ensures { IfOk result (λ piece. contents_of piece ≡ piece_of (contents_of self.now) number) }
     {
@@ -50,8 +50,8 @@ impl Contents {
         })
     }
 
-    /// Whether it can be the piece of this number of so many: there are 1 to 4,096, the number is below that, and it has no more than
-    /// 256 records.
+    /// Returns whether it can be the piece of this number of this many: there are 1 to 4,096, the number is below
+    /// that, and it has no more than 256 records.
     pub fn is_piece(&self, piece: u16, of: u16) -> bool
         ensures { result ≡ is_piece (piece_in piece of) (contents_of self.now) }
     {

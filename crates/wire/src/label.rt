@@ -1,6 +1,6 @@
-//! The epochs under which a client speaks, and where a group stands.
+//! Labels of messages, and places of groups.
 
-/// The epochs under which a client speaks.
+/// The epochs of a message: its client's volume epoch and the membership epoch that the client knows of the group.
 #[derive(Clone, Copy, Debug, PartialEq, Eq)]
 pub struct Label {
     /// The client's volume epoch.
@@ -9,7 +9,7 @@ pub struct Label {
     pub member: u32,
 }
 
-/// Where a group stands.
+/// A group's place: its configuration and membership epoch.
 #[derive(Clone, Copy, Debug, PartialEq, Eq)]
 pub struct Place {
     /// Its configuration.

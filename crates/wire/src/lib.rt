@@ -1,4 +1,4 @@
-//! What actors say to one another.
+//! Messages between actors.
 #![tactic(auto)]
 
 mod carried;

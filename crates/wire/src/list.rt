@@ -5,7 +5,7 @@ ghost use Rattle.std.specs.Prelude.{◌≡◌, [], ◌∷◌, IfOk};
 use crate::message::Message;
 use std::alloc::{AllocError, Global};
 
-/// A list of one message. Fails for want of memory alone.
+/// Returns a list of one message. Fails only with `NoMemory`.
 pub fn only(alloc: Global, message: Message) -> Result<Vec<Message>, AllocError>
     ensures { IfOk result (λ list. list.items ≡ message ∷ []) }
 {

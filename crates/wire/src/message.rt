@@ -1,4 +1,4 @@
-//! What actors say to one another.
+//! Messages between actors.
 
 ghost use Rattle.std.specs.Prelude.{◌≡◌, ◌==◌, ◌&&◌};
 ghost use Rattle.redo_record.specs.SharedRecord.{shared_redo};
@@ -9,25 +9,25 @@ use crate::view::View;
 use redo_record::SharedRecord;
 use std::sync::Arc;
 
-/// Where a group now stands, for its nodes.
+/// The new place of a group, for its nodes.
 #[derive(Clone, Copy, Debug, PartialEq, Eq)]
 pub struct StepTo {
     /// The group.
     pub group: u8,
-    /// Where it now stands.
+    /// The new place.
     pub place: Place,
 }
 
-/// A recovery's volume epoch, for the nodes of a group.
+/// A recovery's fence of a group's nodes: it asks each for its promise and its report.
 #[derive(Clone, Copy, Debug, PartialEq, Eq)]
 pub struct Fence {
     /// The group.
     pub group: u8,
-    /// The epochs under which the recovery speaks.
+    /// The message's epochs.
     pub label: Label,
 }
 
-/// What a node holds, told to the recovery that fenced it.
+/// A node's report to the recovery that fenced it.
 #[derive(Drop)]
 pub struct Report {
     /// The group.
@@ -36,31 +36,31 @@ pub struct Report {
     pub label: Label,
     /// The member that holds the segment.
     pub from: u8,
-    /// What it holds, shared with what is told later until that changes.
+    /// What it holds, shared with later reports until that changes.
     pub contents: Arc<Contents>,
 }
 
-/// A piece of what the nodes of a group are to hold.
+/// A piece of what a recovery installs on a group's nodes.
 #[derive(Drop)]
 pub struct Install {
     /// The group.
     pub group: u8,
-    /// The epochs under which the recovery speaks.
+    /// The message's epochs.
     pub label: Label,
     /// The number of the piece, from 0.
     pub piece: u16,
     /// How many pieces there are.
     pub of: u16,
-    /// What the piece has of what they are to hold.
+    /// The piece's contents.
     pub contents: Box<Contents>,
 }
 
-/// A record of a writer's log, for the nodes of a group.
+/// A record of a writer's log, for the nodes of its group.
 #[derive(Drop)]
 pub struct Write {
     /// The group.
     pub group: u8,
-    /// The epochs under which the writer speaks.
+    /// The message's epochs.
     pub label: Label,
     /// The record.
     pub packet: SharedRecord,
@@ -71,13 +71,13 @@ pub struct Write {
 pub struct Gossip {
     /// The group.
     pub group: u8,
-    /// The epochs of the node.
+    /// The node's epochs.
     pub label: Label,
     /// The record.
     pub packet: SharedRecord,
 }
 
-/// How far a node holds the log, told to the client whose message it answers.
+/// An acknowledgement: a node's complete point, for the client whose message it answers.
 #[derive(Clone, Copy, Debug, PartialEq, Eq)]
 pub struct Ack {
     /// The group.
@@ -90,7 +90,7 @@ pub struct Ack {
     pub scl: u64,
 }
 
-/// A node that isn't whole asks the others of its group what they hold.
+/// A request for copies by a node that isn't whole.
 #[derive(Clone, Copy, Debug, PartialEq, Eq)]
 pub struct CopyAsk {
     /// The group.
@@ -99,7 +99,7 @@ pub struct CopyAsk {
     pub epoch: u32,
 }
 
-/// A piece of what a node holds, told to one that isn't whole.
+/// A piece of a copy of a segment, for a node that isn't whole.
 #[derive(Drop)]
 pub struct CopyReport {
     /// The group.
@@ -112,25 +112,25 @@ pub struct CopyReport {
     pub of: u16,
     /// The membership epoch of both.
     pub epoch: u32,
-    /// Of which copy it is a piece, and what it has.
+    /// The copy that it is a piece of, and its contents.
     pub part: Box<CopyPart>,
 }
 
-/// Of which copy a piece is, and what it has.
+/// The copy that a piece belongs to, and the piece's contents.
 #[derive(Drop)]
 pub struct CopyPart {
-    /// How many copies the member has told, with this one.
+    /// The copy's number: how many copies the member has made, this one included.
     pub series: u64,
-    /// What the piece has of what it holds.
+    /// The piece's contents.
     pub contents: Contents,
 }
 
-/// A writer asks for a block's bytes.
+/// A writer's request for a block's page.
 #[derive(Clone, Copy, Debug, PartialEq, Eq)]
 pub struct PageAsk {
     /// The group.
     pub group: u8,
-    /// The epochs under which the writer speaks.
+    /// The message's epochs.
     pub label: Label,
     /// The block.
     pub block: u32,
@@ -138,14 +138,14 @@ pub struct PageAsk {
     pub point: u64,
 }
 
-/// A block's bytes.
+/// A block's page.
 #[derive(Drop)]
 pub struct Page {
     /// The group.
     pub group: u8,
     /// The member that holds the segment.
     pub from: u8,
-    /// The label of the question.
+    /// The label of the request.
     pub label: Label,
     /// The block at a point.
     pub image: Box<Image>,
@@ -162,39 +162,39 @@ pub struct Image {
     pub bytes: [u8; 512],
 }
 
-/// What an actor says to another. All messages that were ever made are kept, so what is large lies behind a pointer.
+/// A message between actors. A run keeps all messages, so what is large lies behind a pointer.
 #[derive(Drop)]
 pub enum Message {
-    /// Where the groups stand.
+    /// The places of the groups, for a client.
     View(View),
-    /// Where a group now stands.
+    /// The new place of a group.
     StepTo(StepTo),
-    /// A recovery's volume epoch.
+    /// A recovery's fence.
     Fence(Fence),
-    /// What a node holds, told to a recovery.
+    /// A node's report to a recovery.
     Report(Report),
-    /// A piece of what nodes are to hold.
+    /// A piece of an install.
     Install(Install),
     /// A record of a writer's log.
     Write(Write),
-    /// A record of another node.
+    /// A record that another node holds.
     Gossip(Gossip),
-    /// How far a node holds the log.
+    /// An acknowledgement.
     Ack(Ack),
-    /// A question for copies.
+    /// A request for copies.
     CopyAsk(CopyAsk),
-    /// A piece of what a node holds, told to one that isn't whole.
+    /// A piece of a copy of a segment, for a node that isn't whole.
     CopyReport(CopyReport),
-    /// A question for a block's bytes.
+    /// A request for a page.
     PageAsk(PageAsk),
-    /// A block's bytes.
+    /// A block's page.
     Page(Page),
 }
 
 const _: () = prove!(size_of::<Message>() <= 32);
 
 impl Write {
-    /// Whether it is for the nodes of the group: it speaks of the group, and its record is one of the group.
+    /// Returns whether it is for the nodes of the group: it speaks of the group, and its record is one of the group.
     pub fn is_for(&self, group: u8) -> bool
         ensures { result ≡ (self.now.group == group && (shared_redo self.now.packet).group == group) }
     {
@@ -203,7 +203,7 @@ impl Write {
 }
 
 impl Gossip {
-    /// Whether it is for the nodes of the group: it speaks of the group, and its record is one of the group.
+    /// Returns whether it is for the nodes of the group: it speaks of the group, and its record is one of the group.
     pub fn is_for(&self, group: u8) -> bool
         ensures { result ≡ (self.now.group == group && (shared_redo self.now.packet).group == group) }
     {
@@ -215,7 +215,8 @@ impl Install {
     ghost use Rattle.volume_model.specs.Node.{in_group};
     ghost use Rattle.wire.specs.Contents.{contents_of};
 
-    /// Whether it is for the nodes of the group: it speaks of the group, and the records of the piece are those of the group.
+    /// Returns whether it is for the nodes of the group: it speaks of the group, and the records of the piece are
+    /// those of the group.
     pub fn is_for(&self, group: u8) -> bool
         ensures { result ≡ (self.now.group == group && in_group group (contents_of self.now.contents.value)) }
     {
@@ -228,8 +229,8 @@ impl CopyReport {
     ghost use Rattle.volume_model.specs.Node.{in_group};
     ghost use Rattle.wire.specs.Contents.{contents_of};
 
-    /// Whether it is for the nodes of the group: it speaks of the group, the records of the piece are those of the group, and its sender
-    /// is a member.
+    /// Returns whether it is for the nodes of the group: it speaks of the group, the records of the piece are those
+    /// of the group, and its sender is a member.
     pub fn is_for(&self, group: u8) -> bool
         ensures { result ≡ (self.now.group == group && in_group group (contents_of self.now.part.value.contents) && nat_lt self.now.from 64) }
     {
@@ -241,8 +242,8 @@ impl Report {
     ghost use Rattle.volume_model.specs.ClientMessages.{is_for};
     ghost use Rattle.wire.specs.Message.{message_of};
 
-    /// Whether it is for the client of this volume epoch, over so many groups: it speaks of one of them, its records are those of the
-    /// group, and its sender is a member.
+    /// Returns whether it is for the client of this volume epoch, over this many groups: it speaks of one of them,
+    /// its records are those of the group, and its sender is a member.
     pub fn is_to(&self, volume: u32, groups: u8) -> bool
         ensures { result ≡ is_for volume groups (message_of (Message.Report self.now)) }
     {
@@ -257,7 +258,8 @@ impl Ack {
     ghost use Rattle.volume_model.specs.ClientMessages.{is_for};
     ghost use Rattle.wire.specs.Message.{message_of};
 
-    /// Whether it is for the client of this volume epoch, over so many groups: it speaks of one of them, and its sender is a member.
+    /// Returns whether it is for the client of this volume epoch, over this many groups: it speaks of one of them,
+    /// and its sender is a member.
     pub fn is_to(&self, volume: u32, groups: u8) -> bool
         ensures { result ≡ is_for volume groups (message_of (Message.Ack self.now)) }
     {
@@ -269,7 +271,8 @@ impl Page {
     ghost use Rattle.volume_model.specs.ClientMessages.{is_for};
     ghost use Rattle.wire.specs.Message.{message_of};
 
-    /// Whether it is for the client of this volume epoch, over so many groups: it speaks of one of them, and its sender is a member.
+    /// Returns whether it is for the client of this volume epoch, over this many groups: it speaks of one of them,
+    /// and its sender is a member.
     pub fn is_to(&self, volume: u32, groups: u8) -> bool
         ensures { result ≡ is_for volume groups (message_of (Message.Page self.now)) }
     {

@@ -17,7 +17,7 @@ pub enum Messages {
 }
 
 impl Messages {
-    /// Those of a list.
+    /// Returns those of a list.
     pub fn of(list: Vec<Message>) -> Messages
         ensures { listed result ≡ list.items }
     {
@@ -31,7 +31,7 @@ impl Messages {
         }
     }
 
-    /// How many there are.
+    /// Returns how many there are.
     pub fn len(&self) -> usize
         ensures { result ≡ length (listed self.now) }
     {
@@ -42,7 +42,7 @@ impl Messages {
         }
     }
 
-    /// The one at a place.
+    /// Returns the one at a place.
     pub fn at(&self, index: usize) -> &Message
         requires { index < length (listed self.now) }
         ensures { slice_get (listed self.now) index ≡ Some result.now }

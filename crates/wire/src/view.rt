@@ -1,10 +1,10 @@
-//! What the client of a volume epoch is told of the groups.
+//! Views: the places of the groups, for a client.
 
 ghost use Rattle.std.specs.Prelude.{◌≤◌};
 
 use crate::label::Place;
 
-/// Where the groups stand, for the client of a volume epoch.
+/// The places of the groups, for the client of a volume epoch.
 #[derive(Drop)]
 pub struct View {
     /// The volume epoch, from 1 on.

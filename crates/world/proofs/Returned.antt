@@ -16,8 +16,8 @@ use Rattle.volume_model.specs.Outcome.{found_client, opened_client, writers_in, 
 use Rattle.volume_model.proofs.Basics.{IsIn-append}
 use Rattle.writer_core.specs.Log.{log_in}
 use Rattle.writer_core.specs.Logs.{log_of_set}
-use Rattle.world.specs.declared.outcome.FindEnd.{FindEnd}
-use Rattle.world.specs.declared.outcome.WriterEnd.{WriterEnd}
+use Rattle.world.specs.declared.outcome.RecoveryOutcome.{RecoveryOutcome}
+use Rattle.world.specs.declared.outcome.WriterOutcome.{WriterOutcome}
 use Rattle.world.specs.declared.outcome.Outcome.{Outcome}
 use Rattle.world.specs.Outcomes.{opened_of, find_of, covered_by, HasAcknowledged, KeepsReturned, PromisesRuns, TellsRun}
 
@@ -48,12 +48,12 @@ abbrev told_find : World → ℕ → model.Find
 told_find world volume = found_client volume (world.clients volume)
 
 -- a returned writer is one of the world
-record IsWriterOf (world : World) (w : WriterEnd) : Type 0 where
+record IsWriterOf (world : World) (w : WriterOutcome) : Type 0 where
   open_is : is_open (world.clients w.volume).stage ≡ true
   log_is : log_in w.log ≡ (world.clients w.volume).log
   durable_is : w.durable ≡ durable_point (world.clients w.volume)
 
-writer_of : (world : World) (w : WriterEnd) (ws : List WriterEnd) → map opened_of ws ≡ writers_in world → IsIn w ws → IsWriterOf world w
+writer_of : (world : World) (w : WriterOutcome) (ws : List WriterOutcome) → map opened_of ws ≡ writers_in world → IsIn w ws → IsWriterOf world w
 writer_of world w ws are within =
     let found = in_each_below (opened_of w) (suc world.authority.last_volume) (λ (v : ℕ). is_open (world.clients v).stage) (told_writer world) (subst (IsIn (opened_of w)) are (is_in-map opened_of w ws within)) in
     let v : w.volume ≡ found.0 = ap (λ (o : model.Opened). o.volume) found.1.1 in
@@ -64,11 +64,11 @@ writer_of world w ws are within =
     }
 
 -- a returned find is that of a recovery of the world that has cut
-record IsFinderOf (world : World) (f : FindEnd) : Type 0 where
+record IsFinderOf (world : World) (f : RecoveryOutcome) : Type 0 where
   found_is : HasFound world f.volume
   log_is : log_of_set f.found.log ≡ (world.clients f.volume).found
 
-finder_of : (world : World) (f : FindEnd) (fs : List FindEnd) → map find_of fs ≡ finds_in world → IsIn f fs → IsFinderOf world f
+finder_of : (world : World) (f : RecoveryOutcome) (fs : List RecoveryOutcome) → map find_of fs ≡ finds_in world → IsIn f fs → IsFinderOf world f
 finder_of world f fs are within =
     let found = in_each_below (find_of f) (suc world.authority.last_volume) (λ (v : ℕ). nat_lt 1 v && has_cut (world.clients v).stage) (told_find world) (subst (IsIn (find_of f)) are (is_in-map find_of f fs within)) in
     let v : f.volume ≡ found.0 = ap (λ (o : model.Find). o.volume) found.1.1 in
@@ -82,11 +82,11 @@ finder_of world f fs are within =
     }
 
 module _ (world : World) (keeps : KeepsCommits world) where
-  acknowledges : (w : WriterEnd) (n : ℕ) → IsWriterOf world w → HasAcknowledged w n → Acknowledges world w.volume n
+  acknowledges : (w : WriterOutcome) (n : ℕ) → IsWriterOf world w → HasAcknowledged w n → Acknowledges world w.volume n
   acknowledges w n is has =
       ap₂ (λ (p q : Bool). p && q) is.open_is (ap₂ (λ (l : List Redo) (d : ℕ). is_consistency_point n l && nat_le n d) (sym is.log_is) (sym is.durable_is) ∙ has)
 
-  covered_is : (w : WriterEnd) (n : ℕ) → IsWriterOf world w → covered_by w n ≡ up_to n (world.clients w.volume).log
+  covered_is : (w : WriterOutcome) (n : ℕ) → IsWriterOf world w → covered_by w n ≡ up_to n (world.clients w.volume).log
   covered_is w n is = ap (up_to n) is.log_is
 
   -- the promise of a world, said of what was returned of it

@@ -16,16 +16,16 @@ use Rattle.volume_model.specs.Outcome.{writers_in, finds_in}
 use Rattle.writer_core.specs.Log.{log_in}
 use Rattle.writer_core.specs.Logs.{log_of_set}
 use Rattle.lineage.specs.Lineage.{lineage_of}
-use Rattle.world.specs.declared.outcome.FindEnd.{FindEnd}
-use Rattle.world.specs.declared.outcome.WriterEnd.{WriterEnd}
+use Rattle.world.specs.declared.outcome.RecoveryOutcome.{RecoveryOutcome}
+use Rattle.world.specs.declared.outcome.WriterOutcome.{WriterOutcome}
 use Rattle.world.specs.declared.outcome.Outcome.{Outcome}
 
 -- the opened writer that this is
-abbrev pub opened_of : WriterEnd → model.Opened
+abbrev pub opened_of : WriterOutcome → model.Opened
 opened_of w = record { volume = w.volume; start = w.start; log = log_in w.log; durable = w.durable }
 
 -- the recovery that this is
-abbrev pub find_of : FindEnd → model.Find
+abbrev pub find_of : RecoveryOutcome → model.Find
 find_of f = record { volume = f.volume; found = log_of_set f.found.log; cut = f.found.cut; lineage = lineage_of f.found.lineage }
 
 -- What was acknowledged after some of the events stays so to their end, with the same log before it, and no opened writer's durable
@@ -73,15 +73,15 @@ abbrev pub PromisesRuns : Plan → Type 0
 PromisesRuns plan = (events : List Event) → KeepsPromises plan events
 
 -- The writer has acknowledged the commit of this number: it is that of a consistency point of its log, and at most its durable point.
-abbrev pub HasAcknowledged : WriterEnd → ℕ → Type 0
+abbrev pub HasAcknowledged : WriterOutcome → ℕ → Type 0
 HasAcknowledged writer n = (is_consistency_point n (log_in writer.log) && nat_le n writer.durable) ≡ true
 
 -- what an acknowledged commit covers: the writer's log up to it
-abbrev pub covered_by : WriterEnd → ℕ → List Redo
+abbrev pub covered_by : WriterOutcome → ℕ → List Redo
 covered_by writer n = up_to n (log_in writer.log)
 
 -- The promise said of what was returned alone: each commit that a returned writer has acknowledged stands, with its whole log before it, in
 -- the log of each returned find of a later volume epoch, and no two different records were acknowledged by returned writers under one LSN.
 pub record KeepsReturned (outcome : Outcome) : Type 0 where
-  pub found_later : (writer : WriterEnd) (find : FindEnd) (n : ℕ) → IsIn writer outcome.writers.items → IsIn find outcome.finds.items → writer.volume < find.volume → HasAcknowledged writer n → IsBeginningOf (covered_by writer n) (log_of_set find.found.log)
-  pub one_record : (writer other : WriterEnd) (n m : ℕ) (r s : Redo) → IsIn writer outcome.writers.items → IsIn other outcome.writers.items → HasAcknowledged writer n → HasAcknowledged other m → IsIn r (covered_by writer n) → IsIn s (covered_by other m) → r.lsn ≡ s.lsn → r ≡ s
+  pub found_later : (writer : WriterOutcome) (find : RecoveryOutcome) (n : ℕ) → IsIn writer outcome.writers.items → IsIn find outcome.finds.items → writer.volume < find.volume → HasAcknowledged writer n → IsBeginningOf (covered_by writer n) (log_of_set find.found.log)
+  pub one_record : (writer other : WriterOutcome) (n m : ℕ) (r s : Redo) → IsIn writer outcome.writers.items → IsIn other outcome.writers.items → HasAcknowledged writer n → HasAcknowledged other m → IsIn r (covered_by writer n) → IsIn s (covered_by other m) → r.lsn ≡ s.lsn → r ≡ s

@@ -44,7 +44,7 @@ impl Actors {
     ghost use Rattle.world.specs.Clients.{client_in};
     ghost use Rattle.world.specs.Events.{event_of};
 
-    /// All actors before any event.
+    /// Returns all actors before any event.
     pub fn open(alloc: Global, plan: &Arc<CheckedPlan>) -> Result<Actors, Fault>
         ensures world { IfOk result (λ a. world_of a ≡ opening (checked_model (arc_value plan.now))) }
         ensures plan { IfOk result (λ a. plan_of a ≡ checked_model (arc_value plan.now)) }
@@ -73,7 +73,7 @@ impl Actors {
         authority_step::act(alloc, &mut self.authority, &mut self.messages, act)
     }
 
-    /// A node acts. `NoActor` where its group hasn't joined, or the plan doesn't name it.
+    /// A node acts. `NoActor` if its group hasn't joined, or the plan doesn't name it.
     fn node_step(
         &mut self,
         alloc: Global,
@@ -98,7 +98,7 @@ impl Actors {
         }
     }
 
-    /// A client acts. `NoActor` where it isn't there, unless it takes a View.
+    /// A client acts. `NoActor` if it isn't there, unless it takes a View.
     fn client_step(
         &mut self,
         alloc: Global,
@@ -142,7 +142,7 @@ impl Actors {
         Ok(enter(&mut self.messages, made))
     }
 
-    /// A client becomes a writer. `NoActor` where it isn't there.
+    /// A client becomes a writer. `NoActor` if it isn't there.
     fn opening_step(&mut self, volume: u32) -> Result<u64, Fault>
         requires { AreActors self.old }
         ensures steps { Steps never_late (of_client (world_of self.old) volume (opened (plan_of self.old) ((world_of self.old).clients volume))) (world_of self.old) result (world_of self.new) }
@@ -254,10 +254,10 @@ impl Actors {
         }
     }
 
-    /// Makes room for so many more messages.
+    /// Makes room for this many more messages.
     ///
     /// # Errors
-    /// Where a growth was refused; then nothing has changed.
+    /// `AllocError` if there is no memory; then nothing has changed.
     pub(crate) fn reserve(&mut self, messages: usize) -> Result<(), AllocError>
         ensures world { world_of self.new ≡ world_of self.old }
         ensures good { AreActors self.old → AreActors self.new }
@@ -266,7 +266,7 @@ impl Actors {
         self.messages.reserve(messages)
     }
 
-    /// How many messages were made so far.
+    /// Returns how many messages were made so far.
     pub fn made(&self) -> u64
         ensures { result ≡ length (messages_in self.now) }
     {

@@ -11,7 +11,7 @@ pub enum AuthorityAct {
     Assign,
     /// It leads a group to a child of its configuration, which is named by its place in the group's list.
     Advance { group: u8, configuration: u32 },
-    /// It tells the client of the last volume epoch where the groups stand; `volume` is that of the client that asks.
+    /// Makes a View of the groups' places for the client of volume epoch `volume`.
     Refresh { volume: u32 },
     /// It lets the next group join.
     Grow,
@@ -20,7 +20,7 @@ pub enum AuthorityAct {
 /// What a node is asked to do, of a message by its number.
 #[derive(Clone, Copy)]
 pub enum NodeOrder<'a> {
-    /// It takes the message with this number.
+    /// Takes the message with this number.
     Deliver { message: u64 },
     /// It acts otherwise.
     Act(NodeAct<'a>),
@@ -29,22 +29,22 @@ pub enum NodeOrder<'a> {
 /// What a client does, but for becoming a writer.
 #[derive(Clone, Copy)]
 pub enum ClientAct<'a> {
-    /// It gives a transaction's changes, 1 to 32 of them, their records.
+    /// Issues a transaction of 1 to 32 changes.
     Issue(&'a [Change]),
-    /// It takes a message.
+    /// Takes a message.
     Take(&'a Message),
-    /// It cuts the log where what it has read ends.
+    /// Cuts: finds the log in the reports and makes the installs.
     Cut,
-    /// It sends the record with this LSN once more.
+    /// Sends the record with this LSN again.
     Resend { lsn: u64 },
-    /// It asks for a block's bytes, as of its durable point.
+    /// Asks for a block's page at the durable point.
     Read { group: u8, block: u32 },
 }
 
 /// The same, of a message by its number.
 #[derive(Clone, Copy)]
 pub enum ClientOrder<'a> {
-    /// It takes the message with this number.
+    /// Takes the message with this number.
     Take { message: u64 },
     /// It acts otherwise.
     Act(ClientAct<'a>),

@@ -15,12 +15,13 @@ use volume_model::Fault;
 use wire::Message;
 
 impl AuthorityAct {
-    /// Whether the authority would do it: exactly the refusal of [`AuthorityAct::done_by`], without acting. Takes no memory.
+    /// Returns whether the authority would do it: exactly the refusal of [`AuthorityAct::done_by`], without acting.
+    /// Takes no memory.
     ///
     /// # Errors
-    /// `EpochsSpent` where no volume epoch is left to assign; `NoGroup` where there is no such group, and `NotInPlan` where the
-    /// configuration isn't a child of the group's own; `Superseded` where the client's volume epoch isn't the last one assigned;
-    /// `AllGrown` where every group has joined.
+    /// `EpochsSpent` if no volume epoch is left to assign; `NoGroup` if there is no such group, and `NotInPlan` if
+    /// the configuration isn't a child of the group's own; `Superseded` if the client's volume epoch isn't the last
+    /// one assigned; `AllGrown` if every group has joined.
     pub fn admitted_by(self, authority: &Authority) -> Result<(), Fault>
         ensures { result ≡ refusal_of (authority_acted (authority_plan authority.now) (authority_of authority.now) self) }
     {
@@ -35,10 +36,10 @@ impl AuthorityAct {
         }
     }
 
-    /// Lets the authority do it, and answers the message that it makes, if it makes one. Where it refuses, or memory runs out, it is what it was.
+    /// Performs the action and returns its message, if it makes one. On error the authority is unchanged.
     ///
     /// # Errors
-    /// As [`AuthorityAct::admitted_by`] says, and `NoMemory` where a growth was refused; to lead a group on takes no memory.
+    /// Those of [`AuthorityAct::admitted_by`]; `NoMemory`, except of an advance, which takes no memory.
     pub fn done_by(self, alloc: Global, authority: &mut Authority) -> Result<Option<Message>, Fault>
         ensures answers { Answers spoken (authority_acted (authority_plan authority.old) (authority_of authority.old) self) (authority_of authority.old) result (authority_of authority.new) }
         ensures always { OfAdvance self (AnswersAlways spoken (authority_acted (authority_plan authority.old) (authority_of authority.old) self) (authority_of authority.old) result (authority_of authority.new)) }
@@ -59,8 +60,8 @@ impl AuthorityAct {
     }
 }
 
-/// Lets the authority act, and adds the message that it makes, if it makes one, to the others, for which it makes room before the authority changes. Where
-/// memory runs out nothing has changed.
+/// Lets the authority act, and adds the message that it makes, if it makes one, to the others, for which it makes
+/// room before the authority changes. On error nothing has changed.
 pub fn act(
     alloc: Global,
     authority: &mut Authority,

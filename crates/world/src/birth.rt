@@ -20,8 +20,9 @@ use std::sync::Arc;
 use volume_model::Fault;
 use wire::Message;
 
-/// Whether a client that isn't there would become a recovery by a message: by a View of its volume epoch, at places of the plan (else
-/// `NotInPlan`). Any other message is refused: `NotAddressed` where it isn't for the client, else `NoActor`, as there is none to take it.
+/// Returns whether a client that isn't there would become a recovery by a message: by a View of its volume epoch, at
+/// places of the plan (else `NotInPlan`). Any other message is refused: `NotAddressed` if it isn't for the client,
+/// else `NoActor`, as there is none to take it.
 fn admits_birth(plan: &CheckedPlan, volume: u32, message: &Message) -> Result<(), Fault>
     ensures refusal { result ≡ refusal_of (taken (checked_model plan.now) volume unborn (message_of message.now)) }
     ensures own { IfErr result (λ fault. fault ≢ NoMemory) }
@@ -33,7 +34,7 @@ fn admits_birth(plan: &CheckedPlan, volume: u32, message: &Message) -> Result<()
     }
 }
 
-/// Whether a client that no View has reached would act: by a View alone.
+/// Returns whether a client that no View has reached would act: by a View alone.
 pub fn admits(plan: &CheckedPlan, volume: u32, act: ClientAct<'_>) -> Result<(), Fault>
     ensures answers { AnswersLate (client_late act.entry) admitted (refusal_of (client_acted act.entry (checked_model plan.now) volume unborn)) tt result tt }
     ensures sure { ButForCut act.entry (result ≡ refusal_of (client_acted act.entry (checked_model plan.now) volume unborn)) }
@@ -45,7 +46,7 @@ pub fn admits(plan: &CheckedPlan, volume: u32, act: ClientAct<'_>) -> Result<(),
     }
 }
 
-/// The recovery of a View of its volume epoch, and the messages that it makes.
+/// Returns the recovery of a View of its volume epoch, and the messages that it makes.
 fn begin_by_view(
     alloc: Global,
     plan: &Arc<CheckedPlan>,

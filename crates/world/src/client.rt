@@ -50,7 +50,7 @@ impl Client {
     ghost use Rattle.world.specs.Acts.{client_acted, client_late, ButForCut};
     ghost use Rattle.world.specs.Clients.{client_plan, client_volume, seen_client, seen_state, IsClientOf, IsSameClient};
 
-    /// The client of a volume epoch that no View has reached.
+    /// Returns the client of a volume epoch that no View has reached.
     pub fn unborn(plan: Arc<CheckedPlan>, volume: u32) -> Client
         ensures client { seen_client result ≡ unborn }
         ensures own { IsClientOf (checked_model (arc_value plan)) volume result }
@@ -62,7 +62,8 @@ impl Client {
         }
     }
 
-    /// The client of volume epoch 1, which is the writer that a volume is born with. Fails for want of memory alone.
+    /// Returns the client of volume epoch 1, which is the writer that a volume is born with. Fails only with
+    /// `NoMemory`.
     pub fn first(alloc: Global, plan: Arc<CheckedPlan>) -> Result<Client, Fault>
         ensures client { AnswersNew seen_client (Ok (first_writer (checked_model (arc_value plan)))) result }
         ensures own { IfOk result (IsClientOf (checked_model (arc_value plan)) 1) }
@@ -75,14 +76,14 @@ impl Client {
         })
     }
 
-    /// How far it has come.
+    /// Returns how far it has come.
     pub fn state(&self) -> &ClientState
         ensures { seen_state result.now ≡ seen_client self.now }
     {
         &self.state
     }
 
-    /// Its volume epoch.
+    /// Returns the client's volume epoch.
     pub fn volume(&self) -> u32
         ensures { result ≡ client_volume self.now }
     {
@@ -93,7 +94,7 @@ impl Client {
         }
     }
 
-    /// How many groups its volume has.
+    /// Returns how many groups its volume has.
     pub fn groups(&self) -> u8
         ensures { result ≡ (client_plan self.now).groups }
     {
@@ -135,14 +136,15 @@ impl Client {
         }
     }
 
-    /// Whether it would do what it is asked to: exactly the refusal of [`Client::act`], without acting. A cut is judged by finding the
-    /// log, which takes memory; nothing else does.
+    /// Returns whether it would do what it is asked to: exactly the refusal of [`Client::act`], without acting. A cut
+    /// is judged by finding the log, which takes memory; nothing else does.
     ///
     /// # Errors
-    /// Where no View has reached it: `NotAddressed` for a message that isn't for it, `NotInPlan` for a View of places that the plan
-    /// doesn't have, and `NoActor` for all but a View. Else `NotAddressed` and `NotInPlan` of messages, and: of a recovery `NotOpen` for what
-    /// a writer alone does, and for a cut `AlreadyDone`, `NotReady` until the reports are a read set of each group, or `LsnSpent`; of a
-    /// writer `AlreadyDone` for a cut, and what [`Writer`] answers to an issue, a resend or a read.
+    /// Where no View has reached it: `NotAddressed` for a message that isn't for it, `NotInPlan` for a View of places
+    /// that the plan doesn't have, and `NoActor` for all but a View. Else `NotAddressed` and `NotInPlan` of messages,
+    /// and: of a recovery `NotOpen` for what a writer alone does, and for a cut `AlreadyDone`, `NotReady` until the
+    /// reports are a read set of each group, or `LsnSpent`; of a writer `AlreadyDone` for a cut, and what [`Writer`]
+    /// answers to an issue, a resend or a read.
     pub fn admits(&self, alloc: Global, act: ClientAct<'_>) -> Result<(), Fault>
         ensures answers { AnswersLate (client_late act.entry) admitted (refusal_of (client_acted act.entry (client_plan self.now) (client_volume self.now) (seen_client self.now))) tt result tt }
         ensures sure { ButForCut act.entry (result ≡ refusal_of (client_acted act.entry (client_plan self.now) (client_volume self.now) (seen_client self.now))) }
@@ -154,10 +156,10 @@ impl Client {
         }
     }
 
-    /// Does what it is asked to, and answers the messages that it makes. Where it refuses, or memory runs out, it is what it was.
+    /// Performs an action and returns its messages. On error the client is unchanged.
     ///
     /// # Errors
-    /// As [`Client::admits`] says, and `NoMemory` where a growth was refused.
+    /// Those of [`Client::admits`]; `NoMemory`.
     #[inline(always)]
     pub fn act(&mut self, alloc: Global, act: ClientAct<'_>) -> Result<Messages, Fault>
         ensures answers { AnswersLate (client_late act.entry) answered (client_acted act.entry (client_plan self.old) (client_volume self.old) (seen_client self.old)) (seen_client self.old) result (seen_client self.new) }
@@ -169,7 +171,8 @@ impl Client {
         self.act_early(alloc, act)
     }
 
-    /// The same, apart from it, as what leads to a writer takes much more of the stack than what a writer does.
+    /// Performs an action of a client that isn't a writer yet. Out of line, since recoveries take much more stack
+    /// than writers.
     #[inline(never)]
     fn act_early(&mut self, alloc: Global, act: ClientAct<'_>) -> Result<Messages, Fault>
         ensures answers { AnswersLate (client_late act.entry) answered (client_acted act.entry (client_plan self.old) (client_volume self.old) (seen_client self.old)) (seen_client self.old) result (seen_client self.new) }
@@ -191,8 +194,9 @@ impl Client {
         }
     }
 
-    /// Whether it would become a writer: exactly the refusal of [`Client::open`], without acting. `NoActor` before its birth, `AlreadyDone`
-    /// where it is one, `NotReady` until the members of a write set of each group have acknowledged what it installed. Takes no memory.
+    /// Returns whether it would become a writer: exactly the refusal of [`Client::open`], without acting. `NoActor`
+    /// before its birth, `AlreadyDone` if it is one, `NotReady` until the members of a write set of each group have
+    /// acknowledged what it installed. Takes no memory.
     pub fn admits_open(&self) -> Result<(), Fault>
         ensures { result ≡ refusal_of (opened (client_plan self.now) (seen_client self.now)) }
     {
@@ -203,7 +207,8 @@ impl Client {
         }
     }
 
-    /// Becomes a writer. Refused as [`Client::admits_open`] says; then it is what it was. Takes no memory.
+    /// Opens: the recovery becomes a writer. Refused as [`Client::admits_open`] says; then the client is unchanged.
+    /// Takes no memory.
     pub fn open(&mut self) -> Result<(), Fault>
         ensures answers { AnswersLate never_late silent (opened (client_plan self.old) (seen_client self.old)) (seen_client self.old) result (seen_client self.new) }
         ensures refusal { result ≡ refusal_of (opened (client_plan self.old) (seen_client self.old)) }

@@ -15,7 +15,7 @@ use std::alloc::Global;
 use volume_model::{Fault, steps_are_few};
 use wire::Message;
 
-/// What an order asks for, among these messages. `NoMessage` where it names none of them.
+/// Returns what an order asks for, among these messages. `NoMessage` if it names none of them.
 pub fn act_of<'a>(order: ClientOrder<'a>, messages: &'a [Message]) -> Result<ClientAct<'a>, Fault>
     ensures { MatchResult result (λ act. IsOrderOf (added (messages_of messages.entry.now) []) order.entry act) (λ fault. (fault ≡ NoMessage) × IsRefusedOrder (added (messages_of messages.entry.now) []) order.entry) }
 {
@@ -49,8 +49,8 @@ fn most_made(client: &Client, order: ClientOrder<'_>) -> usize
     }
 }
 
-/// Lets a client act, and adds the messages that it makes to the others, for which it makes room before the client changes. Where memory
-/// runs out nothing has changed.
+/// Lets a client act, and adds the messages that it makes to the others, for which it makes room before the client
+/// changes. On error nothing has changed.
 pub fn act(
     alloc: Global,
     client: &mut Client,

@@ -7,7 +7,7 @@ ghost use Rattle.world.specs.Clients.{clients_of, seen_client, HasSameClients, I
 use crate::client::Client;
 use std::alloc::AllocError;
 
-/// The client of a volume epoch, where it is there.
+/// Returns the client of a volume epoch, where it is there.
 pub fn client_at(clients: &[Option<Box<Client>>], volume: u32) -> Option<&Client>
     ensures { MatchOption result (clients_of clients.now volume ≡ unborn) (λ client. clients_of clients.now volume ≡ seen_client client.now) }
 {
@@ -21,12 +21,12 @@ pub fn client_at(clients: &[Option<Box<Client>>], volume: u32) -> Option<&Client
     }
 }
 
-/// How many clients there are.
+/// Returns how many clients there are.
 pub fn count(clients: &[Option<Box<Client>>]) -> usize {
     clients.iter().filter(|client| client.is_some()).count()
 }
 
-/// Fills a table up to the place of a volume epoch. The clients stay, also where a growth was refused.
+/// Fills a table up to the place of a volume epoch. The clients stay, also if there is no memory.
 fn fill_up(clients: &mut Vec<Option<Box<Client>>>, volume: u32) -> Result<(), AllocError>
     ensures same { HasSameClients clients.old.items clients.new.items }
     ensures room { IfOk result (λ _. volume < length clients.new.items) }

@@ -1,4 +1,4 @@
-//! What is told of the actors when a run has ended.
+//! The outcome of a run, from its actors.
 
 ghost use Rattle.std.specs.Prelude.{◌≡◌, ◌++◌, ◌∷◌, [], ◌&&◌, IfOk, Some, None, if◌then◌else◌, map, nat_lt, option_map};
 ghost use Rattle.volume_model.specs.Client.{has_cut, is_open};
@@ -10,16 +10,16 @@ ghost use Rattle.world.specs.Outcomes.{find_of, opened_of};
 use crate::actors::Actors;
 use crate::client::{Client, ClientState};
 use crate::clients::{client_at, count};
-use crate::outcome::{FindEnd, WriterEnd};
+use crate::outcome::{RecoveryOutcome, WriterOutcome};
 use recovery::Found;
 use std::alloc::{AllocError, Global};
 use writer_core::Writer;
 
-/// What is told of the writer of a volume epoch.
-fn end_of(volume: u32, writer: &Writer) -> Result<WriterEnd, AllocError>
+/// Returns the outcome of a writer.
+fn end_of(volume: u32, writer: &Writer) -> Result<WriterOutcome, AllocError>
     ensures { IfOk result (λ end. opened_of end ≡ opened_client volume (client_of writer.now)) }
 {
-    Ok(WriterEnd {
+    Ok(WriterOutcome {
         volume,
         start: writer.start(),
         log: writer.log().clone()?,
@@ -27,8 +27,8 @@ fn end_of(volume: u32, writer: &Writer) -> Result<WriterEnd, AllocError>
     })
 }
 
-/// What is told of the client of a volume epoch as a writer, where it is one.
-fn opened_by(volume: u32, client: &Client) -> Result<Option<WriterEnd>, AllocError>
+/// Returns the outcome of a client as a writer, if it is one.
+fn opened_by(volume: u32, client: &Client) -> Result<Option<WriterOutcome>, AllocError>
     ensures { IfOk result (λ opened. option_map opened_of opened ≡ (if is_open (seen_client client.now).stage then Some (opened_client volume (seen_client client.now)) else None)) }
 {
     match client.state() {
@@ -37,8 +37,8 @@ fn opened_by(volume: u32, client: &Client) -> Result<Option<WriterEnd>, AllocErr
     }
 }
 
-/// What is told of the client of a volume epoch as a recovery, where it has cut.
-fn found_by(volume: u32, client: &Client) -> Result<Option<FindEnd>, AllocError>
+/// Returns the outcome of a client as a recovery, if it has cut.
+fn found_by(volume: u32, client: &Client) -> Result<Option<RecoveryOutcome>, AllocError>
     ensures { IfOk result (λ found. option_map find_of found ≡ (if has_cut (seen_client client.now).stage then Some (found_client volume (seen_client client.now)) else None)) }
 {
     let found = match client.state() {
@@ -49,7 +49,7 @@ fn found_by(volume: u32, client: &Client) -> Result<Option<FindEnd>, AllocError>
             None => return Ok(None),
         },
     };
-    Ok(Some(FindEnd { volume, found }))
+    Ok(Some(RecoveryOutcome { volume, found }))
 }
 
 impl Actors {
@@ -57,8 +57,8 @@ impl Actors {
     ghost use Rattle.world.specs.Actors.{world_of};
     ghost use Rattle.world.specs.Clients.{clients_of};
 
-    /// Adds what is told of the writer of a volume epoch, where there is one.
-    fn add_writer(&self, volume: u32, ends: &mut Vec<WriterEnd>) -> Result<(), AllocError>
+    /// Adds the outcome of the writer of a volume epoch, if there is one.
+    fn add_writer(&self, volume: u32, ends: &mut Vec<WriterOutcome>) -> Result<(), AllocError>
         ensures { IfOk result (λ _. map opened_of ends.new.items ≡ map opened_of ends.old.items ++ (if is_open (clients_of self.now.clients.items volume).stage then opened_client volume (clients_of self.now.clients.items volume) ∷ [] else [])) }
     {
         let Some(client) = client_at(self.clients.as_slice(), volume) else {
@@ -70,8 +70,8 @@ impl Actors {
         Ok(())
     }
 
-    /// The opened writers, in growing volume epoch.
-    pub fn writers(&self, alloc: Global) -> Result<Vec<WriterEnd>, AllocError>
+    /// Returns the opened writers, in growing volume epoch.
+    pub fn writers(&self, alloc: Global) -> Result<Vec<WriterOutcome>, AllocError>
         ensures { IfOk result (λ ends. map opened_of ends.items ≡ writers_in (world_of self.now)) }
     {
         let last = self.authority.last_volume();
@@ -83,8 +83,8 @@ impl Actors {
         Ok(ends)
     }
 
-    /// Adds what is told of the client of a volume epoch as a recovery, where it is one that has cut. Writer 1 was none.
-    fn add_find(&self, volume: u32, ends: &mut Vec<FindEnd>) -> Result<(), AllocError>
+    /// Adds the outcome of the client of a volume epoch as a recovery, if it has cut. Writer 1 was no recovery.
+    fn add_find(&self, volume: u32, ends: &mut Vec<RecoveryOutcome>) -> Result<(), AllocError>
         ensures { IfOk result (λ _. map find_of ends.new.items ≡ map find_of ends.old.items ++ (if nat_lt 1 volume && has_cut (clients_of self.now.clients.items volume).stage then found_client volume (clients_of self.now.clients.items volume) ∷ [] else [])) }
     {
         if volume <= 1 {
@@ -99,8 +99,8 @@ impl Actors {
         Ok(())
     }
 
-    /// The recoveries that have cut, in growing volume epoch.
-    pub fn finds(&self, alloc: Global) -> Result<Vec<FindEnd>, AllocError>
+    /// Returns the recoveries that have cut, in growing volume epoch.
+    pub fn finds(&self, alloc: Global) -> Result<Vec<RecoveryOutcome>, AllocError>
         ensures { IfOk result (λ ends. map find_of ends.items ≡ finds_in (world_of self.now)) }
     {
         let last = self.authority.last_volume();

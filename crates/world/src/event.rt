@@ -11,7 +11,7 @@ pub enum Event {
     Assign,
     /// The authority leads a group to a child of its configuration.
     Advance { group: u8, configuration: u32 },
-    /// The authority tells the client of the last volume epoch where the groups stand.
+    /// The authority makes a View of the groups' places for the client of the last volume epoch.
     Refresh { volume: u32 },
     /// The authority lets the next group join.
     Grow,

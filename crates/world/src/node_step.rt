@@ -17,7 +17,7 @@ use std::alloc::Global;
 use volume_model::Fault;
 use wire::Message;
 
-/// What an order asks for, among these messages. `NoMessage` where it names none of them.
+/// Returns what an order asks for, among these messages. `NoMessage` if it names none of them.
 fn act_of<'a>(order: NodeOrder<'a>, messages: &'a [Message]) -> Result<NodeAct<'a>, Fault>
     ensures { MatchResult result (λ act. IsNodeOrderOf (added (messages_of messages.entry.now) []) order.entry act) (λ fault. (fault ≡ NoMessage) × IsRefusedNodeOrder (added (messages_of messages.entry.now) []) order.entry) }
 {
@@ -27,8 +27,8 @@ fn act_of<'a>(order: NodeOrder<'a>, messages: &'a [Message]) -> Result<NodeAct<'
     }
 }
 
-/// Takes a step that a segment was made ready for, and adds the messages that it makes to the others, for which it makes room before the
-/// segment changes. Where memory runs out nothing has changed.
+/// Takes a step that a segment was prepared for, and adds the messages that it makes to the others, for which it
+/// makes room before the segment changes. On error nothing has changed.
 #[inline(always)]
 fn take(
     segment: &mut Segment,
@@ -44,7 +44,7 @@ fn take(
     Ok(enter(messages, made))
 }
 
-/// Lets a segment act, as [`act`] does: apart from it, so that the short way's results stay small.
+/// Returns the general case of [`act`], out of line so that the write path keeps a small stack frame.
 #[inline(never)]
 fn act_at_large(
     alloc: Global,
@@ -100,8 +100,8 @@ fn act_fenced(
     act_installing(alloc, segment, messages, order)
 }
 
-/// Lets a segment act, and adds the messages that it makes to the others, for which it makes room before the segment changes. Where memory
-/// runs out nothing has changed.
+/// Lets a segment act, and adds the messages that it makes to the others, for which it makes room before the segment
+/// changes. On error nothing has changed.
 pub fn act(
     alloc: Global,
     segment: &mut Segment,

@@ -15,10 +15,10 @@ use std::alloc::Global;
 use std::sync::Arc;
 use volume_model::Fault;
 
-/// How many members a group can have.
+/// The most members of a group.
 const MEMBERS: usize = 64;
 
-/// The slot of a member of a group, where there is one among so many.
+/// Returns the slot of a member of a group, where there is one among this many.
 pub fn slot(slots: usize, group: u8, member: u8) -> Option<usize>
     ensures { FindsSlot result slots group member }
 {
@@ -47,7 +47,7 @@ fn born(
     Ok(Some(Segment::new(alloc, plan.clone()?, group, member)?))
 }
 
-/// All nodes as they are born.
+/// Returns all nodes as they are born.
 pub fn all_born(alloc: Global, plan: &Arc<CheckedPlan>) -> Result<Vec<Option<Segment>>, Fault>
     ensures homes { IfOk result (λ slots. AreHomes (checked_model (arc_value plan.now)) slots.items) }
     ensures nodes { IfOk result (λ slots. node_at (checked_model (arc_value plan.now)) (nodes_of slots.items) ≡ born_node (checked_model (arc_value plan.now))) }

@@ -9,7 +9,7 @@ ghost use Rattle.wire.specs.Message.{message_of, messages_of};
 use volume_model::Fault;
 use wire::{Message, Messages};
 
-/// The message with a number, counted from 1 in the order of making.
+/// Returns the message with a number, counted from 1 in the order of making.
 fn message_at(messages: &[Message], number: u64) -> Option<&Message>
     ensures { option_map (λ m. message_of m.now) result ≡ numbered (added (messages_of messages.now) []) number }
 {
@@ -19,10 +19,10 @@ fn message_at(messages: &[Message], number: u64) -> Option<&Message>
     Some(&messages[(number - 1) as usize])
 }
 
-/// The message that an order names.
+/// Returns the message that an order names.
 ///
 /// # Errors
-/// `NoMessage` where none has that number.
+/// `NoMessage` if none has that number.
 pub fn named(messages: &[Message], number: u64) -> Result<&Message, Fault>
     ensures { MatchResult result (λ m. numbered (added (messages_of messages.now) []) number ≡ Some (message_of m.now)) (λ fault. (fault ≡ NoMessage) × (numbered (added (messages_of messages.now) []) number ≡ None)) }
 {

@@ -10,7 +10,7 @@ use crate::event::Order;
 use std::alloc::Global;
 use volume_model::Fault;
 
-/// How many messages an event made of which this is told.
+/// Returns how many messages an event made, 0 if it was refused.
 fn made_by(told: &Result<u32, Fault>) -> u32
     ensures { result ≡ made_by told.now }
 {
@@ -20,8 +20,8 @@ fn made_by(told: &Result<u32, Fault>) -> u32
     }
 }
 
-/// The number of the message that was made as the `place`-th, from 1, by the event with an index; 0, which no message has, where
-/// it made fewer. `firsts` has how many messages were made before each event.
+/// Returns the number of the message that was made as the `place`-th, from 1, by the event with an index; 0, which no
+/// message has, where it made fewer. `firsts` has how many messages were made before each event.
 fn number_of(firsts: &[u32], results: &[Result<u32, Fault>], event: usize, place: u64) -> u64
     requires { firsts.now ≡ firsts_of 0 results.now }
     ensures { result ≡ number_from 0 results.now event place }

@@ -1,4 +1,4 @@
-//! What a run leaves to be told.
+//! The outcome of a run.
 
 use crate::actors::Actors;
 use recovery::Found;
@@ -7,8 +7,8 @@ use writer_core::Log;
 
 /// An opened writer at the end of a run.
 #[derive(Drop)]
-pub struct WriterEnd {
-    /// Its volume epoch.
+pub struct WriterOutcome {
+    /// Returns the client's volume epoch.
     pub volume: u32,
     /// The LSN after which its own records begin.
     pub start: u64,
@@ -20,8 +20,8 @@ pub struct WriterEnd {
 
 /// A recovery that has cut, at the end of a run.
 #[derive(Drop)]
-pub struct FindEnd {
-    /// Its volume epoch.
+pub struct RecoveryOutcome {
+    /// Returns the client's volume epoch.
     pub volume: u32,
     /// The log that it found, where it cut, and its lineage.
     pub found: Found,
@@ -29,15 +29,15 @@ pub struct FindEnd {
 
 const _: () = prove!(size_of::<Result<u32, Fault>>() <= 8);
 
-/// What is told of a run.
+/// The outcome of a run.
 #[derive(Drop)]
 pub struct Outcome {
     /// For each event the number of messages that it made, or why it was refused. There may be many.
     pub results: Vec<Result<u32, Fault>>,
     /// The opened writers, in growing volume epoch.
-    pub writers: Vec<WriterEnd>,
+    pub writers: Vec<WriterOutcome>,
     /// The recoveries that have cut, in growing volume epoch. One that has become a writer is both.
-    pub finds: Vec<FindEnd>,
+    pub finds: Vec<RecoveryOutcome>,
     /// The actors as the run left them, and all messages: their memory is given back with the outcome, whenever that is.
     pub(crate) actors: Actors,
 }

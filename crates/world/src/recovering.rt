@@ -16,7 +16,8 @@ use std::alloc::Global;
 use volume_model::Fault;
 use wire::Message;
 
-/// Whether a recovery would take a message. `NotAddressed` where it isn't for it, `NotInPlan` for a View of other places.
+/// Returns whether a recovery would take a message. `NotAddressed` if it isn't for it, `NotInPlan` for a View of
+/// other places.
 fn admits_message(recovery: &Recovery, message: &Message) -> Result<(), Fault>
     ensures { result ≡ refusal_of (taken (recovery_plan recovery.now) (recovery_volume recovery.now) (client_of recovery.now) (message_of message.now)) }
 {
@@ -33,7 +34,7 @@ fn not_open<T>() -> Result<T, Fault>
     Err(Fault::NotOpen)
 }
 
-/// Whether a recovery would act. `NotOpen` where a writer alone could.
+/// Returns whether a recovery would act. `NotOpen` if a writer alone could.
 pub fn admits(alloc: Global, recovery: &Recovery, act: ClientAct<'_>) -> Result<(), Fault>
     ensures answers { AnswersLate (client_late act.entry) admitted (refusal_of (client_acted act.entry (recovery_plan recovery.now) (recovery_volume recovery.now) (client_of recovery.now))) tt result tt }
     ensures sure { ButForCut act.entry (result ≡ refusal_of (client_acted act.entry (recovery_plan recovery.now) (recovery_volume recovery.now) (client_of recovery.now))) }
@@ -60,7 +61,7 @@ fn take(alloc: Global, recovery: &mut Recovery, message: &Message) -> Result<Vec
     Ok(Vec::new(alloc))
 }
 
-/// A recovery acts. `NotOpen` where a writer alone could.
+/// A recovery acts. `NotOpen` if a writer alone could.
 pub fn act(
     alloc: Global,
     recovery: &mut Recovery,

@@ -19,7 +19,8 @@ use volume_model::{
     pages_are_true, runs_are_orderly, volume_keeps_commits,
 };
 
-/// A number of messages. More than one can tell are as if memory ran out, as these would take more of it than is there.
+/// Returns a number of messages. More than one can tell are as if memory ran out, as these would take more of it than
+/// is there.
 fn count_of(messages: u64) -> Result<u32, Fault>
     ensures same { IfOk result (λ count. count ≡ messages) }
     ensures memory { IfErr result (λ e. e ≡ NoMemory) }
@@ -30,7 +31,7 @@ fn count_of(messages: u64) -> Result<u32, Fault>
     Ok(messages as u32)
 }
 
-/// What is told of an event; want of memory ends the run.
+/// Returns the result of an event; running out of memory ends the run.
 fn told(step: Result<u64, Fault>) -> Result<Result<u32, Fault>, Fault>
     ensures same { IfOk result (λ told. told ≡ step) }
     ensures some { IfOk result (λ told. told ≢ Err NoMemory) }
@@ -60,7 +61,7 @@ pub fn promised(plan: &CheckedPlan)
 /// The most changes of a transaction that isn't refused.
 const MOST_CHANGES: usize = 32;
 
-/// How many messages an event mostly makes.
+/// Returns how many messages an event mostly makes.
 fn usual_messages(event: &Event) -> usize {
     match event {
         Event::Issue { changes, .. } if changes.len() <= MOST_CHANGES => changes.len(),
@@ -68,7 +69,7 @@ fn usual_messages(event: &Event) -> usize {
     }
 }
 
-/// The outcome of events that happen one after the other.
+/// Returns the outcome of events that happen one after the other.
 fn outcome_of(alloc: Global, plan: &Arc<CheckedPlan>, events: &[Event]) -> Result<Outcome, Fault>
     ensures tells { IfOk result (TellsRun (checked_model (arc_value plan.now)) (events_of events.now)) }
     ensures memory { IfErr result (λ e. e ≡ NoMemory) }
@@ -90,7 +91,7 @@ fn outcome_of(alloc: Global, plan: &Arc<CheckedPlan>, events: &[Event]) -> Resul
     })
 }
 
-/// How many messages orders mostly make together.
+/// Returns how many messages orders mostly make together.
 fn usual_messages_of(orders: &[Order]) -> usize {
     let mut count = 0usize;
     for order in orders {
@@ -103,7 +104,8 @@ fn usual_messages_of(orders: &[Order]) -> usize {
     count
 }
 
-/// The outcome of orders that are followed one after the other, the memory of each of which is given back once it was followed.
+/// Returns the outcome of orders that are followed one after the other, the memory of each of which is given back
+/// once it was followed.
 fn outcome_of_orders(
     alloc: Global,
     plan: &Arc<CheckedPlan>,
@@ -139,8 +141,10 @@ fn outcome_of_orders(
     })
 }
 
-/// Makes events happen one after the other, from the birth of a checked plan's volume on. A refused event changes nothing.
-/// Want of memory ends the run.
+/// Runs events one after the other over a new volume of a checked plan. A refused event changes nothing.
+///
+/// # Errors
+/// `NoMemory` ends the run.
 pub fn run(alloc: Global, plan: &Arc<CheckedPlan>, events: &[Event]) -> Result<Outcome, Fault>
     // The outcome is exactly that of the model.
     ensures tells { IfOk result (TellsRun (checked_model (arc_value plan.now)) (events_of events.now)) }
@@ -157,8 +161,11 @@ pub fn run(alloc: Global, plan: &Arc<CheckedPlan>, events: &[Event]) -> Result<O
     outcome_of(alloc, plan, events)
 }
 
-/// `run`, of events whose messages may be named by the events that made them. Want of memory ends it too. The memory of an order is given
-/// back once it was followed, with its changes where it is a transaction.
+/// Runs orders, whose messages may be named by the events that made them, as [`run`] does. The memory of an order is
+/// freed once it was followed.
+///
+/// # Errors
+/// `NoMemory` ends the run.
 pub fn run_orders(
     alloc: Global,
     plan: &Arc<CheckedPlan>,

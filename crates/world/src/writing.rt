@@ -15,7 +15,8 @@ use volume_model::Fault;
 use wire::{Message, Messages};
 use writer_core::Writer;
 
-/// Whether a writer would take a message. `NotAddressed` where it isn't for it, `NotInPlan` for a View of other places.
+/// Returns whether a writer would take a message. `NotAddressed` if it isn't for it, `NotInPlan` for a View of other
+/// places.
 fn admits_message(writer: &Writer, message: &Message) -> Result<(), Fault>
     ensures { result ≡ refusal_of (taken (writer_plan writer.now) (writer_volume writer.now) (client_of writer.now) (message_of message.now)) }
 {
@@ -25,7 +26,7 @@ fn admits_message(writer: &Writer, message: &Message) -> Result<(), Fault>
     }
 }
 
-/// Whether a writer would act. `AlreadyDone` where it is to cut.
+/// Returns whether a writer would act. `AlreadyDone` if it is to cut.
 pub fn admits(writer: &Writer, act: ClientAct<'_>) -> Result<(), Fault>
     ensures answers { AnswersLate (client_late act.entry) admitted (refusal_of (client_acted act.entry (writer_plan writer.now) (writer_volume writer.now) (client_of writer.now))) tt result tt }
     ensures sure { ButForCut act.entry (result ≡ refusal_of (client_acted act.entry (writer_plan writer.now) (writer_volume writer.now) (client_of writer.now))) }
@@ -64,7 +65,7 @@ fn take(alloc: Global, writer: &mut Writer, message: &Message) -> Result<Message
     Ok(Messages::Empty)
 }
 
-/// A writer acts. `AlreadyDone` where it is to cut.
+/// A writer acts. `AlreadyDone` if it is to cut.
 pub fn act(alloc: Global, writer: &mut Writer, act: ClientAct<'_>) -> Result<Messages, Fault>
     ensures answers { AnswersLate (client_late act.entry) answered (client_acted act.entry (writer_plan writer.old) (writer_volume writer.old) (client_of writer.old)) (client_of writer.old) result (client_of writer.new) }
     ensures plan { writer_plan writer.new ≡ writer_plan writer.old }

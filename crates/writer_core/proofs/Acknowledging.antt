@@ -13,7 +13,7 @@ use Rattle.volume_model.specs.Client.{Client, ClientGroup, ClientAnswer, place_o
 use Rattle.volume_model.specs.Client.Stage.{Writing}
 use Rattle.volume_model.specs.ClientPoints.{raised}
 use Rattle.volume_model.specs.ClientMessages.{is_for, taken}
-use Rattle.writer_core.specs.Standings.{counted_in}
+use Rattle.writer_core.specs.GroupStates.{counted_in}
 
 -- the writer that keeps these of its groups
 abbrev pub with_groups : List ClientGroup → Lineage → List Redo → List Redo → Client

@@ -12,8 +12,8 @@ use Rattle.volume_model.specs.ClientWriter.{last_of_group_below}
 use Rattle.redo_record.specs.declared.shared_record.SharedRecord.{SharedRecord}
 use Rattle.redo_record.specs.SharedRecord.{shared_redo}
 use Rattle.writer_core.specs.Logs.{log_of, is_growing}
-use Rattle.writer_core.specs.Covered.{is_covered, Covers, CoversNone, CoversFront, CoversLog}
-use Rattle.writer_core.specs.declared.covered.Covered.{Covered}
+use Rattle.writer_core.specs.DurabilityTracker.{is_covered, Covers, CoversNone, CoversFront, CoversLog}
+use Rattle.writer_core.specs.declared.durability.DurabilityTracker.{DurabilityTracker}
 use Rattle.writer_core.proofs.Entering.{group-entered}
 use Rattle.writer_core.proofs.Finding.{above}
 use Rattle.writer_core.proofs.Growing.{both}
@@ -37,11 +37,11 @@ split records n =
 
 -- ---- all records are covered
 
-complete_of-covered : (points : ℕ → ℕ) (log : List Redo) → every (is_covered points) log ≡ true → complete_of points log ≡ last_lsn log
-complete_of-covered points [] h = refl
-complete_of-covered points (r ∷ older) h =
+complete_of-durability : (points : ℕ → ℕ) (log : List Redo) → every (is_covered points) log ≡ true → complete_of points log ≡ last_lsn log
+complete_of-durability points [] h = refl
+complete_of-durability points (r ∷ older) h =
     let parts : (is_covered points r ≡ true) × (every (is_covered points) older ≡ true) = and_parts _ _ h in
-    let all : (complete_of points older == last_lsn older) ≡ true = eq-eqb _ _ (complete_of-covered points older parts.1) in
+    let all : (complete_of points older == last_lsn older) ≡ true = eq-eqb _ _ (complete_of-durability points older parts.1) in
     let e : ((complete_of points older == last_lsn older) && nat_le r.lsn (points r.group)) ≡ true = and_from _ _ all parts.0 in
     rw e refl
 
@@ -109,7 +109,7 @@ last_of_group_below-later group n (x ∷ xs) kept h le =
 
 -- ---- what is kept of a front
 
-module _ (points : ℕ → ℕ) (records : List SharedRecord) (growing : is_growing (log_of records) ≡ true) (old : Covered) (front : CoversFront old points records) where
+module _ (points : ℕ → ℕ) (records : List SharedRecord) (growing : is_growing (log_of records) ≡ true) (old : DurabilityTracker) (front : CoversFront old points records) where
   abbrev kept : List Redo
   kept = log_of (take old.records records)
 
@@ -132,7 +132,7 @@ module _ (points : ℕ → ℕ) (records : List SharedRecord) (growing : is_grow
       front.durable_lasts group h ∙ sym (last_of_group_below-above group old.durable r kept (omega arith))
 
   -- one record more is covered
-  pub covers-more : (new : Covered) (p : SharedRecord) (r : Redo) → old.records < length records → p ≡ get_or records old.records p → r ≡ shared_redo p → r.group < 16 → r.lsn ≤ points r.group → Covers old new r → CoversFront new points records
+  pub covers-more : (new : DurabilityTracker) (p : SharedRecord) (r : Redo) → old.records < length records → p ≡ get_or records old.records p → r ≡ shared_redo p → r.group < 16 → r.lsn ≤ points r.group → Covers old new r → CoversFront new points records
   covers-more new p r within is shows small reached covers =
       let here : nat_le r.lsn (points r.group) ≡ true = le-leb r.lsn (points r.group) reached in
       let one : log_of (take (old.records + 1) records) ≡ r ∷ kept = next-kept p r within is shows in
@@ -141,17 +141,17 @@ module _ (points : ℕ → ℕ) (records : List SharedRecord) (growing : is_grow
       let link : last_lsn kept < r.lsn = (both (last_lsn kept) r.lsn (is_growing kept) next).0 in
       let self : nat_le r.lsn r.lsn ≡ true = le-leb r.lsn r.lsn (omega arith) in
       let bound : consistency_point_below r.lsn kept ≡ old.durable = consistency_point_below-whole r.lsn kept kept_grows (omega arith) ∙ sym (front.durable ∙ ap (λ n. consistency_point_below n kept) front.complete) in
-      let lasts : (group : ℕ) → group < 16 → get_or new.lasts group 0 ≡ last_of_group group (r ∷ kept) =
-      λ group h. ap (λ xs. get_or xs group 0) covers.lasts ∙ group-entered old.lasts r.group group r.lsn (last_of_group group kept) (omega (arith, old.each_last)) (front.lasts group h) in
+      let last_lsns : (group : ℕ) → group < 16 → get_or new.last_lsns group 0 ≡ last_of_group group (r ∷ kept) =
+      λ group h. ap (λ xs. get_or xs group 0) covers.last_lsns ∙ group-entered old.last_lsns r.group group r.lsn (last_of_group group kept) (omega (arith, old.each_last)) (front.last_lsns group h) in
       record {
         within = omega (arith, covers.counted);
         all = ap (every (is_covered points)) whole ∙ and_from _ _ here front.all;
         complete = covers.complete ∙ sym (ap last_lsn whole);
         durable = covers.durable ∙ sym (ap₂ consistency_point_below covers.complete whole ∙ last r.point self bound);
-        lasts = λ group h. lasts group h ∙ sym (ap (last_of_group group) whole);
+        last_lsns = λ group h. last_lsns group h ∙ sym (ap (last_of_group group) whole);
         durable_lasts = λ group h.
             ap (λ xs. get_or xs group 0) covers.durable_lasts
-            ∙ durable_next r.point group (lasts group h ∙ sym (last_of_group_below-whole group r.lsn (r ∷ kept) next (omega arith))) (stays-durable r group h link)
+            ∙ durable_next r.point group (last_lsns group h ∙ sym (last_of_group_below-whole group r.lsn (r ∷ kept) next (omega arith))) (stays-durable r group h link)
             ∙ sym (ap₂ (last_of_group_below group) covers.durable whole);
       }
     where
@@ -162,8 +162,8 @@ module _ (points : ℕ → ℕ) (records : List SharedRecord) (growing : is_grow
       last true self bound = rw self refl
       last false self bound = bound
 
-      durable_next : (point : Bool) (group : ℕ) → get_or new.lasts group 0 ≡ last_of_group_below group r.lsn (r ∷ kept) → get_or old.durable_lasts group 0 ≡ last_of_group_below group old.durable (r ∷ kept)
-          → get_or (if point then new.lasts else old.durable_lasts) group 0 ≡ last_of_group_below group (if point then r.lsn else old.durable) (r ∷ kept)
+      durable_next : (point : Bool) (group : ℕ) → get_or new.last_lsns group 0 ≡ last_of_group_below group r.lsn (r ∷ kept) → get_or old.durable_lasts group 0 ≡ last_of_group_below group old.durable (r ∷ kept)
+          → get_or (if point then new.last_lsns else old.durable_lasts) group 0 ≡ last_of_group_below group (if point then r.lsn else old.durable) (r ∷ kept)
       durable_next true group now before = now
       durable_next false group now before = before
 
@@ -172,7 +172,7 @@ module _ (points : ℕ → ℕ) (records : List SharedRecord) (growing : is_grow
   covers-all end =
       let whole : take old.records records ≡ records = take_all old.records records end in
       let all : every (is_covered points) (log_of records) ≡ true = subst (λ (xs : List SharedRecord). every (is_covered points) (log_of xs) ≡ true) whole front.all in
-      let complete : old.complete ≡ complete_of points (log_of records) = front.complete ∙ ap (λ (xs : List SharedRecord). last_lsn (log_of xs)) whole ∙ sym (complete_of-covered points (log_of records) all) in
+      let complete : old.complete ≡ complete_of points (log_of records) = front.complete ∙ ap (λ (xs : List SharedRecord). last_lsn (log_of xs)) whole ∙ sym (complete_of-durability points (log_of records) all) in
       record {
         front = front;
         complete = complete;
@@ -191,9 +191,9 @@ module _ (points : ℕ → ℕ) (records : List SharedRecord) (growing : is_grow
       ∙ ap (λ s. added (map shared_redo (drop (old.records + 1) records)) (s ∷ kept)) (sym shows) in
       let grows : is_growing (added (map shared_redo (drop (old.records + 1) records)) (r ∷ kept)) ≡ true = subst (λ log. is_growing log ≡ true) whole growing in
       let link : last_lsn kept < r.lsn = (both (last_lsn kept) r.lsn (is_growing kept) (above (drop (old.records + 1) records) (r ∷ kept) grows).0).0 in
-      let covered : complete_of points kept ≡ last_lsn kept = complete_of-covered points kept front.all in
+      let durability : complete_of points kept ≡ last_lsn kept = complete_of-durability points kept front.all in
       let step : complete_of points (r ∷ kept) ≡ last_lsn kept =
-      ap (λ b. if b then r.lsn else complete_of points kept) (ap (λ b. (complete_of points kept == last_lsn kept) && b) here ∙ and_false _) ∙ covered in
+      ap (λ b. if b then r.lsn else complete_of points kept) (ap (λ b. (complete_of points kept == last_lsn kept) && b) here ∙ and_false _) ∙ durability in
       let stuck : complete_of points (log_of records) ≡ last_lsn kept =
       ap (complete_of points) whole ∙ complete_of-stuck points (drop (old.records + 1) records) (r ∷ kept) grows (omega arith) ∙ step in
       let low : old.durable ≤ last_lsn kept = durable-le in
@@ -207,30 +207,30 @@ module _ (points : ℕ → ℕ) (records : List SharedRecord) (growing : is_grow
       }
 
 -- a log of no record
-pub covers-none : (covered : Covered) (points : ℕ → ℕ) (records : List SharedRecord) → CoversNone covered → records ≡ [] → CoversLog covered points records
-covers-none covered points records none empty = subst (CoversLog covered points) (sym empty) (covers-all points [] refl covered (none points []) (omega arith))
+pub covers-none : (durability : DurabilityTracker) (points : ℕ → ℕ) (records : List SharedRecord) → CoversNone durability → records ≡ [] → CoversLog durability points records
+covers-none durability points records none empty = subst (CoversLog durability points) (sym empty) (covers-all points [] refl durability (none points []) (omega arith))
 
 -- ---- points that rise, and logs that grow
 
-every-covered : (points points' : ℕ → ℕ) → ((group : ℕ) → points group ≤ points' group) → (log : List Redo) → every (is_covered points) log ≡ true → every (is_covered points') log ≡ true
-every-covered points points' up [] h = refl
-every-covered points points' up (r ∷ older) h =
+every-durability : (points points' : ℕ → ℕ) → ((group : ℕ) → points group ≤ points' group) → (log : List Redo) → every (is_covered points) log ≡ true → every (is_covered points') log ≡ true
+every-durability points points' up [] h = refl
+every-durability points points' up (r ∷ older) h =
     let parts : (is_covered points r ≡ true) × (every (is_covered points) older ≡ true) = and_parts _ _ h in
     let reached : r.lsn ≤ points r.group = leb-true r.lsn (points r.group) parts.0 in
     let more : points r.group ≤ points' r.group = up r.group in
-    and_from _ _ (le-leb r.lsn (points' r.group) (omega arith)) (every-covered points points' up older parts.1)
+    and_from _ _ (le-leb r.lsn (points' r.group) (omega arith)) (every-durability points points' up older parts.1)
 
 -- points have risen
-pub covers-raised : (covered : Covered) (points points' : ℕ → ℕ) (records : List SharedRecord) → ((group : ℕ) → points group ≤ points' group) → CoversFront covered points records → CoversFront covered points' records
-covers-raised covered points points' records up front = record {
+pub covers-raised : (durability : DurabilityTracker) (points points' : ℕ → ℕ) (records : List SharedRecord) → ((group : ℕ) → points group ≤ points' group) → CoversFront durability points records → CoversFront durability points' records
+covers-raised durability points points' records up front = record {
   within = front.within;
-  all = every-covered points points' up (log_of (take covered.records records)) front.all;
+  all = every-durability points points' up (log_of (take durability.records records)) front.all;
   complete = front.complete;
   durable = front.durable;
-  lasts = front.lasts;
+  last_lsns = front.last_lsns;
   durable_lasts = front.durable_lasts;
 }
 
 -- points that are the same
-pub covers-same : (covered : Covered) (points points' : ℕ → ℕ) (records : List SharedRecord) → ((group : ℕ) → points group ≡ points' group) → CoversLog covered points records → CoversLog covered points' records
-covers-same covered points points' records same covers = subst (λ p. CoversLog covered p records) (fun_ext same) covers
+pub covers-same : (durability : DurabilityTracker) (points points' : ℕ → ℕ) (records : List SharedRecord) → ((group : ℕ) → points group ≡ points' group) → CoversLog durability points records → CoversLog durability points' records
+covers-same durability points points' records same covers = subst (λ p. CoversLog durability p records) (fun_ext same) covers

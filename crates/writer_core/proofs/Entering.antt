@@ -11,8 +11,8 @@ use Rattle.redo_record.specs.declared.shared_record.SharedRecord.{SharedRecord}
 use Rattle.redo_record.specs.SharedRecord.{shared_redo}
 use Rattle.writer_core.specs.Logs.{log_of}
 use Rattle.writer_core.specs.Kept.{Blocks, block_cmp, kept_in, AreSameIn, PutsIn}
-use Rattle.writer_core.specs.Lasts.{AreLasts, AreLastsOfAll, AreLastsOfFront, Enters, EntersNone}
-use Rattle.writer_core.specs.declared.lasts.Lasts.{Lasts}
+use Rattle.writer_core.specs.LastLsns.{AreLasts, AreLastsOfAll, AreLastsOfFront, Enters, EntersNone}
+use Rattle.writer_core.specs.declared.last_lsns.LastLsns.{LastLsns}
 use Rattle.writer_core.proofs.Logs.{log_of-push}
 
 -- a group's number, where a record is entered
@@ -53,10 +53,10 @@ puts-none old group block lsn new none updates q b =
     ∙ block-removed _ (nat_eq group q && nat_eq block b) (get block_cmp old (b, q)) (block-same group block q b)
     ∙ ap (λ n. if nat_eq group q && nat_eq block b then n else kept_in old q b) (sym none)
 
-pub lasts-entered : (old new : Lasts) (i group block lsn : ℕ) → i ≡ group → group < 16 → new.entered ≡ old.entered + 1 → new.groups ≡ slice_set old.groups i lsn → PutsIn old.blocks group block lsn new.blocks → Enters old new group block lsn
-lasts-entered old new i group block lsn is below counted groups puts = record {
+pub last_lsns-entered : (old new : LastLsns) (i group block lsn : ℕ) → i ≡ group → group < 16 → new.entered ≡ old.entered + 1 → new.groups ≡ slice_set old.groups i lsn → PutsIn old.blocks group block lsn new.blocks → Enters old new group block lsn
+last_lsns-entered old new i group block lsn is below counted groups puts = record {
   counted = counted;
-  lasts = λ r on_group on_block has_lsn log before. record {
+  last_lsns = λ r on_group on_block has_lsn log before. record {
     of_group = λ q h.
         let within : i < length old.groups = omega (arith, old.each_group, below, is) in
         ap (λ xs. get_or xs q 0) groups ∙ group-entered old.groups i q lsn (last_of_group q log) within (before.of_group q h)
@@ -71,32 +71,32 @@ lasts-entered old new i group block lsn is below counted groups puts = record {
 }
 
 -- nothing is put
-pub lasts-same : (old new : Lasts) → new.entered ≡ old.entered → new.groups ≡ old.groups → AreSameIn old.blocks new.blocks → EntersNone old new
-lasts-same old new counted groups same = record {
+pub last_lsns-same : (old new : LastLsns) → new.entered ≡ old.entered → new.groups ≡ old.groups → AreSameIn old.blocks new.blocks → EntersNone old new
+last_lsns-same old new counted groups same = record {
   counted = counted;
-  lasts = λ log before. record {
+  last_lsns = λ log before. record {
     of_group = λ q h. ap (λ xs. get_or xs q 0) groups ∙ before.of_group q h;
     of_block = λ q b. same q b ∙ before.of_block q b;
   };
 }
 
 -- all records are a front
-pub all-front : (lasts : Lasts) (records : List SharedRecord) → AreLastsOfAll lasts records → AreLastsOfFront lasts records
-all-front lasts records all = record {
+pub all-front : (last_lsns : LastLsns) (records : List SharedRecord) → AreLastsOfAll last_lsns records → AreLastsOfFront last_lsns records
+all-front last_lsns records all = record {
   within = omega (arith, all.counted);
-  front = subst (λ (xs : List SharedRecord). AreLasts lasts (log_of xs)) (sym (take_all lasts.entered records (omega (arith, all.counted)))) all.all;
+  front = subst (λ (xs : List SharedRecord). AreLasts last_lsns (log_of xs)) (sym (take_all last_lsns.entered records (omega (arith, all.counted)))) all.all;
 }
 
 -- the front is all records, where no more are left
-pub front-all : (lasts : Lasts) (records : List SharedRecord) → length records ≤ lasts.entered → AreLastsOfFront lasts records → AreLastsOfAll lasts records
-front-all lasts records whole front = record {
+pub front-all : (last_lsns : LastLsns) (records : List SharedRecord) → length records ≤ last_lsns.entered → AreLastsOfFront last_lsns records → AreLastsOfAll last_lsns records
+front-all last_lsns records whole front = record {
   counted = omega (arith, whole, front.within);
-  all = subst (λ (xs : List SharedRecord). AreLasts lasts (log_of xs)) (take_all lasts.entered records whole) front.front;
+  all = subst (λ (xs : List SharedRecord). AreLasts last_lsns (log_of xs)) (take_all last_lsns.entered records whole) front.front;
 }
 
 -- a record that is entered is then pushed
-pub all-pushed : (old new : Lasts) (records : List SharedRecord) (p : SharedRecord) (group block lsn : ℕ) → (shared_redo p).group ≡ group → (shared_redo p).block ≡ block → (shared_redo p).lsn ≡ lsn → Enters old new group block lsn → AreLastsOfAll old records → AreLastsOfAll new (records ++ p ∷ [])
+pub all-pushed : (old new : LastLsns) (records : List SharedRecord) (p : SharedRecord) (group block lsn : ℕ) → (shared_redo p).group ≡ group → (shared_redo p).block ≡ block → (shared_redo p).lsn ≡ lsn → Enters old new group block lsn → AreLastsOfAll old records → AreLastsOfAll new (records ++ p ∷ [])
 all-pushed old new records p group block lsn on_group on_block has_lsn enters all = record {
   counted = omega (arith, enters.counted, all.counted, length-append records (p ∷ []));
-  all = subst (AreLasts new) (sym (log_of-push records p)) (enters.lasts (shared_redo p) on_group on_block has_lsn (log_of records) all.all);
+  all = subst (AreLasts new) (sym (log_of-push records p)) (enters.last_lsns (shared_redo p) on_group on_block has_lsn (log_of records) all.all);
 }

@@ -14,8 +14,8 @@ use Rattle.redo_record.specs.SharedRecord.{shared_redo}
 use Rattle.redo_record.specs.Record.{redo_of}
 use Rattle.writer_core.specs.Logs.{log_of}
 use Rattle.writer_core.specs.Kept.{Blocks, block_cmp, kept_in, PutsIn}
-use Rattle.writer_core.specs.Lasts.{kept_of_group, kept_of_block, AreLasts, AreLastsOfAll, AreLastsOfFront, Enters, IsLinked, AreLinkedFrom, Leaves}
-use Rattle.writer_core.specs.declared.lasts.Lasts.{Lasts}
+use Rattle.writer_core.specs.LastLsns.{kept_of_group, kept_of_block, AreLasts, AreLastsOfAll, AreLastsOfFront, Enters, IsLinked, AreLinkedFrom, Leaves}
+use Rattle.writer_core.specs.declared.last_lsns.LastLsns.{LastLsns}
 use Rattle.writer_core.proofs.Logs.{log_of-more}
 use Rattle.writer_core.proofs.Entering.{group-entered, puts-some}
 
@@ -35,18 +35,18 @@ puts-inserted (Err x) old group block prev new updates absent = inl (ap (λ (fou
 own : (g b lsn last : ℕ) → (if nat_eq g g && nat_eq b b then lsn else last) ≡ lsn
 own g b lsn last = grind (arith, nat_tests)
 
-pub lasts-left : (old new : Lasts) (i group block prev_group prev_block : ℕ) → i ≡ group → group < 16 → new.entered + 1 ≡ old.entered → new.groups ≡ slice_set old.groups i prev_group → IsAbsentOr old.blocks group block (PutsIn old.blocks group block prev_block new.blocks)
+pub last_lsns-left : (old new : LastLsns) (i group block prev_group prev_block : ℕ) → i ≡ group → group < 16 → new.entered + 1 ≡ old.entered → new.groups ≡ slice_set old.groups i prev_group → IsAbsentOr old.blocks group block (PutsIn old.blocks group block prev_block new.blocks)
     → Leaves old new group block prev_group prev_block
-lasts-left old new i group block prev_group prev_block is below counted groups (inl absent) = record {
+last_lsns-left old new i group block prev_group prev_block is below counted groups (inl absent) = record {
   counted = counted;
-  lasts = λ r on_group on_block names_group names_block some log linked before. absurd (
+  last_lsns = λ r on_group on_block names_group names_block some log linked before. absurd (
       let gone : kept_of_block old r.group r.block ≡ 0 = ap₂ (λ g b. kept_of_block old g b) on_group on_block ∙ absent in
       let there : kept_of_block old r.group r.block ≡ r.lsn = before.of_block r.group r.block ∙ own r.group r.block r.lsn (last_of_block r.group r.block log) in
       omega (arith, gone, there, some));
 }
-lasts-left old new i group block prev_group prev_block is below counted groups (inr put) = record {
+last_lsns-left old new i group block prev_group prev_block is below counted groups (inr put) = record {
   counted = counted;
-  lasts = λ r on_group on_block names_group names_block some log linked before. record {
+  last_lsns = λ r on_group on_block names_group names_block some log linked before. record {
     of_group = λ q h.
         let within : i < length old.groups = omega (arith, old.each_group, below, is) in
         let kept : kept_of_group new q ≡ (if nat_eq r.group q then r.prev_group else kept_of_group old q) =
@@ -64,7 +64,7 @@ lasts-left old new i group block prev_group prev_block is below counted groups (
 }
 
 -- one record of the front is taken out
-pub front-left : (old new : Lasts) (records : List SharedRecord) (p : SharedRecord) (r : Record) (place : ℕ) → place < old.entered → AreLinkedFrom place records → p ≡ get_or records (old.entered - 1) p → redo_of r ≡ shared_redo p
+pub front-left : (old new : LastLsns) (records : List SharedRecord) (p : SharedRecord) (r : Record) (place : ℕ) → place < old.entered → AreLinkedFrom place records → p ≡ get_or records (old.entered - 1) p → redo_of r ≡ shared_redo p
     → Leaves old new r.group r.block r.prev_group r.prev_block → AreLastsOfFront old records → AreLastsOfFront new records
 front-left old new records p r place more linked is shows leaves front =
     let counted : old.entered - 1 ≡ new.entered = omega (arith, leaves.counted) in
@@ -75,22 +75,22 @@ front-left old new records p r place more linked is shows leaves front =
     let link : IsLinked (redo_of r) (log_of (take new.entered records)) = subst (λ s. IsLinked s (log_of (take new.entered records))) (ap shared_redo (sym here) ∙ sym shows) (linked new.entered p (omega (arith, leaves.counted, more)) within) in
     record {
       within = omega (arith, within);
-      front = leaves.lasts (redo_of r) refl refl refl refl r.lsn_positive (log_of (take new.entered records)) link (subst (AreLasts old) one front.front);
+      front = leaves.last_lsns (redo_of r) refl refl refl refl r.lsn_positive (log_of (take new.entered records)) link (subst (AreLasts old) one front.front);
     }
 
 -- the record that was entered behind all others, and names what is before it, is taken out
-pub all-left : (old mid new : Lasts) (records : List SharedRecord) (r : Redo) (lsn prev_group prev_block : ℕ) → r.lsn ≡ lsn → r.prev_group ≡ prev_group → r.prev_block ≡ prev_block → 1 ≤ r.lsn → IsLinked r (log_of records)
+pub all-left : (old mid new : LastLsns) (records : List SharedRecord) (r : Redo) (lsn prev_group prev_block : ℕ) → r.lsn ≡ lsn → r.prev_group ≡ prev_group → r.prev_block ≡ prev_block → 1 ≤ r.lsn → IsLinked r (log_of records)
     → Enters old mid r.group r.block lsn → Leaves mid new r.group r.block prev_group prev_block → AreLastsOfAll old records → AreLastsOfAll new records
 all-left old mid new records r lsn prev_group prev_block has_lsn names_group names_block some linked enters leaves all = record {
   counted = omega (arith, enters.counted, leaves.counted, all.counted);
-  all = leaves.lasts r refl refl names_group names_block some (log_of records) linked (enters.lasts r refl refl has_lsn (log_of records) all.all);
+  all = leaves.last_lsns r refl refl names_group names_block some (log_of records) linked (enters.last_lsns r refl refl has_lsn (log_of records) all.all);
 }
 
 -- what is entered is the front of a front
-pub front-cut : (lasts : Lasts) (records : List SharedRecord) (n : ℕ) → lasts.entered ≤ n → AreLastsOfFront lasts records → AreLastsOfFront lasts (take n records)
-front-cut lasts records n few front = record {
+pub front-cut : (last_lsns : LastLsns) (records : List SharedRecord) (n : ℕ) → last_lsns.entered ≤ n → AreLastsOfFront last_lsns records → AreLastsOfFront last_lsns (take n records)
+front-cut last_lsns records n few front = record {
   within = omega (arith, few, front.within, length-take n records);
-  front = subst (λ (xs : List SharedRecord). AreLasts lasts (log_of xs)) (sym (take-take lasts.entered n records few)) front.front;
+  front = subst (λ (xs : List SharedRecord). AreLasts last_lsns (log_of xs)) (sym (take-take last_lsns.entered n records few)) front.front;
 }
 
 -- ---- a log that grows by records that name what is before them

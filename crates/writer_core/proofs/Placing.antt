@@ -16,8 +16,8 @@ use Rattle.writer_core.proofs.Below.{below-fails, is_place, places-parts}
 use Rattle.volume_model.specs.Client.{ClientGroup, no_group, group_of, place_of, newly_at, born_group}
 use Rattle.volume_model.specs.ClientPoints.{raised_group, raised_from}
 use Rattle.volume_model.specs.ClientMessages.{with_places, later_group, reread_group, is_later, are_places}
-use Rattle.writer_core.specs.declared.standing.Standing.{Standing}
-use Rattle.writer_core.specs.Standings.{group_at, groups_of, ArePlaced}
+use Rattle.writer_core.specs.declared.group_state.GroupState.{GroupState}
+use Rattle.writer_core.specs.GroupStates.{group_at, groups_of, ArePlaced}
 
 -- ---- places
 
@@ -46,66 +46,66 @@ roots-placed plan n few there k h =
 
 -- ---- the group at hand
 
-pub group-is : (standings : List Standing) (i : ℕ) (s : Standing) → i < length standings → s ≡ get_or standings i s → group_of (groups_of standings) i ≡ group_at s
+pub group-is : (group_states : List GroupState) (i : ℕ) (s : GroupState) → i < length group_states → s ≡ get_or group_states i s → group_of (groups_of group_states) i ≡ group_at s
 group-is [] i s h is = absurd (omega arith)
 group-is (x ∷ xs) zero s h is = ap group_at (sym is)
 group-is (x ∷ xs) (suc i) s h is = group-is xs i s (omega arith) is
 
 -- ---- one point more is raised
 
-pub raised-more : (plan : Plan) (standings : List Standing) (i : ℕ) (s t : Standing) (whole : List ClientGroup) → i < length standings → s ≡ get_or standings i s → group_at t ≡ raised_group plan i (group_at s)
-    → groups_of (take i standings) ++ raised_from plan i (groups_of (drop i standings)) ≡ whole
-    → groups_of (take (i + 1) (slice_set standings i t)) ++ raised_from plan (i + 1) (groups_of (drop (i + 1) (slice_set standings i t))) ≡ whole
-raised-more plan standings i s t whole h is raised before =
-    let later = raised_from plan (i + 1) (groups_of (drop (i + 1) standings)) in
-    ap₂ (λ a b. groups_of a ++ raised_from plan (i + 1) (groups_of b)) (take_more_set standings i t h) (drop-set-lt (i + 1) standings i t (omega arith))
-    ∙ ap (λ gs. gs ++ later) (map-append group_at (take i standings) (t ∷ []))
-    ∙ append_assoc (groups_of (take i standings)) (group_at t ∷ []) later
-    ∙ ap (λ g. groups_of (take i standings) ++ g ∷ later) raised
-    ∙ ap (λ n. groups_of (take i standings) ++ raised_group plan i (group_at s) ∷ raised_from plan n (groups_of (drop (i + 1) standings))) (add-one i)
-    ∙ ap (λ l. groups_of (take i standings) ++ raised_from plan i l) (sym (ap groups_of (drop-cons standings i s h) ∙ ap₂ (λ x n. group_at x ∷ groups_of (drop n standings)) (sym is) (sym (add-one i))))
+pub raised-more : (plan : Plan) (group_states : List GroupState) (i : ℕ) (s t : GroupState) (whole : List ClientGroup) → i < length group_states → s ≡ get_or group_states i s → group_at t ≡ raised_group plan i (group_at s)
+    → groups_of (take i group_states) ++ raised_from plan i (groups_of (drop i group_states)) ≡ whole
+    → groups_of (take (i + 1) (slice_set group_states i t)) ++ raised_from plan (i + 1) (groups_of (drop (i + 1) (slice_set group_states i t))) ≡ whole
+raised-more plan group_states i s t whole h is raised before =
+    let later = raised_from plan (i + 1) (groups_of (drop (i + 1) group_states)) in
+    ap₂ (λ a b. groups_of a ++ raised_from plan (i + 1) (groups_of b)) (take_more_set group_states i t h) (drop-set-lt (i + 1) group_states i t (omega arith))
+    ∙ ap (λ gs. gs ++ later) (map-append group_at (take i group_states) (t ∷ []))
+    ∙ append_assoc (groups_of (take i group_states)) (group_at t ∷ []) later
+    ∙ ap (λ g. groups_of (take i group_states) ++ g ∷ later) raised
+    ∙ ap (λ n. groups_of (take i group_states) ++ raised_group plan i (group_at s) ∷ raised_from plan n (groups_of (drop (i + 1) group_states))) (add-one i)
+    ∙ ap (λ l. groups_of (take i group_states) ++ raised_from plan i l) (sym (ap groups_of (drop-cons group_states i s h) ∙ ap₂ (λ x n. group_at x ∷ groups_of (drop n group_states)) (sym is) (sym (add-one i))))
     ∙ before
 
 -- ---- one group is changed
 
 -- a group that is what it was, in its place
-set-same : (standings : List Standing) (i : ℕ) (s t : Standing) → s ≡ get_or standings i s → group_at t ≡ group_at (get_or standings i s) → groups_of (slice_set standings i t) ≡ groups_of standings
+set-same : (group_states : List GroupState) (i : ℕ) (s t : GroupState) → s ≡ get_or group_states i s → group_at t ≡ group_at (get_or group_states i s) → groups_of (slice_set group_states i t) ≡ groups_of group_states
 set-same [] i s t is same = refl
 set-same (x ∷ xs) zero s t is same = ap (λ g. g ∷ groups_of xs) same
 set-same (x ∷ xs) (suc i) s t is same = ap (λ gs. group_at x ∷ gs) (set-same xs i s t is same)
 
 -- what stands in the place of a group that is changed
-pub changed : (f : ClientGroup → ClientGroup) (standings : List Standing) (i j : ℕ) (s t : Standing) → i < length standings → s ≡ get_or standings i s → i ≡ j → group_at t ≡ f (group_at s)
-    → groups_of (slice_set standings i t) ≡ slice_set (groups_of standings) j (f (group_of (groups_of standings) j))
-changed f standings i j s t within is same e =
-    map-set group_at standings i t
-    ∙ ap (slice_set (groups_of standings) i) (e ∙ ap f (sym (group-is standings i s within is)))
-    ∙ ap (λ k. slice_set (groups_of standings) k (f (group_of (groups_of standings) k))) same
+pub changed : (f : ClientGroup → ClientGroup) (group_states : List GroupState) (i j : ℕ) (s t : GroupState) → i < length group_states → s ≡ get_or group_states i s → i ≡ j → group_at t ≡ f (group_at s)
+    → groups_of (slice_set group_states i t) ≡ slice_set (groups_of group_states) j (f (group_of (groups_of group_states) j))
+changed f group_states i j s t within is same e =
+    map-set group_at group_states i t
+    ∙ ap (slice_set (groups_of group_states) i) (e ∙ ap f (sym (group-is group_states i s within is)))
+    ∙ ap (λ k. slice_set (groups_of group_states) k (f (group_of (groups_of group_states) k))) same
 
-pub changed-ok : {A B : Type 0} (r : Result A B) (f : ClientGroup → ClientGroup) (standings : List Standing) (i j : ℕ) (s t : Standing) → i < length standings → s ≡ get_or standings i s → i ≡ j → OnOk r (group_at t ≡ f (group_at s))
-    → OnOk r (groups_of (slice_set standings i t) ≡ slice_set (groups_of standings) j (f (group_of (groups_of standings) j)))
-changed-ok (Ok x) f standings i j s t within is same e = changed f standings i j s t within is same e
-changed-ok (Err x) f standings i j s t within is same e = e
+pub changed-ok : {A B : Type 0} (r : Result A B) (f : ClientGroup → ClientGroup) (group_states : List GroupState) (i j : ℕ) (s t : GroupState) → i < length group_states → s ≡ get_or group_states i s → i ≡ j → OnOk r (group_at t ≡ f (group_at s))
+    → OnOk r (groups_of (slice_set group_states i t) ≡ slice_set (groups_of group_states) j (f (group_of (groups_of group_states) j)))
+changed-ok (Ok x) f group_states i j s t within is same e = changed f group_states i j s t within is same e
+changed-ok (Err x) f group_states i j s t within is same e = e
 
 -- where memory ran out the groups are what they were
-pub changed-err : {A B : Type 0} (r : Result A B) (standings : List Standing) (i : ℕ) (s t : Standing) → i < length standings → s ≡ get_or standings i s → OnErr r (group_at t ≡ group_at s) → OnErr r (groups_of (slice_set standings i t) ≡ groups_of standings)
-changed-err (Ok x) standings i s t within is e = e
-changed-err (Err x) standings i s t within is e = set-same standings i s t is (e ∙ ap group_at is)
+pub changed-err : {A B : Type 0} (r : Result A B) (group_states : List GroupState) (i : ℕ) (s t : GroupState) → i < length group_states → s ≡ get_or group_states i s → OnErr r (group_at t ≡ group_at s) → OnErr r (groups_of (slice_set group_states i t) ≡ groups_of group_states)
+changed-err (Ok x) group_states i s t within is e = e
+changed-err (Err x) group_states i s t within is e = set-same group_states i s t is (e ∙ ap group_at is)
 
 -- a group that stays where it stood
-pub changed-placed : (plan : Plan) (standings : List Standing) (i : ℕ) (s t : Standing) → i < length standings → s ≡ get_or standings i s → t.place ≡ s.place → ArePlaced plan (groups_of standings) → ArePlaced plan (groups_of (slice_set standings i t))
-changed-placed plan standings i s t within is stays placed =
-    let here : (group_at t).place ≡ place_of (groups_of standings) i = ap wire.place_of stays ∙ sym (ap (λ (g : ClientGroup). g.place) (group-is standings i s within is)) in
-    subst (ArePlaced plan) (sym (map-set group_at standings i t)) (placed-set plan (groups_of standings) i (group_at t) here placed)
+pub changed-placed : (plan : Plan) (group_states : List GroupState) (i : ℕ) (s t : GroupState) → i < length group_states → s ≡ get_or group_states i s → t.place ≡ s.place → ArePlaced plan (groups_of group_states) → ArePlaced plan (groups_of (slice_set group_states i t))
+changed-placed plan group_states i s t within is stays placed =
+    let here : (group_at t).place ≡ place_of (groups_of group_states) i = ap wire.place_of stays ∙ sym (ap (λ (g : ClientGroup). g.place) (group-is group_states i s within is)) in
+    subst (ArePlaced plan) (sym (map-set group_at group_states i t)) (placed-set plan (groups_of group_states) i (group_at t) here placed)
 
 -- no group more
-pub changed-within : (most : ℕ) (standings : List Standing) (i : ℕ) (t : Standing) → length standings ≤ most → length (slice_set standings i t) ≤ most
-changed-within most standings i t few = subst (λ n. n ≤ most) (sym (length-set standings i t)) few
+pub changed-within : (most : ℕ) (group_states : List GroupState) (i : ℕ) (t : GroupState) → length group_states ≤ most → length (slice_set group_states i t) ≤ most
+changed-within most group_states i t few = subst (λ n. n ≤ most) (sym (length-set group_states i t)) few
 
 -- ---- groups that are taken up
 
 -- one more that stands nowhere yet
-pub taken-up : (initial now next : List Standing) (s : Standing) → length initial ≤ length now → next ≡ now ++ s ∷ [] → group_at s ≡ no_group
+pub taken-up : (initial now next : List GroupState) (s : GroupState) → length initial ≤ length now → next ≡ now ++ s ∷ [] → group_at s ≡ no_group
     → groups_of now ≡ groups_of initial ++ replicate (length now - length initial) no_group → groups_of next ≡ groups_of initial ++ replicate (length next - length initial) no_group
 taken-up initial now next s within is none before =
     let longer : length next ≡ length now + 1 = ap length is ∙ length_push now s in
@@ -117,11 +117,11 @@ taken-up initial now next s within is none before =
 -- ---- whole read sets and write sets
 
 -- one group that fails, so that not all pass
-pub group-fails : (standings : List Standing) (i : ℕ) (s : Standing) (test : ℕ → ClientGroup → Bool) → i < length standings → s ≡ get_or standings i s → test i (group_at s) ≡ false
-    → every_below (length (groups_of standings)) (λ g. test g (group_of (groups_of standings) g)) ≡ false
-group-fails standings i s test h is e =
-    let many : length (groups_of standings) ≡ length standings = length-map standings group_at in
-    below-fails (length (groups_of standings)) (λ g. test g (group_of (groups_of standings) g)) i (omega arith) (ap (test i) (group-is standings i s h is) ∙ e)
+pub group-fails : (group_states : List GroupState) (i : ℕ) (s : GroupState) (test : ℕ → ClientGroup → Bool) → i < length group_states → s ≡ get_or group_states i s → test i (group_at s) ≡ false
+    → every_below (length (groups_of group_states)) (λ g. test g (group_of (groups_of group_states) g)) ≡ false
+group-fails group_states i s test h is e =
+    let many : length (groups_of group_states) ≡ length group_states = length-map group_states group_at in
+    below-fails (length (groups_of group_states)) (λ g. test g (group_of (groups_of group_states) g)) i (omega arith) (ap (test i) (group-is group_states i s h is) ∙ e)
 
 -- ---- groups that are moved
 
@@ -136,11 +136,11 @@ pub reread-moves : MovesOn reread_group
 reread-moves g p = elim (cases_Bool (is_later g.place p)) [ inl e ↦ inr (rw e refl) | inr e ↦ inl (rw e refl) ]
 
 -- all that have a place are moved to it
-pub moved-all : (move : ClientGroup → model.Place → ClientGroup) (standings : List Standing) (places : List Place) (i : ℕ) (whole : List ClientGroup) → length places ≤ i
-    → groups_of (take i standings) ++ with_places move (groups_of (drop i standings)) (map wire.place_of (drop i places)) ≡ whole → groups_of standings ≡ whole
-moved-all move standings places i whole end h =
-    sym (ap groups_of (take-append-drop i standings)) ∙ map-append group_at (take i standings) (drop i standings)
-    ∙ ap (λ ps. groups_of (take i standings) ++ with_places move (groups_of (drop i standings)) (map wire.place_of ps)) (sym (drop_all i places end)) ∙ h
+pub moved-all : (move : ClientGroup → model.Place → ClientGroup) (group_states : List GroupState) (places : List Place) (i : ℕ) (whole : List ClientGroup) → length places ≤ i
+    → groups_of (take i group_states) ++ with_places move (groups_of (drop i group_states)) (map wire.place_of (drop i places)) ≡ whole → groups_of group_states ≡ whole
+moved-all move group_states places i whole end h =
+    sym (ap groups_of (take-append-drop i group_states)) ∙ map-append group_at (take i group_states) (drop i group_states)
+    ∙ ap (λ ps. groups_of (take i group_states) ++ with_places move (groups_of (drop i group_states)) (map wire.place_of ps)) (sym (drop_all i places end)) ∙ h
 
 -- a group that was taken up beforehand is moved as one that is new
 with_places-taken : (move : ClientGroup → model.Place → ClientGroup) (groups : List ClientGroup) (places : List model.Place) (n : ℕ) → n ≡ length places - length groups → with_places move (groups ++ replicate n no_group) places ≡ with_places move groups places
@@ -151,7 +151,7 @@ with_places-taken move [] (p ∷ places) n h =
 with_places-taken move (g ∷ groups) (p ∷ places) n h = ap (λ gs. move g p ∷ gs) (with_places-taken move groups places n (omega arith))
 
 -- groups that were taken up, and then moved
-pub moved-on : (move : ClientGroup → model.Place → ClientGroup) (old extended moved : List Standing) (places : List Place) → groups_of extended ≡ groups_of old ++ replicate (length places - length old) no_group
+pub moved-on : (move : ClientGroup → model.Place → ClientGroup) (old extended moved : List GroupState) (places : List Place) → groups_of extended ≡ groups_of old ++ replicate (length places - length old) no_group
     → groups_of moved ≡ with_places move (groups_of extended) (map wire.place_of places) → groups_of moved ≡ with_places move (groups_of old) (map wire.place_of places)
 moved-on move old extended moved places more is =
     let many : length (map wire.place_of places) ≡ length places = length-map places wire.place_of in
@@ -169,7 +169,7 @@ pub places-within : (plan : Plan) (places : List model.Place) → are_places pla
 places-within plan places h = (places-parts plan places h).1
 
 -- groups that are moved are no more than the plan has
-pub moved-within : (plan : Plan) (move : ClientGroup → model.Place → ClientGroup) (old moved : List Standing) (places : List model.Place) → length old ≤ plan.groups → are_places plan places ≡ true → groups_of moved ≡ with_places move (groups_of old) places → length moved ≤ plan.groups
+pub moved-within : (plan : Plan) (move : ClientGroup → model.Place → ClientGroup) (old moved : List GroupState) (places : List model.Place) → length old ≤ plan.groups → are_places plan places ≡ true → groups_of moved ≡ with_places move (groups_of old) places → length moved ≤ plan.groups
 moved-within plan move old moved places few good is =
     let wide : length places ≤ plan.groups = places-within plan places good in
     let many : length (groups_of moved) ≡ max (length (groups_of old)) (length places) = ap length is ∙ length-with_places move (groups_of old) places in

@@ -12,7 +12,7 @@ use Rattle.volume_model.proofs.FormulaLaws.{sat_more}
 use Rattle.volume_model.proofs.Groups.{set-all, length-slice_set, group_of-beyond, group_of-raised, length-raised}
 use Rattle.volume_model.proofs.Points.{reaching-some, reaching-from}
 use Rattle.writer_core.specs.Raised.{counted_point, AreRaised, HaveJoined, raised_in}
-use Rattle.writer_core.specs.Standings.{counted_group, counted_in}
+use Rattle.writer_core.specs.GroupStates.{counted_group, counted_in}
 
 -- ---- what counts satisfy
 

@@ -7,7 +7,7 @@ use Rattle.volume_model.specs.Client.{ClientGroup, no_group, group_of, group_poi
 use Rattle.volume_model.specs.ClientPoints.{raised, raised_group}
 use Rattle.volume_model.specs.ClientMessages.{with_places, later_group, is_later}
 use Rattle.volume_model.proofs.Groups.{set-all, group_of-beyond, group_of-with_places, later_group-none, group_of-raised}
-use Rattle.writer_core.specs.Standings.{counted_group, counted_in}
+use Rattle.writer_core.specs.GroupStates.{counted_group, counted_in}
 
 group_point_of-raised : (plan : Plan) (groups : List ClientGroup) (k : ℕ) → group_point_of groups k ≤ group_point_of (raised plan groups) k
 group_point_of-raised plan groups k = elim (cases_lt k (length groups)) [

@@ -4,16 +4,16 @@ use Rattle.std.specs.Arc.{arc_value}
 use Rattle.volume_model.specs.Plan.{Plan}
 use Rattle.volume_model.specs.Client.{Client, ClientGroup, unborn}
 use Rattle.plan.specs.CheckedModel.{checked_model}
-use Rattle.writer_core.specs.declared.standings.Standings.{Standings}
-use Rattle.writer_core.specs.Standings.{groups_of}
+use Rattle.writer_core.specs.declared.group_states.GroupStates.{GroupStates}
+use Rattle.writer_core.specs.GroupStates.{groups_of}
 
 -- the groups as the model's client keeps them
-abbrev pub groups_in : Standings → List ClientGroup
+abbrev pub groups_in : GroupStates → List ClientGroup
 groups_in s = groups_of s.list.items
 
 -- the plan whose groups they are
-abbrev pub standings_plan : Standings → Plan
-standings_plan s = checked_model (arc_value s.plan)
+abbrev pub group_states_plan : GroupStates → Plan
+group_states_plan s = checked_model (arc_value s.plan)
 
 -- a client that keeps these of its groups
 abbrev pub keeping : List ClientGroup → Client

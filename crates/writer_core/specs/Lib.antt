@@ -1,10 +1,10 @@
 pub mod Logs
 pub mod Log
 pub mod Kept
-pub mod Lasts
-pub mod Covered
+pub mod LastLsns
+pub mod DurabilityTracker
 pub mod Counts
-pub mod Standings
+pub mod GroupStates
 pub mod Raised
 pub mod Groups
 pub mod Changes

@@ -17,12 +17,12 @@ use Rattle.wire.specs.Message.{message_of, messages_of}
 use Rattle.writer_core.specs.Carried.{carried_write}
 use Rattle.writer_core.specs.Logs.{log_of_set}
 use Rattle.writer_core.specs.Log.{found_of, log_in}
-use Rattle.writer_core.specs.Groups.{groups_in, standings_plan}
+use Rattle.writer_core.specs.Groups.{groups_in, group_states_plan}
 use Rattle.writer_core.specs.declared.writer.Writer.{Writer}
 
 -- the plan that it was made over
 abbrev pub writer_plan : Writer → Plan
-writer_plan w = standings_plan w.standings
+writer_plan w = group_states_plan w.group_states
 
 -- its volume epoch
 abbrev pub writer_volume : Writer → ℕ
@@ -30,7 +30,7 @@ writer_volume w = w.volume
 
 -- the client that it is
 abbrev pub client_of : Writer → Client
-client_of w = record { stage = Writing; groups = groups_in w.standings; lineage = lineage_of w.lineage; found = log_of_set (found_of w.log); log = log_in w.log }
+client_of w = record { stage = Writing; groups = groups_in w.group_states; lineage = lineage_of w.lineage; found = log_of_set (found_of w.log); log = log_in w.log }
 
 -- a recovery that has cut, with what it keeps of its groups, its lineage and the log that it found
 abbrev pub installing : List ClientGroup → Lineage → List Redo → Client

@@ -35,7 +35,7 @@ impl Change {
     ghost use Rattle.redo_record.specs.Payload.{payload_bytes, HasRoom};
     ghost use Rattle.writer_core.specs.Changes.{change_of};
 
-    /// A change to these bytes, from the offset on. Fails for want of memory alone.
+    /// Returns a change to these bytes, from the offset on. Fails only with `NoMemory`.
     #[inline(always)]
     pub fn new(
         alloc: Global,
@@ -72,7 +72,7 @@ impl Change {
         })
     }
 
-    /// The protection group.
+    /// Returns the protection group.
     #[inline(always)]
     pub fn group(&self) -> u8
         ensures { result ≡ (change_of self.now).group }
@@ -83,7 +83,7 @@ impl Change {
         }
     }
 
-    /// The block of the group.
+    /// Returns the block of the group.
     #[inline(always)]
     pub fn block(&self) -> u32
         ensures { result ≡ (change_of self.now).block }
@@ -94,7 +94,7 @@ impl Change {
         }
     }
 
-    /// The first byte of the block that is changed.
+    /// Returns the first byte of the block that is changed.
     #[inline(always)]
     pub fn offset(&self) -> u16
         ensures { result ≡ (change_of self.now).offset }
@@ -105,7 +105,7 @@ impl Change {
         }
     }
 
-    /// The bytes that stand there from then on.
+    /// Returns the bytes that stand there from then on.
     #[inline(always)]
     pub fn bytes(&self) -> &[u8]
         ensures value { result.now ≡ (change_of self.now).bytes }
@@ -117,7 +117,7 @@ impl Change {
         }
     }
 
-    /// The same, as a record has them.
+    /// Returns the same, as a record has them.
     #[inline(always)]
     pub fn payload(&self) -> Payload
         ensures { payload_bytes result ≡ (change_of self.now).bytes }

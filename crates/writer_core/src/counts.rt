@@ -10,7 +10,7 @@ use crate::count::Count;
 use quorum_expr::{Expr, MemberSet, holds};
 use std::alloc::{AllocFailed, Global};
 
-/// The members whose counted complete point is at least `limit`.
+/// Returns the members whose counted complete point is at least `limit`.
 pub fn reaching(counts: &[Count], limit: u64) -> MemberSet
     ensures { set.contains result ≡ reaching (counts_of counts.now) limit }
 {
@@ -23,7 +23,8 @@ pub fn reaching(counts: &[Count], limit: u64) -> MemberSet
     members
 }
 
-/// The greatest of `least` and the counted numbers that a set of members has reached which satisfies the expression.
+/// Returns the greatest of `least` and the counted numbers that a set of members has reached which satisfies the
+/// expression.
 pub fn best_from(write: &Expr<Global>, counts: &[Count], least: u64) -> u64
     ensures { result ≡ max least (best (formula_of write.now) (counts_of counts.now) (counts_of counts.now)) }
 {
@@ -42,7 +43,7 @@ pub fn best_from(write: &Expr<Global>, counts: &[Count], least: u64) -> u64
     best
 }
 
-/// The place of a sender's count, where there is one.
+/// Returns the place of a sender's count, where there is one.
 fn place_of(counts: &[Count], sender: u8) -> Option<usize>
     ensures { MatchOption result (IsNew sender counts.now) (IsPlaceOf sender counts.now) }
 {

@@ -21,7 +21,7 @@ impl FewBytes {
     ghost use Rattle.redo_record.specs.Payload.{payload_bytes, HasRoom};
     ghost use Rattle.writer_core.specs.Changes.{few_bytes};
 
-    /// These bytes.
+    /// Returns these bytes.
     #[inline(always)]
     pub fn new(bytes: &[u8]) -> FewBytes
         requires some { 1 ≤ length bytes.now }
@@ -40,7 +40,7 @@ impl FewBytes {
         }
     }
 
-    /// The bytes.
+    /// Returns the bytes.
     #[inline(always)]
     pub fn as_slice(&self) -> &[u8]
         ensures value { result.now ≡ few_bytes self.now }
@@ -49,7 +49,7 @@ impl FewBytes {
         &self.place[..self.length as usize]
     }
 
-    /// The bytes, as a record has them.
+    /// Returns the bytes, as a record has them.
     pub fn payload(&self) -> Payload
         ensures { payload_bytes result ≡ few_bytes self.now }
     {

@@ -15,13 +15,13 @@ ghost use Rattle.wire.specs.Message.{messages_of};
 ghost use Rattle.writer_core.specs.Logs.{log_of_set};
 ghost use Rattle.writer_core.specs.Groups.{groups_in};
 
-use crate::standings::Standings;
+use crate::group_states::GroupStates;
 use lineage::Lineage;
 use redo_record::RecordSet;
 use std::alloc::{AllocError, Global};
 use wire::{Contents, Install, Label, Message, Place};
 
-/// The label under which a client of this volume epoch speaks to a group that stands at a place.
+/// Returns the label under which a client of this volume epoch speaks to a group that stands at a place.
 pub fn label_at(volume: u32, place: Place) -> Label
     ensures { wire.label_of result ≡ record { volume = volume; member = place.epoch } }
 {
@@ -31,7 +31,7 @@ pub fn label_at(volume: u32, place: Place) -> Label
     }
 }
 
-/// The records of a log that are of a group: the log's own list where all are.
+/// Returns the records of a log that are of a group: the log's own list where all are.
 fn of_group(alloc: Global, group: u8, log: &RecordSet) -> Result<RecordSet, AllocError>
     ensures { IfOk result (λ set. records_of set ≡ of_group group (log_of_set log.now)) }
 {
@@ -47,7 +47,7 @@ fn of_group(alloc: Global, group: u8, log: &RecordSet) -> Result<RecordSet, Allo
     Ok(set)
 }
 
-/// How many pieces the contents make. More than a message can number are as if memory ran out.
+/// Returns how many pieces the contents make. More than a message can number are as if memory ran out.
 fn pieces_in(contents: &Contents) -> Result<u16, AllocError>
     ensures { IfOk result (λ of. of ≡ pieces_of (length (contents_of contents.now).records)) }
 {
@@ -57,7 +57,7 @@ fn pieces_in(contents: &Contents) -> Result<u16, AllocError>
     }
 }
 
-/// The Installs of a log found, under a lineage, for the nodes of a group: one a piece, in growing order.
+/// Returns the Installs of a log found, under a lineage, for the nodes of a group: one a piece, in growing order.
 pub fn group_installs(
     alloc: Global,
     group: u8,
@@ -85,22 +85,23 @@ pub fn group_installs(
     Ok(messages)
 }
 
-/// The Installs, with no records, of each group that these places raise and that hasn't joined, in order of group.
+/// Returns the Installs, with no records, of each group that these places raise and that hasn't joined, in order of
+/// group.
 pub(crate) fn unjoined_installs(
     alloc: Global,
     volume: u32,
-    standings: &Standings,
+    group_states: &GroupStates,
     lineage: &Lineage,
     places: &[Place],
 ) -> Result<Vec<Message>, AllocError>
     requires { length places.now ≤ 16 }
-    ensures { IfOk result (λ messages. messages_of messages.items ≡ installs (length places.now) volume (place_in (map wire.place_of places.now)) (lineage_of lineage.now) [] (later_unjoined (groups_in standings.now) (place_in (map wire.place_of places.now)))) }
+    ensures { IfOk result (λ messages. messages_of messages.items ≡ installs (length places.now) volume (place_in (map wire.place_of places.now)) (lineage_of lineage.now) [] (later_unjoined (groups_in group_states.now) (place_in (map wire.place_of places.now)))) }
 {
     let none = RecordSet::new(alloc);
     let mut messages = Vec::new(alloc);
     for group in 0..places.len() as u8 {
         let place = places[usize::from(group)];
-        if standings.epoch(group) < place.epoch && !standings.has_joined(group) {
+        if group_states.epoch(group) < place.epoch && !group_states.has_joined(group) {
             let label = label_at(volume, place);
             let mut pieces = group_installs(alloc, group, label, lineage, &none)?;
             messages.append(&mut pieces)?;

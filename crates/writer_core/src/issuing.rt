@@ -12,15 +12,15 @@ ghost use Rattle.volume_model.specs.Client.{label_of};
 ghost use Rattle.wire.specs.Listed.{listed};
 ghost use Rattle.wire.specs.Message.{messages_of};
 ghost use Rattle.writer_core.specs.Log.{found_of, log_in, packets_in};
-ghost use Rattle.writer_core.specs.Lasts.{AreLastsOfAll, AreLastsOfFront, AreLinkedFrom};
+ghost use Rattle.writer_core.specs.LastLsns.{AreLastsOfAll, AreLastsOfFront, AreLinkedFrom};
 ghost use Rattle.writer_core.specs.Groups.{groups_in};
 ghost use Rattle.writer_core.specs.Changes.{change_of, changes_of};
 ghost use Rattle.writer_core.specs.Carried.{carried_write};
 
 use crate::change::Change;
-use crate::lasts::Lasts;
+use crate::last_lsns::LastLsns;
 use crate::log::Log;
-use crate::standings::Standings;
+use crate::group_states::GroupStates;
 use redo_record::{Record, SharedRecord};
 use std::alloc::{AllocError, Global};
 use std::mem;
@@ -35,30 +35,30 @@ pub struct Span {
     pub ghost assigned: { 1 ≤ volume },
 }
 
-/// The packet of a change's record behind a log, of which the last LSNs are known; `point` makes it a consistency point. They then know
-/// the record too, and where memory runs out they don't.
+/// Returns the record of a change's record behind a log, of which the last LSNs are known; `point` makes it a
+/// consistency point. They then know the record too, and where memory runs out they don't.
 #[inline(always)]
 fn next_packet(
     alloc: Global,
     span: Span,
     log: &Log,
-    lasts: &mut Lasts,
+    last_lsns: &mut LastLsns,
     change: &Change,
     point: bool,
 ) -> Result<SharedRecord, AllocError>
-    requires lasts { AreLastsOfAll lasts.old (packets_in log.now) }
+    requires last_lsns { AreLastsOfAll last_lsns.old (packets_in log.now) }
     requires room { max (last_lsn (log_in log.now)) span.start < 2 ^ 62 }
     requires group { (change_of change.now).group < 16 }
     requires place { (change_of change.now).offset + length (change_of change.now).bytes ≤ 512 }
     ensures made { IfOk result (λ packet. shared_redo packet ≡ record_of span.volume span.start (log_in log.now) (change_of change.now) point) }
-    ensures entered { IfOk result (λ packet. AreLastsOfAll lasts.new (packets_in log.now ++ packet ∷ [])) }
-    ensures err { OnErr result (AreLastsOfAll lasts.new (packets_in log.now)) }
+    ensures entered { IfOk result (λ packet. AreLastsOfAll last_lsns.new (packets_in log.now ++ packet ∷ [])) }
+    ensures err { OnErr result (AreLastsOfAll last_lsns.new (packets_in log.now)) }
 {
     let last = log.last_lsn();
     let lsn = last.max(span.start) + 1;
     let (group, block) = (change.group(), change.block());
-    let prev_group = lasts.of_group(group);
-    let prev_block = lasts.enter(group, block, lsn)?;
+    let prev_group = last_lsns.of_group(group);
+    let prev_block = last_lsns.enter(group, block, lsn)?;
     let record = Record {
         lsn,
         volume_epoch: span.volume,
@@ -74,25 +74,25 @@ fn next_packet(
     match SharedRecord::pack(alloc, record) {
         Ok(packet) => Ok(packet),
         Err(error) => {
-            lasts.leave(group, block, prev_group, prev_block);
+            last_lsns.leave(group, block, prev_group, prev_block);
             Err(error)
         }
     }
 }
 
-/// A record as a writer of this volume epoch carries it to the nodes of its group.
-pub fn carry<'a>(volume: u32, standings: &Standings, packet: &'a SharedRecord) -> Carried<'a>
-    ensures { carried_write result ≡ model.Message.Write (shared_redo packet.now).group (label_of volume (place_of (groups_in standings.now)) (shared_redo packet.now).group) (shared_redo packet.now) }
+/// Returns a record as a writer of this volume epoch carries it to the nodes of its group.
+pub fn carry<'a>(volume: u32, group_states: &GroupStates, packet: &'a SharedRecord) -> Carried<'a>
+    ensures { carried_write result ≡ model.Message.Write (shared_redo packet.now).group (label_of volume (place_of (groups_in group_states.now)) (shared_redo packet.now).group) (shared_redo packet.now) }
 {
     let group = packet.group();
     Carried {
         group,
-        label: standings.label(volume, group),
+        label: group_states.label(volume, group),
         packet,
     }
 }
 
-/// No message yet, but room for so many. One takes no memory.
+/// No message yet, but room for this many. One takes no memory.
 #[inline(always)]
 pub fn room_for(alloc: Global, messages: usize) -> Result<Messages, AllocError>
     ensures { IfOk result (λ made. listed made ≡ []) }
@@ -126,29 +126,29 @@ fn add(alloc: Global, messages: &mut Messages, message: Message) -> Result<(), A
 pub fn append(
     alloc: Global,
     span: Span,
-    standings: &Standings,
+    group_states: &GroupStates,
     log: &mut Log,
-    lasts: &mut Lasts,
+    last_lsns: &mut LastLsns,
     changes: &[Change],
     messages: &mut Messages,
 ) -> Result<(), Fault>
-    requires front { AreLastsOfFront lasts.old (packets_in log.old) }
+    requires front { AreLastsOfFront last_lsns.old (packets_in log.old) }
     requires room { max (last_lsn (log_in log.old)) span.start + length changes.now ≤ 2 ^ 62 }
-    requires few { length (groups_in standings.now) ≤ 16 }
-    requires good { every (is_change (length (groups_in standings.now))) (changes_of changes.now) ≡ true }
+    requires few { length (groups_in group_states.now) ≤ 16 }
+    requires good { every (is_change (length (groups_in group_states.now))) (changes_of changes.now) ≡ true }
     ensures logged { OnOk result (log_in log.new ≡ issued_log span.volume span.start (changes_of changes.now) (log_in log.old)) }
-    ensures written { OnOk result (messages_of (listed messages.new) ≡ messages_of (listed messages.old) ++ issued_writes span.volume (place_of (groups_in standings.now)) span.start (changes_of changes.now) (log_in log.old)) }
-    ensures lasts { AreLastsOfFront lasts.new (packets_in log.new) }
+    ensures written { OnOk result (messages_of (listed messages.new) ≡ messages_of (listed messages.old) ++ issued_writes span.volume (place_of (groups_in group_states.now)) span.start (changes_of changes.now) (log_in log.old)) }
+    ensures last_lsns { AreLastsOfFront last_lsns.new (packets_in log.new) }
     ensures memory { IfErr result (λ e. e ≡ NoMemory) }
     ensures front { take (length (packets_in log.old)) (packets_in log.new) ≡ packets_in log.old }
     ensures found { found_of log.new ≡ found_of log.old }
     ensures linked { AreLinkedFrom (length (packets_in log.old)) (packets_in log.new) }
 {
-    lasts.follow(log)?;
+    last_lsns.follow(log)?;
     log.reserve(changes.len())?;
     for (i, change) in changes.iter().enumerate() {
-        let packet = next_packet(alloc, span, log, lasts, change, i + 1 == changes.len())?;
-        let message = carry(span.volume, standings, &packet).write();
+        let packet = next_packet(alloc, span, log, last_lsns, change, i + 1 == changes.len())?;
+        let message = carry(span.volume, group_states, &packet).write();
         log.push_reserved(packet);
         add(alloc, messages, message?)?;
     }

@@ -1,19 +1,19 @@
-//! The writer of a volume epoch: it gives redo records their numbers, and says how far the log is durable.
+//! The writer of a volume epoch: it numbers redo records and tracks how far the log is durable.
 #![tactic(auto)]
 
 mod change;
 mod count;
 mod counts;
-mod covered;
+mod durability;
 mod few_bytes;
 mod installs;
 mod issuing;
-mod lasts;
+mod last_lsns;
 mod log;
 mod moving;
 mod reading;
-mod standing;
-mod standings;
+mod group_state;
+mod group_states;
 mod transaction;
 mod writer;
 
@@ -22,6 +22,6 @@ pub use count::Count;
 pub use installs::{group_installs, label_at};
 pub use log::Log;
 pub use moving::are_places;
-pub use standing::Standing;
-pub use standings::Standings;
+pub use group_state::GroupState;
+pub use group_states::GroupStates;
 pub use writer::Writer;

@@ -29,7 +29,7 @@ impl Log {
     ghost use Rattle.writer_core.specs.Logs.{log_of_set};
     ghost use Rattle.writer_core.specs.Log.{found_of, packets_in, log_in, room_in};
 
-    /// The log that was found, with no record behind it. Takes no memory.
+    /// Returns the log that was found, with no record behind it. Takes no memory.
     pub fn begin(alloc: Global, found: RecordSet) -> Log
         requires { is_growing (log_of_set found) ≡ true }
         ensures packets { packets_in result ≡ packets_of found }
@@ -43,21 +43,21 @@ impl Log {
         }
     }
 
-    /// How many records there are.
+    /// Returns how many records there are.
     pub fn len(&self) -> usize
         ensures { result ≡ length (packets_in self.now) }
     {
         self.begun + self.issued.len()
     }
 
-    /// The records that were found.
+    /// Returns the records that were found.
     pub fn found(&self) -> &RecordSet
         ensures { result.now ≡ found_of self.now }
     {
         &self.found
     }
 
-    /// The packet at this place, counted from the first.
+    /// Returns the record at this place, counted from the first.
     pub fn packet(&self, place: usize) -> &SharedRecord
         requires { place < length (packets_in self.now) }
         ensures { result.now ≡ slice_index_or (packets_in self.now) place result.now }
@@ -69,7 +69,7 @@ impl Log {
         }
     }
 
-    /// The last LSN, 0 where there is none.
+    /// Returns the last LSN, 0 where there is none.
     pub fn last_lsn(&self) -> u64
         ensures { result ≡ last_lsn (log_in self.now) }
     {
@@ -80,7 +80,7 @@ impl Log {
         }
     }
 
-    /// The record of an LSN, where there is one.
+    /// Returns the record of an LSN, where there is one.
     pub fn record_at(&self, lsn: u64) -> Option<&SharedRecord>
         ensures { option_map shared_redo (option_copied result) ≡ record_at (log_in self.now) lsn }
     {
@@ -90,7 +90,7 @@ impl Log {
         }
     }
 
-    /// Whether a record of this LSN is a consistency point.
+    /// Returns whether a record of this LSN is a consistency point.
     pub fn is_point(&self, lsn: u64) -> bool
         ensures { result ≡ is_consistency_point lsn (log_in self.now) }
     {
@@ -100,7 +100,7 @@ impl Log {
         }
     }
 
-    /// Makes room for so many records more. The log stays what it is.
+    /// Makes room for this many records more. The log stays what it is.
     pub(crate) fn reserve(&mut self, more: usize) -> Result<(), AllocError>
         ensures packets { packets_in self.new ≡ packets_in self.old }
         ensures found { found_of self.new ≡ found_of self.old }
@@ -120,7 +120,7 @@ impl Log {
         self.issued.push_reserved(packet);
     }
 
-    /// Leaves so many records, of which none is left out that was found.
+    /// Leaves this many records, of which none is left out that was found.
     pub(crate) fn truncate(&mut self, records: usize)
         requires { length (packets_of (found_of self.old)) ≤ records }
         ensures packets { packets_in self.new ≡ take records (packets_in self.old) }

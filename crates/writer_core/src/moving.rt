@@ -6,15 +6,15 @@ ghost use Rattle.volume_model.specs.ClientPoints.{raised};
 ghost use Rattle.volume_model.specs.ClientMessages.{with_places, later_group, reread_group, are_places};
 ghost use Rattle.plan.specs.CheckedModel.{checked_model};
 ghost use Rattle.wire.specs.Message.{place_of};
-ghost use Rattle.writer_core.specs.Standings.{groups_of, ArePlaced};
+ghost use Rattle.writer_core.specs.GroupStates.{groups_of, ArePlaced};
 
-use crate::standing::Standing;
+use crate::group_state::GroupState;
 use plan::CheckedPlan;
 use std::alloc::AllocError;
 use wire::Place;
 
-/// Whether these are places of the plan's first groups, of all that are there at birth at least, in their order, each at one of its
-/// configurations.
+/// Returns whether these are places of the plan's first groups, of all that are there at birth at least, in their
+/// order, each at one of its configurations.
 pub fn are_places(plan: &CheckedPlan, places: &[Place]) -> bool
     ensures { result ≡ are_places (checked_model plan.now) (map place_of places.now) }
 {
@@ -30,28 +30,28 @@ pub fn are_places(plan: &CheckedPlan, places: &[Place]) -> bool
 }
 
 /// Raises the points of all groups to what the counted acknowledgements satisfy now.
-pub fn raise(plan: &CheckedPlan, standings: &mut [Standing])
-    requires many { length standings.old ≤ (checked_model plan.now).groups }
-    requires placed { ArePlaced (checked_model plan.now) (groups_of standings.old) }
-    ensures raised { groups_of standings.new ≡ raised (checked_model plan.now) (groups_of standings.old) }
-    ensures many { length standings.new ≡ length standings.old }
-    ensures placed { ArePlaced (checked_model plan.now) (groups_of standings.new) }
+pub fn raise(plan: &CheckedPlan, group_states: &mut [GroupState])
+    requires many { length group_states.old ≤ (checked_model plan.now).groups }
+    requires placed { ArePlaced (checked_model plan.now) (groups_of group_states.old) }
+    ensures raised { groups_of group_states.new ≡ raised (checked_model plan.now) (groups_of group_states.old) }
+    ensures many { length group_states.new ≡ length group_states.old }
+    ensures placed { ArePlaced (checked_model plan.now) (groups_of group_states.new) }
 {
-    for group in 0..standings.len() {
-        standings[group].raise(plan, group as u8);
+    for group in 0..group_states.len() {
+        group_states[group].raise(plan, group as u8);
     }
 }
 
-/// Takes up groups that stand nowhere yet, up to so many. Where memory runs out nothing has changed.
-pub fn extend(standings: &mut Vec<Standing>, groups: usize) -> Result<(), AllocError>
-    ensures more { OnOk result (groups_of standings.new.items ≡ groups_of standings.old.items ++ replicate (groups - length standings.old.items) no_group) }
-    ensures same { OnErr result (groups_of standings.new.items ≡ groups_of standings.old.items) }
+/// Takes up groups that stand nowhere yet, up to this many. On error nothing has changed.
+pub fn extend(group_states: &mut Vec<GroupState>, groups: usize) -> Result<(), AllocError>
+    ensures more { OnOk result (groups_of group_states.new.items ≡ groups_of group_states.old.items ++ replicate (groups - length group_states.old.items) no_group) }
+    ensures same { OnErr result (groups_of group_states.new.items ≡ groups_of group_states.old.items) }
 {
-    let alloc = *standings.allocator();
-    let before = standings.len();
-    'more: while standings.len() < groups {
-        if let Err(failed) = standings.push(Standing::none(alloc)) {
-            standings.truncate(before);
+    let alloc = *group_states.allocator();
+    let before = group_states.len();
+    'more: while group_states.len() < groups {
+        if let Err(failed) = group_states.push(GroupState::none(alloc)) {
+            group_states.truncate(before);
             return Err(AllocError::from(failed));
         }
     }
@@ -59,23 +59,23 @@ pub fn extend(standings: &mut Vec<Standing>, groups: usize) -> Result<(), AllocE
 }
 
 /// Moves each group that has a place to it, where that is one of a later epoch.
-pub fn follow(standings: &mut [Standing], places: &[Place])
-    requires { length places.now ≤ length standings.old }
-    ensures moved { groups_of standings.new ≡ with_places later_group (groups_of standings.old) (map place_of places.now) }
-    ensures many { length standings.new ≡ length standings.old }
+pub fn follow(group_states: &mut [GroupState], places: &[Place])
+    requires { length places.now ≤ length group_states.old }
+    ensures moved { groups_of group_states.new ≡ with_places later_group (groups_of group_states.old) (map place_of places.now) }
+    ensures many { length group_states.new ≡ length group_states.old }
 {
     for group in 0..places.len() {
-        standings[group].follow(places[group]);
+        group_states[group].follow(places[group]);
     }
 }
 
 /// Moves each group that has a place to it, where that is one of a later epoch, and then drops the group's reports.
-pub fn reread(standings: &mut [Standing], places: &[Place])
-    requires { length places.now ≤ length standings.old }
-    ensures moved { groups_of standings.new ≡ with_places reread_group (groups_of standings.old) (map place_of places.now) }
-    ensures many { length standings.new ≡ length standings.old }
+pub fn reread(group_states: &mut [GroupState], places: &[Place])
+    requires { length places.now ≤ length group_states.old }
+    ensures moved { groups_of group_states.new ≡ with_places reread_group (groups_of group_states.old) (map place_of places.now) }
+    ensures many { length group_states.new ≡ length group_states.old }
 {
     for group in 0..places.len() {
-        standings[group].reread(places[group]);
+        group_states[group].reread(places[group]);
     }
 }

@@ -6,7 +6,7 @@ ghost use Rattle.writer_core.specs.Changes.{change_of, changes_of};
 ghost use Rattle.writer_core.specs.Groups.{groups_in};
 
 use crate::change::Change;
-use crate::standings::Standings;
+use crate::group_states::GroupStates;
 
 /// The bytes of a block.
 const BLOCK: usize = 512;
@@ -14,7 +14,7 @@ const BLOCK: usize = 512;
 /// The most changes that a transaction asks for.
 const MOST_CHANGES: usize = 32;
 
-/// Whether a change is one of a group that there is, within a block.
+/// Returns whether a change is one of a group that there is, within a block.
 fn is_change(groups: usize, change: &Change) -> bool
     ensures { result ≡ is_change groups (change_of change.now) }
 {
@@ -22,7 +22,7 @@ fn is_change(groups: usize, change: &Change) -> bool
         && usize::from(change.offset()) + change.bytes().len() <= BLOCK
 }
 
-/// Whether there are 1 to 32 changes, each of them a good one.
+/// Returns whether there are 1 to 32 changes, each of them a good one.
 pub fn is_transaction(groups: usize, changes: &[Change]) -> bool
     ensures { result ≡ is_transaction groups (changes_of changes.now) }
 {
@@ -37,12 +37,12 @@ pub fn is_transaction(groups: usize, changes: &[Change]) -> bool
     true
 }
 
-/// Whether each group that is changed has joined the writer.
-pub fn have_joined(standings: &Standings, changes: &[Change]) -> bool
-    ensures { result ≡ have_joined (groups_in standings.now) (changes_of changes.now) }
+/// Returns whether each group that is changed has joined the writer.
+pub fn have_joined(group_states: &GroupStates, changes: &[Change]) -> bool
+    ensures { result ≡ have_joined (groups_in group_states.now) (changes_of changes.now) }
 {
     for change in changes {
-        if !standings.has_joined(change.group()) {
+        if !group_states.has_joined(change.group()) {
             return false;
         }
     }

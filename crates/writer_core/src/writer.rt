@@ -3,19 +3,19 @@
 ghost use Rattle.std.specs.Prelude.{◌≡◌, ◌≤◌, true, length};
 ghost use Rattle.writer_core.specs.Logs.{log_of_set, is_growing};
 ghost use Rattle.writer_core.specs.Log.{log_in, packets_in};
-ghost use Rattle.writer_core.specs.Lasts.{AreLastsOfFront};
-ghost use Rattle.writer_core.specs.Covered.{CoversLog};
-ghost use Rattle.writer_core.specs.Groups.{groups_in, standings_plan};
+ghost use Rattle.writer_core.specs.LastLsns.{AreLastsOfFront};
+ghost use Rattle.writer_core.specs.DurabilityTracker.{CoversLog};
+ghost use Rattle.writer_core.specs.Groups.{groups_in, group_states_plan};
 ghost use Rattle.writer_core.specs.Raised.{AreRaised, HaveJoined};
 ghost use Rattle.volume_model.specs.Client.{group_point_of};
 
 use crate::change::Change;
-use crate::covered::Covered;
+use crate::durability::DurabilityTracker;
 use crate::installs::unjoined_installs;
 use crate::issuing::{Span, append, carry, room_for};
-use crate::lasts::Lasts;
+use crate::last_lsns::LastLsns;
 use crate::log::Log;
-use crate::standings::Standings;
+use crate::group_states::GroupStates;
 use crate::transaction::{have_joined, is_transaction};
 use lineage::Lineage;
 use plan::CheckedPlan;
@@ -25,25 +25,25 @@ use std::sync::Arc;
 use volume_model::Fault;
 use wire::{Ack, Carried, Message, Messages, PageAsk, View};
 
-/// The greatest log sequence number.
+/// The greatest LSN.
 const LAST_LSN: u64 = 1 << 62;
 
 /// The writer of a volume epoch: the log that it began with, and what it has issued since.
 #[derive(Drop)]
 pub struct Writer {
-    standings: Standings,
+    group_states: GroupStates,
     volume: u32,
     lineage: Lineage,
     log: Log,
     /// The last LSN of each group and block, of the log's front; a transaction enters the rest before it asks.
-    lasts: Lasts,
+    last_lsns: LastLsns,
     /// How far the log is covered by the points of its groups.
-    covered: Covered,
+    durability: DurabilityTracker,
     ghost assigned: { 1 ≤ volume },
-    ghost raised: { AreRaised (standings_plan standings) (groups_in standings) },
-    ghost joined: { HaveJoined (standings_plan standings) (groups_in standings) },
-    ghost front: { AreLastsOfFront lasts (packets_in log) },
-    ghost covers: { CoversLog covered (group_point_of (groups_in standings)) (packets_in log) },
+    ghost raised: { AreRaised (group_states_plan group_states) (groups_in group_states) },
+    ghost joined: { HaveJoined (group_states_plan group_states) (groups_in group_states) },
+    ghost front: { AreLastsOfFront last_lsns (packets_in log) },
+    ghost covers: { CoversLog durability (group_point_of (groups_in group_states)) (packets_in log) },
 }
 
 impl Writer {
@@ -64,109 +64,110 @@ impl Writer {
     ghost use Rattle.writer_core.specs.Writers.{client_of, writer_plan, writer_volume, installing, CanIssue, acted, answered, silent, asked, sent};
     ghost use Rattle.lineage.specs.Lineage.{lineage_of};
 
-    /// The writer that a volume is born with: volume epoch 1, each group that is there at its root, no record. Fails for want of memory alone.
+    /// Returns the writer that a volume is born with: volume epoch 1, each group that is there at its root, no
+    /// record. Fails only with `NoMemory`.
     pub fn first(alloc: Global, plan: Arc<CheckedPlan>) -> Result<Writer, Fault>
         ensures client { AnswersNew client_of (Ok (first_writer (checked_model (arc_value plan)))) result }
         ensures plan { IfOk result (λ w. writer_plan w ≡ checked_model (arc_value plan)) }
         ensures volume { IfOk result (λ w. writer_volume w ≡ 1) }
     {
         Ok(Writer {
-            standings: Standings::at_roots(alloc, plan)?,
+            group_states: GroupStates::at_roots(alloc, plan)?,
             volume: 1,
             lineage: Lineage::birth(alloc)?,
             log: Log::begin(alloc, RecordSet::new(alloc)),
-            lasts: Lasts::new(alloc),
-            covered: Covered::none(),
+            last_lsns: LastLsns::new(alloc),
+            durability: DurabilityTracker::none(),
         })
     }
 
     /// Returns the writer of a later volume epoch, from what its recovery keeps of the groups, with the recovery's lineage and the
     /// log that it found. In each group a write set must have acknowledged what the recovery installed
     /// ([`Standings::has_installed`]). Takes no memory.
-    pub fn opened(standings: Standings, volume: u32, lineage: Lineage, found: RecordSet) -> Writer
+    pub fn opened(group_states: GroupStates, volume: u32, lineage: Lineage, found: RecordSet) -> Writer
         requires assigned { 1 ≤ volume }
-        requires installed { has_installed (standings_plan standings) (keeping (groups_in standings)) ≡ true }
+        requires installed { has_installed (group_states_plan group_states) (keeping (groups_in group_states)) ≡ true }
         requires growing { is_growing (log_of_set found) ≡ true }
-        ensures client { client_of result ≡ writing (standings_plan standings) (installing (groups_in standings) (lineage_of lineage) (log_of_set found)) }
-        ensures plan { writer_plan result ≡ standings_plan standings }
+        ensures client { client_of result ≡ writing (group_states_plan group_states) (installing (groups_in group_states) (lineage_of lineage) (log_of_set found)) }
+        ensures plan { writer_plan result ≡ group_states_plan group_states }
         ensures volume { writer_volume result ≡ volume }
     {
-        let mut standings = standings;
-        standings.raise();
-        let alloc = standings.alloc();
+        let mut group_states = group_states;
+        group_states.raise();
+        let alloc = group_states.alloc();
         let log = Log::begin(alloc, found);
-        let lasts = Lasts::new(alloc);
-        let mut covered = Covered::none();
-        covered.follow(&log, &standings);
+        let last_lsns = LastLsns::new(alloc);
+        let mut durability = DurabilityTracker::none();
+        durability.follow(&log, &group_states);
         Writer {
-            standings,
+            group_states,
             volume,
             lineage,
             log,
-            lasts,
-            covered,
+            last_lsns,
+            durability,
         }
     }
 
-    /// The volume epoch.
+    /// Returns the volume epoch.
     pub fn volume(&self) -> u32
         ensures { result ≡ writer_volume self.now }
     {
         self.volume
     }
 
-    /// How many groups the volume has.
+    /// Returns how many groups the volume has.
     pub fn groups(&self) -> u8
         ensures { result ≡ (writer_plan self.now).groups }
     {
-        self.standings.plan().groups()
+        self.group_states.plan().groups()
     }
 
-    /// The lineage under which it writes.
+    /// Returns the lineage under which it writes.
     pub fn lineage(&self) -> &Lineage
         ensures { lineage_of result.now ≡ (client_of self.now).lineage }
     {
         &self.lineage
     }
 
-    /// The log that its recovery found, in growing LSN; none of the writer that a volume is born with.
+    /// Returns the log that its recovery found, in growing LSN; none of the writer that a volume is born with.
     pub fn found(&self) -> &RecordSet
         ensures { log_of_set result.now ≡ (client_of self.now).found }
     {
         self.log.found()
     }
 
-    /// The LSN after which its own records begin.
+    /// Returns the LSN after which its own records begin.
     pub fn start(&self) -> u64
         ensures { result ≡ last_start (client_of self.now).lineage }
     {
         self.lineage.last_start()
     }
 
-    /// The log, in growing LSN.
+    /// Returns the log, in growing LSN.
     pub fn log(&self) -> &Log
         ensures { log_in result.now ≡ (client_of self.now).log }
     {
         &self.log
     }
 
-    /// The greatest LSN of the log up to which each record is covered by its group's point, else 0.
+    /// Returns the greatest LSN of the log up to which each record is covered by its group's point, else 0.
     pub fn complete_point(&self) -> u64
         ensures { result ≡ complete_point (client_of self.now) }
     {
-        self.covered.complete
+        self.durability.complete
     }
 
-    /// The greatest consistency point that is not above the complete point, else 0. A commit is complete where it isn't
-    /// above this.
+    /// Returns the greatest consistency point that is not above the complete point, else 0. A commit is complete
+    /// where it isn't above this.
     pub fn durable_point(&self) -> u64
         ensures { result ≡ durable_point (client_of self.now) }
     {
-        self.covered.durable
+        self.durability.durable
     }
 
-    /// Whether an acknowledgement can be taken: `NotAddressed` where it isn't one to this writer, of a group of the volume and a
-    /// member. Takes no memory.
+    /// Returns whether an acknowledgement can be taken: `NotAddressed` if it isn't one to this writer, of a group of
+    /// the volume and a member. Takes no memory.
     pub fn admits_ack(&self, ack: &Ack) -> Result<(), Fault>
         ensures refusal { result ≡ refusal_of (taken (writer_plan self.now) (writer_volume self.now) (client_of self.now) (message_of (Message.Ack ack.now))) }
         ensures can { OnOk result (is_for (writer_volume self.now) (writer_plan self.now).groups (message_of (Message.Ack ack.now)) ≡ true) }
@@ -178,31 +179,32 @@ impl Writer {
         Ok(())
     }
 
-    /// Takes an acknowledgement. It is counted where its membership epoch is at most the one that the writer knows of the group; a later
-    /// one changes nothing. Only its own group's point may rise, and only its own group join.
+    /// Takes an acknowledgement. It is counted where its membership epoch is at most the one that the writer knows of
+    /// the group; a later one changes nothing. Only its own group's point may rise, and only its own group join.
     ///
     /// # Errors
-    /// As [`Writer::admits_ack`], and `NoMemory` where that admits it and a growth was refused.
+    /// As [`Writer::admits_ack`]; `NoMemory`.
     pub fn take_ack(&mut self, ack: &Ack) -> Result<(), Fault>
         ensures answers { Answers silent (taken (writer_plan self.old) (writer_volume self.old) (client_of self.old) (message_of (Message.Ack ack.now))) (client_of self.old) result (client_of self.new) }
         ensures plan { writer_plan self.new ≡ writer_plan self.old }
         ensures volume { writer_volume self.new ≡ writer_volume self.old }
     {
         self.admits_ack(ack)?;
-        if ack.label.member > self.standings.epoch(ack.group) {
+        if ack.label.member > self.group_states.epoch(ack.group) {
             return Ok(());
         }
-        self.standings.count(ack)?;
-        if ack.scl <= self.standings.point(ack.group) && self.standings.has_joined(ack.group) {
+        self.group_states.count(ack)?;
+        if ack.scl <= self.group_states.point(ack.group) && self.group_states.has_joined(ack.group) {
             return Ok(());
         }
-        self.standings.raise_group(ack.group);
-        self.covered.follow(&self.log, &self.standings);
+        self.group_states.raise_group(ack.group);
+        self.durability.follow(&self.log, &self.group_states);
         Ok(())
     }
 
-    /// Whether a View can be taken: `NotAddressed` where it is one of another volume epoch, `NotInPlan` where its places aren't those
-    /// of the plan's first groups, of all that are there at birth at least, each at one of its configurations. Takes no memory.
+    /// Returns whether a View can be taken: `NotAddressed` if it is one of another volume epoch, `NotInPlan` if its
+    /// places aren't those of the plan's first groups, of all that are there at birth at least, each at one of its
+    /// configurations. Takes no memory.
     pub fn admits_view(&self, view: &View) -> Result<(), Fault>
         ensures refusal { result ≡ refusal_of (taken (writer_plan self.now) (writer_volume self.now) (client_of self.now) (message_of (Message.View view.now))) }
         ensures epoch { OnOk result (view.now.volume ≡ writer_volume self.now) }
@@ -212,18 +214,18 @@ impl Writer {
         if view.volume != self.volume {
             return Err(Fault::NotAddressed);
         }
-        if !self.standings.are_places(view.places.as_slice()) {
+        if !self.group_states.are_places(view.places.as_slice()) {
             return Err(Fault::NotInPlan);
         }
         Ok(())
     }
 
-    /// Takes a View: each group moves to its place where that is one of a later epoch, those that are new are taken up, and the points of
-    /// all groups are raised. Each group that moves or is new, and hasn't joined, is installed, with no records: one Install a group, in
-    /// their order.
+    /// Takes a View: each group moves to its place where that is one of a later epoch, those that are new are taken
+    /// up, and the points of all groups are raised. Each group that moves or is new, and hasn't joined, is installed,
+    /// with no records: one Install a group, in their order.
     ///
     /// # Errors
-    /// As [`Writer::admits_view`], and `NoMemory` where that admits it and a growth was refused.
+    /// As [`Writer::admits_view`]; `NoMemory`.
     pub fn view(&mut self, alloc: Global, view: &View) -> Result<Vec<Message>, Fault>
         ensures answers { Answers acted (taken (writer_plan self.old) (writer_volume self.old) (client_of self.old) (message_of (Message.View view.now))) (client_of self.old) result (client_of self.new) }
         ensures plan { writer_plan self.new ≡ writer_plan self.old }
@@ -234,74 +236,77 @@ impl Writer {
         let messages = unjoined_installs(
             alloc,
             self.volume,
-            &self.standings,
+            &self.group_states,
             &self.lineage,
             places,
         )?;
-        self.standings.follow(places)?;
-        self.standings.raise();
-        self.covered.follow(&self.log, &self.standings);
+        self.group_states.follow(places)?;
+        self.group_states.raise();
+        self.durability.follow(&self.log, &self.group_states);
         Ok(messages)
     }
 
-    /// A record of the log, to be carried once more by a Write. `NoLogRecord` where the log has none with this LSN. Takes no memory.
+    /// Returns a record of the log, to be carried once more by a Write. `NoLogRecord` if the log has none with this
+    /// LSN. Takes no memory.
     pub fn resend(&self, lsn: u64) -> Result<Carried<'_>, Fault>
         ensures answers { AnswersAlways sent (resent (writer_volume self.now) (client_of self.now) lsn) (client_of self.now) result (client_of self.now) }
         ensures own { IfErr result (λ fault. fault ≢ NoMemory) }
     {
         match self.log.record_at(lsn) {
-            Some(packet) => Ok(carry(self.volume, &self.standings, packet)),
+            Some(packet) => Ok(carry(self.volume, &self.group_states, packet)),
             None => Err(Fault::NoLogRecord),
         }
     }
 
-    /// A question for a block's bytes at the durable point. `NoGroup` where the view has no such group. Takes no memory.
+    /// Returns a request for a block's page at the durable point. `NoGroup` if the view has no such group. Takes no
+    /// memory.
     pub fn read(&self, group: u8, block: u32) -> Result<Message, Fault>
         ensures answers { AnswersAlways asked (page_asked (writer_volume self.now) (client_of self.now) group block) (client_of self.now) result (client_of self.now) }
         ensures own { IfErr result (λ fault. fault ≢ NoMemory) }
     {
-        if group >= self.standings.groups() {
+        if group >= self.group_states.groups() {
             return Err(Fault::NoGroup);
         }
         Ok(Message::PageAsk(PageAsk {
             group,
-            label: self.standings.label(self.volume, group),
+            label: self.group_states.label(self.volume, group),
             block,
-            point: self.covered.durable_last(group),
+            point: self.durability.durable_last(group),
         }))
     }
 
-    /// The LSN up to which a group is acknowledged: the greatest that a write set of its members has said at some moment. `NoGroup`
-    /// where the view has no such group.
+    /// Returns the LSN up to which a group is acknowledged: the greatest that a write set of its members has said at
+    /// some moment. `NoGroup` if the view has no such group.
     pub fn group_point(&self, group: u8) -> Result<u64, Fault>
         ensures { MatchResult result (λ point. (group < length (client_of self.now).groups) × (group_point_of (client_of self.now).groups group ≡ point)) (λ fault. (length (client_of self.now).groups ≤ group) × (fault ≡ NoGroup)) }
     {
-        match self.standings.get(group) {
-            Some(standing) => Ok(standing.point),
+        match self.group_states.get(group) {
+            Some(group_state) => Ok(group_state.point),
             None => Err(Fault::NoGroup),
         }
     }
 
-    /// Whether the LSN is that of a consistency point of the log, and not above the durable point.
+    /// Returns whether the LSN is that of a consistency point of the log, and not above the durable point.
     pub fn acknowledged(&self, lsn: u64) -> bool
         ensures { result ≡ acknowledged (client_of self.now) lsn }
     {
         self.log.is_point(lsn) && lsn <= self.durable_point()
     }
 
-    /// Whether a transaction can be issued: `BadTransaction` where it isn't one of 1 to 32 good changes of groups of the view, `NotJoined`
-    /// where one of them is of a group that hasn't joined, `LsnSpent` where no log sequence numbers are left for it, `LimitReached`
-    /// where the last of its records would stand further above the durable point and the start than the plan allows. Takes no memory.
+    /// Returns whether a transaction can be issued: `BadTransaction` if it isn't one of 1 to 32 good changes of
+    /// groups of the view, `NotJoined` if one of them is of a group that hasn't joined, `LsnSpent` if no LSNs are
+    /// left for it, `LimitReached` if the last of its records would stand further above the durable point and the
+    /// start than the plan allows. Takes no memory.
     pub fn admits(&self, changes: &[Change]) -> Result<(), Fault>
         ensures refusal { result ≡ refusal_of (issued (writer_plan self.now) (writer_volume self.now) (client_of self.now) (changes_of changes.now)) }
         ensures ok { OnOk result (issued (writer_plan self.now) (writer_volume self.now) (client_of self.now) (changes_of changes.now) ≡ Ok (issue_step (writer_volume self.now) (client_of self.now) (changes_of changes.now))) }
         ensures can { OnOk result (CanIssue (writer_plan self.now) (client_of self.now) (changes_of changes.now)) }
         ensures own { IfErr result (λ fault. fault ≢ NoMemory) }
     {
-        if !is_transaction(usize::from(self.standings.groups()), changes) {
+        if !is_transaction(usize::from(self.group_states.groups()), changes) {
             return Err(Fault::BadTransaction);
         }
-        if !have_joined(&self.standings, changes) {
+        if !have_joined(&self.group_states, changes) {
             return Err(Fault::NotJoined);
         }
         let start = self.start();
@@ -316,16 +321,15 @@ impl Writer {
         let limit = self
             .durable_point()
             .max(start)
-            .saturating_add(self.standings.plan().lal());
+            .saturating_add(self.group_states.plan().lal());
         if limit < last {
             return Err(Fault::LimitReached);
         }
         Ok(())
     }
 
-    /// Gives a transaction's changes their records, all or none, and makes the Writes that carry them, in order. The last is
-    /// a consistency point. Refused as [`Writer::admits`] says. Where memory runs out the log is what it was, and nothing of
-    /// it is read anew.
+    /// Issues a transaction: appends a record for each change, all or none, and returns their Writes, in order. The
+    /// last record is a consistency point. Refused as [`Writer::admits`] says; on error the writer is unchanged.
     pub fn issue(&mut self, alloc: Global, changes: &[Change]) -> Result<Messages, Fault>
         ensures answers { Answers answered (issued (writer_plan self.old) (writer_volume self.old) (client_of self.old) (changes_of changes.now)) (client_of self.old) result (client_of self.new) }
         ensures plan { writer_plan self.new ≡ writer_plan self.old }
@@ -341,18 +345,18 @@ impl Writer {
         match append(
             alloc,
             span,
-            &self.standings,
+            &self.group_states,
             &mut self.log,
-            &mut self.lasts,
+            &mut self.last_lsns,
             changes,
             &mut messages,
         ) {
             Ok(()) => {
-                self.covered.follow(&self.log, &self.standings);
+                self.durability.follow(&self.log, &self.group_states);
                 Ok(messages)
             }
             Err(fault) => {
-                self.lasts.go_back(&self.log, length);
+                self.last_lsns.go_back(&self.log, length);
                 self.log.truncate(length);
                 Err(fault)
             }

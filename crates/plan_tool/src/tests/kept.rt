@@ -7,7 +7,7 @@ ghost use Rattle.plan.specs.PlanClaims.{claims_in};
 
 use super::texts::plan_of;
 use cert_search::{Gate, PLAN_BYTES, keep_shortest, search_all};
-use plan::{LentClaim, Plan, lent_claims};
+use plan::{ClaimRef, Plan, lent_claims};
 use std::alloc::Global;
 use std::sync::Wait;
 use std::test::*;
@@ -36,7 +36,7 @@ impl Gate for NoGate {
 }
 
 /// The claims of a plan.
-pub fn claims_of<'p>(alloc: Global, plan: &'p Plan) -> Result<Vec<LentClaim<'p>>, Fault>
+pub fn claims_of<'p>(alloc: Global, plan: &'p Plan) -> Result<Vec<ClaimRef<'p>>, Fault>
     ensures claims { IfOk result (λ v. claims_in (plan_data plan.entry.now) ≡ Ok (all_lent v.items)) }
 {
     match lent_claims(alloc, plan) {

@@ -4,7 +4,7 @@ use super::kept::claims_of;
 use super::texts::{WIDE, plan_of};
 use bumpalo::Bump;
 use cert_search::search_in;
-use plan::LentClaim;
+use plan::ClaimRef;
 use quorum_checker::check;
 use std::alloc::{AllocError, Global};
 use std::mem;
@@ -34,7 +34,7 @@ fn arena_of(alloc: Global, words: usize) -> Result<Bump, AllocError> {
 }
 
 /// Copies a claim and its certificate into an arena. Whether the one copy refutes the other.
-fn copied(alloc: Global, arena: &Bump, lent: &LentClaim<'_>) -> Result<bool, Fault> {
+fn copied(alloc: Global, arena: &Bump, lent: &ClaimRef<'_>) -> Result<bool, Fault> {
     let claim = lent.claim_in(arena)?;
     let found = if lent.parent.is_some() {
         &lent.this.step
@@ -49,7 +49,7 @@ fn copied(alloc: Global, arena: &Bump, lent: &LentClaim<'_>) -> Result<bool, Fau
 }
 
 /// Searches a claim with tables in an arena. Whether its certificate is found.
-fn searched(alloc: Global, arena: &Bump, lent: &LentClaim<'_>) -> Result<bool, Fault> {
+fn searched(alloc: Global, arena: &Bump, lent: &ClaimRef<'_>) -> Result<bool, Fault> {
     let claim = lent.claim_in(alloc)?;
     match search_in(alloc, &arena, &claim, BUDGET, 1)? {
         Some(certificate) => Ok(check(alloc, &claim, &certificate).is_ok()),
@@ -65,7 +65,7 @@ enum Done {
 }
 
 /// Does it. Whether the answer is right.
-fn answered(alloc: Global, arena: &Bump, done: Done, lent: &LentClaim<'_>) -> Result<bool, Fault> {
+fn answered(alloc: Global, arena: &Bump, done: Done, lent: &ClaimRef<'_>) -> Result<bool, Fault> {
     match done {
         Done::Copied => copied(alloc, arena, lent),
         Done::Searched => searched(alloc, arena, lent),
@@ -78,7 +78,7 @@ fn tried(
     alloc: Global,
     words: usize,
     done: Done,
-    lent: &LentClaim<'_>,
+    lent: &ClaimRef<'_>,
 ) -> Result<Option<bool>, Fault> {
     let arena = arena_of(alloc, words)?;
     match answered(alloc, &arena, done, lent) {
@@ -91,7 +91,7 @@ fn tried(
 }
 
 /// How many words are too few for it, each number of which was tried. 0 where an answer is wrong.
-fn too_few(alloc: Global, done: Done, lent: &LentClaim<'_>) -> Result<usize, Fault> {
+fn too_few(alloc: Global, done: Done, lent: &ClaimRef<'_>) -> Result<usize, Fault> {
     for words in 0..WORDS {
         if let Some(is_right) = tried(alloc, words, done, lent)? {
             return Ok(if is_right { words } else { 0 });
@@ -122,7 +122,7 @@ fn scarce_memory(rt: HostRuntime) {
 }
 
 /// Whether an arena in which something is held is emptied, and whether a claim is found in it and in another.
-fn found_beside(alloc: Global, lent: &LentClaim<'_>) -> Result<(bool, bool, bool), Fault> {
+fn found_beside(alloc: Global, lent: &ClaimRef<'_>) -> Result<(bool, bool, bool), Fault> {
     let mut arena = Bump::new(alloc);
     mem::forget(vec![in &arena; 1_u8; 100]?);
     let is_emptied = arena.reset().is_ok();

@@ -32,7 +32,7 @@ enum Line<'b> {
     Answer(Answer<'b>),
 }
 
-/// What a line says, `None` where it isn't one of a book.
+/// Returns what a line says, `None` if it isn't one of a book.
 fn line_of(text: &str) -> Option<Line<'_>> {
     if text.is_empty() || text.starts_with('#') {
         return Some(Line::Nothing);
@@ -89,7 +89,7 @@ fn note<'b>(question: &mut Question<'b>, answer: Answer<'b>) -> Result<(), Alloc
     Ok(())
 }
 
-/// Takes up what a line says of a case. False where it can't stand there.
+/// Takes up what a line says of a case. Returns false if it can't stand there.
 fn take<'b>(alloc: Global, case: &mut Case<'b>, line: Line<'b>) -> Result<bool, AllocError> {
     match line {
         Line::Nothing | Line::Title(_) => {}
@@ -109,7 +109,7 @@ fn take<'b>(alloc: Global, case: &mut Case<'b>, line: Line<'b>) -> Result<bool, 
     Ok(true)
 }
 
-/// Takes up a line of a book behind these cases. False where it can't stand there.
+/// Takes up a line of a book behind these cases. Returns false if it can't stand there.
 fn add<'b>(alloc: Global, cases: &mut Vec<Case<'b>>, text: &'b str) -> Result<bool, AllocError> {
     match line_of(text) {
         None => Ok(false),
@@ -125,10 +125,10 @@ fn add<'b>(alloc: Global, cases: &mut Vec<Case<'b>>, text: &'b str) -> Result<bo
     }
 }
 
-/// The cases of a book, in order.
+/// Returns the cases of a book, in order.
 ///
 /// # Errors
-/// The number of the first line that isn't one of a book, or want of memory.
+/// The number of the first line that isn't one of a book, or running out of memory.
 pub fn cases(alloc: Global, book: &str) -> Result<Vec<Case<'_>>, Wrong> {
     let mut cases = Vec::new(alloc);
     for (index, line) in book.lines().enumerate() {

@@ -27,7 +27,7 @@ pub struct Question<'b> {
 }
 
 impl<'b> Question<'b> {
-    /// A question that asks for nothing yet, and to which nothing is due.
+    /// Returns a question that asks for nothing yet, and to which nothing is due.
     pub fn new(alloc: Global) -> Question<'b> {
         Question {
             commands: Vec::new(alloc),
@@ -55,7 +55,7 @@ pub struct Case<'b> {
 }
 
 impl<'b> Case<'b> {
-    /// A case of which only the title is known.
+    /// Returns a case of which only the title is known.
     pub fn new(alloc: Global, title: &'b str) -> Case<'b> {
         Case {
             title,
@@ -75,7 +75,7 @@ impl<'b> Case<'b> {
         }
     }
 
-    /// The text of a plan with this case's edits, `None` where one of them finds no place.
+    /// Returns the text of a plan with this case's edits, `None` if one of them finds no place.
     pub fn edited(&self, alloc: Global, plan: &str) -> Result<Option<String>, AllocError> {
         let mut text = String::from_str(alloc, plan)?;
         for edit in &self.edits {

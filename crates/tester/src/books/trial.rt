@@ -20,7 +20,7 @@ struct Texts<'t> {
     script: &'t str,
 }
 
-/// Whether what is printed is what is due: the text, or a plan of which a check says what is due.
+/// Returns whether what is printed is what is due: the text, or a plan of which a check says what is due.
 fn prints<H: Threads + Wait + Sync>(
     threads: &H,
     alloc: Global,
@@ -61,7 +61,7 @@ fn try_job<H: Threads + Wait + Sync>(
     }
 }
 
-/// The plan of a file, with the edits of a case.
+/// Returns the plan of a file, with the edits of a case.
 fn plan_of(rt: &HostRuntime, case: &Case<'_>, name: &str) -> Result<PlanText, Wrong> {
     let text = match fs::read_to_string(rt, name) {
         Ok(text) => text,
@@ -73,7 +73,7 @@ fn plan_of(rt: &HostRuntime, case: &Case<'_>, name: &str) -> Result<PlanText, Wr
     }
 }
 
-/// The words of a command, behind the program's name.
+/// Returns the words of a command, behind the program's name.
 fn words_of(alloc: Global, command: &str) -> Result<Vec<&str>, AllocError> {
     let mut words = vec![in alloc; "plan_tool"]?;
     for word in command.split(' ') {

@@ -4,8 +4,8 @@ use Rattle.chains.specs.Rising.{AreGrowing, with_numbers}
 use Rattle.chains.proofs.recent.add_waiters.Given as goal
 
 -- with those that are left there are all
-abbrev pub invariant-loop-wait : goal.invariant-loop-wait
-invariant-loop-wait l = record {
+abbrev pub invariant-loop-entry : goal.invariant-loop-entry
+invariant-loop-entry l = record {
   growing : AreGrowing l.numbers.items;
-  left : with_numbers (recent_waiters (drop l.wait-index l.waits) l.before) l.numbers.items ≡ with_numbers (recent_waiters l.waits l.before) l.initial.numbers.items;
+  left : with_numbers (recent_waiters (drop l.entry-index l.pending) l.before) l.numbers.items ≡ with_numbers (recent_waiters l.pending l.before) l.initial.numbers.items;
 }

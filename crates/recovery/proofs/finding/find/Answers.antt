@@ -9,7 +9,7 @@ use Rattle.lineage.specs.Lineage.{lineage_of}
 use Rattle.redo_record.specs.declared.record_set.RecordSet.{RecordSet}
 use Rattle.redo_record.specs.RecordSet.{records_of}
 use Rattle.writer_core.specs.Logs.{log_of, log_of_set}
-use Rattle.writer_core.specs.Groups.{groups_in, standings_plan}
+use Rattle.writer_core.specs.Groups.{groups_in, group_states_plan}
 use Rattle.recovery.specs.Reported.{reports_in}
 use Rattle.recovery.specs.Finds.{live_records}
 use Rattle.recovery.proofs.Sharing.{log_of-shown}
@@ -25,7 +25,7 @@ is_value m n h = cc
 
 pub extend-requires-clause-later : goal.extend-requires-clause-later
 extend-requires-clause-later c =
-    let groups : List ClientGroup = groups_in c.args.standings.now in
+    let groups : List ClientGroup = groups_in c.args.group_states.now in
     let parent : lineage_of c.in_ok-parent.parent ≡ newest (reports_in groups) = c.in_ok-parent.ensures ∙ ap (λ gs. newest (reports_in gs)) c.as_slice.ensures.groups in
     subst (λ (l : Lineage). last_epoch l < c.args.volume) (sym parent) (older-newest c.args.volume groups c.requires.assigned c.requires.older)
 
@@ -38,8 +38,8 @@ chain_of-requires-clause-there c =
 
 pub returns-in-Ok-extend-clause-lineage : goal.returns-in-Ok-extend-clause-lineage
 returns-in-Ok-extend-clause-lineage c =
-    let plan : Plan = standings_plan c.args.standings.now in
-    let groups : List ClientGroup = groups_in c.args.standings.now in
+    let plan : Plan = group_states_plan c.args.group_states.now in
+    let groups : List ClientGroup = groups_in c.args.group_states.now in
     let parent : lineage_of c.in_ok-parent.parent ≡ newest (reports_in groups) = c.in_ok-parent.ensures ∙ ap (λ gs. newest (reports_in gs)) c.as_slice.ensures.groups in
     let records : records_of c.in_ok-records.records ≡ live_records groups = c.in_ok-records.ensures ∙ ap₂ found_in parent (ap reports_in c.as_slice-2.ensures.groups) in
     let first : RecordSet = c.in_ok-records-2.records in
@@ -51,7 +51,7 @@ returns-in-Ok-extend-clause-lineage c =
 
 pub returns-in-Ok-extend-clause-log : goal.returns-in-Ok-extend-clause-log
 returns-in-Ok-extend-clause-log c =
-    let groups : List ClientGroup = groups_in c.args.standings.now in
+    let groups : List ClientGroup = groups_in c.args.group_states.now in
     let parent : lineage_of c.in_ok-parent.parent ≡ newest (reports_in groups) = c.in_ok-parent.ensures ∙ ap (λ gs. newest (reports_in gs)) c.as_slice.ensures.groups in
     let records : records_of c.in_ok-records.records ≡ live_records groups = c.in_ok-records.ensures ∙ ap₂ found_in parent (ap reports_in c.as_slice-2.ensures.groups) in
     let first : RecordSet = c.in_ok-records-2.records in
@@ -62,8 +62,8 @@ returns-in-Ok-extend-clause-log c =
 
 pub returns-clause-lineage : goal.returns-clause-lineage
 returns-clause-lineage c =
-    let plan : Plan = standings_plan c.args.standings.now in
-    let groups : List ClientGroup = groups_in c.args.standings.now in
+    let plan : Plan = group_states_plan c.args.group_states.now in
+    let groups : List ClientGroup = groups_in c.args.group_states.now in
     let parent : lineage_of c.in_ok-parent.parent ≡ newest (reports_in groups) = c.in_ok-parent.ensures ∙ ap (λ gs. newest (reports_in gs)) c.as_slice.ensures.groups in
     let records : records_of c.in_ok-records.records ≡ live_records groups = c.in_ok-records.ensures ∙ ap₂ found_in parent (ap reports_in c.as_slice-2.ensures.groups) in
     let first : RecordSet = c.in_ok-records-2.records in

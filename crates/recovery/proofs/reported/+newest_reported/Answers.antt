@@ -4,8 +4,8 @@ use Rattle.volume_model.specs.Node.{contents_of}
 use Rattle.lineage.specs.Lineage.{lineage_of}
 use Rattle.hydration.specs.declared.copied.Copied.{Copied}
 use Rattle.hydration.specs.Copies.{copies_in}
-use Rattle.writer_core.specs.declared.standing.Standing.{Standing}
-use Rattle.writer_core.specs.Standings.{groups_of}
+use Rattle.writer_core.specs.declared.group_state.GroupState.{GroupState}
+use Rattle.writer_core.specs.GroupStates.{groups_of}
 use Rattle.recovery.specs.Reported.{reports_in}
 use Rattle.recovery.proofs.OneMore.{reports-first, newest-more}
 use Rattle.recovery.proofs.reported.+newest_reported.Goals as goal
@@ -13,10 +13,10 @@ use Rattle.recovery.proofs.reported.+newest_reported.Goals as goal
 pub returns-in-len1-up : goal.returns-in-len1-up
 returns-in-len1-up t c =
     let last = lineage_of c.args.last.now in
-    let standings : List Standing = c.args.standings.now in
+    let group_states : List GroupState = c.args.group_states.now in
     let first = c.first-item.result in
-    let rest : List Standing = take (length standings - 1) (drop 1 standings) in
-    let all = reports-first standings first c.in-len1-up.len_at_least c.first-item.is in
+    let rest : List GroupState = take (length group_states - 1) (drop 1 group_states) in
+    let all = reports-first group_states first c.in-len1-up.len_at_least c.first-item.is in
     c.newest_with.ensures
     ∙ ap (λ (xs : List Copied). newest_with (lineage_of c.newest_reported.result.now) (contents_of (copies_in xs))) c.as_slice.ensures.value
     ∙ ap (λ l. newest_with l (contents_of (copies_in first.copies.items))) c.newest_reported.ensures

@@ -7,4 +7,4 @@ use Rattle.volume_model.specs.Message.Message.{Fence}
 use Rattle.recovery.proofs.speaking.fences.Given as goal
 
 abbrev pub invariant-loop-group : goal.invariant-loop-group
-invariant-loop-group l = messages_of l.messages.items ≡ each_below l.group (λ group. true) (λ group. Fence group (label_of l.volume (place_of (groups_in l.standings)) group))
+invariant-loop-group l = messages_of l.messages.items ≡ each_below l.group (λ group. true) (λ group. Fence group (label_of l.volume (place_of (groups_in l.group_states)) group))

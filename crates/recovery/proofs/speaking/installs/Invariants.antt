@@ -11,4 +11,4 @@ use Rattle.volume_model.specs.Message.Message.{Install}
 use Rattle.recovery.proofs.speaking.installs.Given as goal
 
 abbrev pub invariant-loop-group : goal.invariant-loop-group
-invariant-loop-group l = messages_of l.messages.items ≡ joined (each_below l.group (λ group. true) (λ group. in_pieces (to_install (lineage_of l.found.lineage) (log_of_set l.found.log) group) (Install group (label_of l.volume (place_of (groups_in l.standings)) group))))
+invariant-loop-group l = messages_of l.messages.items ≡ joined (each_below l.group (λ group. true) (λ group. in_pieces (to_install (lineage_of l.found.lineage) (log_of_set l.found.log) group) (Install group (label_of l.volume (place_of (groups_in l.group_states)) group))))

@@ -13,7 +13,7 @@ use Rattle.recovery.proofs.speaking.later_fences.Goals.{then-epoch-place+in_ok-p
 
 pub loop-group-preserved : goal.loop-group-preserved
 loop-group-preserved c =
-    let groups = groups_in c.args.standings.now in
+    let groups = groups_in c.args.group_states.now in
     let places : List Place = c.args.places.now in
     let volume = c.args.volume in
     let i = c.loop-group.group in

@@ -10,4 +10,4 @@ use Rattle.volume_model.specs.Message.Message.{Fence}
 use Rattle.recovery.proofs.speaking.later_fences.Given as goal
 
 abbrev pub invariant-loop-group : goal.invariant-loop-group
-invariant-loop-group l = messages_of l.messages.items ≡ each_below l.group (later_in (place_of (groups_in l.standings)) (place_in (map wire.place_of l.places))) (λ group. Fence group (label_of l.volume (place_in (map wire.place_of l.places)) group))
+invariant-loop-group l = messages_of l.messages.items ≡ each_below l.group (later_in (place_of (groups_in l.group_states)) (place_in (map wire.place_of l.places))) (λ group. Fence group (label_of l.volume (place_in (map wire.place_of l.places)) group))

@@ -14,4 +14,4 @@ use Rattle.volume_model.specs.Message.Message.{Install}
 use Rattle.recovery.proofs.speaking.later_installs.Given as goal
 
 abbrev pub invariant-loop-group : goal.invariant-loop-group
-invariant-loop-group l = messages_of l.messages.items ≡ joined (each_below l.group (later_in (place_of (groups_in l.standings)) (place_in (map wire.place_of l.places))) (λ group. in_pieces (to_install (lineage_of l.found.lineage) (log_of_set l.found.log) group) (Install group (label_of l.volume (place_in (map wire.place_of l.places)) group))))
+invariant-loop-group l = messages_of l.messages.items ≡ joined (each_below l.group (later_in (place_of (groups_in l.group_states)) (place_in (map wire.place_of l.places))) (λ group. in_pieces (to_install (lineage_of l.found.lineage) (log_of_set l.found.log) group) (Install group (label_of l.volume (place_in (map wire.place_of l.places)) group))))

@@ -13,4 +13,4 @@ use Rattle.volume_model.specs.Message.Message.{Install}
 use Rattle.writer_core.proofs.installs.unjoined_installs.Given as goal
 
 abbrev pub invariant-loop-group : goal.invariant-loop-group
-invariant-loop-group l = messages_of l.messages.items ≡ joined (each_below l.group (later_unjoined (groups_in l.standings) (place_in (map wire.place_of l.places))) (λ group. in_pieces (to_install (lineage_of l.lineage) [] group) (Install group (label_of l.volume (place_in (map wire.place_of l.places)) group))))
+invariant-loop-group l = messages_of l.messages.items ≡ joined (each_below l.group (later_unjoined (groups_in l.group_states) (place_in (map wire.place_of l.places))) (λ group. in_pieces (to_install (lineage_of l.lineage) [] group) (Install group (label_of l.volume (place_in (map wire.place_of l.places)) group))))

@@ -8,7 +8,7 @@ use Rattle.wire.specs.Message.{message_of}
 use Rattle.redo_record.specs.SharedRecord.{shared_redo}
 use Rattle.writer_core.specs.Logs.{log_of}
 use Rattle.writer_core.specs.Log.{packets_in}
-use Rattle.writer_core.specs.Lasts.{IsLinked, AreLinkedFrom}
+use Rattle.writer_core.specs.LastLsns.{IsLinked, AreLinkedFrom}
 use Rattle.writer_core.specs.Changes.{change_of}
 use Rattle.writer_core.specs.Groups.{groups_in}
 use Rattle.writer_core.proofs.Entering.{all-front}
@@ -18,19 +18,19 @@ use Rattle.writer_core.proofs.issuing.append.Goals as goal
 
 pub next_packet-requires-clause-group : goal.next_packet-requires-clause-group
 next_packet-requires-clause-group c =
-    let groups = length (groups_in c.args.standings.now) in
+    let groups = length (groups_in c.args.group_states.now) in
     let good : IsGood groups c.index-changes-i.result = good_here groups c.args.changes.now c.loop-i.i c.index-changes-i.result c.loop-i-test.true c.index-changes-i.is c.loop-i.invariant.good in
     omega (arith, good.group, c.requires.few)
 
 pub next_packet-requires-clause-place : goal.next_packet-requires-clause-place
 next_packet-requires-clause-place c =
-    let groups = length (groups_in c.args.standings.now) in
+    let groups = length (groups_in c.args.group_states.now) in
     (good_here groups c.args.changes.now c.loop-i.i c.index-changes-i.result c.loop-i-test.true c.index-changes-i.is c.loop-i.invariant.good).place
 
 -- ---- the message can't be made, or has no room: the record stands in the log, and is entered
 
-pub returns-in_err-message-clause-lasts : goal.returns-in_err-message-clause-lasts
-returns-in_err-message-clause-lasts c = rw c.push_reserved.ensures.packets (all-front c.next_packet.new.lasts _ c.in_ok-packet.ensures.entered)
+pub returns-in_err-message-clause-last_lsns : goal.returns-in_err-message-clause-last_lsns
+returns-in_err-message-clause-last_lsns c = rw c.push_reserved.ensures.packets (all-front c.next_packet.new.last_lsns _ c.in_ok-packet.ensures.entered)
 
 pub returns-in_err-message-clause-linked : goal.returns-in_err-message-clause-linked
 returns-in_err-message-clause-linked c =
@@ -39,8 +39,8 @@ returns-in_err-message-clause-linked c =
     let linked : AreLinkedFrom (length (packets_in c.args.log.now)) records = subst (λ n. AreLinkedFrom n records) (ap length c.reserve.ensures.packets) c.loop-i.invariant.linked in
     rw c.push_reserved.ensures.packets (linked-pushed (length (packets_in c.args.log.now)) records p (subst (λ s. IsLinked s (log_of records)) (sym c.in_ok-packet.ensures.made) (record { group = refl; block = refl })) linked)
 
-pub returns-in_err-add-clause-lasts : goal.returns-in_err-add-clause-lasts
-returns-in_err-add-clause-lasts c = rw c.push_reserved.ensures.packets (all-front c.next_packet.new.lasts _ c.in_ok-packet.ensures.entered)
+pub returns-in_err-add-clause-last_lsns : goal.returns-in_err-add-clause-last_lsns
+returns-in_err-add-clause-last_lsns c = rw c.push_reserved.ensures.packets (all-front c.next_packet.new.last_lsns _ c.in_ok-packet.ensures.entered)
 
 pub returns-in_err-add-clause-linked : goal.returns-in_err-add-clause-linked
 returns-in_err-add-clause-linked c =
@@ -53,7 +53,7 @@ pub loop-i-preserved : goal.loop-i-preserved
 loop-i-preserved c =
     let volume = c.args.span.volume in
     let start = c.args.span.start in
-    let places = place_of (groups_in c.args.standings.now) in
+    let places = place_of (groups_in c.args.group_states.now) in
     let changes = c.args.changes.now in
     let i = c.loop-i.i in
     let change = c.index-changes-i.result in
@@ -68,10 +68,10 @@ loop-i-preserved c =
     let said : message_of message ≡ model.Message.Write (change_of change).group (label_of volume places (change_of change).group) (shared_redo p) =
     c.in_ok-message.ensures ∙ c.carry.ensures ∙ ap (λ (g : ℕ). model.Message.Write g (label_of volume places g) (shared_redo p)) (ap (λ (s : Redo). s.group) made) in
     record {
-      lasts = rw logs c.in_ok-packet.ensures.entered;
+      last_lsns = rw logs c.in_ok-packet.ensures.entered;
       spare = omega (arith, c.push_reserved.ensures.room, c.loop-i.invariant.spare, within);
       room = rw logs (room_on volume start places changes i change within is records p made c.loop-i.invariant.room);
-      good = (good_on volume start places changes i change within is records p made (length (groups_in c.args.standings.now)) c.loop-i.invariant.good).1;
+      good = (good_on volume start places changes i change within is records p made (length (groups_in c.args.group_states.now)) c.loop-i.invariant.good).1;
       logged = rw logs (logged_on volume start places changes i change within is records p made ∙ c.loop-i.invariant.logged);
       written = rw (logs, messages) (messages_on (listed c.loop-i.messages) message _ _ (written_on volume start places changes i change within is records p made _ said) ∙ c.loop-i.invariant.written);
       front = rw logs (front_on records p _ c.loop-i.invariant.front);
@@ -79,5 +79,5 @@ loop-i-preserved c =
       linked = rw logs (linked-pushed _ records p (subst (λ s. IsLinked s (log_of records)) (sym made) (record { group = refl; block = refl })) c.loop-i.invariant.linked);
     }
 
-pub returns-clause-lasts : goal.returns-clause-lasts
-returns-clause-lasts c = all-front c.loop-i.lasts (packets_in c.loop-i.log) c.loop-i.invariant.lasts
+pub returns-clause-last_lsns : goal.returns-clause-last_lsns
+returns-clause-last_lsns c = all-front c.loop-i.last_lsns (packets_in c.loop-i.log) c.loop-i.invariant.last_lsns

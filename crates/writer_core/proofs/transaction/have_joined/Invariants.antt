@@ -5,4 +5,4 @@ use Rattle.writer_core.specs.Groups.{groups_in}
 use Rattle.writer_core.proofs.transaction.have_joined.Given as goal
 
 abbrev pub invariant-loop-change : goal.invariant-loop-change
-invariant-loop-change l = have_joined (groups_in l.standings) (changes_of l.changes) ≡ have_joined (groups_in l.standings) (changes_of (drop l.change-index l.changes))
+invariant-loop-change l = have_joined (groups_in l.group_states) (changes_of l.changes) ≡ have_joined (groups_in l.group_states) (changes_of (drop l.change-index l.changes))

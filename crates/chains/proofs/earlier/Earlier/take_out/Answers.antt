@@ -4,14 +4,14 @@ use Rattle.std.specs.Ordering.{nat_cmp}
 use Rattle.std.specs.BTreeMap.{get}
 use Rattle.volume_model.specs.Lists.{any}
 use Rattle.chains.specs.Listed.{numbers_in}
-use Rattle.chains.proofs.Wakes.{one_and_others, taken_out}
+use Rattle.chains.proofs.Releases.{one_and_others, taken_out}
 use Rattle.chains.specs.Earlier.{earlier_waiters}
 use Rattle.chains.proofs.earlier.Earlier.take_out.Goals as goal
 
 pub loop-number-preserved : goal.loop-number-preserved
 loop-number-preserved c k =
     let i : ℕ = c.loop-number.number-index in
-    let all : List ℕ = c.args.woken.now in
+    let all : List ℕ = c.args.released.now in
     let x : ℕ = get_or all i 0 in
     let next : i + 1 ≡ suc i = omega arith in
     one_and_others x (drop (i + 1) all) (earlier_waiters c.loop-number.self) (λ k. numbers_in (get nat_cmp c.remove.new.self k)) (taken_out c.loop-number.self.waiting c.remove.new.self x c.remove.ensures.updates.0) k

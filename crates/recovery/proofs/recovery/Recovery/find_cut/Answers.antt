@@ -2,7 +2,7 @@ use Rattle.std.proofs.Common.{◌≡◌, List, Option, Some, None, is_some, fals
 use Rattle.std.proofs.lemmas.Bool.{true≢false}
 use Rattle.volume_model.specs.Plan.{Plan}
 use Rattle.volume_model.specs.Client.{ClientGroup}
-use Rattle.writer_core.specs.Groups.{groups_in, standings_plan}
+use Rattle.writer_core.specs.Groups.{groups_in, group_states_plan}
 use Rattle.recovery.specs.declared.found.Found.{Found}
 use Rattle.recovery.proofs.Leaves.{cut-found}
 use Rattle.recovery.proofs.recovery.Recovery.find_cut.Goals as goal
@@ -14,6 +14,6 @@ is-none (Some x) h = absurd (true≢false h)
 pub returns : goal.returns
 returns c =
     let self = c.args.self.now in
-    let plan : Plan = standings_plan self.standings in
-    let groups : List ClientGroup = groups_in self.standings in
+    let plan : Plan = group_states_plan self.group_states in
+    let groups : List ClientGroup = groups_in self.group_states in
     cut-found plan self.volume groups self.found (is-none self.found (sym c.is_some.ensures ∙ c.if-is_some.false)) (sym c.has_read.ensures ∙ c.if-not-has_read.false) c.find.result c.find.ensures.lineage c.find.ensures.log

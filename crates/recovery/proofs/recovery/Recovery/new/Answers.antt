@@ -17,7 +17,7 @@ use Rattle.recovery.proofs.Views.{birth-is, found-older}
 use Rattle.recovery.proofs.recovery.Recovery.new.Goals as goal
 
 pub invariant_of-recovery-clause-older : goal.invariant_of-recovery-clause-older
-invariant_of-recovery-clause-older c = found-older c.in-Ok.view.now.volume (map place_of c.as_slice.result.now) (groups_in c.in_ok-standings.standings) c.in_ok-standings.ensures.groups
+invariant_of-recovery-clause-older c = found-older c.in-Ok.view.now.volume (map place_of c.as_slice.result.now) (groups_in c.in_ok-group_states.group_states) c.in_ok-group_states.ensures.groups
 
 pub returns-in-Err-clause-birth : goal.returns-in-Err-clause-birth
 returns-in-Err-clause-birth c =
@@ -31,9 +31,9 @@ returns-clause-birth c =
     let plan : Plan = checked_model (arc_value c.args.plan) in
     let view = c.in-Ok.view.now in
     let places = map place_of view.places.value.items in
-    let groups = groups_in c.in_ok-standings.standings in
+    let groups = groups_in c.in_ok-group_states.group_states in
     let made = messages_of c.in_ok-messages.messages.items in
     let good : are_places plan places ≡ true = ap (λ (p : CheckedPlan). are_places (checked_model p) places) (sym c.deref.ensures) ∙ c.in-Ok.ensures.places in
-    let found : groups ≡ map newly_at places = subst (λ (xs : List Place). groups ≡ map newly_at (map place_of xs)) (c.as_slice.ensures.value ∙ ap (λ v. v.items) c.deref-2.ensures) c.in_ok-standings.ensures.groups in
+    let found : groups ≡ map newly_at places = subst (λ (xs : List Place). groups ≡ map newly_at (map place_of xs)) (c.as_slice.ensures.value ∙ ap (λ v. v.items) c.deref-2.ensures) c.in_ok-group_states.ensures.groups in
     ap (λ (m : Message). birth_of plan (message_of m)) c.in-Ok.ensures.view
     ∙ birth-is plan view.volume places groups made good found c.in_ok-messages.ensures

@@ -12,7 +12,7 @@ use Rattle.writer_core.specs.Writers.{silent}
 use Rattle.writer_core.proofs.Answering.{judged, refused}
 use Rattle.recovery.specs.Recoveries.{client_of, recovery_plan, recovery_volume}
 use Rattle.writer_core.specs.Groups.{groups_in}
-use Rattle.writer_core.specs.Standings.{report_of, reported_in}
+use Rattle.writer_core.specs.GroupStates.{report_of, reported_in}
 use Rattle.recovery.specs.Cuts.{are_older}
 use Rattle.recovery.proofs.Older.{older-reported}
 use Rattle.recovery.proofs.Views.{either}
@@ -22,7 +22,7 @@ pub invariant_of-self-clause-older : goal.invariant_of-self-clause-older
 invariant_of-self-clause-older c =
     let self = c.args.self.now in
     let report = c.args.report.now in
-    let groups = groups_in self.standings in
+    let groups = groups_in self.group_states in
     let kept : From = report_of report in
     let less : last_epoch kept.contents.lineage < self.volume = subst (λ n. n < self.volume) (rw c.deref.ensures at c.last_epoch.ensures) c.if-last_epoch-self.false in
     either c.keep.result (λ gs. are_older self.volume gs ≡ true) (groups_in c.keep.new.self) (reported_in groups report.group kept) groups c.keep.ensures.kept c.keep.ensures.same

@@ -10,7 +10,7 @@ use Rattle.volume_model.specs.ClientRecovery.{fences, installs}
 use Rattle.volume_model.specs.ClientMessages.{later_group, reread_group, with_places, are_places, later_in}
 use Rattle.wire.specs.declared.label.Place.{Place}
 use Rattle.wire.specs.Message.{place_of, messages_of}
-use Rattle.writer_core.specs.Groups.{groups_in, standings_plan}
+use Rattle.writer_core.specs.Groups.{groups_in, group_states_plan}
 use Rattle.recovery.specs.Cuts.{are_older}
 use Rattle.recovery.proofs.Older.{older-later, older-reread}
 use Rattle.recovery.proofs.Views.{either, view-reading, view-installing}
@@ -19,7 +19,7 @@ use Rattle.recovery.proofs.recovery.Recovery.view.Goals as goal
 pub invariant_of-self-in-None-clause-older : goal.invariant_of-self-in-None-clause-older
 invariant_of-self-in-None-clause-older c =
     let self = c.args.self.now in
-    let groups : List ClientGroup = groups_in self.standings in
+    let groups : List ClientGroup = groups_in self.group_states in
     let places : List model.Place = map place_of c.as_slice-places.result.now in
     either c.reread.result (λ gs. are_older self.volume gs ≡ true) (groups_in c.reread.new.self) (with_places reread_group groups places) groups c.reread.ensures.groups c.reread.ensures.same
     (older-reread self.volume groups places self.older) self.older
@@ -27,8 +27,8 @@ invariant_of-self-in-None-clause-older c =
 pub returns-in_ok-reread-in-None-clause-answers : goal.returns-in_ok-reread-in-None-clause-answers
 returns-in_ok-reread-in-None-clause-answers c =
     let self = c.args.self.now in
-    let plan : Plan = standings_plan self.standings in
-    let groups : List ClientGroup = groups_in self.standings in
+    let plan : Plan = group_states_plan self.group_states in
+    let groups : List ClientGroup = groups_in self.group_states in
     let items : List Place = c.args.view.now.places.value.items in
     let value : c.as_slice-places.result.now ≡ items = c.as_slice-places.ensures.value ∙ ap (λ v. v.items) c.deref.ensures in
     let good : are_places plan (map place_of items) ≡ true = c.in_ok-admits_view.ensures.places in
@@ -40,7 +40,7 @@ returns-in_ok-reread-in-None-clause-answers c =
 pub invariant_of-self-in-Some-clause-older : goal.invariant_of-self-in-Some-clause-older
 invariant_of-self-in-Some-clause-older c =
     let self = c.args.self.now in
-    let groups : List ClientGroup = groups_in self.standings in
+    let groups : List ClientGroup = groups_in self.group_states in
     let places : List model.Place = map place_of c.as_slice-places.result.now in
     either c.follow.result (λ gs. are_older self.volume gs ≡ true) (groups_in c.follow.new.self) (with_places later_group groups places) groups c.follow.ensures.groups c.follow.ensures.same
     (older-later self.volume groups places self.older) self.older
@@ -48,8 +48,8 @@ invariant_of-self-in-Some-clause-older c =
 pub returns-in_ok-follow-in-Some-clause-answers : goal.returns-in_ok-follow-in-Some-clause-answers
 returns-in_ok-follow-in-Some-clause-answers c =
     let self = c.args.self.now in
-    let plan : Plan = standings_plan self.standings in
-    let groups : List ClientGroup = groups_in self.standings in
+    let plan : Plan = group_states_plan self.group_states in
+    let groups : List ClientGroup = groups_in self.group_states in
     let items : List Place = c.args.view.now.places.value.items in
     let value : c.as_slice-places.result.now ≡ items = c.as_slice-places.ensures.value ∙ ap (λ v. v.items) c.deref.ensures in
     let good : are_places plan (map place_of items) ≡ true = c.in_ok-admits_view.ensures.places in

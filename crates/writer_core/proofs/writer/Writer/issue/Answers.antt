@@ -7,7 +7,7 @@ use Rattle.volume_model.specs.Client.{Client, ClientAnswer, group_point_of}
 use Rattle.volume_model.specs.ClientWriter.{issued}
 use Rattle.volume_model.specs.declared.fault.Fault.{Fault}
 use Rattle.writer_core.specs.Changes.{changes_of}
-use Rattle.writer_core.specs.Covered.{CoversLog}
+use Rattle.writer_core.specs.DurabilityTracker.{CoversLog}
 use Rattle.writer_core.specs.Groups.{groups_in}
 use Rattle.writer_core.specs.Log.{packets_in}
 use Rattle.writer_core.specs.Writers.{answered, client_of, writer_plan, writer_volume}
@@ -29,4 +29,4 @@ invariant_of-self-in-Err-clause-covers c =
     let self = c.args.self.now in
     let many : c.len-length.result ≡ length (packets_in self.log) = c.len-length.ensures in
     let back : packets_in c.truncate.new.self ≡ packets_in self.log = c.truncate.ensures.packets ∙ ap (λ (n : ℕ). take n (packets_in c.append.new.log)) many ∙ c.append.ensures.front in
-    subst (λ (xs : List SharedRecord). CoversLog self.covered (group_point_of (groups_in self.standings)) xs) (sym back) self.covers
+    subst (λ (xs : List SharedRecord). CoversLog self.durability (group_point_of (groups_in self.group_states)) xs) (sym back) self.covers

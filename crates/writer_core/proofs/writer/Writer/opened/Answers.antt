@@ -1,5 +1,5 @@
 use Rattle.volume_model.specs.Client.{group_point_of}
-use Rattle.writer_core.specs.Groups.{groups_in, standings_plan}
+use Rattle.writer_core.specs.Groups.{groups_in, group_states_plan}
 use Rattle.std.proofs.Common.{refl, ap}
 use Rattle.lineage.specs.Lineage.{lineage_of}
 use Rattle.writer_core.specs.Log.{found_of, log_in, packets_in}
@@ -9,13 +9,13 @@ use Rattle.writer_core.proofs.Raising.{raised_all, joined_all}
 use Rattle.writer_core.proofs.writer.Writer.opened.Goals as goal
 
 pub follow-requires : goal.follow-requires
-follow-requires c = c.none-covered.ensures (group_point_of (groups_in c.raise.new.self)) (packets_in c.begin-log.result)
+follow-requires c = c.none-durability.ensures (group_point_of (groups_in c.raise.new.self)) (packets_in c.begin-log.result)
 
 pub invariant_of-result-clause-raised : goal.invariant_of-result-clause-raised
-invariant_of-result-clause-raised c = raised_all (standings_plan c.args.standings) _ (groups_in c.args.standings) _ c.raise.ensures.plan c.raise.ensures.groups
+invariant_of-result-clause-raised c = raised_all (group_states_plan c.args.group_states) _ (groups_in c.args.group_states) _ c.raise.ensures.plan c.raise.ensures.groups
 
 pub invariant_of-result-clause-joined : goal.invariant_of-result-clause-joined
-invariant_of-result-clause-joined c = joined_all (standings_plan c.args.standings) _ (groups_in c.args.standings) _ c.raise.ensures.plan c.raise.ensures.groups
+invariant_of-result-clause-joined c = joined_all (group_states_plan c.args.group_states) _ (groups_in c.args.group_states) _ c.raise.ensures.plan c.raise.ensures.groups
 
 pub returns-clause-client : goal.returns-clause-client
 returns-clause-client c =

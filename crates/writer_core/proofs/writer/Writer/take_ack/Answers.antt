@@ -2,11 +2,11 @@ use Rattle.std.proofs.Common.{◌≡◌, ℕ, ◌≤◌, true, List, sym, ap, �
 use Rattle.volume_model.specs.Client.{ClientGroup, group_of, group_point_of}
 use Rattle.volume_model.specs.ClientPoints.{raised}
 use Rattle.wire.specs.Message.{label_of}
-use Rattle.writer_core.specs.Standings.{counted_in}
+use Rattle.writer_core.specs.GroupStates.{counted_in}
 use Rattle.writer_core.specs.Raised.{AreRaised, HaveJoined, raised_in}
-use Rattle.writer_core.specs.Groups.{groups_in, standings_plan}
+use Rattle.writer_core.specs.Groups.{groups_in, group_states_plan}
 use Rattle.writer_core.specs.Log.{packets_in}
-use Rattle.writer_core.specs.Covered.{CoversLog}
+use Rattle.writer_core.specs.DurabilityTracker.{CoversLog}
 use Rattle.writer_core.specs.Writers.{client_of}
 use Rattle.writer_core.proofs.Acknowledging.{ack_counted}
 use Rattle.writer_core.proofs.Covering.{covers-raised, covers-same}
@@ -19,15 +19,15 @@ use Rattle.writer_core.proofs.writer.Writer.take_ack.Goals as goal
 pub invariant_of-self : goal.invariant_of-self
 invariant_of-self c =
     let self = c.args.self.now in
-    let plan = standings_plan self.standings in
-    let old = groups_in self.standings in
+    let plan = group_states_plan self.group_states in
+    let old = groups_in self.group_states in
     let same : groups_in c.count.new.self ≡ old = c.in_err-count.ensures.same in
     record {
       assigned = self.assigned;
       raised = subst (λ p. AreRaised p (groups_in c.count.new.self)) (sym c.in_err-count.ensures.plan) (subst (AreRaised plan) (sym same) self.raised);
       joined = subst (λ p. HaveJoined p (groups_in c.count.new.self)) (sym c.in_err-count.ensures.plan) (subst (HaveJoined plan) (sym same) self.joined);
       front = self.front;
-      covers = subst (λ (gs : List ClientGroup). CoversLog self.covered (group_point_of gs) (packets_in self.log)) (sym same) self.covers;
+      covers = subst (λ (gs : List ClientGroup). CoversLog self.durability (group_point_of gs) (packets_in self.log)) (sym same) self.covers;
     }
 
 -- ---- its complete point isn't above its group's point, and the group has joined
@@ -36,8 +36,8 @@ pub invariant_of-self-then-has_joined : goal.invariant_of-self-then-has_joined
 invariant_of-self-then-has_joined c =
     let self = c.args.self.now in
     let ack = c.args.ack.now in
-    let plan = standings_plan self.standings in
-    let old = groups_in self.standings in
+    let plan = group_states_plan self.group_states in
+    let old = groups_in self.group_states in
     let counted = c.in_ok-count.ensures.counted in
     let low : ack.scl ≤ group_point_of old ack.group = omega (arith, c.if-ack-point.true, c.point.ensures ∙ ap (λ gs. group_point_of gs ack.group) counted ∙ group_point_of-counted_in old ack.group ack.from ack.scl ack.group) in
     let there : (group_of old ack.group).joined ≡ true = sym (joined-counted_in old ack.group ack.from ack.scl ack.group) ∙ sym (c.has_joined.ensures ∙ ap (λ gs. (group_of gs ack.group).joined) counted) ∙ c.if-has_joined.true in
@@ -48,7 +48,7 @@ invariant_of-self-then-has_joined c =
       joined = subst (λ p. HaveJoined p (groups_in c.count.new.self)) (sym c.in_ok-count.ensures.plan)
           (subst (HaveJoined plan) (sym counted) (counted_joined plan old ack.group ack.from ack.scl self.joined there));
       front = self.front;
-      covers = covers-same self.covered (group_point_of old) (group_point_of (groups_in c.count.new.self)) (packets_in self.log)
+      covers = covers-same self.durability (group_point_of old) (group_point_of (groups_in c.count.new.self)) (packets_in self.log)
           (λ k. sym (ap (λ gs. group_point_of gs k) counted ∙ group_point_of-counted_in old ack.group ack.from ack.scl k)) self.covers;
     }
 
@@ -56,8 +56,8 @@ pub returns-then-has_joined-clause-answers : goal.returns-then-has_joined-clause
 returns-then-has_joined-clause-answers c =
     let self = c.args.self.now in
     let ack = c.args.ack.now in
-    let plan = standings_plan self.standings in
-    let old = groups_in self.standings in
+    let plan = group_states_plan self.group_states in
+    let old = groups_in self.group_states in
     let client = client_of self in
     let counted = c.in_ok-count.ensures.counted in
     let low : ack.scl ≤ group_point_of old ack.group = omega (arith, c.if-ack-point.true, c.point.ensures ∙ ap (λ gs. group_point_of gs ack.group) counted ∙ group_point_of-counted_in old ack.group ack.from ack.scl ack.group) in
@@ -73,21 +73,21 @@ pub follow-requires : goal.follow-requires
 follow-requires c =
     let self = c.args.self.now in
     let ack = c.args.ack.now in
-    let plan = standings_plan self.standings in
-    let old = groups_in self.standings in
+    let plan = group_states_plan self.group_states in
+    let old = groups_in self.group_states in
     let now : groups_in c.raise_group.new.self ≡ raised plan (counted_in old ack.group ack.from ack.scl) =
     raised-counted plan old (groups_in c.count.new.self) (groups_in c.raise_group.new.self) ack.group ack.from ack.scl self.raised self.joined c.in_ok-count.ensures.counted
     (c.raise_group.ensures.groups ∙ ap (λ p. raised_in p (groups_in c.count.new.self) ack.group) c.in_ok-count.ensures.plan) in
     let rises : (k : ℕ) → group_point_of old k ≤ group_point_of (groups_in c.raise_group.new.self) k =
     λ k. subst (λ (groups : List ClientGroup). group_point_of old k ≤ group_point_of groups k) (sym now) (group_point_of-counted plan old ack.group ack.from ack.scl k) in
-    covers-raised self.covered (group_point_of old) (group_point_of (groups_in c.raise_group.new.self)) (packets_in self.log) rises self.covers.front
+    covers-raised self.durability (group_point_of old) (group_point_of (groups_in c.raise_group.new.self)) (packets_in self.log) rises self.covers.front
 
 pub invariant_of-self-2-clause-raised : goal.invariant_of-self-2-clause-raised
 invariant_of-self-2-clause-raised c =
     let self = c.args.self.now in
     let ack = c.args.ack.now in
-    let plan = standings_plan self.standings in
-    let old = groups_in self.standings in
+    let plan = group_states_plan self.group_states in
+    let old = groups_in self.group_states in
     raised_all plan _ (counted_in old ack.group ack.from ack.scl) _ (c.raise_group.ensures.plan ∙ c.in_ok-count.ensures.plan)
     (raised-counted plan old (groups_in c.count.new.self) (groups_in c.raise_group.new.self) ack.group ack.from ack.scl self.raised self.joined c.in_ok-count.ensures.counted
     (c.raise_group.ensures.groups ∙ ap (λ p. raised_in p (groups_in c.count.new.self) ack.group) c.in_ok-count.ensures.plan))
@@ -96,8 +96,8 @@ pub invariant_of-self-2-clause-joined : goal.invariant_of-self-2-clause-joined
 invariant_of-self-2-clause-joined c =
     let self = c.args.self.now in
     let ack = c.args.ack.now in
-    let plan = standings_plan self.standings in
-    let old = groups_in self.standings in
+    let plan = group_states_plan self.group_states in
+    let old = groups_in self.group_states in
     joined_all plan _ (counted_in old ack.group ack.from ack.scl) _ (c.raise_group.ensures.plan ∙ c.in_ok-count.ensures.plan)
     (raised-counted plan old (groups_in c.count.new.self) (groups_in c.raise_group.new.self) ack.group ack.from ack.scl self.raised self.joined c.in_ok-count.ensures.counted
     (c.raise_group.ensures.groups ∙ ap (λ p. raised_in p (groups_in c.count.new.self) ack.group) c.in_ok-count.ensures.plan))
@@ -106,8 +106,8 @@ pub returns-clause-answers : goal.returns-clause-answers
 returns-clause-answers c =
     let self = c.args.self.now in
     let ack = c.args.ack.now in
-    let plan = standings_plan self.standings in
-    let old = groups_in self.standings in
+    let plan = group_states_plan self.group_states in
+    let old = groups_in self.group_states in
     let client = client_of self in
     ack_counted plan self.volume old (groups_in c.raise_group.new.self) client.lineage client.found client.log ack.group ack.from ack.scl (label_of ack.label) c.in_ok-admits_ack.ensures.can
     (omega (arith, c.if-ack-epoch.false, c.epoch.ensures))

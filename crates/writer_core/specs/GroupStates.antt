@@ -1,0 +1,46 @@
+-- What a client keeps of its groups, as the model's client keeps it.
+use Rattle.std.specs.Prelude.{ℕ, ◌<◌, List, length, map, slice_set}
+use Rattle.std.specs.Arc.{arc_value}
+use Rattle.volume_model.specs.Plan.{Plan}
+use Rattle.volume_model.specs.Node.{From, with_first}
+use Rattle.volume_model.specs.Client as model
+use Rattle.volume_model.specs.Client.{ClientGroup, group_of}
+use Rattle.volume_model.specs.ClientPoints.{with_count}
+use Rattle.wire.specs.declared.message.Report.{Report}
+use Rattle.wire.specs.Contents.{contents_of}
+use Rattle.wire.specs.Message.{place_of}
+use Rattle.hydration.specs.Copies.{copies_in}
+use Rattle.writer_core.specs.declared.group_state.GroupState.{GroupState}
+use Rattle.writer_core.specs.Counts.{counts_of}
+
+-- what a client keeps of a group
+abbrev pub group_at : GroupState → ClientGroup
+group_at s = record { place = place_of s.place; reports = copies_in s.copies.items; counts = counts_of s.counts.items; group_point = s.point; joined = s.joined }
+
+-- what a client keeps of its groups
+abbrev pub groups_of : List GroupState → List ClientGroup
+groups_of group_states = map group_at group_states
+
+-- each group stands at one of its configurations
+abbrev pub ArePlaced : Plan → List ClientGroup → Type 0
+ArePlaced plan groups = (group : ℕ) → group < length groups → (model.place_of groups group).configuration < plan.configurations group
+
+-- a group with an acknowledgement counted
+abbrev pub counted_group : ClientGroup → ℕ → ℕ → ClientGroup
+counted_group group sender reached = record group { counts = with_count sender reached group.counts }
+
+-- what is kept of a report: what its sender holds
+abbrev pub report_of : Report → From
+report_of report = record { sender = report.from; contents = contents_of (arc_value report.contents) }
+
+-- a group with a report kept, the first of each sender
+abbrev pub reported_group : ClientGroup → From → ClientGroup
+reported_group group report = record group { reports = with_first report group.reports }
+
+-- the groups with an acknowledgement of one of them counted
+abbrev pub counted_in : List ClientGroup → ℕ → ℕ → ℕ → List ClientGroup
+counted_in groups group sender reached = slice_set groups group (counted_group (group_of groups group) sender reached)
+
+-- the groups with a report of one of them kept
+abbrev pub reported_in : List ClientGroup → ℕ → From → List ClientGroup
+reported_in groups group report = slice_set groups group (reported_group (group_of groups group) report)

@@ -1,0 +1,130 @@
+//! The last LSN of each group and of each block of a log.
+
+ghost use Rattle.std.specs.Prelude.{◌≡◌, length, IfOk, OnOk, OnErr};
+ghost use Rattle.writer_core.specs.Kept.{kept_in, PutsIn, AreSameIn};
+
+use crate::log::Log;
+use std::alloc::{AllocError, Global};
+use std::collections::BTreeMap;
+use std::mem;
+
+/// The most groups that a volume has.
+pub const GROUPS: usize = 16;
+
+/// Puts a number for a block, and answers the one that stood there, 0 where there was none. On error nothing has
+/// changed.
+#[inline(always)]
+fn put(blocks: &mut BTreeMap<(u32, u8), u64>, place: (u32, u8), lsn: u64) -> Result<u64, AllocError>
+    ensures before { IfOk result (λ before. before ≡ kept_in blocks.old place.1 place.0) }
+    ensures ok { OnOk result (PutsIn blocks.old place.1 place.0 lsn blocks.new) }
+    ensures err { OnErr result (AreSameIn blocks.old blocks.new) }
+{
+    if let Some(last) = blocks.get_mut(&place) {
+        return Ok(mem::replace(last, lsn));
+    }
+    blocks.insert(place, lsn)?;
+    Ok(0)
+}
+
+/// The last LSN of each group and of each block in the front of a log.
+#[derive(Drop)]
+pub struct LastLsns {
+    /// How many records of the log are entered.
+    entered: usize,
+    /// By group, 0 where it has no record.
+    groups: [u64; GROUPS],
+    /// By block and group.
+    blocks: BTreeMap<(u32, u8), u64>,
+    ghost each_group: { length groups ≡ 16 },
+}
+
+impl LastLsns {
+    ghost use Rattle.std.specs.Prelude.{◌+◌, ◌^◌, ◌<◌, [], IfOk, OnOk, OnErr, take};
+    ghost use Rattle.writer_core.specs.Log.{packets_in};
+    ghost use Rattle.writer_core.specs.LastLsns.{kept_of_group, kept_of_block, AreLasts, AreLastsOfAll, AreLastsOfFront, AreLinkedFrom, Enters, EntersNone, Leaves};
+
+    /// No record is entered yet. Takes no memory.
+    pub fn new(alloc: Global) -> LastLsns
+        ensures last_lsns { AreLasts result [] }
+        ensures none { result.entered ≡ 0 }
+    {
+        LastLsns {
+            entered: 0,
+            groups: [0; GROUPS],
+            blocks: BTreeMap::new(alloc),
+        }
+    }
+
+    /// Returns the last LSN of a group, 0 where there is none.
+    pub fn of_group(&self, group: u8) -> u64
+        requires { group < 16 }
+        ensures { result ≡ kept_of_group self.now group }
+    {
+        self.groups[usize::from(group)]
+    }
+
+    /// Enters the log's next record, one of this number on a block of a group, and answers the last LSN on the block before it. Where memory
+    /// runs out nothing is entered.
+    #[inline(always)]
+    pub fn enter(&mut self, group: u8, block: u32, lsn: u64) -> Result<u64, AllocError>
+        requires group { group < 16 }
+        requires few { self.old.entered + 1 < 2 ^ 64 }
+        ensures before { IfOk result (λ before. before ≡ kept_of_block self.old group block) }
+        ensures ok { OnOk result (Enters self.old self.new group block lsn) }
+        ensures err { OnErr result (EntersNone self.old self.new) }
+    {
+        let before = put(&mut self.blocks, (block, group), lsn)?;
+        self.groups[usize::from(group)] = lsn;
+        self.entered += 1;
+        Ok(before)
+    }
+
+    /// Enters what the log has behind the records that are entered. Where memory runs out some of it may be.
+    pub fn follow(&mut self, log: &Log) -> Result<(), AllocError>
+        requires { AreLastsOfFront self.old (packets_in log.now) }
+        ensures ok { OnOk result (AreLastsOfAll self.new (packets_in log.now)) }
+        ensures front { AreLastsOfFront self.new (packets_in log.now) }
+    {
+        while self.entered < log.len() {
+            let record = log.packet(self.entered).record();
+            self.enter(record.group, record.block, record.lsn)?;
+        }
+        Ok(())
+    }
+
+    /// Removes the record that was entered last: the LSNs that it names are the last ones again. Out of line, since
+    /// it is called only when memory ran out.
+    #[inline(never)]
+    pub fn leave(&mut self, group: u8, block: u32, prev_group: u64, prev_block: u64)
+        requires group { group < 16 }
+        requires entered { 0 < self.old.entered }
+        ensures { Leaves self.old self.new group block prev_group prev_block }
+    {
+        let place = (block, group);
+        if prev_block == 0 {
+            self.blocks.remove(&place);
+        } else {
+            // The block is there, so this takes no memory.
+            let _ = self.blocks.insert(place, prev_block);
+        }
+        self.groups[usize::from(group)] = prev_group;
+        self.entered -= 1;
+    }
+
+    /// Takes records out again, the last first, until at most this many of the log are entered. Takes no memory.
+    pub fn go_back(&mut self, log: &Log, records: usize)
+        requires front { AreLastsOfFront self.old (packets_in log.now) }
+        requires linked { AreLinkedFrom records (packets_in log.now) }
+        ensures { AreLastsOfFront self.new (take records (packets_in log.now)) }
+    {
+        while self.entered > records {
+            let record = log.packet(self.entered - 1).record();
+            self.leave(
+                record.group,
+                record.block,
+                record.prev_group,
+                record.prev_block,
+            );
+        }
+    }
+}
