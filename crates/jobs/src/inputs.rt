@@ -17,8 +17,9 @@ use crate::fallible::FallibleRead;
 use crate::files::{ReadFault, Source};
 use crate::reply::Stop;
 use command_line::Job;
+use json::Scratch;
 use plan::{CheckedPlan, Plan, check_plan};
-use plan_tokens::{Spelling, read_plan, read_spelled};
+use plan_text::TapedPlan;
 use script::{Script, read_script};
 use std::alloc::Global;
 use std::sync::Arc;
@@ -48,22 +49,27 @@ fn plan_in(alloc: Global, text: &[u8]) -> Result<Plan, Stop<'static>>
     ensures plan { IfOk result (λ plan. plan_of text.now ≡ Ok (plan_data plan)) }
     ensures stop { IfErr result (StopsBy (λ fault. plan_of text.now ≡ Err fault)) }
 {
-    match read_plan(alloc, text) {
-        Ok(plan) => Ok(plan),
+    let mut scratch = Scratch::new(alloc);
+    let taped = taped(alloc, text, &mut scratch)?;
+    plan_of_tape(alloc, &taped)
+}
+
+/// A text as a tape.
+pub fn taped<'a>(
+    alloc: Global,
+    text: &'a [u8],
+    scratch: &'a mut Scratch,
+) -> Result<TapedPlan<'a>, Stop<'static>> {
+    match TapedPlan::parse(alloc, text, scratch) {
+        Ok(taped) => Ok(taped),
         Err(fault) => Err(Stop::of_plan(fault)),
     }
 }
 
-/// Reads the plan of a text, and how its thresholds are spelled if that is known.
-pub fn spelled_plan_in(
-    alloc: Global,
-    text: &[u8],
-) -> Result<(Plan, Option<Spelling>), Stop<'static>>
-    ensures plan { IfOk result (λ read. plan_of text.now ≡ Ok (plan_data read.0)) }
-    ensures stop { IfErr result (StopsBy (λ fault. plan_of text.now ≡ Err fault)) }
-{
-    match read_spelled(alloc, text) {
-        Ok(read) => Ok(read),
+/// Reads the plan of a tape.
+pub fn plan_of_tape(alloc: Global, text: &TapedPlan<'_>) -> Result<Plan, Stop<'static>> {
+    match text.plan(alloc) {
+        Ok(plan) => Ok(plan),
         Err(fault) => Err(Stop::of_plan(fault)),
     }
 }

@@ -7,7 +7,7 @@ ghost use Rattle.plan.specs.LentClaims.{all_lent, lent_placed};
 ghost use Rattle.plan.specs.Plan.{plan_data};
 ghost use Rattle.plan.specs.PlanClaims.{claims_in};
 ghost use Rattle.plan.specs.PlanText.{plan_of};
-ghost use Rattle.plan_tokens.specs.WrittenPlans.{HasClaims};
+ghost use Rattle.plan.specs.Written.{rewritten};
 ghost use Rattle.cert_search.specs.Answers.{rule_in, AreAnswersOf};
 ghost use Rattle.jobs.specs.Answers.{AnswersOf, file_of};
 ghost use Rattle.jobs.specs.Searched.{AreFitted, IsLineWith, IsRoom, SearchesTo, TellsSearch, claims_of, found_answer};
@@ -18,13 +18,14 @@ ghost use Rattle.jobs.specs.declared.reply.Stop.TheVariants.{NoMemory};
 
 use crate::fallible::FallibleRead;
 use crate::files::Source;
-use crate::inputs::{contents, spelled_plan_in};
+use crate::inputs::{contents, plan_of_tape, taped};
 use crate::leaving::leave;
 use crate::reply::{Found, Stop};
 use cert_search::{Gate, PLAN_BYTES, keep_shortest, search_all};
 use command_line::Job;
+use json::Scratch;
 use plan::{ClaimRef, Plan, claim_name, lent_claims, shown_claims_certify};
-use plan_tokens::{Spelling, write_plan};
+use plan_text::TapedPlan;
 use refutation::Certificate;
 use std::alloc::{AllocError, Global};
 use std::sync::Wait;
@@ -73,9 +74,7 @@ fn answers<H: Threads + Wait + Sync>(
 /// Writes a text's plan with these certificates as a line.
 fn plan_line(
     alloc: Global,
-    text: &[u8],
-    plan: &Plan,
-    spelling: &Option<Spelling>,
+    text: &TapedPlan<'_>,
     certificates: &[Option<Certificate<Global>>],
 ) -> Result<Vec<u8>, Stop<'static>>
     requires plan { plan_of text.now ≡ Ok (plan_data plan.now) }
@@ -83,7 +82,7 @@ fn plan_line(
     ensures line { IfOk result (λ line. IsLineWith text.now (map rule_in certificates.now) line.items) }
     ensures stop { IfErr result (λ stop. stop ≡ NoMemory) }
 {
-    match write_plan(alloc, text, plan, spelling, certificates) {
+    match text.write(alloc, certificates) {
         Ok(mut line) => {
             line.push(b'\n')?;
             Ok(line)
@@ -106,9 +105,7 @@ fn nothing(alloc: Global, places: usize) -> Result<Vec<Option<Certificate<Global
 /// Returns the bytes that the line of a text's plan without certificates leaves for them.
 fn room_beside(
     alloc: Global,
-    text: &[u8],
-    plan: &Plan,
-    spelling: &Option<Spelling>,
+    text: &TapedPlan<'_>,
     places: usize,
 ) -> Result<u32, Stop<'static>>
     requires plan { plan_of text.now ≡ Ok (plan_data plan.now) }
@@ -117,7 +114,7 @@ fn room_beside(
     ensures stop { IfErr result (λ stop. stop ≡ NoMemory) }
 {
     let certificates = nothing(alloc, places)?;
-    let line = plan_line(alloc, text, plan, spelling, &certificates)?;
+    let line = plan_line(alloc, text, &certificates)?;
     Ok((PLAN_BYTES as usize).saturating_sub(line.len()) as u32)
 }
 
@@ -125,9 +122,7 @@ fn room_beside(
 /// long.
 fn fitting_line(
     alloc: Global,
-    text: &[u8],
-    plan: &Plan,
-    spelling: &Option<Spelling>,
+    text: &TapedPlan<'_>,
     certificates: &mut Vec<Option<Certificate<Global>>>,
 ) -> Result<Vec<u8>, Stop<'static>>
     requires plan { plan_of text.now ≡ Ok (plan_data plan.now) }
@@ -136,14 +131,14 @@ fn fitting_line(
     ensures fitted { IfOk result (λ _. AreFitted text.now (map rule_in certificates.old.items) (map rule_in certificates.new.items)) }
     ensures stop { IfErr result (λ stop. stop ≡ NoMemory) }
 {
-    let line = plan_line(alloc, text, plan, spelling, certificates)?;
+    let line = plan_line(alloc, text, certificates)?;
     if line.len() <= PLAN_BYTES as usize {
         return Ok(line);
     }
     drop(line);
-    let room = room_beside(alloc, text, plan, spelling, certificates.len())?;
+    let room = room_beside(alloc, text, certificates.len())?;
     match keep_shortest(alloc, certificates, room) {
-        Ok(()) => plan_line(alloc, text, plan, spelling, certificates),
+        Ok(()) => plan_line(alloc, text, certificates),
         Err(_) => Err(Stop::NoMemory),
     }
 }
@@ -214,15 +209,16 @@ fn searched<H: Threads + Wait + Sync>(
     ensures stop { IfErr result (StopsBy (λ fault. claims_of text.now ≡ Err fault)) }
 {
     shown_claims_certify();
-    let (plan, spelling) = spelled_plan_in(alloc, text)?;
+    let mut scratch = Scratch::new(alloc);
+    let text = taped(alloc, text, &mut scratch)?;
+    let plan = plan_of_tape(alloc, &text)?;
     let claims = claims_of(alloc, &plan)?;
     let mut certificates = answers(rt, alloc, &plan, workers)?;
-    let line = fitting_line(alloc, text, &plan, &spelling, &mut certificates)?;
+    let line = fitting_line(alloc, &text, &mut certificates)?;
     let unfound = unfound(alloc, &claims, &certificates)?;
     let status = u8::from(has_gap(&certificates));
     leave(certificates);
     leave(claims);
-    leave(spelling);
     leave(plan);
     Ok(Found {
         status,

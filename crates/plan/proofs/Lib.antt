@@ -9,7 +9,6 @@ pub mod KeepsClaims
 pub mod BothWays
 pub mod OwnMembers
 pub mod Text
-pub mod Headers
 pub mod Loop
 pub mod Listed
 pub mod Reread
@@ -20,3 +19,4 @@ pub mod GroupsMore
 pub mod Certifies
 pub mod Admitted
 pub mod KeptValues
+pub mod Arrays

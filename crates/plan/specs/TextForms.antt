@@ -1,24 +1,25 @@
--- What the parts of a text that the code holds stand for.
+-- What the parts of a plan that the code holds stand for.
 use Rattle.std.specs.Prelude.{option_map}
-use Rattle.serde_json.specs.View.{view, items_view}
+use Rattle.serde_json.specs.Data.{Data}
+use Rattle.json_node.specs.Nodes.{items_in}
 use Rattle.plan.specs.declared.fields.Fields as declared
 use Rattle.plan.specs.declared.fields.TopFields as tops
 use Rattle.plan.specs.declared.fields.Header as headers
 use Rattle.plan.specs.PlanText.{Fields, TopFields, Header}
 
-abbrev pub fields_data : declared.Fields → Fields
-fields_data f = record {
-  parent = view f.parent.now;
-  members = view f.members.now;
-  full = view f.full.now;
-  read = view f.read.now;
-  write = view f.write.now;
-  meets = view f.meets.now;
-  step = view f.step.now;
+abbrev pub fields_data : {N : Type 0} → (N → Data) → declared.Fields N → Fields
+fields_data means f = record {
+  parent = means f.parent;
+  members = means f.members;
+  full = means f.full;
+  read = means f.read;
+  write = means f.write;
+  meets = means f.meets;
+  step = means f.step;
 }
 
-abbrev pub top_fields_data : tops.TopFields → TopFields
-top_fields_data f = record { format = f.format; lal = view f.lal.now; born = option_map (λ b. view b.now) f.born; groups = view f.groups.now }
+abbrev pub top_fields_data : {N : Type 0} → (N → Data) → tops.TopFields N → TopFields
+top_fields_data means f = record { format = f.format; lal = means f.lal; born = option_map means f.born; groups = means f.groups }
 
-abbrev pub header_data : headers.Header → Header
-header_data h = record { format = h.format; lal = h.lal; born = h.born; groups = items_view h.groups.now.items }
+abbrev pub header_data : {N : Type 0} → (N → Data) → headers.Header N → Header
+header_data means h = record { format = h.format; lal = h.lal; born = h.born; groups = items_in (means h.groups) }

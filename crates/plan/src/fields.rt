@@ -1,37 +1,36 @@
-//! The values at the keys of a plan's objects.
+//! The nodes at the keys of a plan's objects.
 
 use crate::formats::Format;
-use serde_json::Value;
 
-/// The values of a configuration.
+/// The nodes of a configuration.
 #[derive(Drop)]
-pub struct Fields<'v> {
-    pub parent: &'v Value,
-    pub members: &'v Value,
-    pub full: &'v Value,
-    pub read: &'v Value,
-    pub write: &'v Value,
-    pub meets: &'v Value,
-    pub step: &'v Value,
+pub struct Fields<N> {
+    pub parent: N,
+    pub members: N,
+    pub full: N,
+    pub read: N,
+    pub write: N,
+    pub meets: N,
+    pub step: N,
 }
 
-/// The format of a plan, and the values at its other keys.
+/// The format of a plan, and the nodes at its other keys.
 #[derive(Drop)]
-pub struct TopFields<'v> {
+pub struct TopFields<N> {
     pub format: Format,
-    pub lal: &'v Value,
-    /// How many groups are there at birth, where the format says so.
-    pub born: Option<&'v Value>,
-    pub groups: &'v Value,
+    pub lal: N,
+    /// How many groups there are at birth, if the format says so.
+    pub born: Option<N>,
+    pub groups: N,
 }
 
-/// What stands at the head of a plan, and the values of its groups.
+/// The head of a plan, and the array of its groups.
 #[derive(Drop)]
-pub struct Header<'v> {
+pub struct Header<N> {
     pub format: Format,
     /// How far numbers may run ahead.
     pub lal: u64,
-    /// How many groups are there at birth.
+    /// How many groups there are at birth.
     pub born: u8,
-    pub groups: &'v Vec<Value>,
+    pub groups: N,
 }

@@ -34,7 +34,7 @@ impl Format {
     }
 
     /// Returns the number that stands for it in the text.
-    pub(crate) fn number(self) -> u64
+    pub fn number(self) -> u64
         ensures { result ≡ number_of self }
     {
         match self {

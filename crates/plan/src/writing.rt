@@ -4,6 +4,7 @@ ghost use Rattle.std.specs.Prelude.{◌≡◌, ◌-◌, ◌*◌, ◌<◌, ◌≤
 ghost use Rattle.serde_json.specs.Data.{depth, member, no_members, put as with_member};
 ghost use Rattle.serde_json.specs.View.{view, items_view, members_view};
 ghost use Rattle.volume_model.specs.Answer.{Gives};
+ghost use Rattle.json_node.specs.Nodes.{items_in};
 ghost use Rattle.refutation.specs.Certificate.{certificate_rule};
 ghost use Rattle.volume_model.specs.declared.fault.Fault.TheVariants.{NoMemory};
 ghost use Rattle.plan.specs.FaultKinds.{kind_of};
@@ -16,8 +17,9 @@ ghost use Rattle.plan.specs.Written.{rewritten, HasPlaces, Writes, IsCompact};
 use crate::fault::PlanFault;
 use crate::fields::Fields;
 use crate::formats::Format;
+use crate::from_text::value;
 use crate::listing::claims;
-use crate::reading::{fields, group_values, header, plan, value};
+use crate::reading::{fields_at, group_array, header, read_plan_at};
 use refutation::{Certificate, with, write_certificate};
 use serde_json::{Map, Value, json};
 use std::alloc::{AllocError, Global};
@@ -98,7 +100,7 @@ fn with_copy(
 }
 
 /// Returns what a configuration has beside its certificates.
-fn own_fields(alloc: Global, fields: &Fields<'_>) -> Result<Map<String, Value>, AllocError>
+fn own_fields(alloc: Global, fields: &Fields<&Value>) -> Result<Map<String, Value>, AllocError>
     ensures { IfOk result (λ m. members_view m.entries ≡ member (codes "full") (view fields.now.full.now) (member (codes "members") (view fields.now.members.now) (member (codes "parent") (view fields.now.parent.now) (member (codes "read") (view fields.now.read.now) (member (codes "write") (view fields.now.write.now) no_members))))) }
 {
     let map = with_copy(alloc, Map::new(alloc), "full", fields.full)?;
@@ -112,15 +114,25 @@ fn own_fields(alloc: Global, fields: &Fields<'_>) -> Result<Map<String, Value>, 
 /// Returns a configuration's values with other certificates.
 fn fields_json(
     alloc: Global,
-    fields: &Fields<'_>,
+    fields: &Fields<&Value>,
     meets: Value,
     step: Value,
 ) -> Result<Value, AllocError>
-    ensures { IfOk result (λ v. view v ≡ fields_object (fields_data fields.now) (view meets) (view step)) }
+    ensures { IfOk result (λ v. view v ≡ fields_object (fields_data (λ n. view n.now) fields.now) (view meets) (view step)) }
 {
     let map = own_fields(alloc, fields)?;
     let map = with(alloc, map, "meets", meets)?;
     Ok(Value::Object(with(alloc, map, "step", step)?))
+}
+
+/// Returns the items of an array, and none of any other value.
+fn items_of(value: &Value) -> &[Value]
+    ensures { items_view result.now ≡ items_in (view value.now) }
+{
+    match value {
+        Value::Array(list) => list.as_slice(),
+        _ => &[],
+    }
 }
 
 /// Returns the configuration of a value, with its certificates of a group's.
@@ -134,7 +146,7 @@ fn configuration_json(
     requires { number < 64 }
     ensures { Gives view result (configuration_written number (view value.now) (map view certificates.now)) }
 {
-    let fields = fields(value)?;
+    let fields = fields_at(&value)?;
     let meets = value_or_null(certificates, (2 * number).saturating_sub(1))?;
     let step = step_value(number, certificates)?;
     Ok(fields_json(alloc, &fields, meets, step)?)
@@ -180,7 +192,8 @@ fn groups_json(alloc: Global, values: &[Value], certificates: &[Value]) -> Resul
     let mut list = Vec::new(alloc);
     let mut rest = certificates;
     for value in values {
-        let configurations = group_values(value)?;
+        let node = group_array(&value)?;
+        let configurations = items_of(node);
         list.push(group_json(alloc, configurations, rest)?)?;
         rest = after(rest, 2 * configurations.len() - 1);
     }
@@ -213,8 +226,8 @@ fn plan_object(
 fn plan_json(alloc: Global, value: &Value, certificates: &[Value]) -> Result<Value, Fault>
     ensures { Gives view result (plan_written (view value.now) (map view certificates.now)) }
 {
-    let header = header(value)?;
-    let groups = groups_json(alloc, header.groups, certificates)?;
+    let header = header(&value)?;
+    let groups = groups_json(alloc, items_of(header.groups), certificates)?;
     Ok(plan_object(alloc, header.format, header.lal, header.born, groups)?)
 }
 
@@ -239,7 +252,8 @@ pub fn write_plan(
     ensures memory { IfErr result (λ e. kind_of e ≡ NoMemory → IsWithinSize text.now) }
 {
     let value = value(alloc, text)?;
-    let plan = plan(alloc, &value)?;
+    let node = &value;
+    let plan = read_plan_at(alloc, &node)?;
     claims(alloc, &plan)?;
     let values = certificate_values(alloc, certificates)?;
     match plan_json(alloc, &value, &values) {

@@ -1,15 +1,12 @@
 -- A value of JSON, and what it spells at its own level.
-use Rattle.std.proofs.Common.{◌≡◌, ◌<◌, ℕ, zero, suc, List, map, length, String, Global, BTreeMap, Result, Ok, Err, refl, true, false, arith}
+use Rattle.std.proofs.Common.{◌≡◌, ◌<◌, ℕ, zero, suc, List, map, Result, Ok, Err, refl, arith}
 use Rattle.serde_json.specs.Data.{Data}
-use Rattle.serde_json.specs.View.{view}
-use Rattle.serde_json.specs.declared.value.Value.{Value, Object}
-use Rattle.serde_json.proofs.Views.{members_len-members_view, view-Object}
 use Rattle.volume_model.specs.declared.fault.Fault.{Fault}
 use Rattle.volume_model.specs.declared.fault.Fault.TheVariants.{Short, BadField, Trailing, NoMemory, BadCount, TooDeep, NotAMember, Malformed, NoSuchItem, NotDead, NoClash, NotAll, TooFewPicked, BadPair, CountTooSmall, BranchCount, BadParent, MemberReused, NoCertificate, Certificate, OverLimit, Superseded, NotInPlan, NoGroup, EpochsSpent, AllGrown, StaleVolume, StaleMember, AheadMember, NotInstalled, NotWhole, Full, AlreadyWhole, NotEnough, NoRecord, BadPiece, TailSegment, PointAhead, SeriesSpent, NotOpen, LimitReached, BadTransaction, LsnSpent, NotReady, AlreadyDone, NoLogRecord, NotJoined, NoMessage, NotAddressed, NoActor, NoSlot, JournalFull}
 use Rattle.volume_model.specs.Answer.{Fails}
 use Rattle.volume_model.specs.Formula.{member}
 use Rattle.quorum_expr.specs.declared.form.Lists.{Lists}
-use Rattle.quorum_expr.specs.Reading.{members_at, Form, good_keys, choice_of, form_of, formula_from, formula_at}
+use Rattle.quorum_expr.specs.Reading.{members_at, Form, form_of, formula_from, formula_at}
 
 -- a definition that fails wherever another does
 pub Fails-at : {X Y : Type 0} (f : Fault) (r : Result X Fault) (s : Result Y Fault) → (r ≡ Err f → s ≡ Err f) → Fails f r → Fails f s
@@ -65,14 +62,6 @@ Fails-at NotAddressed r s k h = k h
 Fails-at NoActor r s k h = k h
 Fails-at NoSlot r s k h = k h
 Fails-at JournalFull r s k h = k h
-
-pub enough_keys : (lists : Lists) (m : BTreeMap (String Global) Value) (keys : ℕ) → keys ≡ length m.entries → good_keys lists.is_weighted keys ≡ true → form_of lists (view (Object m)) ≡ choice_of lists keys (view (Object m))
-unfolding form_of
-enough_keys lists m keys same h = rw (view-Object m, members_len-members_view m.entries, ← same, h) refl
-
-pub other_keys : (lists : Lists) (m : BTreeMap (String Global) Value) (keys : ℕ) → keys ≡ length m.entries → good_keys lists.is_weighted keys ≡ false → form_of lists (view (Object m)) ≡ Err Malformed
-unfolding form_of
-other_keys lists m keys same h = rw (view-Object m, members_len-members_view m.entries, ← same, h) refl
 
 pub too_deep : (lists : Lists) (left : ℕ) (d : Data) (f : Form) → left ≡ 0 → form_of lists d ≡ Ok f → formula_at lists left d ≡ Err TooDeep
 unfolding formula_at

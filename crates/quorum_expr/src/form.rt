@@ -1,13 +1,9 @@
-//! What a JSON value spells at its own level, before its children are read.
+//! What a JSON node spells at its own level, before its children are read.
 
-ghost use Rattle.std.specs.Prelude.{◌≡◌, length};
-ghost use Rattle.volume_model.specs.Sets.{listed};
-ghost use Rattle.serde_json.specs.View.{view};
-ghost use Rattle.quorum_expr.specs.Reading.{set_of, small, whole_of};
-ghost use Rattle.quorum_expr.specs.Forms.{or_zero};
+ghost use Rattle.std.specs.Prelude.{◌≡◌};
+ghost use Rattle.quorum_expr.specs.Reading.{set_of, small};
 
 use crate::member_set::MemberSet;
-use serde_json::Value;
 
 /// What expressions are read by: the members of a configuration, and those of them that are full, which are the lists that a
 /// text can call by name.
@@ -31,37 +27,34 @@ pub enum ListName {
 
 /// The children of a threshold.
 #[derive(Drop)]
-pub enum Children<'v> {
-    /// A list that is written out.
-    Each(&'v Vec<Value>),
-    /// A list that is called by name.
+pub enum Children<N> {
+    /// The array that lists them.
+    Each(N),
+    /// The name of a list.
     Named(ListName),
 }
 
-/// What the children of a threshold weigh.
+/// The weights of a threshold's children.
 #[derive(Drop)]
-pub enum Weights<'v> {
+pub enum Weights {
     /// One each.
     Once,
-    /// What is written out for each of them.
-    Each(&'v Vec<Value>),
+    /// A number for each of them.
+    Each(Vec<u64>),
 }
 
 /// A member's number, or a threshold over children.
 #[derive(Drop)]
-pub enum Form<'v> {
+pub enum Form<N> {
     Single(u64),
-    Choice(u64, Children<'v>, Weights<'v>),
+    Choice(u64, Children<N>, Weights),
 }
 
-/// A whole number up to 255, and 0 for anything else.
-fn small(value: &Value) -> u8
-    ensures { result ≡ small (or_zero (whole_of (view value.now))) }
+/// Returns a whole number up to 255, or 0 for a larger one.
+fn small(number: u64) -> u8
+    ensures { result ≡ small number }
 {
-    match value.as_u64() {
-        Some(number) => u8::try_from(number).unwrap_or(0),
-        None => 0,
-    }
+    u8::try_from(number).unwrap_or(0)
 }
 
 impl Lists {
@@ -77,22 +70,7 @@ impl Lists {
     }
 }
 
-impl Children<'_> {
-    ghost use Rattle.quorum_expr.specs.Reading.{child_count};
-    ghost use Rattle.quorum_expr.specs.Forms.{child_list};
-
-    /// How many children there are.
-    pub fn len(&self, lists: &Lists) -> usize
-        ensures { result ≡ child_count lists.now (child_list self.now) }
-    {
-        match self {
-            Children::Each(values) => values.len(),
-            Children::Named(name) => usize::from(lists.named(*name).len()),
-        }
-    }
-}
-
-impl Weights<'_> {
+impl Weights {
     ghost use Rattle.quorum_expr.specs.Reading.{weight_of};
     ghost use Rattle.quorum_expr.specs.Forms.{weights_data};
 
@@ -102,7 +80,10 @@ impl Weights<'_> {
     {
         match self {
             Weights::Once => 1,
-            Weights::Each(values) => values.get(number).map_or(0, small),
+            Weights::Each(weights) => match weights.get(number) {
+                Some(weight) => small(*weight),
+                None => 0,
+            },
         }
     }
 }

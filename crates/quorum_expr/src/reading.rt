@@ -1,121 +1,176 @@
-//! From JSON to expressions.
+//! Reads expressions from JSON nodes.
 
-ghost use Rattle.std.specs.Prelude.{◌≡◌, ◌≤◌, ◌+◌, ◌-◌, ◌&&◌, ◌≢◌, Ok, None, IfOk, IfErr, map, nat_lt, true};
+ghost use Rattle.std.specs.Prelude.{◌≡◌, ◌≤◌, ◌+◌, ◌-◌, ◌&&◌, ◌≢◌, Ok, None, IfOk, IfErr, map, nat_lt, true, min, ◌==◌};
 ghost use Rattle.std.specs.FinSet as set;
 ghost use Rattle.serde_json.specs.View.{view};
+ghost use Rattle.serde_json.specs.Events.{items_len};
 ghost use Rattle.volume_model.specs.Answer.{Gives};
 ghost use Rattle.volume_model.specs.Formula.{member, each_once};
 ghost use Rattle.volume_model.specs.Sets.{listed};
 ghost use Rattle.quorum_expr.specs.Expr.{formula_of};
 ghost use Rattle.quorum_expr.specs.Valid.{nodes, row_nodes, expression_fault};
-ghost use Rattle.quorum_expr.specs.Forms.{child_list, form_data, formulas_of, weights_data, AreWhole, HaveWeights};
-ghost use Rattle.quorum_expr.specs.Reading.{at_key, whole_of, child_list_of, weights_of, good_keys, good_row, choice_of, form_of, children_at, formula_from, formula_at, expression_in};
+ghost use Rattle.quorum_expr.specs.Reading.{at_key, whole_of, child_list_of, child_count, whole_list_of, weights_of};
+ghost use Rattle.quorum_expr.specs.Reading.{good_keys, good_row, choice_of, form_of, children_at, formula_from, formula_at, expression_in};
+ghost use Rattle.json_node.specs.Nodes.{items_in};
+ghost use Rattle.quorum_expr.specs.Forms.{child_list, form_data, formulas_of, weights_data, HaveWeights};
 
 use crate::expression::{Expr, wide};
 use crate::form::{Children, Form, ListName, Lists, Weights};
 use crate::member_set::{MEMBERS, MemberSet};
 use crate::validity::{LEVELS, NODES};
+use json_node::{Node, count_items};
 use serde_json::Value;
 use std::alloc::Global;
 use volume_model::Fault;
 
-/// The value at a key of an object.
+/// Returns the value at a key of an object.
 ///
 /// # Errors
-/// [`Fault::Malformed`] where there is none, or the value is no object.
-pub fn value_at<'v>(value: &'v Value, key: &str) -> Result<&'v Value, Fault>
-    ensures { Gives (λ v. view v.now) result (at_key key.now (view value.now)) }
+/// [`Fault::Malformed`] if there is none, or the node is no object.
+pub fn value_at<N: Node>(value: &N, key: &str) -> Result<N, Fault>
+    ensures { Gives N.means result (at_key key.now (N.means value.now)) }
 {
-    value.get(key).ok_or(Fault::Malformed)
-}
-
-/// A whole number from 0.
-///
-/// # Errors
-/// [`Fault::Malformed`] for another value.
-pub fn whole(value: &Value) -> Result<u64, Fault>
-    ensures given { Gives (λ n. n) result (whole_of (view value.now)) }
-    ensures own { IfErr result (λ fault. fault ≢ Fault.NoMemory) }
-{
-    value.as_u64().ok_or(Fault::Malformed)
-}
-
-/// What the key `of` spells.
-fn children(value: &Value) -> Result<Children<'_>, Fault>
-    ensures { Gives child_list result (child_list_of (view value.now)) }
-{
-    match value {
-        Value::Array(list) => Ok(Children::Each(list)),
-        Value::String(text) if text.as_str() == "all" => Ok(Children::Named(ListName::All)),
-        Value::String(text) if text.as_str() == "full" => Ok(Children::Named(ListName::Full)),
-        Value::String(text) if text.as_str() == "tail" => Ok(Children::Named(ListName::Tail)),
-        _ => Err(Fault::Malformed),
+    match value.get(key) {
+        Some(found) => Ok(found),
+        None => Err(Fault::Malformed),
     }
 }
 
-/// Whether each value is a whole number from 0.
-fn are_whole(values: &[Value]) -> bool
-    ensures { AreWhole result values.now }
+/// Returns a whole number from 0.
+///
+/// # Errors
+/// [`Fault::Malformed`] for any other value.
+pub fn whole<N: Node>(value: &N) -> Result<u64, Fault>
+    ensures given { Gives (λ n. n) result (whole_of (N.means value.now)) }
+    ensures own { IfErr result (λ fault. fault ≢ Fault.NoMemory) }
 {
-    for value in values {
+    match value.as_u64() {
+        Some(n) => Ok(n),
+        None => Err(Fault::Malformed),
+    }
+}
+
+/// Reads the value of the key `of`.
+fn children<N: Node>(value: N) -> Result<Children<N>, Fault>
+    ensures { Gives (child_list N.means) result (child_list_of (N.means value)) }
+{
+    match value.items() {
+        Some(_) => Ok(Children::Each(value)),
+        None => {
+            if value.is_text("all") {
+                Ok(Children::Named(ListName::All))
+            } else if value.is_text("full") {
+                Ok(Children::Named(ListName::Full))
+            } else if value.is_text("tail") {
+                Ok(Children::Named(ListName::Tail))
+            } else {
+                Err(Fault::Malformed)
+            }
+        }
+    }
+}
+
+/// Reads an array of whole numbers.
+fn wholes<N: Node>(alloc: Global, value: &N) -> Result<Vec<u64>, Fault>
+    ensures { Gives (λ v. v.items) result (whole_list_of (N.means value.now)) }
+{
+    let Some(mut rest) = value.items() else {
+        return Err(Fault::Malformed);
+    };
+    let mut numbers = Vec::new(alloc);
+    'numbers: while let Some(value) = N::next(&mut rest) {
         match value.as_u64() {
+            Some(number) => numbers.push(number)?,
+            None => return Err(Fault::Malformed),
+        }
+    }
+    Ok(numbers)
+}
+
+/// Returns whether an array has `count` items; any other value counts as an empty one.
+fn has_count<N: Node>(list: &N, count: usize) -> bool
+    ensures { result ≡ (count == items_len (items_in (N.means list.now))) }
+{
+    let Some(mut rest) = list.items() else {
+        return count == 0;
+    };
+    for _number in 0..count {
+        match N::next(&mut rest) {
             Some(_) => {}
             None => return false,
         }
     }
-    true
+    match N::next(&mut rest) {
+        Some(_) => false,
+        None => true,
+    }
 }
 
-/// The weights of so many children, of which an object with so many keys speaks.
+/// Returns whether there are `count` children.
+fn has_children<N: Node>(lists: &Lists, list: &Children<N>, count: usize) -> bool
+    ensures { result ≡ (count == child_count lists.now (child_list N.means list.now)) }
+{
+    match list {
+        Children::Each(list) => has_count(list, count),
+        Children::Named(name) => count == usize::from(lists.named(*name).len()),
+    }
+}
+
+/// Reads the weights of a threshold's children from an object with `keys` keys.
 #[tactic(auto, unfolding(crate::specs::Reading::weights_of))]
-fn weights(value: &Value, keys: usize, count: usize) -> Result<Weights<'_>, Fault>
-    ensures { Gives weights_data result (weights_of keys count (view value.now)) }
+fn weights<N: Node>(
+    alloc: Global,
+    lists: &Lists,
+    value: &N,
+    keys: usize,
+    list: &Children<N>,
+) -> Result<Weights, Fault>
+    ensures { Gives weights_data result (weights_of keys (child_count lists.now (child_list N.means list.now)) (N.means value.now)) }
 {
     if keys == 2 {
         return Ok(Weights::Once);
     }
-    let Value::Array(list) = value_at(value, "weights")? else {
-        return Err(Fault::Malformed);
-    };
-    if !are_whole(list.as_slice()) || list.len() != count {
+    let found = value_at(value, "weights")?;
+    let numbers = wholes(alloc, &found)?;
+    if !has_children(lists, list, numbers.len()) {
         return Err(Fault::Malformed);
     }
-    Ok(Weights::Each(list))
+    Ok(Weights::Each(numbers))
 }
 
 #[tactic(auto, unfolding(crate::specs::Reading::choice_of))]
-fn choice<'v>(lists: &Lists, keys: usize, value: &'v Value) -> Result<Form<'v>, Fault>
-    ensures { Gives form_data result (choice_of lists.now keys (view value.now)) }
+fn choice<N: Node>(alloc: Global, lists: &Lists, keys: usize, value: &N) -> Result<Form<N>, Fault>
+    ensures { Gives (form_data N.means) result (choice_of lists.now keys (N.means value.now)) }
 {
-    let k = whole(value_at(value, "k")?)?;
-    let of = children(value_at(value, "of")?)?;
-    let weights = weights(value, keys, of.len(lists))?;
+    let first = value_at(value, "k")?;
+    let k = whole(&first)?;
+    let second = value_at(value, "of")?;
+    let of = children(second)?;
+    let weights = weights(alloc, lists, value, keys, &of)?;
     Ok(Form::Choice(k, of, weights))
 }
 
-/// Whether an object of so many keys may be a threshold.
+/// Returns whether an object of `keys` keys may be a threshold.
 fn is_good_keys(is_weighted: bool, keys: usize) -> bool
     ensures { result ≡ good_keys is_weighted keys }
 {
     keys == 2 || (is_weighted && keys == 3)
 }
 
-/// What a value spells at its own level.
-#[tactic(auto, unfolding(crate::specs::Reading::form_of))]
-fn form_at<'v>(lists: &Lists, value: &'v Value) -> Result<Form<'v>, Fault>
-    ensures { Gives form_data result (form_of lists.now (view value.now)) }
+/// Reads a node's own level.
+fn form_at<N: Node>(alloc: Global, lists: &Lists, value: &N) -> Result<Form<N>, Fault>
+    ensures { Gives (form_data N.means) result (form_of lists.now (N.means value.now)) }
 {
-    match value {
-        Value::Number(_) => Ok(Form::Single(whole(value)?)),
-        Value::Object(map) => {
-            let keys = map.len();
-            if !is_good_keys(lists.is_weighted, keys) {
-                return Err(Fault::Malformed);
-            }
-            choice(lists, keys, value)
-        }
-        _ => Err(Fault::Malformed),
+    if value.is_number() {
+        return Ok(Form::Single(whole(value)?));
     }
+    let Some(keys) = value.keys(4) else {
+        return Err(Fault::Malformed);
+    };
+    if !is_good_keys(lists.is_weighted, keys) {
+        return Err(Fault::Malformed);
+    }
+    choice(alloc, lists, keys, value)
 }
 
 fn is_member(members: MemberSet, n: u64) -> bool
@@ -124,8 +179,18 @@ fn is_member(members: MemberSet, n: u64) -> bool
     n < u64::from(MEMBERS) && members.contains(n as u8)
 }
 
-/// Whether a threshold is from 1 to what all of its children weigh, of which there are so many.
-fn is_good_row(k: u64, count: usize, weights: &Weights<'_>) -> bool
+/// Counts the children, up to 65.
+fn child_count<N: Node>(lists: &Lists, list: &Children<N>) -> usize
+    ensures { result ≡ min (child_count lists.now (child_list N.means list.now)) 65 }
+{
+    match list {
+        Children::Each(list) => count_items(list, 65),
+        Children::Named(name) => usize::from(lists.named(*name).len()),
+    }
+}
+
+/// Returns whether there are at most 64 children, of weights from 1 to 255, and the threshold is from 1 to their sum.
+fn is_good_row(k: u64, count: usize, weights: &Weights) -> bool
     ensures good { result ≡ good_row k count (weights_data weights.now) }
     ensures small { result ≡ true → k ≤ 16320 }
 {
@@ -143,11 +208,19 @@ fn is_good_row(k: u64, count: usize, weights: &Weights<'_>) -> bool
     1 <= k && u128::from(k) <= all
 }
 
-/// An expression for each member of a set, in growing order.
+/// Returns whether a threshold is good for its children and their weights.
+fn is_good_threshold<N: Node>(lists: &Lists, k: u64, list: &Children<N>, weights: &Weights) -> bool
+    ensures good { result ≡ good_row k (child_count lists.now (child_list N.means list.now)) (weights_data weights.now) }
+    ensures small { result ≡ true → k ≤ 16320 }
+{
+    is_good_row(k, child_count(lists, list), weights)
+}
+
+/// Returns an expression for each member of a set, in growing order.
 fn each_member(
     alloc: Global,
     members: MemberSet,
-    weights: &Weights<'_>,
+    weights: &Weights,
     room: &mut u32,
 ) -> Result<Vec<(u8, Expr<Global>)>, Fault>
     ensures read { Gives (λ v. formulas_of v.items) result (Ok (map member (listed members))) }
@@ -164,19 +237,19 @@ fn each_member(
     Ok(of)
 }
 
-/// The expression that a value spells, with `left` more levels allowed. The room falls by one a node, to 0 at least.
+/// Reads an expression of at most `left` levels. Subtracts its nodes from `room`, down to 0.
 #[cycle(tree)]
-fn tree(
+fn tree<N: Node>(
     alloc: Global,
     lists: &Lists,
     left: u8,
-    value: &Value,
+    value: &N,
     room: &mut u32,
 ) -> Result<Expr<Global>, Fault>
-    ensures read { Gives formula_of result (formula_at lists.now left (view value.now)) }
+    ensures read { Gives formula_of result (formula_at lists.now left (N.means value.now)) }
     ensures counted { IfOk result (λ e. room.new ≡ room.old - nodes (formula_of e)) }
 {
-    let form = form_at(lists, value)?;
+    let form = form_at(alloc, lists, value)?;
     if left == 0 {
         return Err(Fault::TooDeep);
     }
@@ -184,14 +257,14 @@ fn tree(
 }
 
 #[cycle(tree)]
-fn tree_of_form(
+fn tree_of_form<N: Node>(
     alloc: Global,
     lists: &Lists,
     left: u8,
-    form: &Form<'_>,
+    form: &Form<N>,
     room: &mut u32,
 ) -> Result<Expr<Global>, Fault>
-    ensures read { Gives formula_of result (formula_from lists.now left (formula_at lists.now left) (form_data form.now)) }
+    ensures read { Gives formula_of result (formula_from lists.now left (formula_at lists.now left) (form_data N.means form.now)) }
     ensures counted { IfOk result (λ e. room.new ≡ room.old - nodes (formula_of e)) }
 {
     match form {
@@ -203,7 +276,7 @@ fn tree_of_form(
             Ok(Expr::Member(*n as u8))
         }
         Form::Choice(k, list, weights) => {
-            if !is_good_row(*k, list.len(lists), weights) {
+            if !is_good_threshold(lists, *k, list, weights) {
                 return Err(Fault::BadCount);
             }
             *room = room.saturating_sub(1);
@@ -214,15 +287,15 @@ fn tree_of_form(
 }
 
 #[cycle(tree)]
-fn child_trees(
+fn child_trees<N: Node>(
     alloc: Global,
     lists: &Lists,
     left: u8,
-    list: &Children<'_>,
-    weights: &Weights<'_>,
+    list: &Children<N>,
+    weights: &Weights,
     room: &mut u32,
 ) -> Result<Vec<(u8, Expr<Global>)>, Fault>
-    ensures read { Gives (λ v. formulas_of v.items) result (children_at lists.now left (formula_at lists.now left) (child_list list.now)) }
+    ensures read { Gives (λ v. formulas_of v.items) result (children_at lists.now left (formula_at lists.now left) (child_list N.means list.now)) }
     ensures weights { IfOk result (λ v. HaveWeights (weights_data weights.now) 0 v.items) }
     ensures counted { IfOk result (λ v. room.new ≡ room.old - row_nodes (each_once (formulas_of v.items))) }
 {
@@ -233,34 +306,49 @@ fn child_trees(
             }
             each_member(alloc, lists.named(*name), weights, room)
         }
-        Children::Each(values) => {
+        Children::Each(list) => {
+            let Some(mut rest) = list.items() else {
+                return Ok(Vec::new(alloc));
+            };
             let mut of = Vec::new(alloc);
-            'children: for value in *values {
+            'children: while let Some(value) = N::next(&mut rest) {
                 let weight = weights.at(of.len());
-                of.push((weight, tree(alloc, lists, left, value, room)?))?;
+                of.push((weight, tree(alloc, lists, left, &value, room)?))?;
             }
             Ok(of)
         }
     }
 }
 
-/// The expression that a value spells, over the members of these lists.
+/// Reads the expression of a node, over the members of these lists.
 ///
 /// # Errors
-/// The first fault, outer ones before inner ones and children in order: at each node [`Fault::Malformed`] for another
-/// shape, or another number of weights than of children, [`Fault::TooDeep`] below six levels, [`Fault::BadCount`] for a threshold
-/// that isn't from 1 to what its at most 64 children weigh, from 1 to 255 each, [`Fault::NotAMember`] for a number that isn't a member; and [`Fault::OverLimit`] for more than 4,096 nodes
-/// when the whole has been read. A named list counts as the list that it stands for.
+/// Those of [`read_expr`].
 #[tactic(auto, unfolding(crate::specs::Reading::expression_in))]
-pub fn read_expr(alloc: Global, value: &Value, lists: &Lists) -> Result<Expr<Global>, Fault>
-    ensures read { Gives formula_of result (expression_in lists.now (view value.now)) }
+pub fn read_expr_at<N: Node>(alloc: Global, node: &N, lists: &Lists) -> Result<Expr<Global>, Fault>
+    ensures read { Gives formula_of result (expression_in lists.now (N.means node.now)) }
     ensures valid { IfOk result (λ e. expression_fault (formula_of e) ≡ None) }
 {
     // One more than the limit, so that nothing is left exactly where it is passed.
     let mut room = NODES + 1;
-    let expr = tree(alloc, lists, LEVELS, value, &mut room)?;
+    let expr = tree(alloc, lists, LEVELS, node, &mut room)?;
     if room == 0 {
         return Err(Fault::OverLimit);
     }
     Ok(expr)
+}
+
+/// The expression that a value spells, over the members of these lists.
+///
+/// # Errors
+/// The first fault, outer ones before inner ones and children in order: at each node [`Fault::Malformed`] for another
+/// shape, or another number of weights than of children, [`Fault::TooDeep`] below six levels, [`Fault::BadCount`] for a
+/// threshold that isn't from 1 to what its at most 64 children weigh, from 1 to 255 each, [`Fault::NotAMember`] for a number
+/// that isn't a member; and [`Fault::OverLimit`] for more than 4,096 nodes when the whole has been read. A named list counts
+/// as the list that it stands for.
+pub fn read_expr(alloc: Global, value: &Value, lists: &Lists) -> Result<Expr<Global>, Fault>
+    ensures read { Gives formula_of result (expression_in lists.now (view value.now)) }
+    ensures valid { IfOk result (λ e. expression_fault (formula_of e) ≡ None) }
+{
+    read_expr_at(alloc, &value, lists)
 }

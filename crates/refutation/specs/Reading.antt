@@ -35,6 +35,16 @@ array_of (number m) = Err Malformed
 array_of (string s) = Err Malformed
 array_of (object ms) = Err Malformed
 
+-- the items of a list of two
+abbrev pub two_in : Items → Result (Data × Data) Fault
+two_in (item first (item second no_items)) = Ok (first, second)
+two_in no_items = Err Malformed
+two_in (item first no_items) = Err Malformed
+two_in (item first (item second (item third ds))) = Err Malformed
+
+unfoldable pub two_of : Data → Result (Data × Data) Fault
+two_of d = array_of d >>= two_in
+
 -- the entry of a list at a place
 abbrev pub entry_at : ℕ → Data → Result Data Fault
 entry_at i d = found_or_malformed (at i d)

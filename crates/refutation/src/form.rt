@@ -1,8 +1,7 @@
-//! What a JSON value spells at its own level, before its branches are read.
+//! What a JSON node spells at its own level, before its branches are read.
 
 use crate::Side;
-use crate::json::count;
-use serde_json::Value;
+use json_node::{Node, count_items};
 
 /// The name of a rule.
 #[derive(Clone, Copy)]
@@ -15,41 +14,43 @@ pub enum RuleName {
     Split,
 }
 
-/// A rule with the values of its branches.
+/// A rule with the nodes of its branches: one each, or the array that lists them.
 #[derive(Drop)]
-pub enum Form<'v> {
+pub enum Form<N> {
     Dead(Side, u16),
     Clash(u16, u16),
-    Open(Side, u16, &'v Value),
-    Pick(Side, u16, Vec<u8>, &'v Vec<Value>),
-    Match(u16, u16, Vec<(u8, u8)>, &'v Vec<Value>),
-    Split(u8, &'v Value, &'v Value),
+    Open(Side, u16, N),
+    Pick(Side, u16, Vec<u8>, N),
+    Match(u16, u16, Vec<(u8, u8)>, N),
+    Split(u8, N, N),
 }
 
-impl Form<'_> {
+impl<N: Node> Form<N> {
     ghost use Rattle.std.specs.Prelude.{◌≡◌};
     ghost use Rattle.refutation.specs.Reading.{is_short};
     ghost use Rattle.refutation.specs.Forms.{form_data};
 
-    /// Whether no list has more than 255 entries.
+    /// Returns whether no list has more than 255 entries.
     pub fn is_short(&self) -> bool
-        ensures { result ≡ is_short (form_data self.now) }
+        ensures { result ≡ is_short (form_data N.means self.now) }
     {
         match self {
-            Form::Pick(_, _, children, values) => children.len() <= 255 && count(values) <= 255,
-            Form::Match(_, _, pairs, values) => pairs.len() <= 255 && count(values) <= 255,
+            Form::Pick(_, _, children, list) => children.len() <= 255
+                && count_items(list, 256) <= 255,
+            Form::Match(_, _, pairs, list) => pairs.len() <= 255 && count_items(list, 256) <= 255,
             _ => true,
         }
     }
 }
 
 impl RuleName {
-    ghost use Rattle.std.specs.Prelude.{◌≡◌};
+    ghost use Rattle.std.specs.Prelude.{◌≡◌, ◌≤◌};
     ghost use Rattle.refutation.specs.Reading.{key_count};
 
     /// How many keys a rule of this name has, the name included.
     pub fn key_count(self) -> usize
-        ensures { result ≡ key_count self }
+        ensures keys { result ≡ key_count self }
+        ensures few { result ≤ 5 }
     {
         match self {
             RuleName::Dead | RuleName::Clash => 3,

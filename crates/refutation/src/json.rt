@@ -1,62 +1,93 @@
-//! JSON values, one level at a time.
+//! JSON nodes, one level at a time.
 
 ghost use Rattle.std.specs.Prelude.{◌≡◌, ◌≢◌, ◌≤◌, IfOk, IfErr};
 ghost use Rattle.serde_json.specs.Data.{put as with_member};
-ghost use Rattle.serde_json.specs.View.{view, items_view, members_view};
-ghost use Rattle.serde_json.specs.Events.{items_len};
+ghost use Rattle.serde_json.specs.View.{view, members_view};
 ghost use Rattle.volume_model.specs.Answer.{Gives};
-ghost use Rattle.refutation.specs.Reading.{has_keys, array_of, entry_at, number_to, number_at};
+ghost use Rattle.json_node.specs.Nodes.{items_in};
+ghost use Rattle.refutation.specs.Reading.{has_keys, array_of, two_of, number_to, number_at};
 
+use json_node::Node;
 use quorum_expr::{value_at, whole};
 use serde_json::{Map, Value, put};
 use std::alloc::{AllocError, Global};
 use volume_model::Fault;
 
-/// The entry at a place of a list. `Malformed` where there is none.
-pub fn entry<'v>(value: &'v Value, place: usize) -> Result<&'v Value, Fault>
-    ensures given { Gives (λ v. view v.now) result (entry_at place (view value.now)) }
-    ensures own { IfErr result (λ fault. fault ≢ Fault.NoMemory) }
+/// Checks that a node is an object of `keys` keys.
+///
+/// # Errors
+/// `Malformed` if it isn't.
+pub fn has_keys<N: Node>(value: &N, keys: usize) -> Result<(), Fault>
+    requires { keys ≤ 7 }
+    ensures { Gives (λ u. u) result (has_keys keys (N.means value.now)) }
 {
-    value.get(place).ok_or(Fault::Malformed)
-}
-
-/// Whether the value is an object of so many keys. `Malformed` where it isn't.
-pub fn has_keys(value: &Value, keys: usize) -> Result<(), Fault>
-    ensures { Gives (λ u. u) result (has_keys keys (view value.now)) }
-{
-    match value {
-        Value::Object(map) => {
-            if map.len() != keys {
+    match value.keys(keys + 1) {
+        Some(count) => {
+            if count != keys {
                 return Err(Fault::Malformed);
             }
             Ok(())
         }
-        _ => Err(Fault::Malformed),
+        None => Err(Fault::Malformed),
     }
 }
 
-/// The entries of a list. `Malformed` for another value.
-pub fn array(value: &Value) -> Result<&Vec<Value>, Fault>
-    ensures given { Gives (λ v. items_view v.now.items) result (array_of (view value.now)) }
+/// Returns the items of an array.
+///
+/// # Errors
+/// `Malformed` for any other value.
+pub fn array<N: Node>(value: &N) -> Result<N::Rest, Fault>
+    ensures given { Gives N.left result (array_of (N.means value.now)) }
     ensures own { IfErr result (λ fault. fault ≢ Fault.NoMemory) }
 {
-    match value {
-        Value::Array(list) => Ok(list),
-        _ => Err(Fault::Malformed),
+    match value.items() {
+        Some(rest) => Ok(rest),
+        None => Err(Fault::Malformed),
     }
 }
 
-/// How many entries a list has.
-pub fn count(values: &Vec<Value>) -> usize
-    ensures { result ≡ items_len (items_view values.now.items) }
+/// Returns a node that is an array as it is.
+///
+/// # Errors
+/// `Malformed` for any other value.
+pub fn listed<N: Node>(value: N) -> Result<N, Fault>
+    ensures { Gives (λ n. items_in (N.means n)) result (array_of (N.means value)) }
 {
-    values.len()
+    match value.items() {
+        Some(_) => Ok(value),
+        None => Err(Fault::Malformed),
+    }
 }
 
-/// A whole number from 0 to a limit. `Malformed` for another value.
+/// Returns the two items of an array.
+///
+/// # Errors
+/// `Malformed` for any other value.
+#[tactic(auto, unfolding(crate::specs::Reading::two_of))]
+pub fn two<N: Node>(value: &N) -> Result<(N, N), Fault>
+    ensures given { Gives (λ p. (N.means p.0, N.means p.1)) result (two_of (N.means value.now)) }
+    ensures own { IfErr result (λ fault. fault ≢ Fault.NoMemory) }
+{
+    let mut rest = array(value)?;
+    let Some(first) = N::next(&mut rest) else {
+        return Err(Fault::Malformed);
+    };
+    let Some(second) = N::next(&mut rest) else {
+        return Err(Fault::Malformed);
+    };
+    match N::next(&mut rest) {
+        Some(_) => Err(Fault::Malformed),
+        None => Ok((first, second)),
+    }
+}
+
+/// Returns a whole number from 0 to a limit.
+///
+/// # Errors
+/// `Malformed` for any other value.
 #[tactic(auto, unfolding(crate::specs::Reading::number_to))]
-pub fn number_to(value: &Value, most: u64) -> Result<u64, Fault>
-    ensures given { Gives (λ n. n) result (number_to most (view value.now)) }
+pub fn number_to<N: Node>(value: &N, most: u64) -> Result<u64, Fault>
+    ensures given { Gives (λ n. n) result (number_to most (N.means value.now)) }
     ensures own { IfErr result (λ fault. fault ≢ Fault.NoMemory) }
     ensures within { IfOk result (λ n. n ≤ most) }
 {
@@ -67,13 +98,17 @@ pub fn number_to(value: &Value, most: u64) -> Result<u64, Fault>
     Ok(n)
 }
 
-/// A whole number from 0 to a limit at a key. `Malformed` where there is none.
+/// Returns a whole number from 0 to a limit at a key of an object.
+///
+/// # Errors
+/// `Malformed` if there is none.
 #[tactic(auto, unfolding(crate::specs::Reading::number_at))]
-pub fn number_at(value: &Value, key: &str, most: u64) -> Result<u64, Fault>
-    ensures given { Gives (λ n. n) result (number_at key.now most (view value.now)) }
+pub fn number_at<N: Node>(value: &N, key: &str, most: u64) -> Result<u64, Fault>
+    ensures given { Gives (λ n. n) result (number_at key.now most (N.means value.now)) }
     ensures within { IfOk result (λ n. n ≤ most) }
 {
-    number_to(value_at(value, key)?, most)
+    let found = value_at(value, key)?;
+    number_to(&found, most)
 }
 
 /// The members of an object, with one more, which takes the place of an earlier one with its key. Fails for want of memory alone.

@@ -1,117 +1,106 @@
-//! From JSON to certificates.
+//! Reads certificates from JSON nodes.
 
 ghost use Rattle.std.specs.Prelude.{◌≡◌, ◌≢◌, IfErr};
-ghost use Rattle.serde_json.specs.View.{view, items_view};
+ghost use Rattle.serde_json.specs.View.{view};
 ghost use Rattle.volume_model.specs.Answer.{Gives};
+ghost use Rattle.json_node.specs.Nodes.{items_in};
 ghost use Rattle.refutation.specs.Refutation.{rule_of};
 ghost use Rattle.refutation.specs.Certificate.{certificate_rule};
 ghost use Rattle.refutation.specs.Forms.{form_data, rules_of};
-ghost use Rattle.refutation.specs.Reading.{side_in, side_of, numbers_of, pair_of, pairs_of, rule_name_in, name_or_malformed, rule_name_of, dead_in, clash_in, open_in, pick_in, match_in, split_in, fields_of, form_of, each_rule, rule_from, rule_level, rule_at, certificate_in};
+ghost use Rattle.refutation.specs.Reading.{side_of, numbers_of, pair_of, pairs_of, rule_name_of};
+ghost use Rattle.refutation.specs.Reading.{dead_in, clash_in, open_in, pick_in, match_in, split_in, fields_of, form_of};
+ghost use Rattle.refutation.specs.Reading.{each_rule, rule_from, rule_level, rule_at, certificate_in};
 
 use crate::certificate::{Certificate, MAX_DEPTH};
 use crate::form::{Form, RuleName};
-use crate::json::{array, count, entry, has_keys, number_at, number_to};
+use crate::json::{array, has_keys, listed, number_at, number_to, two};
 use crate::{Refutation, Side};
+use json_node::Node;
 use quorum_expr::value_at;
 use serde_json::Value;
 use std::alloc::Global;
 use volume_model::Fault;
 
-/// The side that a text names.
-fn side_named(text: &str) -> Result<Side, Fault>
-    ensures { result ≡ side_in text.now }
+/// Reads the name of a side.
+fn side<N: Node>(value: &N) -> Result<Side, Fault>
+    ensures { result ≡ side_of (N.means value.now) }
 {
-    match text {
-        "left" => Ok(Side::Left),
-        "right" => Ok(Side::Right),
-        _ => Err(Fault::Malformed),
+    if value.is_text("left") {
+        Ok(Side::Left)
+    } else if value.is_text("right") {
+        Ok(Side::Right)
+    } else {
+        Err(Fault::Malformed)
     }
 }
 
-/// The name of a side.
-fn side(value: &Value) -> Result<Side, Fault>
-    ensures { result ≡ side_of (view value.now) }
+/// Reads the name of a rule.
+fn rule_name<N: Node>(value: &N) -> Result<RuleName, Fault>
+    ensures { result ≡ rule_name_of (N.means value.now) }
 {
-    match value {
-        Value::String(text) => side_named(text.as_str()),
-        _ => Err(Fault::Malformed),
+    if value.is_text("dead") {
+        Ok(RuleName::Dead)
+    } else if value.is_text("clash") {
+        Ok(RuleName::Clash)
+    } else if value.is_text("open") {
+        Ok(RuleName::Open)
+    } else if value.is_text("pick") {
+        Ok(RuleName::Pick)
+    } else if value.is_text("match") {
+        Ok(RuleName::Match)
+    } else if value.is_text("split") {
+        Ok(RuleName::Split)
+    } else {
+        Err(Fault::Malformed)
     }
 }
 
-/// The rule that a text names.
-fn named(text: &str) -> Result<RuleName, Fault>
-    ensures { result ≡ name_or_malformed (rule_name_in text.now) }
-{
-    match text {
-        "dead" => Ok(RuleName::Dead),
-        "clash" => Ok(RuleName::Clash),
-        "open" => Ok(RuleName::Open),
-        "pick" => Ok(RuleName::Pick),
-        "match" => Ok(RuleName::Match),
-        "split" => Ok(RuleName::Split),
-        _ => Err(Fault::Malformed),
-    }
-}
-
-/// The name of a rule.
-fn rule_name(value: &Value) -> Result<RuleName, Fault>
-    ensures { result ≡ rule_name_of (view value.now) }
-{
-    match value {
-        Value::String(text) => named(text.as_str()),
-        _ => Err(Fault::Malformed),
-    }
-}
-
-/// The numbers of children.
-fn numbers(alloc: Global, values: &[Value]) -> Result<Vec<u8>, Fault>
-    ensures { Gives (λ v. v.items) result (numbers_of (items_view values.now)) }
+/// Reads the numbers of children.
+fn numbers<N: Node>(alloc: Global, rest: &mut N::Rest) -> Result<Vec<u8>, Fault>
+    ensures { Gives (λ v. v.items) result (numbers_of (N.left rest.old)) }
 {
     let mut list = Vec::new(alloc);
-    for value in values {
-        list.push(number_to(value, 255)? as u8)?;
+    while let Some(value) = N::next(rest) {
+        list.push(number_to(&value, 255)? as u8)?;
     }
     Ok(list)
 }
 
-/// A list of two numbers of children.
-#[tactic(auto, unfolding(crate::specs::Reading::pair_of))]
-fn pair(value: &Value) -> Result<(u8, u8), Fault>
-    ensures given { Gives (λ p. p) result (pair_of (view value.now)) }
+/// Reads an array of two numbers of children.
+fn pair<N: Node>(value: &N) -> Result<(u8, u8), Fault>
+    ensures given { Gives (λ p. p) result (pair_of (N.means value.now)) }
     ensures own { IfErr result (λ fault. fault ≢ Fault.NoMemory) }
 {
-    let list = array(value)?;
-    if count(list) != 2 {
-        return Err(Fault::Malformed);
-    }
-    let first = number_to(entry(value, 0)?, 255)?;
-    let second = number_to(entry(value, 1)?, 255)?;
-    Ok((first as u8, second as u8))
+    let (first, second) = two(value)?;
+    let a = number_to(&first, 255)?;
+    let b = number_to(&second, 255)?;
+    Ok((a as u8, b as u8))
 }
 
-/// The pairs of a list.
-fn pairs(alloc: Global, values: &[Value]) -> Result<Vec<(u8, u8)>, Fault>
-    ensures { Gives (λ v. v.items) result (pairs_of (items_view values.now)) }
+/// Reads the pairs of a list.
+fn pairs<N: Node>(alloc: Global, rest: &mut N::Rest) -> Result<Vec<(u8, u8)>, Fault>
+    ensures { Gives (λ v. v.items) result (pairs_of (N.left rest.old)) }
 {
     let mut list = Vec::new(alloc);
-    for value in values {
-        list.push(pair(value)?)?;
+    while let Some(value) = N::next(rest) {
+        list.push(pair(&value)?)?;
     }
     Ok(list)
 }
 
 #[tactic(auto, unfolding(crate::specs::Reading::dead_in))]
-fn dead(value: &Value) -> Result<Form<'_>, Fault>
-    ensures { Gives form_data result (dead_in (view value.now)) }
+fn dead<N: Node>(value: &N) -> Result<Form<N>, Fault>
+    ensures { Gives (form_data N.means) result (dead_in (N.means value.now)) }
 {
-    let side = side(value_at(value, "side")?)?;
+    let name = value_at(value, "side")?;
+    let side = side(&name)?;
     let item = number_at(value, "item", 65_535)?;
     Ok(Form::Dead(side, item as u16))
 }
 
 #[tactic(auto, unfolding(crate::specs::Reading::clash_in))]
-fn clash(value: &Value) -> Result<Form<'_>, Fault>
-    ensures { Gives form_data result (clash_in (view value.now)) }
+fn clash<N: Node>(value: &N) -> Result<Form<N>, Fault>
+    ensures { Gives (form_data N.means) result (clash_in (N.means value.now)) }
 {
     let left = number_at(value, "left", 65_535)?;
     let right = number_at(value, "right", 65_535)?;
@@ -119,40 +108,48 @@ fn clash(value: &Value) -> Result<Form<'_>, Fault>
 }
 
 #[tactic(auto, unfolding(crate::specs::Reading::open_in))]
-fn open(value: &Value) -> Result<Form<'_>, Fault>
-    ensures { Gives form_data result (open_in (view value.now)) }
+fn open<N: Node>(value: &N) -> Result<Form<N>, Fault>
+    ensures { Gives (form_data N.means) result (open_in (N.means value.now)) }
 {
-    let side = side(value_at(value, "side")?)?;
+    let name = value_at(value, "side")?;
+    let side = side(&name)?;
     let item = number_at(value, "item", 65_535)?;
     let then = value_at(value, "then")?;
     Ok(Form::Open(side, item as u16, then))
 }
 
 #[tactic(auto, unfolding(crate::specs::Reading::pick_in))]
-fn pick(alloc: Global, value: &Value) -> Result<Form<'_>, Fault>
-    ensures { Gives form_data result (pick_in (view value.now)) }
+fn pick<N: Node>(alloc: Global, value: &N) -> Result<Form<N>, Fault>
+    ensures { Gives (form_data N.means) result (pick_in (N.means value.now)) }
 {
-    let side = side(value_at(value, "side")?)?;
+    let name = value_at(value, "side")?;
+    let side = side(&name)?;
     let item = number_at(value, "item", 65_535)?;
-    let children = numbers(alloc, array(value_at(value, "children")?)?)?;
-    let then = array(value_at(value, "then")?)?;
+    let found = value_at(value, "children")?;
+    let mut rest = array(&found)?;
+    let children = numbers::<N>(alloc, &mut rest)?;
+    let branches = value_at(value, "then")?;
+    let then = listed(branches)?;
     Ok(Form::Pick(side, item as u16, children, then))
 }
 
 #[tactic(auto, unfolding(crate::specs::Reading::match_in))]
-fn match_up(alloc: Global, value: &Value) -> Result<Form<'_>, Fault>
-    ensures { Gives form_data result (match_in (view value.now)) }
+fn match_up<N: Node>(alloc: Global, value: &N) -> Result<Form<N>, Fault>
+    ensures { Gives (form_data N.means) result (match_in (N.means value.now)) }
 {
     let left = number_at(value, "left", 65_535)?;
     let right = number_at(value, "right", 65_535)?;
-    let pairs = pairs(alloc, array(value_at(value, "pairs")?)?)?;
-    let then = array(value_at(value, "then")?)?;
+    let found = value_at(value, "pairs")?;
+    let mut rest = array(&found)?;
+    let pairs = pairs::<N>(alloc, &mut rest)?;
+    let branches = value_at(value, "then")?;
+    let then = listed(branches)?;
     Ok(Form::Match(left as u16, right as u16, pairs, then))
 }
 
 #[tactic(auto, unfolding(crate::specs::Reading::split_in))]
-fn split(value: &Value) -> Result<Form<'_>, Fault>
-    ensures { Gives form_data result (split_in (view value.now)) }
+fn split<N: Node>(value: &N) -> Result<Form<N>, Fault>
+    ensures { Gives (form_data N.means) result (split_in (N.means value.now)) }
 {
     let member = number_at(value, "member", 63)?;
     let left = value_at(value, "left")?;
@@ -160,8 +157,8 @@ fn split(value: &Value) -> Result<Form<'_>, Fault>
     Ok(Form::Split(member as u8, left, right))
 }
 
-fn fields(alloc: Global, name: RuleName, value: &Value) -> Result<Form<'_>, Fault>
-    ensures { Gives form_data result (fields_of name (view value.now)) }
+fn fields<N: Node>(alloc: Global, name: RuleName, value: &N) -> Result<Form<N>, Fault>
+    ensures { Gives (form_data N.means) result (fields_of name (N.means value.now)) }
 {
     match name {
         RuleName::Dead => dead(value),
@@ -173,28 +170,33 @@ fn fields(alloc: Global, name: RuleName, value: &Value) -> Result<Form<'_>, Faul
     }
 }
 
-/// What a value spells at its own level.
+/// Reads a node's own level.
 #[tactic(auto, unfolding(crate::specs::Reading::form_of))]
-fn form_at(alloc: Global, value: &Value) -> Result<Form<'_>, Fault>
-    ensures { Gives form_data result (form_of (view value.now)) }
+fn form_at<N: Node>(alloc: Global, value: &N) -> Result<Form<N>, Fault>
+    ensures { Gives (form_data N.means) result (form_of (N.means value.now)) }
 {
-    let name = rule_name(value_at(value, "rule")?)?;
+    let found = value_at(value, "rule")?;
+    let name = rule_name(&found)?;
     has_keys(value, name.key_count())?;
     fields(alloc, name, value)
 }
 
-/// The refutation that a value spells, with `left` more levels allowed.
+/// Reads a refutation of at most `left` levels.
 #[cycle(tree)]
-fn tree(alloc: Global, left: u8, value: &Value) -> Result<Refutation<Global>, Fault>
-    ensures { Gives rule_of result (rule_at left (view value.now)) }
+fn tree<N: Node>(alloc: Global, left: u8, value: &N) -> Result<Refutation<Global>, Fault>
+    ensures { Gives rule_of result (rule_at left (N.means value.now)) }
 {
     let form = form_at(alloc, value)?;
     tree_of_form(alloc, left, form)
 }
 
 #[cycle(tree)]
-fn tree_of_form(alloc: Global, left: u8, form: Form<'_>) -> Result<Refutation<Global>, Fault>
-    ensures { Gives rule_of result (rule_level left (form_data form.entry)) }
+fn tree_of_form<N: Node>(
+    alloc: Global,
+    left: u8,
+    form: Form<N>,
+) -> Result<Refutation<Global>, Fault>
+    ensures { Gives rule_of result (rule_level left (form_data N.means form)) }
 {
     if left == 0 {
         return Err(Fault::OverLimit);
@@ -206,18 +208,22 @@ fn tree_of_form(alloc: Global, left: u8, form: Form<'_>) -> Result<Refutation<Gl
 }
 
 #[cycle(tree)]
-fn tree_of_branches(alloc: Global, left: u8, form: Form<'_>) -> Result<Refutation<Global>, Fault>
-    ensures { Gives rule_of result (rule_from (rule_at left) (form_data form.entry)) }
+fn tree_of_branches<N: Node>(
+    alloc: Global,
+    left: u8,
+    form: Form<N>,
+) -> Result<Refutation<Global>, Fault>
+    ensures { Gives rule_of result (rule_from (rule_at left) (form_data N.means form)) }
 {
     match form {
         Form::Dead(side, item) => Ok(Refutation::Dead { side, item }),
         Form::Clash(left, right) => Ok(Refutation::Clash { left, right }),
-        Form::Open(side, item, value) => {
-            let then = Box::new(alloc, tree(alloc, left, value)?)?;
+        Form::Open(side, item, node) => {
+            let then = Box::new(alloc, tree(alloc, left, &node)?)?;
             Ok(Refutation::Open { side, item, then })
         }
-        Form::Pick(side, item, children, values) => {
-            let then = branches(alloc, left, values)?;
+        Form::Pick(side, item, children, list) => {
+            let then = branches(alloc, left, &list)?;
             Ok(Refutation::Pick {
                 side,
                 item,
@@ -225,8 +231,8 @@ fn tree_of_branches(alloc: Global, left: u8, form: Form<'_>) -> Result<Refutatio
                 then,
             })
         }
-        Form::Match(first, second, pairs, values) => {
-            let then = branches(alloc, left, values)?;
+        Form::Match(first, second, pairs, list) => {
+            let then = branches(alloc, left, &list)?;
             Ok(Refutation::Match {
                 left: first,
                 right: second,
@@ -235,8 +241,8 @@ fn tree_of_branches(alloc: Global, left: u8, form: Form<'_>) -> Result<Refutatio
             })
         }
         Form::Split(member, without_left, without_right) => {
-            let first = Box::new(alloc, tree(alloc, left, without_left)?)?;
-            let second = Box::new(alloc, tree(alloc, left, without_right)?)?;
+            let first = Box::new(alloc, tree(alloc, left, &without_left)?)?;
+            let second = Box::new(alloc, tree(alloc, left, &without_right)?)?;
             Ok(Refutation::Split {
                 member,
                 left: first,
@@ -247,14 +253,32 @@ fn tree_of_branches(alloc: Global, left: u8, form: Form<'_>) -> Result<Refutatio
 }
 
 #[cycle(tree)]
-fn branches(alloc: Global, left: u8, values: &[Value]) -> Result<Vec<Refutation<Global>>, Fault>
-    ensures { Gives (λ v. rules_of v.items) result (each_rule (rule_at left) (items_view values.now)) }
+fn branches<N: Node>(alloc: Global, left: u8, list: &N) -> Result<Vec<Refutation<Global>>, Fault>
+    ensures { Gives (λ v. rules_of v.items) result (each_rule (rule_at left) (items_in (N.means list.now))) }
 {
+    let Some(mut rest) = list.items() else {
+        return Ok(Vec::new(alloc));
+    };
     let mut rules = Vec::new(alloc);
-    'branches: for value in values {
-        rules.push(tree(alloc, left, value)?)?;
+    'branches: while let Some(value) = N::next(&mut rest) {
+        rules.push(tree(alloc, left, &value)?)?;
     }
     Ok(rules)
+}
+
+/// Reads the certificate of a node.
+///
+/// # Errors
+/// Those of [`read_certificate`].
+#[tactic(auto, unfolding(crate::specs::Reading::certificate_in))]
+pub fn read_certificate_at<N: Node>(alloc: Global, node: &N) -> Result<Certificate<Global>, Fault>
+    ensures { Gives certificate_rule result (certificate_in (N.means node.now)) }
+{
+    let tree = tree(alloc, MAX_DEPTH, node)?;
+    match Certificate::new(tree) {
+        Ok(certificate) => Ok(certificate),
+        Err((fault, _)) => Err(fault),
+    }
 }
 
 /// The certificate that a value spells.
@@ -263,13 +287,8 @@ fn branches(alloc: Global, left: u8, values: &[Value]) -> Result<Vec<Refutation<
 /// The first fault, outer ones before inner ones and branches in order: at each rule `Malformed` for another shape or a
 /// number out of its range, then `OverLimit` for a list of more than 255 entries or a level below the 40th; and
 /// `OverLimit` for more than 100,000 rules when the whole has been read.
-#[tactic(auto, unfolding(crate::specs::Reading::certificate_in))]
 pub fn read_certificate(alloc: Global, value: &Value) -> Result<Certificate<Global>, Fault>
     ensures { Gives certificate_rule result (certificate_in (view value.now)) }
 {
-    let tree = tree(alloc, MAX_DEPTH, value)?;
-    match Certificate::new(tree) {
-        Ok(certificate) => Ok(certificate),
-        Err((fault, _)) => Err(fault),
-    }
+    read_certificate_at(alloc, &value)
 }

@@ -2,7 +2,8 @@ use Rattle.std.proofs.Common.{◌≡◌, ◌-◌, map}
 use Rattle.std.specs.FinSet as set
 use Rattle.volume_model.specs.Formula.{member, each_once}
 use Rattle.volume_model.specs.Lists.{each_below}
-use Rattle.quorum_expr.specs.Forms.{formulas_of, weights_data, HaveWeights}
+use Rattle.quorum_expr.specs.Forms.{formulas_of, HaveWeights}
+use Rattle.quorum_expr.specs.Forms.{weights_data}
 use Rattle.quorum_expr.specs.Valid.{row_nodes}
 use Rattle.quorum_expr.proofs.reading.each_member.Given as goal
 

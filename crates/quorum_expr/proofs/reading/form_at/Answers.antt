@@ -1,9 +1,25 @@
-use Rattle.std.proofs.Common.{sym, rules}
-use Rattle.quorum_expr.proofs.Levels.{enough_keys, other_keys}
+use Rattle.std.proofs.Common.{Ok, sym, ap, ◌∙◌}
+use Rattle.std.proofs.lemmas.Result.{err_from_is_err_and}
+use Rattle.volume_model.specs.Answer.{◌>>=◌}
+use Rattle.quorum_expr.specs.Reading.{single, whole_of}
+use Rattle.quorum_expr.proofs.Levels.{Fails-at}
+use Rattle.quorum_expr.proofs.NodeForms.{number_form, choice_form, other_form, no_form}
 use Rattle.quorum_expr.proofs.reading.form_at.Goals as goal
 
-pub returns-then-not-is_good_keys : goal.returns-then-not-is_good_keys
-returns-then-not-is_good_keys c = rw (c.in-Object.is) (other_keys c.args.lists.now c.in-Object.map c.len-keys.result (search rules) (sym c.if-not-is_good_keys.ensures))
+pub returns-in_err-whole : goal.returns-in_err-whole
+returns-in_err-whole g c =
+    let p = err_from_is_err_and c.from_residual.result c.from_residual.ensures.1 in
+    rw (p.1, p.2, number_form c.args.lists.now (g.N.Node.means c.args.value.now) (sym c.if-is_number.ensures))
+    (Fails-at c.in_err-whole.field-0.0 (whole_of (g.N.Node.means c.args.value.now)) (whole_of (g.N.Node.means c.args.value.now) >>= λ m. Ok (single m)) (λ e. ap (λ r. r >>= λ m. Ok (single m)) e) c.in_err-whole.ensures.given)
 
-pub returns-else-not-is_good_keys : goal.returns-else-not-is_good_keys
-returns-else-not-is_good_keys c = rw (c.in-Object.is, enough_keys c.args.lists.now c.in-Object.map c.len-keys.result (search rules) (sym c.if-not-is_good_keys.ensures), ← c.in-Object.is) c.choice.ensures
+pub returns-then-is_number : goal.returns-then-is_number
+returns-then-is_number g c = number_form c.args.lists.now (g.N.Node.means c.args.value.now) (sym c.if-is_number.ensures) ∙ ap (λ r. r >>= λ m. Ok (single m)) c.in_ok-whole.ensures.given
+
+pub returns-in_default : goal.returns-in_default
+returns-in_default g c = no_form c.args.lists.now (g.N.Node.means c.args.value.now) (sym c.if-is_number.ensures) (sym c.in_default.is ∙ c.keys.ensures)
+
+pub returns-then-not-is_good_keys : goal.returns-then-not-is_good_keys
+returns-then-not-is_good_keys g c = other_form c.args.lists.now (g.N.Node.means c.args.value.now) c.in-Some.keys c.in-Some.ensures (sym c.if-not-is_good_keys.ensures)
+
+pub returns : goal.returns
+returns g c = rw (choice_form c.args.lists.now (g.N.Node.means c.args.value.now) c.in-Some.keys c.in-Some.ensures (sym c.if-not-is_good_keys.ensures)) c.choice.ensures

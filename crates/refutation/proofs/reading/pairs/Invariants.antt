@@ -1,8 +1,11 @@
-use Rattle.std.proofs.Common.{◌≡◌, drop}
-use Rattle.serde_json.specs.View.{items_view}
+use Rattle.std.proofs.Common.{◌≡◌}
+use Rattle.serde_json.specs.Events.{items_len}
 use Rattle.refutation.specs.Reading.{pairs_of}
 use Rattle.refutation.proofs.Loop.{with_front}
 use Rattle.refutation.proofs.reading.pairs.Given as goal
 
 abbrev pub invariant-loop-value : goal.invariant-loop-value
-invariant-loop-value l = with_front l.list.items (pairs_of (items_view (drop l.value-index l.values))) ≡ pairs_of (items_view l.values)
+invariant-loop-value g l = with_front l.list.items (pairs_of (g.N.Node.left l.rest)) ≡ pairs_of (g.N.Node.left l.initial.rest)
+
+abbrev pub decreases-loop-value : goal.decreases-loop-value
+decreases-loop-value g l = items_len (g.N.Node.left l.rest)

@@ -1,0 +1,16 @@
+-- The value at a place of a tape.
+use Rattle.std.specs.Prelude.{◌≡◌, ℕ, List, Option, IsSome, option_map}
+use Rattle.json.specs.Token.{Token}
+use Rattle.json.specs.Lex.{tokens}
+use Rattle.json.specs.Json.{document}
+use Rattle.serde_json.specs.Data.{Data}
+use Rattle.serde_json.specs.Read.{read}
+use Rattle.json_node.specs.Placed.{data_at, or_null}
+use Rattle.json_node.specs.declared.on_tape.TapeNode.{TapeNode}
+
+abbrev pub data_of : TapeNode → Data
+data_of n = or_null (data_at n.element)
+
+-- of a text of JSON the root has the value that serde_json reads, and there is none where it reads none
+abbrev pub IsRootOf : List Token → Option TapeNode → Type 0
+IsRootOf ts root = (text : List ℕ) → ts ≡ tokens text → IsSome (document text) → option_map data_of root ≡ read text

@@ -1,0 +1,44 @@
+-- Thresholds by the values at their keys.
+use Rattle.std.proofs.Common.{◌≡◌, ℕ, [], ◌∷◌, length, min, Option, Some, refl, sym, ap, ◌∙◌, subst, arith}
+use Rattle.std.specs.Prelude.{codes}
+use Rattle.json.specs.Token.{end_object}
+use Rattle.json.specs.Written.{Written}
+use Rattle.serde_json.specs.Data.{Data, null, boolean, number, string, array, object, Members, no_members, member}
+use Rattle.serde_json.specs.Events.{members_len}
+use Rattle.serde_json.specs.Find.{get}
+use Rattle.json_node.specs.Nodes.{keys_up_to}
+use Rattle.json_node.proofs.Exact.{exact}
+use Rattle.json_node.proofs.Sorted.{IsInOrder}
+use Rattle.plan_text.specs.Puts.{Puts, PutsToken, PutsMember, Opens}
+use Rattle.plan_text.proofs.Putting.{one_more, closed}
+
+abbrev pub two_keys : Data → Data → Members
+two_keys k of = member (codes "k") k (member (codes "of") of no_members)
+
+abbrev pub three_keys : Data → Data → Data → Members
+three_keys k of ws = member (codes "k") k (member (codes "of") of (member (codes "weights") ws no_members))
+
+some_same : (m n : ℕ) → ◌≡◌ {A = Option ℕ} (Some m) (Some n) → m ≡ n
+some_same m n h = cc
+
+pub known-two : (d k of : Data) → IsInOrder d → Some 2 ≡ keys_up_to 4 d → Some k ≡ get (codes "k") d → Some of ≡ get (codes "of") d → d ≡ object (two_keys k of)
+known-two null k of up n h i = absurd (cc)
+known-two (boolean b) k of up n h i = absurd (cc)
+known-two (number x) k of up n h i = absurd (cc)
+known-two (string s) k of up n h i = absurd (cc)
+known-two (array ds) k of up n h i = absurd (cc)
+known-two (object ms) k of up n h i =
+    let few : 2 ≡ min (members_len ms) 4 = some_same 2 (min (members_len ms) 4) n in
+    let many : members_len ms ≡ 2 = omega (arith, few) in
+    ap object (exact ((codes "k", k) ∷ (codes "of", of) ∷ []) ms (refl, (tt, tt)) up (sym h, (sym i, tt)) many)
+
+pub known-three : (d k of ws : Data) → IsInOrder d → Some 3 ≡ keys_up_to 4 d → Some k ≡ get (codes "k") d → Some of ≡ get (codes "of") d → Some ws ≡ get (codes "weights") d → d ≡ object (three_keys k of ws)
+known-three null k of ws up n h i j = absurd (cc)
+known-three (boolean b) k of ws up n h i j = absurd (cc)
+known-three (number x) k of ws up n h i j = absurd (cc)
+known-three (string s) k of ws up n h i j = absurd (cc)
+known-three (array ds) k of ws up n h i j = absurd (cc)
+known-three (object ms) k of ws up n h i j =
+    let few : 3 ≡ min (members_len ms) 4 = some_same 3 (min (members_len ms) 4) n in
+    let many : members_len ms ≡ 3 = omega (arith, few) in
+    ap object (exact ((codes "k", k) ∷ (codes "of", of) ∷ (codes "weights", ws) ∷ []) ms (refl, (refl, (tt, tt))) up (sym h, (sym i, (sym j, tt))) many)

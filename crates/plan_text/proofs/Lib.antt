@@ -1,0 +1,9 @@
+pub mod Branches
+pub mod Joined
+pub mod PutRules
+pub mod Putting
+pub mod Rooms
+pub mod Texts
+pub mod Copied
+pub mod Known
+pub mod Made

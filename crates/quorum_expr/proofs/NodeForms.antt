@@ -1,0 +1,131 @@
+-- What a node spells at its own level, and rows of children that weigh one each.
+use Rattle.std.proofs.Common.{◌≡◌, ℕ, zero, suc, ◌<◌, ◌≤◌, List, [], ◌∷◌, min, Bool, true, false, Some, None, Result, Ok, Err, refl, sym, ap, ◌∙◌, arith, length, ◌++◌, length-append, append_assoc, append-nil}
+use Rattle.std.specs.Prelude.{nat_le, is_some, if◌then◌else◌, Option, ◌⊎◌}
+use Rattle.std.proofs.Common.{inl, inr}
+use Rattle.std.proofs.lemmas.Bool.Decides.{nat_tests}
+use Rattle.serde_json.specs.Data.{Data, null, boolean, number, string, array, object, Items, no_items, item}
+use Rattle.serde_json.specs.Events.{members_len, items_len}
+use Rattle.serde_json.specs.Find.{as_number, as_array}
+use Rattle.json_node.specs.Nodes.{items_in, keys_up_to}
+use Rattle.volume_model.specs.declared.fault.Fault.{Fault}
+use Rattle.volume_model.specs.declared.fault.Fault.TheVariants.{Malformed}
+use Rattle.volume_model.specs.Answer.{◌>>=◌}
+use Rattle.volume_model.specs.Lists.{each_below}
+use Rattle.volume_model.specs.Sets.{listed}
+use Rattle.std.specs.Ordering.{nat_cmp}
+use Rattle.std.specs.FinSet.{FinSet, contains, empty}
+use Rattle.quorum_expr.specs.declared.form.Lists.{Lists}
+use Rattle.quorum_expr.specs.Reading.{Weights, single, whole_of, good_keys, good_row, choice_of, form_of, wholes_of, whole_list_of}
+use Rattle.quorum_expr.proofs.Rows.{row-long}
+use Rattle.quorum_expr.proofs.Wholes.{behind}
+
+-- ---- a number
+
+pub number_form : (lists : Lists) (d : Data) → is_some (as_number d) ≡ true → form_of lists d ≡ (whole_of d >>= λ m. Ok (single m))
+unfolding form_of
+number_form lists null h = absurd (cc)
+number_form lists (boolean b) h = absurd (cc)
+number_form lists (number n) h = refl
+number_form lists (string s) h = absurd (cc)
+number_form lists (array ds) h = absurd (cc)
+number_form lists (object ms) h = absurd (cc)
+
+-- ---- an object
+
+some_same : (m n : ℕ) → ◌≡◌ {A = Option ℕ} (Some m) (Some n) → m ≡ n
+some_same m n h = cc
+
+-- the count of keys may stop at four
+keys_capped : (w : Bool) (n : ℕ) → good_keys w (min n 4) ≡ good_keys w n
+keys_capped true n = grind (arith, nat_tests)
+keys_capped false n = grind (arith, nat_tests)
+
+good_few : (w : Bool) (n : ℕ) → good_keys w (min n 4) ≡ true → min n 4 ≡ n
+good_few true n h = grind (arith, nat_tests, h)
+good_few false n h = grind (arith, nat_tests, h)
+
+pub choice_form : (lists : Lists) (d : Data) (n : ℕ) → Some n ≡ keys_up_to 4 d → good_keys lists.is_weighted n ≡ true → form_of lists d ≡ choice_of lists n d
+unfolding form_of
+choice_form lists null n h good = absurd (cc)
+choice_form lists (boolean b) n h good = absurd (cc)
+choice_form lists (number x) n h good = absurd (cc)
+choice_form lists (string s) n h good = absurd (cc)
+choice_form lists (array ds) n h good = absurd (cc)
+choice_form lists (object ms) n h good =
+    let same : n ≡ min (members_len ms) 4 = some_same n (min (members_len ms) 4) h in
+    let capped_good : good_keys lists.is_weighted (min (members_len ms) 4) ≡ true = ap (good_keys lists.is_weighted) (sym same) ∙ good in
+    let few : min (members_len ms) 4 ≡ members_len ms = good_few lists.is_weighted (members_len ms) capped_good in
+    ap (λ b. if b then choice_of lists (members_len ms) (object ms) else Err Malformed) (sym (keys_capped lists.is_weighted (members_len ms)) ∙ capped_good) ∙ ap (λ k. choice_of lists k (object ms)) (sym (same ∙ few))
+
+pub other_form : (lists : Lists) (d : Data) (n : ℕ) → Some n ≡ keys_up_to 4 d → good_keys lists.is_weighted n ≡ false → form_of lists d ≡ Err Malformed
+unfolding form_of
+other_form lists null n h bad = absurd (cc)
+other_form lists (boolean b) n h bad = absurd (cc)
+other_form lists (number x) n h bad = absurd (cc)
+other_form lists (string s) n h bad = absurd (cc)
+other_form lists (array ds) n h bad = absurd (cc)
+other_form lists (object ms) n h bad =
+    let same : n ≡ min (members_len ms) 4 = some_same n (min (members_len ms) 4) h in
+    ap (λ b. if b then choice_of lists (members_len ms) (object ms) else Err Malformed) (sym (keys_capped lists.is_weighted (members_len ms)) ∙ ap (good_keys lists.is_weighted) (sym same) ∙ bad)
+
+pub no_form : (lists : Lists) (d : Data) → is_some (as_number d) ≡ false → None ≡ keys_up_to 4 d → form_of lists d ≡ Err Malformed
+unfolding form_of
+no_form lists null h i = refl
+no_form lists (boolean b) h i = refl
+no_form lists (number x) h i = absurd (cc)
+no_form lists (string s) h i = refl
+no_form lists (array ds) h i = refl
+no_form lists (object ms) h i = absurd (cc)
+
+-- ---- rows
+
+few_or_many : (n : ℕ) → (n ≤ 64) ⊎ (64 < n)
+few_or_many n = elim (nat_le n 64) as (λ b. nat_le n 64 ≡ b → (n ≤ 64) ⊎ (64 < n)) [ true ↦ λ e. inl (grind (arith, nat_tests, e)) | false ↦ λ e. inr (grind (arith, nat_tests, e)) ] refl
+
+pub capped : (k n : ℕ) (ws : Weights) → good_row k (min n 65) ws ≡ good_row k n ws
+capped k n ws = go (few_or_many n)
+  where
+    go : (n ≤ 64) ⊎ (64 < n) → good_row k (min n 65) ws ≡ good_row k n ws
+    go (inl h) = let same : min n 65 ≡ n = omega (arith, h) in ap (λ m. good_row k m ws) same
+    go (inr h) = let more : 64 < min n 65 = omega (arith, h) in sym (row-long k (min n 65) ws more) ∙ row-long k n ws h
+
+few_below : (n : ℕ) (test : ℕ → Bool) → length (each_below n test (λ x. x)) ≤ n
+few_below zero test = omega arith
+few_below (suc n) test =
+    let more : length (if test n then n ∷ [] else []) ≤ 1 = elim (test n) as (λ b. length (if b then n ∷ [] else []) ≤ 1) [ true ↦ omega arith | false ↦ omega arith ] in
+    omega (arith, few_below n test, more, length-append (each_below n test (λ x. x)) (if test n then n ∷ [] else []))
+
+pub few_listed : (s : FinSet nat_cmp) → min (length (listed s)) 65 ≡ length (listed s)
+few_listed s = let few : length (listed s) ≤ 64 = few_below 64 (contains s) in omega (arith, few)
+
+-- ---- whole numbers one after another
+
+pushed : (xs : List ℕ) (m : ℕ) (rest : Result (List ℕ) Fault) → behind xs (rest >>= λ ns. Ok (m ∷ ns)) ≡ behind (xs ++ m ∷ []) rest
+pushed xs m (Ok ns) = ap Ok (sym (append_assoc xs (m ∷ []) ns))
+pushed xs m (Err fault) = refl
+
+pub read_on : (front : List ℕ) (n : ℕ) (d : Data) (ds old : Items) (all : Result (List ℕ) Fault) → old ≡ item d ds → whole_of d ≡ Ok n → behind front (wholes_of old) ≡ all → behind (front ++ n ∷ []) (wholes_of ds) ≡ all
+read_on front n d ds old all is whole so_far =
+    sym (pushed front n (wholes_of ds)) ∙ sym (ap (λ r. behind front (r >>= λ m. wholes_of ds >>= λ ns. Ok (m ∷ ns))) whole) ∙ sym (ap (λ x. behind front (wholes_of x)) is) ∙ so_far
+
+pub read_fails : (front : List ℕ) (d : Data) (ds old : Items) (all : Result (List ℕ) Fault) → old ≡ item d ds → whole_of d ≡ Err Malformed → behind front (wholes_of old) ≡ all → all ≡ Err Malformed
+read_fails front d ds old all is bad so_far = sym so_far ∙ ap (λ x. behind front (wholes_of x)) is ∙ ap (λ r. behind front (r >>= λ m. wholes_of ds >>= λ ns. Ok (m ∷ ns))) bad
+
+pub read_all : (front : List ℕ) (old : Items) (all : Result (List ℕ) Fault) → old ≡ no_items → behind front (wholes_of old) ≡ all → all ≡ Ok front
+read_all front old all is so_far = sym so_far ∙ ap (λ x. behind front (wholes_of x)) is ∙ ap Ok (append-nil front)
+
+pub listed_wholes : (d : Data) (ds : Items) → Some ds ≡ as_array d → whole_list_of d ≡ wholes_of ds
+listed_wholes null ds h = absurd (cc)
+listed_wholes (boolean b) ds h = absurd (cc)
+listed_wholes (number x) ds h = absurd (cc)
+listed_wholes (string s) ds h = absurd (cc)
+listed_wholes (array es) ds h = let same : ds ≡ es = cc in ap wholes_of (sym same)
+listed_wholes (object ms) ds h = absurd (cc)
+
+pub no_wholes : (d : Data) → None ≡ as_array d → whole_list_of d ≡ Err Malformed
+no_wholes null h = refl
+no_wholes (boolean b) h = refl
+no_wholes (number x) h = refl
+no_wholes (string s) h = refl
+no_wholes (array es) h = absurd (cc)
+no_wholes (object ms) h = refl
