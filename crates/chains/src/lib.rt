@@ -5,9 +5,9 @@
 mod chains;
 mod earlier;
 mod numbers;
-mod recent;
 mod pending_record;
-mod waiters;
 mod pending_records;
+mod recent;
+mod waiters;
 
 pub use chains::Chains;

@@ -8,8 +8,8 @@ ghost use Rattle.chains.specs.Recent.{recent_waiters};
 
 use crate::earlier::Earlier;
 use crate::numbers::add_all;
-use crate::recent::{add_waiters, has_pending, release};
 use crate::pending_record::PendingRecord;
+use crate::recent::{add_waiters, has_pending, release};
 use std::alloc::{AllocError, Global};
 
 /// The initial room for LSNs that are released at once.

@@ -23,7 +23,11 @@ pub fn has_pending(pending: &[PendingRecord], before: u64) -> bool
 /// # Errors
 /// `AllocError` if there is no memory.
 #[inline(always)]
-pub fn add_waiters(pending: &[PendingRecord], before: u64, numbers: &mut Vec<u64>) -> Result<(), AllocError>
+pub fn add_waiters(
+    pending: &[PendingRecord],
+    before: u64,
+    numbers: &mut Vec<u64>,
+) -> Result<(), AllocError>
     requires growing { AreGrowing numbers.old.items }
     ensures added { OnOk result (numbers.new.items ≡ with_numbers (recent_waiters pending.now before) numbers.old.items) }
 {

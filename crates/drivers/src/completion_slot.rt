@@ -1,9 +1,9 @@
 //! The completion of one order, set once and read by all threads that wait for it.
 
+use crate::completion::Completion;
 use std::sync::Wait;
 use std::sync::atomic::{AtomicU64, Ordering};
 use std::thread::yield_now;
-use tallies::Completion;
 
 /// The state of an empty slot.
 const EMPTY: u64 = 0;

@@ -3,10 +3,11 @@
 ghost use Rattle.std.specs.Prelude.{◌≡◌, ◌+◌, IfOk, IfErr, vec_len};
 ghost use Rattle.volume_model.specs.declared.fault.Fault.TheVariants.{NoMemory};
 
+use crate::completion::Completion;
 use crate::completion_slot::CompletionSlot;
+use crate::run_counts::RunCounts;
 use std::alloc::{AllocError, Global};
 use std::sync::{OnceLock, Wait};
-use tallies::{Completion, RunCounts};
 use volume_model::Fault;
 
 /// A slot for the completion of each order of a script.

@@ -8,10 +8,12 @@ ghost use Rattle.journal.specs.Tokens.{ids_of};
 ghost use Rattle.node_fleet.specs.Bases.{passes_of, IsBaseOf};
 ghost use Rattle.drivers.specs.Driven.{IsDriven};
 
+use crate::agreeing::agrees;
 use crate::assignments::{Assignment, assignments};
 use crate::completion_table::CompletionTable;
 use crate::nodes::{Node, receivers};
 use crate::run::Run;
+use crate::run_counts::RunCounts;
 use crate::threads::{Workers, run_all};
 use crate::worker::{Part, WorkerContext};
 use node_fleet::{Base, Fleet, FleetSite, Pass, Row};
@@ -21,7 +23,6 @@ use std::alloc::{AllocError, Global};
 use std::marker::Brand;
 use std::sync::{Arc, Wait};
 use std::thread::Threads;
-use tallies::{RunCounts, agrees};
 use volume_model::Fault;
 use world::{Outcome, run};
 

@@ -2,13 +2,16 @@
 //! own.
 #![tactic(auto)]
 
+mod agreeing;
 mod assignments;
 mod calls;
+mod completion;
 mod completion_slot;
 mod completion_table;
 mod driving;
 mod nodes;
 mod run;
+mod run_counts;
 mod threads;
 mod worker;
 

@@ -2,12 +2,12 @@
 
 use crate::assignments::Assignment;
 use crate::calls::call;
+use crate::completion::Completion;
 use crate::completion_table::CompletionTable;
 use crate::nodes::{Node, receiver};
 use fleet_actors::ClientAction;
 use node_fleet::{Fleet, FleetSite, Pass, StepGate};
 use std::sync::Wait;
-use tallies::Completion;
 use wire::Messages;
 use world::{Event, Order};
 

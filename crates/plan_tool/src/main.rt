@@ -6,8 +6,7 @@ ghost use Rattle.std.specs.Prelude.{◌≤◌};
 #[cfg(test)]
 mod tests;
 
-use command_line::job;
-use jobs::{NO_MEMORY, Output, deliver, explain, opened, perform};
+use commands::{NO_MEMORY, Output, deliver, explain, job, opened, perform};
 use std::alloc::{AllocError, Global};
 use std::io::ErrorKind;
 use std::process::ExitCode;

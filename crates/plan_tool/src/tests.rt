@@ -6,7 +6,6 @@ mod fleets;
 mod gates;
 mod growing;
 mod hands;
-mod in_order;
 mod kept;
 mod pieces;
 mod plans;

@@ -153,7 +153,13 @@ impl Recovery {
                 Ok(messages)
             }
             Some(found) => {
-                let messages = later_installs(alloc, self.volume, &self.group_states, found, places)?;
+                let messages = later_installs(
+                    alloc,
+                    self.volume,
+                    &self.group_states,
+                    found,
+                    places,
+                )?;
                 self.group_states.follow(places)?;
                 Ok(messages)
             }

@@ -20,7 +20,11 @@ use writer_core::{GroupStates, group_installs, label_at};
 ///
 /// # Errors
 /// `AllocError` if there is no memory.
-pub fn fences(alloc: Global, volume: u32, group_states: &GroupStates) -> Result<Vec<Message>, AllocError>
+pub fn fences(
+    alloc: Global,
+    volume: u32,
+    group_states: &GroupStates,
+) -> Result<Vec<Message>, AllocError>
     ensures { IfOk result (λ messages. messages_of messages.items ≡ fences (length (groups_in group_states.now)) volume (place_of (groups_in group_states.now)) (λ group. true)) }
 {
     let mut messages = Vec::new(alloc);

@@ -5,9 +5,9 @@
 
 mod books;
 mod broken;
-mod commands;
 mod fleets;
 mod groups;
+mod invocations;
 mod judge;
 mod long;
 mod outcome;

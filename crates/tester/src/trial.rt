@@ -1,14 +1,14 @@
 //! One run of a seed: a plan, a script, and what is said of them.
 
 use crate::broken::Broken;
-use crate::commands::{fleet, run, say};
 use crate::fleets::{check_alike, check_fleet};
+use crate::invocations::{fleet, run, say};
 use crate::judge::{Shown, check_run};
 use crate::outcome::Outcome;
 use crate::plans::Plan;
 use crate::schedule::Schedule;
 use crate::written::Written;
-use command_line::Job;
+use commands::Job;
 use fuzzing::{CommandOutput, Rng};
 use std::alloc::{AllocError, Global};
 use std::sync::Wait;

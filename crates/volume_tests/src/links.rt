@@ -15,8 +15,7 @@ struct Link {
 
 // Whether these records lead from the number down to 0.
 fn is_reached(chains: &Chains, held: &[Link], number: u64) -> bool {
-    number == 0
-        || held.iter().any(|link| link.number == number && !chains.has_pending(link.before))
+    number == 0 || held.iter().any(|link| link.number == number && !chains.has_pending(link.before))
 }
 
 // Takes a record up, and tells the complete point.

@@ -24,6 +24,6 @@ pub use acts::{AuthorityAct, ClientAct};
 pub use client::{Client, ClientState};
 pub use event::{Event, Order};
 pub use nodes::slot;
-pub use outcome::{RecoveryOutcome, Outcome, WriterOutcome};
+pub use outcome::{Outcome, RecoveryOutcome, WriterOutcome};
 pub use recovery::Found;
 pub use running::{promised, run, run_orders};

@@ -2,9 +2,9 @@
 
 ghost use Rattle.std.specs.Prelude.{◌≡◌, length};
 
+use crate::group_states::GroupStates;
 use crate::last_lsns::GROUPS;
 use crate::log::Log;
-use crate::group_states::GroupStates;
 use redo_record::Record;
 
 /// How far a log is covered: a record is where its LSN is not above the point of its group.

@@ -6,8 +6,8 @@ ghost use Rattle.plan.specs.CheckedModel.{checked_model};
 ghost use Rattle.writer_core.specs.GroupStates.{groups_of, ArePlaced};
 
 use crate::count::Count;
-use crate::moving::{are_places, extend, follow, raise, reread};
 use crate::group_state::GroupState;
+use crate::moving::{are_places, extend, follow, raise, reread};
 use plan::CheckedPlan;
 use std::alloc::{AllocError, AllocFailed, Global};
 use std::sync::Arc;

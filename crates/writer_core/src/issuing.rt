@@ -18,9 +18,9 @@ ghost use Rattle.writer_core.specs.Changes.{change_of, changes_of};
 ghost use Rattle.writer_core.specs.Carried.{carried_write};
 
 use crate::change::Change;
+use crate::group_states::GroupStates;
 use crate::last_lsns::LastLsns;
 use crate::log::Log;
-use crate::group_states::GroupStates;
 use redo_record::{Record, SharedRecord};
 use std::alloc::{AllocError, Global};
 use std::mem;

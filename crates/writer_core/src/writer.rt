@@ -11,11 +11,11 @@ ghost use Rattle.volume_model.specs.Client.{group_point_of};
 
 use crate::change::Change;
 use crate::durability::DurabilityTracker;
+use crate::group_states::GroupStates;
 use crate::installs::unjoined_installs;
 use crate::issuing::{Span, append, carry, room_for};
 use crate::last_lsns::LastLsns;
 use crate::log::Log;
-use crate::group_states::GroupStates;
 use crate::transaction::{have_joined, is_transaction};
 use lineage::Lineage;
 use plan::CheckedPlan;
@@ -84,7 +84,12 @@ impl Writer {
     /// Returns the writer of a later volume epoch, from what its recovery keeps of the groups, with the recovery's lineage and the
     /// log that it found. In each group a write set must have acknowledged what the recovery installed
     /// ([`Standings::has_installed`]). Takes no memory.
-    pub fn opened(group_states: GroupStates, volume: u32, lineage: Lineage, found: RecordSet) -> Writer
+    pub fn opened(
+        group_states: GroupStates,
+        volume: u32,
+        lineage: Lineage,
+        found: RecordSet,
+    ) -> Writer
         requires assigned { 1 ≤ volume }
         requires installed { has_installed (group_states_plan group_states) (keeping (groups_in group_states)) ≡ true }
         requires growing { is_growing (log_of_set found) ≡ true }
@@ -194,7 +199,9 @@ impl Writer {
             return Ok(());
         }
         self.group_states.count(ack)?;
-        if ack.scl <= self.group_states.point(ack.group) && self.group_states.has_joined(ack.group) {
+        if ack.scl <= self.group_states.point(ack.group)
+            && self.group_states.has_joined(ack.group)
+        {
             return Ok(());
         }
         self.group_states.raise_group(ack.group);

@@ -1,8 +1,7 @@
 //! Files and outputs that fail.
 
 use super::said::{SIX_COPIES, done, job, missing, said};
-use command_line::{Action, Job};
-use jobs::{Output, Source, opened, perform};
+use commands::{Action, Job, Output, Source, opened, perform};
 use std::alloc::Global;
 use std::io;
 use std::io::{ErrorKind, Read, Write};

@@ -5,7 +5,7 @@ ghost use Rattle.std.specs.Prelude.{◌≤◌};
 use super::said::{Outputs, SIX_COPIES, job_of, said};
 use super::texts::REPLACED;
 use super::volumes::{EARLY_ACKNOWLEDGEMENT, MADE_WHOLE, RECOVERED, WRITTEN};
-use command_line::Action;
+use commands::Action;
 use std::alloc::Global;
 use std::sync::Wait;
 use std::thread::Threads;

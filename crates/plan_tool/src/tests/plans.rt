@@ -1,7 +1,7 @@
 //! The largest plan and the largest certificate.
 
 use super::said::{job, says};
-use command_line::Action;
+use commands::Action;
 use std::alloc::{AllocError, Global};
 use std::sync::Wait;
 use std::test::*;

@@ -2,8 +2,7 @@
 
 ghost use Rattle.std.specs.Prelude.{◌≤◌};
 
-use command_line::{Action, Job};
-use jobs::{Output, Source, perform};
+use commands::{Action, Job, Output, Source, perform};
 use std::alloc::Global;
 use std::io;
 use std::io::{ErrorKind, Read};

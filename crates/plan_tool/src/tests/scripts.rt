@@ -1,7 +1,7 @@
 //! Scripts that no text in a file shows: of too many lines, and with bytes that aren't text.
 
 use super::said::{SIX_COPIES, job, says};
-use command_line::Action;
+use commands::Action;
 use std::alloc::{AllocError, Global};
 use std::sync::Wait;
 use std::thread::Threads;

@@ -2,8 +2,7 @@
 
 use super::files::Room;
 use super::said::missing;
-use command_line::{Action, Job};
-use jobs::{Output, Source, perform};
+use commands::{Action, Job, Output, Source, perform};
 use std::alloc::Global;
 use std::sync::Wait;
 use std::test::*;

@@ -4,7 +4,7 @@ use super::fleet_runs::fleet;
 use super::said::{job, said};
 use super::texts::REPLACED;
 use super::volumes::EARLY_ACKNOWLEDGEMENT;
-use command_line::Action;
+use commands::Action;
 use std::alloc::{AllocError, Global};
 use std::sync::Wait;
 use std::test::*;

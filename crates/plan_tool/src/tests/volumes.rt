@@ -1,7 +1,7 @@
 //! Scripts that several tests run, and what a run tells of them.
 
 use super::said::{job, says};
-use command_line::Action;
+use commands::Action;
 use std::alloc::{AllocError, Global};
 use std::sync::Wait;
 use std::thread::Threads;

@@ -2,7 +2,7 @@
 
 use super::expressions::{Row, expr, misread};
 use super::said::{job, said, says};
-use command_line::Action;
+use commands::Action;
 use quorum_expr::{Expr, Lists, MemberSet, dual_in, valid};
 use std::alloc::Global;
 use std::sync::Wait;

@@ -1,6 +1,6 @@
 //! Words of the command line.
 
-use command_line::{Action, job};
+use commands::{Action, job};
 use std::alloc::{AllocError, Global};
 use std::test::*;
 

@@ -2,8 +2,8 @@
 
 use crate::books::case::{Case, Question};
 use crate::books::wrong::Wrong;
-use crate::commands::{check, say};
-use command_line::{Job, job};
+use crate::invocations::{check, say};
+use commands::{Job, job};
 use fuzzing::CommandOutput;
 use std::alloc::{AllocError, Global};
 use std::sync::Wait;

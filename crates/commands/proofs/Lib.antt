@@ -1,0 +1,12 @@
+pub mod Entered
+pub mod Numbers
+pub mod Refused
+pub mod Calls
+pub mod Due
+pub mod Failing
+pub mod Findings
+pub mod Fitting
+pub mod Given
+pub mod Says
+pub mod Searching
+pub mod Telling

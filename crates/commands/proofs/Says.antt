@@ -1,0 +1,54 @@
+-- What an exit status says.
+use Rattle.std.proofs.Common.{◌≡◌, ap, inl, inr, subst, ℕ, ◌<◌, List, [], Bool, true, false, Option, Some, None, IfSome, take, arith}
+use Rattle.plan.specs.FaultKinds.{is_input}
+use Rattle.commands.specs.Answer.{Answer, line_answer}
+use Rattle.commands.specs.Answers.{AnswersOf, ChecksTo, File}
+use Rattle.commands.specs.Answers.AnswersOf.{read, unread, unmade}
+use Rattle.commands.specs.Answers.PlanAnswers.{faulty, certified}
+use Rattle.commands.specs.Searched.{SearchesTo}
+use Rattle.commands.specs.Streams.{Delivers, Ends, Gets, IsTextOf}
+use Rattle.commands.specs.Streams.Delivers.{given, untold, unprinted}
+use Rattle.commands.specs.Verdict.{IsFaultyText}
+use Rattle.commands.specs.declared.outputs.Output.{Output}
+use Rattle.commands.proofs.Searching.{is_quiet}
+
+-- the text of a file whose bytes are known
+known : (P : List ℕ → Type 0) (o : Option (List ℕ)) (text : List ℕ) → IsTextOf o text → P text → IfSome o (λ bytes. P (take 16777217 bytes))
+known P None text is p = tt
+known P (Some bytes) text is p = subst P is p
+
+-- a line is no yes, and that of an input is no refusal either
+not_yes : (a : Answer) (input : Bool) (line : List ℕ) → a ≡ line_answer input line → a.status ≡ 0 → ⊥
+not_yes a true line e zero = let two = ap (λ (b : Answer). b.status) e in absurd (omega arith)
+not_yes a false line e zero = let one = ap (λ (b : Answer). b.status) e in absurd (omega arith)
+
+not_no : (a : Answer) (line : List ℕ) → a ≡ line_answer true line → a.status ≡ 1 → ⊥
+not_no a line e one = let two = ap (λ (b : Answer). b.status) e in absurd (omega arith)
+
+-- an answer below 2 was given
+was_given : {O E : Type 0} (out : O → Option (List ℕ)) (err : E → Option (List ℕ)) (a : Answer) (status : ℕ) (out_old out_new : Output O) (err_old err_new : Output E)
+    → Delivers out err a status out_old out_new err_old err_new → status < 2 → (status ≡ a.status) × Gets err err_old err_new a.err
+was_given out err a status out_old out_new err_old err_new (given is printed told) small = (is, told)
+was_given out err a status out_old out_new err_old err_new (untold is broken same) small = absurd (omega arith)
+was_given out err a status out_old out_new err_old err_new (unprinted is broken line) small = absurd (omega arith)
+
+-- a status below 2 is that of the answer, and what it says to standard error was written
+pub ends_below : {O E : Type 0} (out : O → Option (List ℕ)) (err : E → Option (List ℕ)) (Due : Answer → Type 0) (status : ℕ) (out_old out_new : Output O) (err_old err_new : Output E)
+    → Ends out err Due status out_old out_new err_old err_new → status < 2 → (a : Answer) × Due a × (status ≡ a.status) × Gets err err_old err_new a.err
+ends_below out err Due status out_old out_new err_old err_new h small =
+    let was = was_given out err h.answer status out_old out_new err_old err_new h.given small in
+    (h.answer, h.due, was.0, was.1)
+
+-- the answer 1 of a check
+pub no_due : (file : File) (a : Answer) → AnswersOf file ChecksTo a → a.status ≡ 1 → IfSome file.known (λ bytes. IsFaultyText (take 16777217 bytes))
+no_due file a (read text whole is (faulty fault bad said)) one = known IsFaultyText file.known text is (fault, bad)
+no_due file a (read text whole is (certified h said)) one = let zero = ap (λ (b : Answer). b.status) said in absurd (omega arith)
+no_due file a (unread failed said) one = absurd (not_no a _ said one)
+no_due file a (unmade said) one = absurd (not_no a _ said one)
+
+-- the answer 0 of a search says nothing to standard error
+pub search_silent : (file : File) (a : Answer) → AnswersOf file SearchesTo a → a.status ≡ 0 → a.err ≡ []
+search_silent file a (read text whole is (inl (fault, bad, said))) zero = absurd (not_yes a (is_input fault) _ said zero)
+search_silent file a (read text whole is (inr told)) zero = is_quiet text a.status a.out a.err told zero
+search_silent file a (unread failed said) zero = absurd (not_yes a true _ said zero)
+search_silent file a (unmade said) zero = absurd (not_yes a true _ said zero)

@@ -1,0 +1,16 @@
+use Rattle.std.proofs.Common.{sym}
+use Rattle.clap.specs.Words.{found_of, rows_of}
+use Rattle.clap.specs.declared.parser.matches.ArgMatches.TheViews.{out-ArgMatches}
+use Rattle.commands.proofs.Entered.{is_entered}
+use Rattle.commands.proofs.words.job_of.Goals as goal
+
+pub returns-clause-job : goal.returns-clause-job
+returns-clause-job c =
+    let rows = rows_of (found_of c.in-Some.inner.now) in
+    record {
+      rows = rows;
+      entered = rw (← c.in-Some-action_of.ensures.named) (is_entered (out-ArgMatches c.args.matches.now).subcommand c.in-Some.name.now rows c.in-Some.ensures.name c.in-Some.ensures.rows);
+      plan = sym c.in-Some-text_of.ensures;
+      script = c.text_of-script.ensures;
+      workers = c.in-Some-workers_of.ensures.number;
+    }

@@ -1,0 +1,27 @@
+-- What a job has of the words that named it.
+use Rattle.std.specs.Prelude.{◌≡◌, ℕ, List, Option, Some, None, codes, option_map}
+use Rattle.std.specs.Str.Parse.{IsNumeral, digits_value, without_leading_plus}
+use Rattle.clap.specs.Words.{Row, Text, first_of, one_of}
+use Rattle.commands.specs.declared.action.Action.{Action}
+use Rattle.commands.specs.declared.action.Action.TheVariants.{Check, Run, Fleet, Search}
+use Rattle.commands.specs.declared.action.Job.{Job}
+
+-- the subcommand of an action
+abbrev pub name_of : Action → Text
+name_of Check = codes "check"
+name_of Run = codes "run"
+name_of Fleet = codes "fleet"
+name_of Search = codes "search"
+
+-- the number that a text spells, and 4 where there is no text
+abbrev pub IsNumberOf : Option Text → ℕ → Type 0
+IsNumberOf None n = n ≡ 4
+IsNumberOf (Some text) n = IsNumeral 10 (without_leading_plus text) × (n ≡ digits_value 10 (without_leading_plus text))
+
+-- the subcommand that clap entered, and what it has for each id
+pub record IsJob (found : Option (Text × List Row)) (j : Job) : Type 0 where
+  pub rows : List Row
+  pub entered : found ≡ Some (name_of j.action, rows)
+  pub plan : first_of (codes "plan") rows ≡ Some j.plan.now
+  pub script : option_map (λ w. w.now) j.script ≡ first_of (codes "script") rows
+  pub workers : IsNumberOf (one_of (codes "workers") rows) j.workers

@@ -1,0 +1,16 @@
+pub mod CommandLine
+pub mod Jobs
+pub mod Usage
+pub mod Answer
+pub mod Stops
+pub mod Failures
+pub mod Streams
+pub mod Verdict
+pub mod Told
+pub mod ToldLines
+pub mod ToldFleet
+pub mod Answers
+pub mod Read
+pub mod Unfound
+pub mod Searched
+pub mod Explained

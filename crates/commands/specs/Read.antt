@@ -1,0 +1,32 @@
+-- What the program has of its files' texts.
+use Rattle.std.specs.Prelude.{◌≡◌, ℕ, List, false, None, Ok}
+use Rattle.volume_model.specs.Plan.{IsCertified}
+use Rattle.plan.specs.CheckedModel.{checked_model}
+use Rattle.plan.specs.Plan.{plan_data}
+use Rattle.plan.specs.PlanText.{plan_of}
+use Rattle.plan.specs.PlanFaults.{plan_fault}
+use Rattle.plan.specs.declared.checked.CheckedPlan.{CheckedPlan}
+use Rattle.script.specs.Grammar.{Deed}
+use Rattle.script.specs.Script.{IsScript, Keeps}
+use Rattle.script.specs.declared.reading.Script.{Script}
+use Rattle.commands.specs.Answers.{File}
+use Rattle.commands.specs.Streams.{IsTextOf}
+
+-- the text spells this plan, and it has no fault
+pub record IsPlanOf (text : List ℕ) (checked : CheckedPlan) : Type 0 where
+  pub spelled : plan_of text ≡ Ok (plan_data checked.plan)
+  pub faultless : plan_fault (plan_data checked.plan) ≡ None
+  pub certified : IsCertified (checked_model checked)
+
+-- the text is a script, and this is what the program has of it
+pub record IsScriptOf (text : List ℕ) (script : Script) : Type 0 where
+  pub deeds : List Deed
+  pub spelled : IsScript text deeds
+  pub keeps : Keeps script deeds
+
+-- the file was read, and this is so of its text
+pub record IsRead (file : File) (IsSo : List ℕ → Type 0) : Type 0 where
+  pub text : List ℕ
+  pub whole : file.failed ≡ false
+  pub is_text : IsTextOf file.known text
+  pub is_so : IsSo text

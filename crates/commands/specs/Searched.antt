@@ -1,0 +1,69 @@
+-- What a search prints of the bytes of its file.
+use Rattle.std.specs.Prelude.{◌≡◌, ◌⊎◌, ℕ, ◌-◌, ◌<◌, ◌≤◌, List, ◌++◌, length, replicate, Option, None, Result, Ok, Err, codes, string_bytes}
+use Rattle.refutation.specs.Rule.{Rule}
+use Rattle.plan.specs.declared.fault.PlanFault.{PlanFault}
+use Rattle.plan.specs.PlanData.{PlanData}
+use Rattle.plan.specs.PlanFaults.{plan_fault}
+use Rattle.plan.specs.PlanText.{◌>=>◌, plan_of}
+use Rattle.plan.specs.PlanClaims.{PlacedClaim, claims_in}
+use Rattle.plan.specs.WithCertificates.{with_certificates}
+use Rattle.plan.specs.Written.{IsCompact, rewritten, spelt}
+use Rattle.cert_search.specs.Answers.{AreAnswers}
+use Rattle.cert_search.specs.Kept.{AreKept}
+use Rattle.commands.specs.Answer.{Answer, fault_answer}
+use Rattle.commands.specs.Stops.{stop_answer}
+use Rattle.commands.specs.Unfound.{found_status, unfound_lines}
+use Rattle.commands.specs.declared.reply.Stop.{Stop}
+use Rattle.commands.specs.declared.reply.Found.{Found}
+
+-- the claims of the plan that a text spells, or the first fault of the text or of its claims
+abbrev pub claims_of : List ℕ → Result (List PlacedClaim) PlanFault
+claims_of text = plan_of text >=> claims_in
+
+-- a line of compact JSON that spells this plan
+pub record IsPlanLine (plan : PlanData) (line : List ℕ) : Type 0 where
+  pub text : List ℕ
+  pub spelled : spelt text ≡ Ok plan
+  pub compact : IsCompact text
+  pub line_is : line ≡ text ++ codes "\n"
+
+-- a line of compact JSON that spells the plan of a text with these certificates
+abbrev pub IsLineWith : List ℕ → List (Option Rule) → List ℕ → Type 0
+IsLineWith text rules line = (plan : PlanData) × (rewritten text rules ≡ Ok plan) × IsPlanLine plan line
+
+-- the room for certificates that the line of a text's plan without any leaves in 16,777,216 bytes
+abbrev pub IsRoom : List ℕ → ℕ → ℕ → Type 0
+IsRoom text places room = (line : List ℕ) × IsLineWith text (replicate places None) line × (room ≡ 16777216 - length line)
+
+-- All certificates stay where the line of a text's plan with them has at most 16,777,216 bytes; else the shortest do, as many as the line without any has
+-- room for.
+abbrev pub AreFitted : List ℕ → List (Option Rule) → List (Option Rule) → Type 0
+AreFitted text found kept =
+    ((line : List ℕ) × IsLineWith text found line × (length line ≤ 16777216) × (kept ≡ found))
+    ⊎ ((line : List ℕ) × (room : ℕ) × IsLineWith text found line × (16777216 < length line) × IsRoom text (length found) room × AreKept room found kept)
+
+-- The plan's text spells a plan that has claims, and what is printed is a line that spells this plan with what was found for its
+-- claims with a budget of 100,000 and fits, and a line for each of them for which nothing was or doesn't fit. The status is 0 exactly where there is no such line, and then that
+-- plan has no fault.
+pub record TellsSearch (plan : List ℕ) (status : ℕ) (text notes : List ℕ) : Type 0 where
+  pub data_of : PlanData
+  pub spelled : plan_of plan ≡ Ok data_of
+  pub claims : List PlacedClaim
+  pub listed : claims_in data_of ≡ Ok claims
+  pub found : List (Option Rule)
+  pub answers : AreAnswers 100000 claims found
+  pub rules : List (Option Rule)
+  pub fitted : AreFitted plan found rules
+  pub line : IsPlanLine (with_certificates data_of rules) text
+  pub notes_are : notes ≡ unfound_lines claims rules
+  pub status_is : status ≡ found_status rules
+  pub faultless : status ≡ 0 → plan_fault (with_certificates data_of rules) ≡ None
+
+-- what a search answers to a plan's text: the first fault of the text or of its claims, or what the search found
+abbrev pub SearchesTo : List ℕ → Answer → Type 0
+SearchesTo text answer = ((fault : PlanFault) × (claims_of text ≡ Err fault) × (answer ≡ fault_answer fault)) ⊎ TellsSearch text answer.status answer.out answer.err
+
+-- what was found, as an answer
+abbrev pub found_answer : Result Found Stop → Answer
+found_answer (Ok found) = record { status = found.status; out = found.plan.items; err = string_bytes found.unfound }
+found_answer (Err stop) = stop_answer stop

@@ -1,0 +1,61 @@
+-- What is answered where a job ends before its own answer.
+use Rattle.std.specs.Prelude.{ℕ, List, ◌++◌, Bool, true, Result, Ok, Err, codes, string_bytes}
+use Rattle.std.specs.Fmt.{decimal}
+use Rattle.plan.specs.FaultKinds.{is_input}
+use Rattle.plan.specs.PlanFaultText.{plan_fault_text}
+use Rattle.volume_model.specs.declared.fault.Fault.TheVariants as faults
+use Rattle.plan.specs.declared.fault.PlanFault.{PlanFault}
+use Rattle.plan.specs.declared.fault.PlanFault.TheVariants.{Text}
+use Rattle.script.specs.Script.{IsFirstBad}
+use Rattle.script.specs.declared.reading.ScriptFault.{ScriptFault}
+use Rattle.script.specs.declared.reading.ScriptFault.TheVariants as scripts
+use Rattle.commands.specs.Answer.{Answer, line_answer, printed}
+use Rattle.commands.specs.declared.reply.Reply.{Reply}
+use Rattle.commands.specs.declared.reply.Stop.{Stop}
+use Rattle.commands.specs.declared.reply.Stop.TheVariants.{Unreadable, Plan, Line, NoMemory}
+
+-- an input can't be used
+abbrev pub is_input_stop : Stop → Bool
+is_input_stop (Unreadable name) = true
+is_input_stop (Plan fault) = is_input fault
+is_input_stop (Line number) = true
+is_input_stop NoMemory = true
+
+-- the line of why a job ends
+abbrev pub stop_line : Stop → List ℕ
+stop_line (Unreadable name) = codes "input: cannot read " ++ name.now ++ codes "\n"
+stop_line (Plan fault) = plan_fault_text fault ++ codes "\n"
+stop_line (Line number) = codes "input: line " ++ decimal number ++ codes "\n"
+stop_line NoMemory = codes "input: 9 NoMemory\n"
+
+abbrev pub stop_answer : Stop → Answer
+stop_answer stop = line_answer (is_input_stop stop) (stop_line stop)
+
+-- what is answered with a reply, or before there is one
+abbrev pub answer_of : Result Reply Stop → Answer
+answer_of (Ok reply) = printed reply.status (string_bytes reply.text)
+answer_of (Err stop) = stop_answer stop
+
+-- why a job ends whose plan has a fault
+abbrev pub plan_stop : PlanFault → Stop
+plan_stop (Text faults.NoMemory) = NoMemory
+plan_stop fault = Plan fault
+
+-- why a job ends whose script can't be run
+abbrev pub script_stop : ScriptFault → Stop
+script_stop (scripts.Line number) = Line number
+script_stop scripts.NoMemory = NoMemory
+
+-- The job ends by the first bad line of its script's text, or memory ran out.
+abbrev pub StopsAtLine : List ℕ → Stop → Type 0
+StopsAtLine text (Unreadable name) = ⊥
+StopsAtLine text (Plan fault) = ⊥
+StopsAtLine text (Line number) = IsFirstBad text number
+StopsAtLine text NoMemory = Unit {0}
+
+-- The job ends by a fault of its plan of which this is so, or memory ran out.
+abbrev pub StopsBy : (PlanFault → Type 0) → Stop → Type 0
+StopsBy IsSo (Unreadable name) = ⊥
+StopsBy IsSo (Plan fault) = IsSo fault
+StopsBy IsSo (Line number) = ⊥
+StopsBy IsSo NoMemory = Unit {0}

@@ -1,0 +1,255 @@
+//! A job, done on the contents of its files.
+
+ghost use Rattle.std.specs.Prelude.{◌≡◌, ◌≢◌, ◌≤◌, ◌<◌, IfErr, IfOk, IfSome, string_bytes, take};
+ghost use Rattle.plan.specs.CheckedModel.{checked_model};
+ghost use Rattle.commands.specs.declared.action.Action.TheVariants.{Check, Fleet, Run, Search};
+ghost use Rattle.commands.specs.Answer.{IsSaid};
+ghost use Rattle.commands.specs.Answers.{AnswersOf, ChecksTo, FleetsTo, RunsTo, file_of, script_name};
+ghost use Rattle.commands.specs.Searched.{SearchesTo};
+ghost use Rattle.commands.specs.Stops.{answer_of, stop_answer};
+ghost use Rattle.commands.specs.Streams.{Ends, FailsByRead, FailsByWrite, left_of};
+ghost use Rattle.commands.specs.Told.{plan_line};
+ghost use Rattle.commands.specs.Verdict.{IsCertifiedText, IsFaultyText};
+ghost use Rattle.commands.specs.declared.reply.Stop.TheVariants.{NoMemory};
+
+use crate::fallible::{FallibleRead, FallibleWrite};
+use crate::files::Source;
+use crate::inputs::checked;
+use crate::leaving::leave;
+use crate::outputs::{Output, deliver};
+use crate::reply::{Reply, Stop};
+use crate::running::{fleet, run};
+use crate::search::search;
+use crate::told::checked_line;
+use crate::{Action, Job};
+use plan::CheckedPlan;
+use std::alloc::Global;
+use std::sync::Wait;
+use std::thread::Threads;
+
+/// Returns the answer to the check of a plan without a fault.
+fn plan_told(alloc: Global, plan: &CheckedPlan) -> Result<Reply, Stop<'static>>
+    ensures yes { IfOk result (λ reply. reply.status ≡ 0) }
+    ensures line { IfOk result (λ reply. string_bytes reply.text ≡ plan_line (checked_model plan.now)) }
+    ensures stop { IfErr result (λ stop. stop ≡ NoMemory) }
+{
+    let text = checked_line(alloc, plan)?;
+    Ok(Reply { status: 0, text })
+}
+
+/// Returns the answer of `check`.
+fn check<'a, P: FallibleRead>(
+    alloc: Global,
+    name: &'a str,
+    plan: &mut Source<P>,
+) -> Result<Reply, Stop<'a>>
+    ensures answers { AnswersOf (file_of P.remaining name.entry.now plan.old plan.new) ChecksTo (answer_of result) }
+    ensures reason { FailsByRead P.answers plan.old plan.new }
+{
+    match checked(alloc, name, plan) {
+        Ok(plan) => {
+            let told = plan_told(alloc, &plan);
+            leave(plan);
+            told
+        }
+        Err(stop) => Err(stop),
+    }
+}
+
+/// Prints why a job ends before its own answer.
+fn refuse<O: FallibleWrite, E: FallibleWrite>(
+    alloc: Global,
+    stop: &Stop<'_>,
+    out: &mut Output<O>,
+    err: &mut Output<E>,
+) -> u8
+    ensures status { result ≤ 2 }
+    ensures ends { Ends O.contents E.contents (IsSaid (stop_answer stop.now)) result out.old out.new err.old err.new }
+    ensures out_written { FailsByWrite O.answers out.old out.new }
+    ensures err_written { FailsByWrite E.answers err.old err.new }
+{
+    match format!(in alloc; "{stop}") {
+        Ok(line) if stop.is_input() => deliver(2, b"", line.as_bytes(), out, err),
+        Ok(line) => deliver(1, line.as_bytes(), b"", out, err),
+        Err(_) => deliver(2, b"", b"input: 9 NoMemory\n", out, err),
+    }
+}
+
+/// Prints a job's answer, or why it ends before it.
+fn finish<O: FallibleWrite, E: FallibleWrite>(
+    alloc: Global,
+    answer: &Result<Reply, Stop<'_>>,
+    out: &mut Output<O>,
+    err: &mut Output<E>,
+) -> u8
+    ensures status { result ≤ 2 }
+    ensures ends { Ends O.contents E.contents (IsSaid (answer_of answer.now)) result out.old out.new err.old err.new }
+    ensures out_written { FailsByWrite O.answers out.old out.new }
+    ensures err_written { FailsByWrite E.answers err.old err.new }
+{
+    match answer {
+        Ok(reply) => deliver(reply.status, reply.text.as_bytes(), b"", out, err),
+        Err(stop) => refuse(alloc, stop, out, err),
+    }
+}
+
+/// Performs a check, as [`perform`] does.
+fn perform_check<P: FallibleRead, O: FallibleWrite, E: FallibleWrite>(
+    alloc: Global,
+    job: &Job<'_>,
+    plan: &mut Source<P>,
+    out: &mut Output<O>,
+    err: &mut Output<E>,
+) -> u8
+    ensures status { result ≤ 2 }
+    ensures yes { result ≡ 0 → IfSome (left_of P.remaining plan.old) (λ bytes. IsCertifiedText (take 16777217 bytes)) }
+    ensures no { result ≡ 1 → IfSome (left_of P.remaining plan.old) (λ bytes. IsFaultyText (take 16777217 bytes)) }
+    ensures quiet { result < 2 → err.new ≡ err.old }
+    ensures ends { Ends O.contents E.contents (AnswersOf (file_of P.remaining job.now.plan.now plan.old plan.new) ChecksTo) result out.old out.new err.old err.new }
+    ensures plan_read { FailsByRead P.answers plan.old plan.new }
+    ensures out_written { FailsByWrite O.answers out.old out.new }
+    ensures err_written { FailsByWrite E.answers err.old err.new }
+{
+    let answer = check(alloc, job.plan, plan);
+    finish(alloc, &answer, out, err)
+}
+
+/// Performs a run, as [`perform`] does.
+fn perform_run<P: FallibleRead, S: FallibleRead, O: FallibleWrite, E: FallibleWrite>(
+    alloc: Global,
+    job: &Job<'_>,
+    plan: &mut Source<P>,
+    script: &mut Source<S>,
+    out: &mut Output<O>,
+    err: &mut Output<E>,
+) -> u8
+    ensures status { result ≤ 2 }
+    ensures yes { result ≡ 0 → IfSome (left_of P.remaining plan.old) (λ bytes. IsCertifiedText (take 16777217 bytes)) }
+    ensures quiet { result < 2 → err.new ≡ err.old }
+    ensures ends { Ends O.contents E.contents (AnswersOf (file_of P.remaining job.now.plan.now plan.old plan.new) (RunsTo (file_of S.remaining (script_name job.now) script.old script.new))) result out.old out.new err.old err.new }
+    ensures plan_read { FailsByRead P.answers plan.old plan.new }
+    ensures script_read { FailsByRead S.answers script.old script.new }
+    ensures out_written { FailsByWrite O.answers out.old out.new }
+    ensures err_written { FailsByWrite E.answers err.old err.new }
+{
+    let answer = run(alloc, job, plan, script);
+    finish(alloc, &answer, out, err)
+}
+
+/// Performs a run on threads, as [`perform`] does.
+fn perform_fleet<
+    H: Threads + Wait + Sync,
+    P: FallibleRead,
+    S: FallibleRead,
+    O: FallibleWrite,
+    E: FallibleWrite,
+>(
+    rt: &H,
+    alloc: Global,
+    job: &Job<'_>,
+    plan: &mut Source<P>,
+    script: &mut Source<S>,
+    out: &mut Output<O>,
+    err: &mut Output<E>,
+) -> u8
+    ensures status { result ≤ 2 }
+    ensures yes { result ≡ 0 → IfSome (left_of P.remaining plan.old) (λ bytes. IsCertifiedText (take 16777217 bytes)) }
+    ensures quiet { result < 2 → err.new ≡ err.old }
+    ensures ends { Ends O.contents E.contents (AnswersOf (file_of P.remaining job.now.plan.now plan.old plan.new) (FleetsTo (file_of S.remaining (script_name job.now) script.old script.new))) result out.old out.new err.old err.new }
+    ensures plan_read { FailsByRead P.answers plan.old plan.new }
+    ensures script_read { FailsByRead S.answers script.old script.new }
+    ensures out_written { FailsByWrite O.answers out.old out.new }
+    ensures err_written { FailsByWrite E.answers err.old err.new }
+{
+    let answer = fleet(rt, alloc, job, plan, script);
+    finish(alloc, &answer, out, err)
+}
+
+/// Performs a search, as [`perform`] does.
+fn perform_search<H: Threads + Wait + Sync, P: FallibleRead, O: FallibleWrite, E: FallibleWrite>(
+    rt: &H,
+    alloc: Global,
+    job: &Job<'_>,
+    plan: &mut Source<P>,
+    out: &mut Output<O>,
+    err: &mut Output<E>,
+) -> u8
+    ensures status { result ≤ 2 }
+    ensures silent { result ≡ 0 → err.new ≡ err.old }
+    ensures ends { Ends O.contents E.contents (AnswersOf (file_of P.remaining job.now.plan.now plan.old plan.new) SearchesTo) result out.old out.new err.old err.new }
+    ensures plan_read { FailsByRead P.answers plan.old plan.new }
+    ensures out_written { FailsByWrite O.answers out.old out.new }
+    ensures err_written { FailsByWrite E.answers err.old err.new }
+{
+    match search(rt, alloc, job, plan) {
+        Ok(found) => deliver(
+            found.status,
+            found.plan.as_slice(),
+            found.unfound.as_bytes(),
+            out,
+            err,
+        ),
+        Err(stop) => refuse(alloc, &stop, out, err),
+    }
+}
+
+/// Performs a job on the contents of its files, prints its answer, and returns the exit status: 0 for yes, 1 for a
+/// refusal, 2 for an input that can't be used (printed to `err` alone) or an output that can't be written. Only `run`
+/// and `fleet` read the script; only `fleet` and `search` start threads. It may leak memory to the end of the
+/// process.
+pub fn perform<
+    H: Threads + Wait + Sync,
+    P: FallibleRead,
+    S: FallibleRead,
+    O: FallibleWrite,
+    E: FallibleWrite,
+>(
+    rt: &H,
+    alloc: Global,
+    job: &Job<'_>,
+    plan: &mut Source<P>,
+    script: &mut Source<S>,
+    out: &mut Output<O>,
+    err: &mut Output<E>,
+) -> u8
+    ensures status { result ≤ 2 }
+
+    // The status 0 of a check, a run or a fleet says that the plan's text spells a plan without a fault, whose quorums all meet.
+    ensures yes { job.now.action ≢ Search → result ≡ 0 → IfSome (left_of P.remaining plan.old) (λ bytes. IsCertifiedText (take 16777217 bytes)) }
+
+    // A check answers 1 only where the text has a fault.
+    ensures no { job.now.action ≡ Check → result ≡ 1 → IfSome (left_of P.remaining plan.old) (λ bytes. IsFaultyText (take 16777217 bytes)) }
+    ensures quiet { job.now.action ≢ Search → result < 2 → err.new ≡ err.old }
+
+    // With the status 0 nothing is written to `err`, by a search neither.
+    ensures silent { result ≡ 0 → err.new ≡ err.old }
+
+    // What a check answers and writes is due to the text of its file: the line of the plan that the text spells, or of its first fault.
+    ensures checks { job.now.action ≡ Check → Ends O.contents E.contents (AnswersOf (file_of P.remaining job.now.plan.now plan.old plan.new) ChecksTo) result out.old out.new err.old err.new }
+
+    // What a run answers and writes is due to the texts of its files: the line of the plan's first fault; or, over the plan that it spells,
+    // the number of the script's first bad line, or what the model's run of the script tells.
+    ensures runs { job.now.action ≡ Run → Ends O.contents E.contents (AnswersOf (file_of P.remaining job.now.plan.now plan.old plan.new) (RunsTo (file_of S.remaining (script_name job.now) script.old script.new))) result out.old out.new err.old err.new }
+
+    // What a fleet answers and writes is due to the texts of its files: the line of the plan's first fault; or, over the plan that it spells,
+    // the number of the script's first bad line, or what tells of the threads' run of as many events as the script has.
+    ensures fleets { job.now.action ≡ Fleet → Ends O.contents E.contents (AnswersOf (file_of P.remaining job.now.plan.now plan.old plan.new) (FleetsTo (file_of S.remaining (script_name job.now) script.old script.new))) result out.old out.new err.old err.new }
+
+    // What a search answers and writes is due to the text of its file: the line of the first fault of the plan or of its claims; or the plan
+    // that the text spells with what was found for its claims, and the claims for which nothing was.
+    ensures searches { job.now.action ≡ Search → Ends O.contents E.contents (AnswersOf (file_of P.remaining job.now.plan.now plan.old plan.new) SearchesTo) result out.old out.new err.old err.new }
+
+    // A file is said to be one that can't be read only where it couldn't be opened, or a read of it failed; and an output one that can't be
+    // written only where a write to it failed, or took none of its bytes.
+    ensures plan_read { FailsByRead P.answers plan.old plan.new }
+    ensures script_read { FailsByRead S.answers script.old script.new }
+    ensures out_written { FailsByWrite O.answers out.old out.new }
+    ensures err_written { FailsByWrite E.answers err.old err.new }
+{
+    match job.action {
+        Action::Check => perform_check(alloc, job, plan, out, err),
+        Action::Run => perform_run(alloc, job, plan, script, out, err),
+        Action::Fleet => perform_fleet(rt, alloc, job, plan, script, out, err),
+        Action::Search => perform_search(rt, alloc, job, plan, out, err),
+    }
+}

@@ -1,0 +1,117 @@
+//! The answers of the program.
+
+ghost use Rattle.std.specs.Prelude.{◌≤◌};
+
+use plan::PlanFault;
+use script::ScriptFault;
+use std::alloc::{AllocError, AllocFailed};
+use std::fmt;
+use volume_model::Fault;
+
+/// An exit status and a text for standard output.
+#[derive(Drop)]
+pub struct Reply {
+    pub status: u8,
+    pub text: String,
+    ghost known: { status ≤ 2 },
+}
+
+/// The answer of a search: the exit status, the plan's line with what was found, and a line for each claim without a
+/// certificate.
+#[derive(Drop)]
+pub struct Found {
+    pub status: u8,
+    pub plan: Vec<u8>,
+    pub unfound: String,
+    ghost few: { status ≤ 1 },
+}
+
+/// Why a job ends before its own answer.
+#[derive(Drop)]
+pub enum Stop<'a> {
+    /// The file with this name can't be read.
+    Unreadable(&'a str),
+    /// The plan has this fault, or its text isn't a plan's.
+    Plan(PlanFault),
+    /// The script's line with this number is bad.
+    Line(usize),
+    /// Memory ran out.
+    NoMemory,
+}
+
+/// Writes its line.
+impl fmt::Display for Stop<'_> {
+    ghost use Rattle.std.specs.Prelude.{Some};
+    ghost use Rattle.commands.specs.Stops.{stop_line};
+
+    ghost output = { λ stop. Some (stop_line stop) };
+
+    fn fmt<W: fmt::Write>(&self, f: &mut fmt::Formatter<W>) -> fmt::Result {
+        match self {
+            Stop::Unreadable(name) => write!(f, "input: cannot read {name}\n"),
+            Stop::Plan(fault) => write!(f, "{fault}\n"),
+            Stop::Line(line) => write!(f, "input: line {line}\n"),
+            Stop::NoMemory => f.write_str("input: 9 NoMemory\n"),
+        }
+    }
+}
+
+impl From<AllocError> for Stop<'_> {
+    ghost use Rattle.std.specs.Prelude.{◌≡◌};
+    ghost use Rattle.commands.specs.declared.reply.Stop.TheVariants.{NoMemory};
+
+    ghost from_gives = { λ _ e. e ≡ NoMemory };
+
+    fn from(_e: AllocError) -> Self {
+        Stop::NoMemory
+    }
+}
+
+impl<T: Drop> From<AllocFailed<T>> for Stop<'_> {
+    ghost use Rattle.std.specs.Prelude.{◌≡◌};
+    ghost use Rattle.commands.specs.declared.reply.Stop.TheVariants.{NoMemory};
+
+    ghost from_gives = { λ _ e. e ≡ NoMemory };
+
+    fn from(_e: AllocFailed<T>) -> Self {
+        Stop::NoMemory
+    }
+}
+
+impl Stop<'_> {
+    ghost use Rattle.std.specs.Prelude.{◌≡◌, ◌≢◌};
+    ghost use Rattle.volume_model.specs.declared.fault.Fault.TheVariants.{NoMemory};
+    ghost use Rattle.plan.specs.declared.fault.PlanFault.TheVariants.{Text};
+    ghost use Rattle.commands.specs.Stops.{StopsBy, is_input_stop, plan_stop, script_stop};
+
+    /// Returns the stop of a plan's fault.
+    pub fn of_plan(fault: PlanFault) -> Self
+        ensures exact { result ≡ plan_stop fault }
+        ensures told { StopsBy (λ told. (told ≡ fault) × (fault ≢ Text NoMemory)) result }
+    {
+        if let PlanFault::Text(Fault::NoMemory) = &fault {
+            return Stop::NoMemory;
+        }
+        Stop::Plan(fault)
+    }
+
+    /// Returns the stop of a script's fault.
+    pub fn of_script(fault: ScriptFault) -> Self
+        ensures { result ≡ script_stop fault }
+    {
+        match fault {
+            ScriptFault::Line(line) => Stop::Line(line),
+            ScriptFault::NoMemory => Stop::NoMemory,
+        }
+    }
+
+    /// Returns whether an input can't be used. Otherwise the plan was read and has a fault.
+    pub fn is_input(&self) -> bool
+        ensures { result ≡ is_input_stop self.now }
+    {
+        match self {
+            Stop::Plan(fault) => fault.is_input(),
+            _ => true,
+        }
+    }
+}

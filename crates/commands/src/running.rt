@@ -1,0 +1,101 @@
+//! A script over a plan: `run`, and `fleet` on threads.
+
+ghost use Rattle.std.specs.Prelude.{◌≡◌, ◌≤◌, IfErr, IfOk, string_bytes, vec_len};
+ghost use Rattle.std.specs.Arc.{arc_value};
+ghost use Rattle.plan.specs.CheckedModel.{checked_model};
+ghost use Rattle.commands.specs.Answers.{AnswersOf, FleetsTo, RunsTo, TellsOrders, file_of, script_name};
+ghost use Rattle.commands.specs.Stops.{answer_of};
+ghost use Rattle.commands.specs.Streams.{FailsByRead};
+ghost use Rattle.commands.specs.ToldFleet.{TellsFleet};
+ghost use Rattle.commands.specs.declared.reply.Stop.TheVariants.{NoMemory};
+
+use crate::Job;
+use crate::fallible::FallibleRead;
+use crate::files::Source;
+use crate::inputs::{PlanAndScript, plan_and_script};
+use crate::leaving::leave;
+use crate::reply::{Reply, Stop};
+use crate::told::{fleet_lines, run_lines};
+use drivers::drive;
+use plan::CheckedPlan;
+use script::Script;
+use std::alloc::Global;
+use std::sync::{Arc, Wait};
+use std::thread::Threads;
+use world::run_orders;
+
+/// Returns the answer of a script's run over a plan.
+fn ran(alloc: Global, both: PlanAndScript) -> Result<Reply, Stop<'static>>
+    ensures told { IfOk result (λ reply. TellsOrders (checked_model (arc_value both.plan)) both.script.steps.items both.script.orders.items reply.status (string_bytes reply.text)) }
+    ensures stop { IfErr result (λ stop. stop ≡ NoMemory) }
+{
+    let PlanAndScript { plan, script } = both;
+    let Script { steps, orders } = script;
+    match run_orders(alloc, &plan, orders) {
+        Ok(outcome) => {
+            let told = run_lines(alloc, steps.as_slice(), &outcome)?;
+            leave(outcome);
+            leave(steps);
+            leave(plan);
+            Ok(told)
+        }
+        Err(_) => Err(Stop::NoMemory),
+    }
+}
+
+/// Returns the answer of `run`: checks the plan, reads the whole script, then runs it.
+pub fn run<'a, P: FallibleRead, S: FallibleRead>(
+    alloc: Global,
+    job: &Job<'a>,
+    plan: &mut Source<P>,
+    script: &mut Source<S>,
+) -> Result<Reply, Stop<'a>>
+    ensures answers { AnswersOf (file_of P.remaining job.now.plan.now plan.old plan.new) (RunsTo (file_of S.remaining (script_name job.now) script.old script.new)) (answer_of result) }
+    ensures plan_read { FailsByRead P.answers plan.old plan.new }
+    ensures script_read { FailsByRead S.answers script.old script.new }
+{
+    match plan_and_script(alloc, job, plan, script) {
+        Ok(both) => ran(alloc, both),
+        Err(stop) => Err(stop),
+    }
+}
+
+/// Returns the answer of a script's run on threads by `workers` drivers.
+fn driven<H: Threads + Wait + Sync>(
+    rt: &H,
+    alloc: Global,
+    plan: &Arc<CheckedPlan>,
+    script: &Script,
+    workers: u8,
+) -> Result<Reply, Stop<'static>>
+    requires { (1 ≤ workers) × (workers ≤ 16) }
+    ensures told { IfOk result (λ reply. TellsFleet (checked_model (arc_value plan.now)) (vec_len script.now.orders) reply.status (string_bytes reply.text)) }
+    ensures stop { IfErr result (λ stop. stop ≡ NoMemory) }
+{
+    match drive(rt, alloc, plan, script, workers) {
+        Ok(driven) => {
+            let told = fleet_lines(alloc, &driven)?;
+            leave(driven);
+            Ok(told)
+        }
+        Err(_) => Err(Stop::NoMemory),
+    }
+}
+
+/// Returns the answer of `fleet`: checks the plan, reads the whole script, then runs it on threads.
+pub fn fleet<'a, H: Threads + Wait + Sync, P: FallibleRead, S: FallibleRead>(
+    rt: &H,
+    alloc: Global,
+    job: &Job<'a>,
+    plan: &mut Source<P>,
+    script: &mut Source<S>,
+) -> Result<Reply, Stop<'a>>
+    ensures answers { AnswersOf (file_of P.remaining job.now.plan.now plan.old plan.new) (FleetsTo (file_of S.remaining (script_name job.now) script.old script.new)) (answer_of result) }
+    ensures plan_read { FailsByRead P.answers plan.old plan.new }
+    ensures script_read { FailsByRead S.answers script.old script.new }
+{
+    match plan_and_script(alloc, job, plan, script) {
+        Ok(both) => driven(rt, alloc, &both.plan, &both.script, job.workers),
+        Err(stop) => Err(stop),
+    }
+}

@@ -1,0 +1,139 @@
+//! The command line, by clap's builder.
+
+ghost use Rattle.std.specs.Prelude.{◌≡◌, IfOk, false};
+ghost use Rattle.clap.specs.Words.{app_of, rule_of, with_subcommand};
+ghost use Rattle.clap.specs.declared.builder.command.Command.TheViews.{out-Command as fields_of};
+ghost use Rattle.commands.specs.CommandLine.{IsLeaf, file_rule, tool, program, file_leaf, fleet_leaf, script_leaf, workers_leaf, workers_rule};
+
+use crate::help;
+use clap::{Arg, ArgAction, Command, value_parser};
+use std::alloc::{AllocError, Global};
+
+/// Returns an argument that names a file.
+fn file<'a>(alloc: Global, id: &'a str, about: &'a str) -> Arg<'a>
+    ensures rule { rule_of result ≡ file_rule id.entry.now }
+    ensures local { result.global ≡ false }
+{
+    Arg::new(alloc, id)
+        .required(true)
+        .action(ArgAction::Set)
+        .help(about)
+}
+
+/// Returns the program before its subcommands.
+fn program<'a>(alloc: Global) -> Command<'a>
+    ensures { app_of result ≡ program }
+{
+    Command::new(alloc, "plan_tool")
+        .about("Checks plans of a quorum log volume, certifies them, and runs scripts over them")
+        .version("0.1.0")
+        .subcommand_required(true)
+        .after_help(help::PROGRAM)
+}
+
+/// Returns a subcommand of a plan's file.
+fn of_file<'a>(
+    alloc: Global,
+    name: &'a str,
+    about: &'a str,
+    notes: &'a str,
+) -> Result<Command<'a>, AllocError>
+    ensures { IfOk result (IsLeaf (file_leaf name.entry.now)) }
+{
+    Command::new(alloc, name)
+        .about(about)
+        .after_help(notes)
+        .arg(file(alloc, "plan", "The plan's file: a JSON text"))
+}
+
+/// The option of how many workers there are.
+fn workers<'a>(alloc: Global, about: &'a str) -> Arg<'a>
+    ensures rule { rule_of result ≡ workers_rule }
+    ensures local { result.global ≡ false }
+{
+    Arg::new(alloc, "workers")
+        .short('w')
+        .long("workers")
+        .value_name("N")
+        .help(about)
+        .value_parser(value_parser!(u8).range(1..=16))
+        .default_value("4")
+}
+
+/// Returns a subcommand of a plan's file and a number of workers.
+fn of_workers<'a>(
+    alloc: Global,
+    name: &'a str,
+    about: &'a str,
+    notes: &'a str,
+) -> Result<Command<'a>, AllocError>
+    ensures { IfOk result (IsLeaf (workers_leaf name.entry.now)) }
+{
+    of_file(alloc, name, about, notes)?.arg(workers(alloc, "How many workers search, 1 to 16"))
+}
+
+/// Returns a subcommand of a plan and a script.
+fn of_script<'a>(
+    alloc: Global,
+    name: &'a str,
+    about: &'a str,
+    notes: &'a str,
+) -> Result<Command<'a>, AllocError>
+    ensures { IfOk result (IsLeaf (script_leaf name.entry.now)) }
+{
+    let script = file(alloc, "script", "The script's file: an event a line");
+    of_file(alloc, name, about, notes)?.arg(script)
+}
+
+/// Returns a subcommand of a plan, a script and a number of workers.
+fn of_fleet<'a>(
+    alloc: Global,
+    name: &'a str,
+    about: &'a str,
+    notes: &'a str,
+) -> Result<Command<'a>, AllocError>
+    ensures { IfOk result (IsLeaf (fleet_leaf name.entry.now)) }
+{
+    of_script(alloc, name, about, notes)?.arg(workers(
+        alloc,
+        "How many drivers run the script, 1 to 16",
+    ))
+}
+
+fn add<'a>(command: Command<'a>, leaf: Command<'a>) -> Result<Command<'a>, AllocError>
+    requires { (fields_of leaf).has_globals ≡ false }
+    ensures { IfOk result
+        (λ c. app_of c ≡ with_subcommand (app_of command.entry) (app_of leaf.entry).top) }
+{
+    command.subcommand(leaf)
+}
+
+/// Returns the whole command line.
+pub fn command_line<'a>(alloc: Global) -> Result<Command<'a>, AllocError>
+    ensures { IfOk result (λ c. app_of c ≡ tool) }
+{
+    let command = program(alloc);
+    let check = of_file(
+        alloc,
+        "check",
+        "Says whether a plan's quorums all meet",
+        help::CHECK,
+    )?;
+    let command = add(command, check)?;
+    let run = of_script(alloc, "run", "Runs a script over a plan", help::RUN)?;
+    let command = add(command, run)?;
+    let fleet = of_fleet(
+        alloc,
+        "fleet",
+        "Runs a script over a plan on threads",
+        help::FLEET,
+    )?;
+    let command = add(command, fleet)?;
+    let search = of_workers(
+        alloc,
+        "search",
+        "Writes a plan with certificates for its claims",
+        help::SEARCH,
+    )?;
+    add(command, search)
+}

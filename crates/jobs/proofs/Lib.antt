@@ -1,9 +1,0 @@
-pub mod Calls
-pub mod Due
-pub mod Failing
-pub mod Findings
-pub mod Fitting
-pub mod Given
-pub mod Says
-pub mod Searching
-pub mod Telling

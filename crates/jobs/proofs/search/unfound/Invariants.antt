@@ -1,8 +1,0 @@
-use Rattle.std.proofs.Common.{◌≡◌, ◌++◌, drop, map, string_bytes}
-use Rattle.plan.specs.LentClaims.{all_lent}
-use Rattle.jobs.specs.Unfound.{unfound_lines}
-use Rattle.cert_search.specs.Answers.{rule_in}
-use Rattle.jobs.proofs.search.unfound.Given as goal
-
-abbrev pub invariant-loop-claim : goal.invariant-loop-claim
-invariant-loop-claim l = unfound_lines (all_lent l.claims) (map rule_in l.certificates) ≡ string_bytes l.text ++ unfound_lines (all_lent (drop l.claim-index l.claims)) (map rule_in l.left)

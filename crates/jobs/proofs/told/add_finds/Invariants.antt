@@ -1,7 +1,0 @@
-use Rattle.std.proofs.Common.{◌≡◌, ◌++◌, drop, map, string_bytes}
-use Rattle.world.specs.Outcomes.{find_of}
-use Rattle.jobs.specs.Told.{each_line, find_line}
-use Rattle.jobs.proofs.told.add_finds.Given as goal
-
-abbrev pub invariant-loop-find : goal.invariant-loop-find
-invariant-loop-find l = string_bytes l.initial.text ++ each_line find_line (map find_of l.finds) ≡ string_bytes l.text ++ each_line find_line (map find_of (drop l.find-index l.finds))
