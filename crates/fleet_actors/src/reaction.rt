@@ -12,15 +12,13 @@ use segment_core::Prepared;
 use std::alloc::Global;
 use std::sync::{Mutex, Wait};
 use volume_model::Fault;
-use wire::{Message, Write};
 use world::Event;
 
 impl<L: Site> NodeActor<L> {
-    ghost use Rattle.std.specs.Prelude.{◌≢◌, Ok, Some, IfErr, IfOk, OnErr, length};
+    ghost use Rattle.std.specs.Prelude.{◌≢◌, Ok, IfErr, IfOk, OnErr, length};
     ghost use Rattle.volume_model.specs.declared.fault.Fault.TheVariants.{NoMessage};
     ghost use Rattle.volume_model.specs.Answer.{Fails};
     ghost use Rattle.volume_model.specs.World.Event.{Deliver};
-    ghost use Rattle.wire.specs.Message.{message_of};
     ghost use Rattle.segment_core.specs.Prepared.{step_of};
     ghost use Rattle.segment_core.specs.Segment.{node_of, IsReady};
     ghost use Rattle.journal.specs.Passes.{journal_of, message_ref_message, message_ref_number, notes_of, seat_of, steps_of};
@@ -30,6 +28,7 @@ impl<L: Site> NodeActor<L> {
 
     /// Prepares the reaction to a message under the node's lock alone: finds every refusal, makes every growth and
     /// works out the answers. The node is unchanged.
+    #[inline(always)]
     fn prepare<'a>(
         &mut self,
         alloc: Global,
@@ -41,17 +40,6 @@ impl<L: Site> NodeActor<L> {
         ensures same { (self.new.group ≡ self.old.group) × (self.new.member ≡ self.old.member) × (actor_node self.new ≡ actor_node self.old) }
     {
         self.segment.prepare(alloc, message_ref.message())
-    }
-
-    /// Prepares the reaction to a client's Write, as [`prepare`](NodeActor::prepare) does for its message.
-    #[inline(always)]
-    fn prepare_write(&mut self, alloc: Global, write: &Write) -> Result<Prepared, Fault>
-        ensures ready { IfOk result (λ prepared. IsReady self.new.segment prepared) }
-        ensures step { IfOk result (λ prepared. delivery_of self.new (Some (message_of (Message.Write write.now))) ≡ Ok (step_of prepared (node_of self.new.segment))) }
-        ensures fails { IfErr result (λ fault. Fails fault (delivery_of self.new (Some (message_of (Message.Write write.now))))) }
-        ensures same { (self.new.group ≡ self.old.group) × (self.new.member ≡ self.old.member) × (actor_node self.new ≡ actor_node self.old) }
-    {
-        self.segment.prepare_write(alloc, write)
     }
 
     /// Applies a prepared reaction and enters the step. The caller holds the node's lock and the journal's.
@@ -172,29 +160,6 @@ impl<L: Site> NodeActor<L> {
         self.decline(&mut log, pass, message_ref, fault)
     }
 
-    /// The general case of [`react`](NodeActor::react), out of line so that the write path keeps a small stack frame.
-    #[inline(never)]
-    fn react_at_large<'a, R: Wait, G: StepGate>(
-        &mut self,
-        rt: &R,
-        alloc: Global,
-        journal: &Mutex<Log<'a, L>>,
-        pass: &mut Pass<'a, L>,
-        message_ref: &mut MessageRef<'a, L>,
-        gate: &G,
-    ) -> Result<Receipt, Halt>
-        ensures told { Halts (Deliver (actor_group self.old) (actor_member self.old) (message_ref_number message_ref.old)) result (steps_of pass.old) (steps_of pass.new) (notes_of pass.old) (notes_of pass.new) }
-        ensures seat { seat_of pass.new ≡ seat_of pass.old }
-        ensures found { IfErr result (λ halt. halt ≢ Refused NoMessage) }
-        ensures same { (actor_group self.new ≡ actor_group self.old) × (actor_member self.new ≡ actor_member self.old) }
-        ensures still { OnErr result (actor_node self.new ≡ actor_node self.old) }
-    {
-        match self.prepare(alloc, message_ref) {
-            Ok(prepared) => self.accept(rt, journal, pass, message_ref, gate, prepared),
-            Err(fault) => self.reject(rt, journal, pass, message_ref, fault),
-        }
-    }
-
     /// Delivers a message to the node, whose lock the caller holds: prepares the reaction, lends the answers to the
     /// gate while the journal is free, then applies the reaction and enters the step.
     ///
@@ -223,13 +188,9 @@ impl<L: Site> NodeActor<L> {
         ensures same { (actor_group self.new ≡ actor_group self.old) × (actor_member self.new ≡ actor_member self.old) }
         ensures still { OnErr result (actor_node self.new ≡ actor_node self.old) }
     {
-        // Most letters are records that a client writes, so these have a short way of their own.
-        if let Message::Write(write) = message_ref.message() {
-            return match self.prepare_write(alloc, write) {
-                Ok(prepared) => self.accept(rt, journal, pass, message_ref, gate, prepared),
-                Err(fault) => self.reject(rt, journal, pass, message_ref, fault),
-            };
+        match self.prepare(alloc, message_ref) {
+            Ok(prepared) => self.accept(rt, journal, pass, message_ref, gate, prepared),
+            Err(fault) => self.reject(rt, journal, pass, message_ref, fault),
         }
-        self.react_at_large(rt, alloc, journal, pass, message_ref, gate)
     }
 }

@@ -385,9 +385,9 @@ impl Segment {
         self.prepare_record(alloc, write.label, &write.packet)
     }
 
-    /// Prepares for a message, as [`Segment::prepare`] does.
-    #[inline(always)]
-    fn prepared(&mut self, alloc: Global, message: &Message) -> Result<Prepared, Fault>
+    /// The general case of [`Segment::prepare`], out of line so that the write path keeps a small stack frame.
+    #[inline(never)]
+    fn prepare_any(&mut self, alloc: Global, message: &Message) -> Result<Prepared, Fault>
         ensures step { Answers step_of (reaction_of self.old (message_of message.now)) (node_of self.old) result (node_of self.old) }
         ensures ready { IfOk result (λ prepared. CanTake self.new prepared.effect) }
         ensures node { node_of self.new ≡ node_of self.old }
@@ -422,49 +422,11 @@ impl Segment {
         ensures node { node_of self.new ≡ node_of self.old }
         ensures actor { IsSameActor self.old self.new }
     {
-        self.prepared(alloc, message)
-    }
-
-    /// Prepares the reaction to a `Write`, as [`Segment::prepare`] does. Most messages are Writes.
-    ///
-    /// # Errors
-    /// Those of [`Segment::prepare`].
-    #[inline(always)]
-    pub fn prepare_write(&mut self, alloc: Global, write: &Write) -> Result<Prepared, Fault>
-        ensures step { Answers step_of (reaction_of self.old (message_of (Message.Write write.now))) (node_of self.old) result (node_of self.old) }
-        ensures ready { IfOk result (λ prepared. IsReady self.new prepared) }
-        ensures node { node_of self.new ≡ node_of self.old }
-        ensures actor { IsSameActor self.old self.new }
-    {
-        self.written(alloc, write)
-    }
-
-    /// Prepares the reaction to a `Fence`, as [`Segment::prepare`] does.
-    ///
-    /// # Errors
-    /// Those of [`Segment::prepare`].
-    #[inline(always)]
-    pub fn prepare_fence(&mut self, alloc: Global, fence: &Fence) -> Result<Prepared, Fault>
-        ensures step { Answers step_of (reaction_of self.old (message_of (Message.Fence fence.now))) (node_of self.old) result (node_of self.old) }
-        ensures ready { IfOk result (λ prepared. IsReady self.new prepared) }
-        ensures node { node_of self.new ≡ node_of self.old }
-        ensures actor { IsSameActor self.old self.new }
-    {
-        self.fenced(alloc, fence)
-    }
-
-    /// Prepares the reaction to an `Install`, as [`Segment::prepare`] does.
-    ///
-    /// # Errors
-    /// Those of [`Segment::prepare`].
-    #[inline(always)]
-    pub fn prepare_install(&mut self, alloc: Global, install: &Install) -> Result<Prepared, Fault>
-        ensures step { Answers step_of (reaction_of self.old (message_of (Message.Install install.now))) (node_of self.old) result (node_of self.old) }
-        ensures ready { IfOk result (λ prepared. IsReady self.new prepared) }
-        ensures node { node_of self.new ≡ node_of self.old }
-        ensures actor { IsSameActor self.old self.new }
-    {
-        self.installed(alloc, install)
+        // Most messages are Writes: without this path a script of Writes takes a sixth more instructions.
+        if let Message::Write(write) = message {
+            return self.written(alloc, write);
+        }
+        self.prepare_any(alloc, message)
     }
 
     /// Prepares to offer a record, as [`Segment::offer`] does.

@@ -27,8 +27,8 @@ fn act_of<'a>(order: NodeOrder<'a>, messages: &'a [Message]) -> Result<NodeAct<'
     }
 }
 
-/// Takes a step that a segment was prepared for, and adds the messages that it makes to the others, for which it
-/// makes room before the segment changes. On error nothing has changed.
+/// Applies a prepared step of a segment and appends its messages, for which it makes room first. On error nothing has
+/// changed.
 #[inline(always)]
 fn take(
     segment: &mut Segment,
@@ -44,62 +44,6 @@ fn take(
     Ok(enter(messages, made))
 }
 
-/// Returns the general case of [`act`], out of line so that the write path keeps a small stack frame.
-#[inline(never)]
-fn act_at_large(
-    alloc: Global,
-    segment: &mut Segment,
-    messages: &mut Vec<Message>,
-    order: NodeOrder<'_>,
-) -> Result<u64, Fault>
-    ensures moves { NodeMoves (node_late order.entry) (node_ordered (added (messages_of messages.old.items) []) order.entry (segment_plan segment.old) (segment_group segment.old) (segment_member segment.old) (node_of segment.old)) (node_of segment.old) (added (messages_of messages.old.items) []) result (node_of segment.new) (added (messages_of messages.new.items) []) }
-    ensures actor { IsSameActor segment.old segment.new }
-{
-    let act = act_of(order, messages.as_slice())?;
-    let prepared = segment.prepare_act(alloc, act)?;
-    take(segment, messages, prepared)
-}
-
-/// Lets a segment act, as [`act`] does: a piece of an install has a short way of its own.
-#[inline(never)]
-fn act_installing(
-    alloc: Global,
-    segment: &mut Segment,
-    messages: &mut Vec<Message>,
-    order: NodeOrder<'_>,
-) -> Result<u64, Fault>
-    ensures moves { NodeMoves (node_late order.entry) (node_ordered (added (messages_of messages.old.items) []) order.entry (segment_plan segment.old) (segment_group segment.old) (segment_member segment.old) (node_of segment.old)) (node_of segment.old) (added (messages_of messages.old.items) []) result (node_of segment.new) (added (messages_of messages.new.items) []) }
-    ensures actor { IsSameActor segment.old segment.new }
-{
-    if let NodeOrder::Deliver { message } = order {
-        if let Message::Install(install) = named(messages.as_slice(), message)? {
-            let prepared = segment.prepare_install(alloc, install)?;
-            return take(segment, messages, prepared);
-        }
-    }
-    act_at_large(alloc, segment, messages, order)
-}
-
-/// Lets a segment act, as [`act`] does: a recovery's fence has a short way of its own.
-#[inline(never)]
-fn act_fenced(
-    alloc: Global,
-    segment: &mut Segment,
-    messages: &mut Vec<Message>,
-    order: NodeOrder<'_>,
-) -> Result<u64, Fault>
-    ensures moves { NodeMoves (node_late order.entry) (node_ordered (added (messages_of messages.old.items) []) order.entry (segment_plan segment.old) (segment_group segment.old) (segment_member segment.old) (node_of segment.old)) (node_of segment.old) (added (messages_of messages.old.items) []) result (node_of segment.new) (added (messages_of messages.new.items) []) }
-    ensures actor { IsSameActor segment.old segment.new }
-{
-    if let NodeOrder::Deliver { message } = order {
-        if let Message::Fence(fence) = named(messages.as_slice(), message)? {
-            let prepared = segment.prepare_fence(alloc, fence)?;
-            return take(segment, messages, prepared);
-        }
-    }
-    act_installing(alloc, segment, messages, order)
-}
-
 /// Lets a segment act, and adds the messages that it makes to the others, for which it makes room before the segment
 /// changes. On error nothing has changed.
 pub fn act(
@@ -111,12 +55,7 @@ pub fn act(
     ensures moves { NodeMoves (node_late order.entry) (node_ordered (added (messages_of messages.old.items) []) order.entry (segment_plan segment.old) (segment_group segment.old) (segment_member segment.old) (node_of segment.old)) (node_of segment.old) (added (messages_of messages.old.items) []) result (node_of segment.new) (added (messages_of messages.new.items) []) }
     ensures actor { IsSameActor segment.old segment.new }
 {
-    // Most orders deliver a record, so these have a short way of their own.
-    if let NodeOrder::Deliver { message } = order {
-        if let Message::Write(write) = named(messages.as_slice(), message)? {
-            let prepared = segment.prepare_write(alloc, write)?;
-            return take(segment, messages, prepared);
-        }
-    }
-    act_fenced(alloc, segment, messages, order)
+    let act = act_of(order, messages.as_slice())?;
+    let prepared = segment.prepare_act(alloc, act)?;
+    take(segment, messages, prepared)
 }
