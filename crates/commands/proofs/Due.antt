@@ -142,7 +142,7 @@ pub run_told : (plan : model.Plan) (script : Script) (r : Result Reply Stop) →
     → (text : List ℕ) → IsScriptOf text script → IfOk r (λ reply. TellsScript plan text reply.status (string_bytes reply.text))
 run_told plan script (Ok reply) told text is =
     record {
-      deeds = is.deeds;
+      actions = is.actions;
       spelled = is.spelled;
       orders = script.orders.items;
       asked = is.keeps.orders_are;
@@ -156,7 +156,7 @@ pub fleet_told : (plan : model.Plan) (script : Script) (r : Result Reply Stop) �
 fleet_told plan script (Ok reply) told text is =
     let len : vec_len script.orders ≡ length script.orders.items = omega (arith, script.orders.ok.0) in
     let counted = len ∙ sym (length-map script.orders.items asked_by) ∙ ap length is.keeps.orders_are in
-    record { deeds = is.deeds; spelled = is.spelled; told = subst (λ n. TellsFleet plan n reply.status (string_bytes reply.text)) counted told }
+    record { actions = is.actions; spelled = is.spelled; told = subst (λ n. TellsFleet plan n reply.status (string_bytes reply.text)) counted told }
 fleet_told plan script (Err stop) told text is = tt
 
 -- ---- a search

@@ -8,7 +8,7 @@ use Rattle.plan.specs.declared.fault.PlanFault.{PlanFault}
 use Rattle.world.specs.Events.{events_from}
 use Rattle.world.specs.declared.event.Order.{Order}
 use Rattle.commands.specs.declared.action.Job.{Job}
-use Rattle.script.specs.Grammar.{Deed}
+use Rattle.script.specs.Grammar.{LineAction}
 use Rattle.script.specs.Script.{IsFirstBad, IsScript, kept_of}
 use Rattle.script.specs.Seen.{asked_by}
 use Rattle.script.specs.declared.reading.Step.{Step}
@@ -75,11 +75,11 @@ TellsOrders plan steps orders status text =
 
 -- The same of a script's text: it is a script, whose lines do these deeds, and the orders are those that the deeds ask for.
 pub record TellsScript (plan : model.Plan) (script : List ℕ) (status : ℕ) (text : List ℕ) : Type 0 where
-  pub deeds : List Deed
-  pub spelled : IsScript script deeds
+  pub actions : List LineAction
+  pub spelled : IsScript script actions
   pub orders : List Order
-  pub asked : map asked_by orders ≡ (kept_of deeds).asked
-  pub told : TellsOrders plan (kept_of deeds).steps orders status text
+  pub asked : map asked_by orders ≡ (kept_of actions).asked
+  pub told : TellsOrders plan (kept_of actions).steps orders status text
 
 -- what a run answers to a plan's text and a script's file
 abbrev pub RunsTo : File → List ℕ → Answer → Type 0
@@ -89,9 +89,9 @@ RunsTo = BothAnswer TellsScript
 
 -- The text is a script, whose lines do these deeds, and a fleet's run of as many orders as they ask for is told.
 pub record TellsFleetOf (plan : model.Plan) (script : List ℕ) (status : ℕ) (text : List ℕ) : Type 0 where
-  pub deeds : List Deed
-  pub spelled : IsScript script deeds
-  pub told : TellsFleet plan (length (kept_of deeds).asked) status text
+  pub actions : List LineAction
+  pub spelled : IsScript script actions
+  pub told : TellsFleet plan (length (kept_of actions).asked) status text
 
 -- what a fleet answers to a plan's text and a script's file
 abbrev pub FleetsTo : File → List ℕ → Answer → Type 0

@@ -6,7 +6,7 @@ use Rattle.plan.specs.Plan.{plan_data}
 use Rattle.plan.specs.PlanText.{plan_of}
 use Rattle.plan.specs.PlanFaults.{plan_fault}
 use Rattle.plan.specs.declared.checked.CheckedPlan.{CheckedPlan}
-use Rattle.script.specs.Grammar.{Deed}
+use Rattle.script.specs.Grammar.{LineAction}
 use Rattle.script.specs.Script.{IsScript, Keeps}
 use Rattle.script.specs.declared.reading.Script.{Script}
 use Rattle.commands.specs.Answers.{File}
@@ -20,9 +20,9 @@ pub record IsPlanOf (text : List ℕ) (checked : CheckedPlan) : Type 0 where
 
 -- the text is a script, and this is what the program has of it
 pub record IsScriptOf (text : List ℕ) (script : Script) : Type 0 where
-  pub deeds : List Deed
-  pub spelled : IsScript text deeds
-  pub keeps : Keeps script deeds
+  pub actions : List LineAction
+  pub spelled : IsScript text actions
+  pub keeps : Keeps script actions
 
 -- the file was read, and this is so of its text
 pub record IsRead (file : File) (IsSo : List ℕ → Type 0) : Type 0 where

@@ -2,7 +2,7 @@
 use Rattle.std.proofs.Common.{◌≡◌, ℕ, Bool, eq-eqb, List, Option, Some, Result, Ok, Err, MatchResult, IfOk, OnErr, refl, sym, ap, ◌∙◌, subst}
 use Rattle.std.specs.Prelude.{if◌then◌else◌}
 use Rattle.volume_model.specs.declared.fault.Fault.{Fault}
-use Rattle.volume_model.specs.Told.{makes, refusal}
+use Rattle.volume_model.specs.StepResults.{makes, refusal}
 use Rattle.volume_model.specs.Lists.{put}
 use Rattle.volume_model.specs.Plan.{Plan}
 use Rattle.volume_model.specs.Message as model
@@ -79,12 +79,12 @@ module _ (plan own : Plan) (of : own ≡ plan) (w : World) (volume : ℕ) (asked
     client_after : (after plan w event).clients volume ≡ new
     client_after = ap (λ (s : Result Step Fault). (after_step w s).clients volume) stepped ∙ put-here w.clients volume new
 
-  pub tried_makes : (attempt : Result Messages Fault) → IfOk attempt (λ made. answer ≡ Ok (answered made new)) → IfOk attempt (λ made. makes (step plan w event) ≡ Some (messages_of (listed made)))
-  tried_makes (Ok made) done = client_makes made done
-  tried_makes (Err fault) done = tt
+  pub attempt_makes : (attempt : Result Messages Fault) → IfOk attempt (λ made. answer ≡ Ok (answered made new)) → IfOk attempt (λ made. makes (step plan w event) ≡ Some (messages_of (listed made)))
+  attempt_makes (Ok made) done = client_makes made done
+  attempt_makes (Err fault) done = tt
 
   -- what the actor's mark has seen then has the client as it is
-  pub tried_state : (attempt : Result Messages Fault) → IfOk attempt (λ made. answer ≡ Ok (answered made new)) → OnErr attempt (new ≡ old) → (seen now : List Entry) → old ≡ (world_at plan seen).clients volume
+  pub attempt_state : (attempt : Result Messages Fault) → IfOk attempt (λ made. answer ≡ Ok (answered made new)) → OnErr attempt (new ≡ old) → (seen now : List Entry) → old ≡ (world_at plan seen).clients volume
       → MatchResult attempt (λ made. world_at plan now ≡ after plan w event) (λ fault. now ≡ seen) → new ≡ (world_at plan now).clients volume
-  tried_state (Ok made) done still seen now was stands = sym (ap (λ (v : World). v.clients volume) stands ∙ client_after made done)
-  tried_state (Err fault) done still seen now was stands = still ∙ was ∙ ap (λ (es : List Entry). (world_at plan es).clients volume) (sym stands)
+  attempt_state (Ok made) done still seen now was stands = sym (ap (λ (v : World). v.clients volume) stands ∙ client_after made done)
+  attempt_state (Err fault) done still seen now was stands = still ∙ was ∙ ap (λ (es : List Entry). (world_at plan es).clients volume) (sym stands)

@@ -3,7 +3,7 @@ use Rattle.std.proofs.Common.{◌≡◌, ℕ, ◌<◌, Bool, true, false, List, 
 use Rattle.volume_model.specs.declared.fault.Fault.{Fault}
 use Rattle.volume_model.specs.declared.fault.Fault.TheVariants.{NoMemory, NoMessage, NoSlot, JournalFull}
 use Rattle.volume_model.specs.Answer.{refusal_of}
-use Rattle.volume_model.specs.Told.{refusal}
+use Rattle.volume_model.specs.StepResults.{refusal}
 use Rattle.volume_model.specs.Plan.{Plan}
 use Rattle.volume_model.specs.World.{Event, step}
 use Rattle.volume_model.specs.Journal.{Entry, world_at}
@@ -30,7 +30,7 @@ module _ (plan : Plan) (slots cells : ℕ) (es : List Entry) (event : Event) whe
   exact_of spent full defined spends cell same fault h = same ∙ ap refusal h
 
 -- the refusal of a try is the model's
-pub tried_exact : {A T : Type 0} (plan : Plan) (slots cells : ℕ) (es : List Entry) (event : Event) (spent : Type 0) (full : Bool) (defined : Result T Fault) → (spent → (event ≡ Event.Assign) × ((world_at plan es).authority.last_volume ≡ slots))
+pub attempt_exact : {A T : Type 0} (plan : Plan) (slots cells : ℕ) (es : List Entry) (event : Event) (spent : Type 0) (full : Bool) (defined : Result T Fault) → (spent → (event ≡ Event.Assign) × ((world_at plan es).authority.last_volume ≡ slots))
     → MatchBool full (length es ≡ cells) (length es < cells) → refusal (step plan (world_at plan es) event) ≡ refusal defined → (attempt : Result A Fault) → IfErr attempt (λ fault. Judged spent full defined fault) → IfErr attempt (λ fault. Exact plan slots cells es event fault)
-tried_exact plan slots cells es event spent full defined spends cell same (Ok made) h = tt
-tried_exact plan slots cells es event spent full defined spends cell same (Err fault) h = exact_of plan slots cells es event spent full defined spends cell same fault h
+attempt_exact plan slots cells es event spent full defined spends cell same (Ok made) h = tt
+attempt_exact plan slots cells es event spent full defined spends cell same (Err fault) h = exact_of plan slots cells es event spent full defined spends cell same fault h

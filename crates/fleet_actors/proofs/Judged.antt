@@ -2,11 +2,11 @@
 use Rattle.std.proofs.Common.{◌≡◌, ℕ, Bool, Option, Some, None, Result, Ok, Err, IfOk, IfErr, OnErr, ap, subst}
 use Rattle.volume_model.specs.declared.fault.Fault.{Fault}
 use Rattle.volume_model.specs.declared.fault.Fault.TheVariants.{NoMemory, NoMessage, NoSlot, JournalFull}
-use Rattle.volume_model.specs.Answer.{refusal_of, AnswersLate}
+use Rattle.volume_model.specs.Answer.{refusal_of, AnswersAfterGrowth}
 use Rattle.volume_model.specs.Plan.{Plan}
 use Rattle.volume_model.specs.Message.{Message}
 use Rattle.volume_model.specs.Client.{Client}
-use Rattle.volume_model.specs.Told.{Refuses, IsOwnOfClient}
+use Rattle.volume_model.specs.StepResults.{Refuses, IsOwnOfClient}
 use Rattle.volume_model.proofs.Own.{issued_own, taken_own, cut_own, opened_own, resent_own, page_asked_own}
 use Rattle.recovery.specs.Recoveries.{admitted}
 use Rattle.writer_core.specs.Changes.{changes_of}
@@ -37,25 +37,25 @@ module _ {T : Type 0} (full : Bool) (defined : Result T Fault) (own : Refuses Is
   judged fault e = e
 
   -- an act was refused
-  pub judged_act : {R S : Type 0} (late : Fault → Bool) (step : R → S → T) (old new : S) (fault : Fault) → AnswersLate late step defined old (Err fault) new → JudgedOf full defined fault
+  pub judged_act : {R S : Type 0} (late : Fault → Bool) (step : R → S → T) (old new : S) (fault : Fault) → AnswersAfterGrowth late step defined old (Err fault) new → JudgedOf full defined fault
   judged_act late step old new NoMemory h = tt
   judged_act late step old new fault h = judged fault h.0
 
 -- an act that was refused left the actor as it was
-pub still_act : {R S T : Type 0} (late : Fault → Bool) (step : R → S → T) (defined : Result T Fault) (old new : S) (fault : Fault) → AnswersLate late step defined old (Err fault) new → new ≡ old
+pub still_act : {R S T : Type 0} (late : Fault → Bool) (step : R → S → T) (defined : Result T Fault) (old new : S) (fault : Fault) → AnswersAfterGrowth late step defined old (Err fault) new → new ≡ old
 still_act late step defined old new NoMemory h = h.1
 still_act late step defined old new fault h = h.1
 
 -- what an act answered, refused or not
-pub done_answer : {R S T : Type 0} (late : Fault → Bool) (step : R → S → T) (defined : Result T Fault) (old new : S) (result : Result R Fault) → AnswersLate late step defined old result new → IfOk result (λ made. defined ≡ Ok (step made new))
+pub done_answer : {R S T : Type 0} (late : Fault → Bool) (step : R → S → T) (defined : Result T Fault) (old new : S) (result : Result R Fault) → AnswersAfterGrowth late step defined old result new → IfOk result (λ made. defined ≡ Ok (step made new))
 done_answer late step defined old new (Ok made) h = h
 done_answer late step defined old new (Err fault) h = tt
 
-pub judged_answer : {R S T : Type 0} (full : Bool) (defined : Result T Fault) → Refuses IsOwnOfClient defined → (late : Fault → Bool) (step : R → S → T) (old new : S) (result : Result R Fault) → AnswersLate late step defined old result new → IfErr result (λ fault. JudgedOf full defined fault)
+pub judged_answer : {R S T : Type 0} (full : Bool) (defined : Result T Fault) → Refuses IsOwnOfClient defined → (late : Fault → Bool) (step : R → S → T) (old new : S) (result : Result R Fault) → AnswersAfterGrowth late step defined old result new → IfErr result (λ fault. JudgedOf full defined fault)
 judged_answer full defined own late step old new (Ok made) h = tt
 judged_answer full defined own late step old new (Err fault) h = judged_act full defined own late step old new fault h
 
-pub still_answer : {R S T : Type 0} (late : Fault → Bool) (step : R → S → T) (defined : Result T Fault) (old new : S) (result : Result R Fault) → AnswersLate late step defined old result new → OnErr result (new ≡ old)
+pub still_answer : {R S T : Type 0} (late : Fault → Bool) (step : R → S → T) (defined : Result T Fault) (old new : S) (result : Result R Fault) → AnswersAfterGrowth late step defined old result new → OnErr result (new ≡ old)
 still_answer late step defined old new (Ok made) h = tt
 still_answer late step defined old new (Err fault) h = still_act late step defined old new fault h
 
@@ -65,6 +65,6 @@ refused_is (Ok step) fault h = absurd cc
 refused_is (Err other) fault h = let same : other ≡ fault = cc in ap Err same
 
 -- a test refused
-pub judged_test : {T : Type 0} (full : Bool) (defined : Result T Fault) → Refuses IsOwnOfClient defined → (late : Fault → Bool) (fault : Fault) → AnswersLate late admitted (refusal_of defined) tt (Err fault) tt → JudgedOf full defined fault
+pub judged_test : {T : Type 0} (full : Bool) (defined : Result T Fault) → Refuses IsOwnOfClient defined → (late : Fault → Bool) (fault : Fault) → AnswersAfterGrowth late admitted (refusal_of defined) tt (Err fault) tt → JudgedOf full defined fault
 judged_test full defined own late NoMemory h = tt
 judged_test full defined own late fault h = judged full defined own fault (refused_is defined fault h.0)

@@ -5,7 +5,7 @@ use Rattle.std.specs.Prelude.{slice_get}
 use Rattle.volume_model.specs.declared.fault.Fault.{Fault}
 use Rattle.volume_model.specs.declared.fault.Fault.TheVariants.{JournalFull, NoActor, NoMemory, NoMessage, NoSlot}
 use Rattle.volume_model.specs.Actor.{Actor, Agree, actor_of}
-use Rattle.volume_model.specs.Answer.{AnswersLate, Fails}
+use Rattle.volume_model.specs.Answer.{AnswersAfterGrowth, Fails}
 use Rattle.volume_model.specs.Judging.{Exact}
 use Rattle.volume_model.specs.Journal.{Entry, world_at}
 use Rattle.volume_model.specs.Lists.{numbered}
@@ -13,14 +13,14 @@ use Rattle.volume_model.specs.Message.{Message}
 use Rattle.volume_model.specs.Node.{Node, NodeAnswer, NodeStep, hydrated, offered, restarted}
 use Rattle.volume_model.specs.Plan.{Plan, is_named}
 use Rattle.volume_model.specs.Refusal.{refuse_if}
-use Rattle.volume_model.specs.Told.{makes, refusal, IsOwn, Refuses}
+use Rattle.volume_model.specs.StepResults.{makes, refusal, IsOwn, Refuses}
 use Rattle.volume_model.specs.World.{Event, Step, World, after, after_step, deliver, groups_joined, if_there, of_node, step}
 use Rattle.volume_model.proofs.Frames.{put_at_here}
 use Rattle.volume_model.proofs.ListFacts.{get_there}
 use Rattle.volume_model.proofs.Own.{hydrated_own, offered_own, reaction_own}
 use Rattle.segment_core.specs.declared.act.NodeAct.{NodeAct}
 use Rattle.segment_core.specs.declared.segment.Segment.{Segment}
-use Rattle.segment_core.specs.Acts.{act_late, acted}
+use Rattle.segment_core.specs.Acts.{act_after_growth, acted}
 use Rattle.segment_core.specs.Prepared.{step_of}
 use Rattle.segment_core.specs.Segment.{act_of, node_of, IsSameActor, IsSegmentOf}
 use Rattle.wire.specs.declared.message.Message as wire
@@ -153,7 +153,7 @@ same_of plan g m old new of same =
     record { plan_is = same.plan_is ∙ of.plan_is; group_is = same.group_is ∙ of.group_is; member_is = same.member_is ∙ of.member_is }
 
 -- want of memory, or the refusal that is defined
-late_fails : {R S T : Type 0} (late : Fault → Bool) (step : R → S → T) (defined : Result T Fault) (old new : S) (fault : Fault) → AnswersLate late step defined old (Err fault) new → Fails fault defined
+late_fails : {R S T : Type 0} (late : Fault → Bool) (step : R → S → T) (defined : Result T Fault) (old new : S) (fault : Fault) → AnswersAfterGrowth late step defined old (Err fault) new → Fails fault defined
 late_fails late step defined old new NoMemory h = tt
 late_fails late step defined old new fault h = h.0
 
@@ -165,5 +165,5 @@ module _ (plan : Plan) (g m : ℕ) (s : Segment) (is : IsSegmentOf plan g m s) (
   pub deed_steps : (made : NodeStep) → act_of s act ≡ Ok made → done_by plan g m (node_of s) what ≡ Ok made
   deed_steps made ok = sym same_act ∙ ok
 
-  pub deed_fails : (fault : Fault) → AnswersLate (act_late act) step_of (act_of s act) (node_of s) (Err fault) (node_of s) → Fails fault (done_by plan g m (node_of s) what)
-  deed_fails fault h = subst (Fails fault) same_act (late_fails (act_late act) step_of (act_of s act) (node_of s) (node_of s) fault h)
+  pub deed_fails : (fault : Fault) → AnswersAfterGrowth (act_after_growth act) step_of (act_of s act) (node_of s) (Err fault) (node_of s) → Fails fault (done_by plan g m (node_of s) what)
+  deed_fails fault h = subst (Fails fault) same_act (late_fails (act_after_growth act) step_of (act_of s act) (node_of s) (node_of s) fault h)

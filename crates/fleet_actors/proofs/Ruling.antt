@@ -1,7 +1,7 @@
 -- The step of the authority, in the world.
 use Rattle.std.proofs.Common.{◌≡◌, ℕ, List, Result, Ok, Err, MatchResult, IfOk, OnErr, refl, sym, ap, ◌∙◌, subst}
 use Rattle.volume_model.specs.declared.fault.Fault.{Fault}
-use Rattle.volume_model.specs.Told.{refusal}
+use Rattle.volume_model.specs.StepResults.{refusal}
 use Rattle.volume_model.specs.Plan.{Plan}
 use Rattle.volume_model.specs.World.{Authority, AuthorityStep, Event, Step, World, after, after_step, of_authority, step}
 use Rattle.volume_model.specs.Actor.{Actor, Agree}

@@ -1,7 +1,7 @@
 -- What a client does, as the events and the answers of the model.
 use Rattle.std.specs.Prelude.{◌≡◌, ℕ, Bool, List, Option, IsSome}
 use Rattle.volume_model.specs.declared.fault.Fault.{Fault}
-use Rattle.volume_model.specs.Answer.{never_late}
+use Rattle.volume_model.specs.Answer.{never_after_growth}
 use Rattle.volume_model.specs.Plan.{Plan}
 use Rattle.volume_model.specs.Lists.{numbered}
 use Rattle.volume_model.specs.Message.{Message}
@@ -34,9 +34,9 @@ action_acted found (action.Resend lsn) plan volume now = resent volume now lsn
 action_acted found (action.Read group block) plan volume now = page_asked volume now group block
 
 -- the refusals that may come after a growth
-abbrev pub action_late : ClientAction → Fault → Bool
-action_late action.Cut = is_spent
-action_late other = never_late
+abbrev pub action_after_growth : ClientAction → Fault → Bool
+action_after_growth action.Cut = is_spent
+action_after_growth other = never_after_growth
 
 -- a message was found among these, if the action takes one, and it is this
 abbrev pub IsFound : List Message → ClientAction → Option Message → Type 0

@@ -1,7 +1,7 @@
 pub mod Acts
 pub mod Authorities
 pub mod Actions
-pub mod Halts
+pub mod RecordsAttempt
 pub mod Nodes
 pub mod Ready
 pub mod Attempts

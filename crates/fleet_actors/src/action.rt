@@ -54,11 +54,11 @@ impl NodeAction {
 }
 
 impl<L: Site> NodeActor<L> {
-    ghost use Rattle.std.specs.Prelude.{◌≢◌, Err, IfErr, OnErr, OnOk, length};
+    ghost use Rattle.std.specs.Prelude.{length, ◌≢◌, Err, IfErr, OnErr, OnOk};
     ghost use Rattle.volume_model.specs.declared.fault.Fault.TheVariants.{NoMessage};
-    ghost use Rattle.journal.specs.Passes.{journal_of, notes_of, seat_of, steps_of, world_of};
-    ghost use Rattle.fleet_actors.specs.declared.halt.Halt.TheVariants.{StaleCursor, Refused};
-    ghost use Rattle.fleet_actors.specs.Halts.{Enters, Halts, IsExact};
+    ghost use Rattle.journal.specs.Passes.{journal_of, seat_of, world_of};
+    ghost use Rattle.fleet_actors.specs.declared.halt.Halt.TheVariants.{Refused, StaleCursor};
+    ghost use Rattle.fleet_actors.specs.RecordsAttempt.{Enters, IsExact, PassRecords};
     ghost use Rattle.fleet_actors.specs.Ready.{IsStale};
     ghost use Rattle.fleet_actors.specs.Nodes.{actor_group, actor_member, actor_node, event_by};
 
@@ -77,7 +77,7 @@ impl<L: Site> NodeActor<L> {
         pass: &mut Pass<'a, L>,
         action: NodeAction,
     ) -> Result<Receipt, Halt>
-        ensures told { Halts (event_by (actor_group self.old) (actor_member self.old) action) result (steps_of pass.old) (steps_of pass.new) (notes_of pass.old) (notes_of pass.new) }
+        ensures recorded { PassRecords (event_by (actor_group self.old) (actor_member self.old) action) result pass.old pass.new }
         ensures exact { IsExact L.plan L.slots (length L.cells) (journal_of log.old) (event_by (actor_group self.old) (actor_member self.old) action) result }
         ensures entered { Enters (event_by (actor_group self.old) (actor_member self.old) action) (journal_of log.old) (journal_of log.new) result }
         ensures stale { result ≡ Err StaleCursor → IsStale self.old.cursor log.old }

@@ -28,13 +28,13 @@ pub struct AuthorityActor<L: Site> {
 }
 
 impl<L: Site> AuthorityActor<L> {
-    ghost use Rattle.std.specs.Prelude.{◌≢◌, Err, length, OnErr, OnOk};
+    ghost use Rattle.std.specs.Prelude.{length, ◌≢◌, Err, OnErr, OnOk};
     ghost use Rattle.volume_model.specs.declared.fault.Fault.TheVariants.{JournalFull, NoMessage, NoSlot};
-    ghost use Rattle.journal.specs.Passes.{journal_of, notes_of, seat_of, steps_of, world_of};
-    ghost use Rattle.fleet_actors.specs.declared.halt.Halt.TheVariants.{StaleCursor, Refused};
+    ghost use Rattle.journal.specs.Passes.{journal_of, seat_of, world_of};
+    ghost use Rattle.fleet_actors.specs.declared.halt.Halt.TheVariants.{Refused, StaleCursor};
     ghost use Rattle.fleet_actors.specs.Acts.{event_by, IsLeft, IsSpent};
     ghost use Rattle.fleet_actors.specs.Authorities.{actor_authority};
-    ghost use Rattle.fleet_actors.specs.Halts.{Enters, Halts, IsExact};
+    ghost use Rattle.fleet_actors.specs.RecordsAttempt.{Enters, IsExact, PassRecords};
     ghost use Rattle.fleet_actors.specs.Ready.{IsStale};
 
     /// Makes the actor of a new volume's authority, which has made no step.
@@ -65,7 +65,7 @@ impl<L: Site> AuthorityActor<L> {
         slots: u32,
     ) -> Result<Receipt, Halt>
         requires slots { slots ≡ L.slots }
-        ensures told { Halts (event_by act) result (steps_of pass.old) (steps_of pass.new) (notes_of pass.old) (notes_of pass.new) }
+        ensures recorded { PassRecords (event_by act) result pass.old pass.new }
         ensures exact { IsExact L.plan L.slots (length L.cells) (journal_of log.old) (event_by act) result }
         ensures left { OnOk result (IsLeft act (world_of log.old).authority slots) }
         ensures spent { result ≡ Err (Refused NoSlot) → IsSpent act (world_of log.old).authority slots }

@@ -1,6 +1,6 @@
 //! The attempt of an authority's action, before it is entered.
 
-ghost use Rattle.std.specs.Prelude.{◌≡◌, false, IfErr, IfOk, MatchBool, OnErr, OnOk};
+ghost use Rattle.std.specs.Prelude.{false, ◌≡◌, IfErr, IfOk, MatchBool, OnErr, OnOk};
 ghost use Rattle.volume_model.specs.declared.fault.Fault.TheVariants.{JournalFull};
 ghost use Rattle.wire.specs.Listed.{listed};
 ghost use Rattle.wire.specs.Message.{messages_of};

@@ -30,15 +30,15 @@ pub struct ClientActor<L: Site> {
 }
 
 impl<L: Site> ClientActor<L> {
-    ghost use Rattle.std.specs.Prelude.{◌≢◌, Err, length, OnErr, OnOk, option_map};
+    ghost use Rattle.std.specs.Prelude.{length, option_map, ◌≢◌, Err, OnErr, OnOk};
     ghost use Rattle.std.specs.Option.{option_copied};
     ghost use Rattle.volume_model.specs.declared.fault.Fault.TheVariants.{NoMessage};
     ghost use Rattle.wire.specs.Message.{message_of};
     ghost use Rattle.volume_model.specs.World.Event.{Take};
-    ghost use Rattle.journal.specs.Passes.{journal_of, notes_of, seat_of, steps_of, world_of, SeesAll};
-    ghost use Rattle.fleet_actors.specs.declared.halt.Halt.TheVariants.{StaleCursor, Refused};
+    ghost use Rattle.journal.specs.Passes.{journal_of, seat_of, steps_of, world_of, SeesAll};
+    ghost use Rattle.fleet_actors.specs.declared.halt.Halt.TheVariants.{Refused, StaleCursor};
     ghost use Rattle.fleet_actors.specs.Actions.{event_by, IsFound};
-    ghost use Rattle.fleet_actors.specs.Halts.{Enters, Halts, IsExact};
+    ghost use Rattle.fleet_actors.specs.RecordsAttempt.{Enters, IsExact, PassRecords};
     ghost use Rattle.fleet_actors.specs.Ready.{IsStale};
     ghost use Rattle.fleet_actors.specs.Volumes.{actor_client, actor_volume, IsUnmade};
 
@@ -72,7 +72,7 @@ impl<L: Site> ClientActor<L> {
     ) -> Result<Receipt, Halt>
         requires settled { SeesAll pass.old log.old }
         requires found { IsFound (world_of log.old).messages action (option_map message_of (option_copied found)) }
-        ensures told { Halts (event_by (client_volume self.old.client) action) result (steps_of pass.old) (steps_of pass.new) (notes_of pass.old) (notes_of pass.new) }
+        ensures recorded { PassRecords (event_by (client_volume self.old.client) action) result pass.old pass.new }
         ensures exact { IsExact L.plan L.slots (length L.cells) (journal_of log.old) (event_by (client_volume self.old.client) action) result }
         ensures entered { Enters (event_by (client_volume self.old.client) action) (journal_of log.old) (journal_of log.new) result }
         ensures stale { result ≡ Err StaleCursor → IsStale self.old.cursor log.old }
@@ -105,7 +105,7 @@ impl<L: Site> ClientActor<L> {
         pass: &mut Pass<'a, L>,
         message: u64,
     ) -> Result<Receipt, Halt>
-        ensures told { Halts (Take (actor_volume self.old) message) result (steps_of pass.old) (steps_of pass.new) (notes_of pass.old) (notes_of pass.new) }
+        ensures recorded { PassRecords (Take (actor_volume self.old) message) result pass.old pass.new }
         ensures exact { IsExact L.plan L.slots (length L.cells) (journal_of log.old) (Take (actor_volume self.old) message) result }
         ensures entered { Enters (Take (actor_volume self.old) message) (journal_of log.old) (journal_of log.new) result }
         ensures stale { result ≡ Err StaleCursor → IsStale self.old.cursor log.old }
@@ -148,7 +148,7 @@ impl<L: Site> ClientActor<L> {
         pass: &mut Pass<'a, L>,
         action: ClientAction,
     ) -> Result<Receipt, Halt>
-        ensures told { Halts (event_by (actor_volume self.old) action) result (steps_of pass.old) (steps_of pass.new) (notes_of pass.old) (notes_of pass.new) }
+        ensures recorded { PassRecords (event_by (actor_volume self.old) action) result pass.old pass.new }
         ensures exact { IsExact L.plan L.slots (length L.cells) (journal_of log.old) (event_by (actor_volume self.old) action) result }
         ensures entered { Enters (event_by (actor_volume self.old) action) (journal_of log.old) (journal_of log.new) result }
         ensures stale { result ≡ Err StaleCursor → IsStale self.old.cursor log.old }

@@ -1,15 +1,15 @@
 //! The attempt of a client's action, before it is entered.
 
-ghost use Rattle.std.specs.Prelude.{◌≡◌, false, Ok, Some, IfErr, IfOk, OnErr, OnOk, option_map};
+ghost use Rattle.std.specs.Prelude.{false, option_map, ◌≡◌, IfErr, IfOk, Ok, OnErr, OnOk, Some};
 ghost use Rattle.std.specs.Option.{option_copied};
-ghost use Rattle.volume_model.specs.Answer.{refusal_of, AnswersLate};
+ghost use Rattle.volume_model.specs.Answer.{refusal_of, AnswersAfterGrowth};
 ghost use Rattle.volume_model.specs.World.{take};
 ghost use Rattle.wire.specs.Message.{message_of};
 ghost use Rattle.writer_core.specs.Writers.{answered};
 ghost use Rattle.recovery.specs.Recoveries.{admitted};
 ghost use Rattle.world.specs.Clients.{client_plan, client_volume, seen_client, IsSameClient};
 ghost use Rattle.journal.specs.Standing.{durable_of};
-ghost use Rattle.fleet_actors.specs.Actions.{action_acted, action_durable, action_late, HasFound};
+ghost use Rattle.fleet_actors.specs.Actions.{action_acted, action_after_growth, action_durable, HasFound};
 ghost use Rattle.fleet_actors.specs.Attempts.{JudgedOf};
 
 use crate::client_action::ClientAction;
@@ -25,7 +25,7 @@ fn admits(
     action: &ClientAction,
     found: Option<&Message>,
 ) -> Result<(), Fault>
-    ensures { AnswersLate (action_late action.now) admitted (refusal_of (action_acted (option_map message_of (option_copied found.entry)) action.now (client_plan client.now) (client_volume client.now) (seen_client client.now))) tt result tt }
+    ensures { AnswersAfterGrowth (action_after_growth action.now) admitted (refusal_of (action_acted (option_map message_of (option_copied found.entry)) action.now (client_plan client.now) (client_volume client.now) (seen_client client.now))) tt result tt }
 {
     match action {
         ClientAction::Issue(changes) => client.admits(alloc, ClientAct::Issue(changes.as_slice())),
@@ -54,7 +54,7 @@ fn act(
     action: &ClientAction,
     found: Option<&Message>,
 ) -> Result<Messages, Fault>
-    ensures answers { AnswersLate (action_late action.now) answered (action_acted (option_map message_of (option_copied found.entry)) action.now (client_plan client.old) (client_volume client.old) (seen_client client.old)) (seen_client client.old) result (seen_client client.new) }
+    ensures answers { AnswersAfterGrowth (action_after_growth action.now) answered (action_acted (option_map message_of (option_copied found.entry)) action.now (client_plan client.old) (client_volume client.old) (seen_client client.old)) (seen_client client.old) result (seen_client client.new) }
     ensures same { IsSameClient client.old client.new }
 {
     match action {

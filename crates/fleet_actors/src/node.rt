@@ -1,6 +1,6 @@
 //! A node of a fleet.
 
-ghost use Rattle.std.specs.Prelude.{◌≡◌, true};
+ghost use Rattle.std.specs.Prelude.{true, ◌≡◌};
 ghost use Rattle.std.proofs.Props.{props};
 ghost use Rattle.volume_model.specs.Plan.{is_named};
 ghost use Rattle.volume_model.specs.Actor.Actor.{Node};

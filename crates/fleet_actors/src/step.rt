@@ -1,8 +1,8 @@
 //! What every step under both locks shares.
 
-ghost use Rattle.std.specs.Prelude.{◌≡◌, ◌<◌, false, Err, Some, is_err, IfErr, IfOk, MatchResult, OnOk, length};
+ghost use Rattle.std.specs.Prelude.{false, is_err, length, ◌<◌, ◌≡◌, Err, IfErr, IfOk, MatchResult, OnOk, Some};
 ghost use Rattle.volume_model.specs.World.{after, step};
-ghost use Rattle.volume_model.specs.Told.{makes};
+ghost use Rattle.volume_model.specs.StepResults.{makes};
 ghost use Rattle.volume_model.specs.Actor.{actor_of, Agree};
 ghost use Rattle.volume_model.specs.Journal.{last_of, world_at};
 ghost use Rattle.volume_model.specs.Judging.{Exact};
@@ -10,10 +10,10 @@ ghost use Rattle.wire.specs.Listed.{listed};
 ghost use Rattle.wire.specs.Message.{messages_of};
 ghost use Rattle.world.specs.Events.{event_of};
 ghost use Rattle.journal.specs.Standing.{durable_in};
-ghost use Rattle.journal.specs.Passes.{journal_of, cursor_number, marked, notes_of, seat_of, seen_at, steps_of, world_of, HasNoteRoom, SeesAll};
-ghost use Rattle.fleet_actors.specs.declared.halt.Halt.TheVariants.{StaleCursor, Refused};
-ghost use Rattle.fleet_actors.specs.Halts.{AddsNote, Enters, Halts, IsExact};
-ghost use Rattle.fleet_actors.specs.Ready.{IsEarly, IsPoised, IsStale};
+ghost use Rattle.journal.specs.Passes.{cursor_number, journal_of, marked, notes_of, seat_of, seen_at, steps_of, world_of, HasNoteRoom, SeesAll};
+ghost use Rattle.fleet_actors.specs.declared.halt.Halt.TheVariants.{Refused, StaleCursor};
+ghost use Rattle.fleet_actors.specs.RecordsAttempt.{AddsNote, Enters, IsExact, PassRecords};
+ghost use Rattle.fleet_actors.specs.Ready.{IsEarly, IsReadyToStep, IsStale};
 
 use crate::halt::Halt;
 use journal::{ActorCursor, Log, Pass, Receipt, Site};
@@ -36,7 +36,7 @@ pub(crate) fn reserve_step<'a, L: Site>(
     ensures notes { notes_of pass.new ≡ notes_of pass.old }
     ensures seat { seat_of pass.new ≡ seat_of pass.old }
     ensures cursor { (marked cursor.new ≡ marked cursor.old) × (cursor_number cursor.new ≡ cursor_number cursor.old) × (seen_at cursor.new ≡ seen_at cursor.old) }
-    ensures ready { IfOk result (λ _. IsPoised cursor.new log.new pass.new) }
+    ensures ready { IfOk result (λ _. IsReadyToStep cursor.new log.new pass.new) }
     ensures agree { IfOk result (λ _. Agree (marked cursor.old) (world_at L.plan (seen_at cursor.old)) (world_of log.new)) }
     ensures early { IfErr result (λ halt. IsEarly halt) }
     ensures stale { result ≡ Err StaleCursor → IsStale cursor.old log.old }
@@ -60,7 +60,7 @@ pub(crate) fn catch_up_and_reserve<'a, L: Site>(
     ensures notes { notes_of pass.new ≡ notes_of pass.old }
     ensures seat { seat_of pass.new ≡ seat_of pass.old }
     ensures cursor { (marked cursor.new ≡ marked cursor.old) × (cursor_number cursor.new ≡ cursor_number cursor.old) × (seen_at cursor.new ≡ seen_at cursor.old) }
-    ensures ready { IfOk result (λ _. IsPoised cursor.new log.new pass.new) }
+    ensures ready { IfOk result (λ _. IsReadyToStep cursor.new log.new pass.new) }
     ensures agree { IfOk result (λ _. Agree (marked cursor.old) (world_at L.plan (seen_at cursor.old)) (world_of log.new)) }
     ensures early { IfErr result (λ halt. IsEarly halt) }
     ensures stale { result ≡ Err StaleCursor → IsStale cursor.old log.old }
@@ -104,12 +104,12 @@ pub(crate) fn commit_or_note<'a, L: Site, R: Wait>(
     durable: u64,
 ) -> Result<Receipt, Halt>
     requires who { actor_of (event_of event) ≡ marked cursor.old }
-    requires ready { IsPoised cursor.old log.old pass.old }
+    requires ready { IsReadyToStep cursor.old log.old pass.old }
     requires goes { IfOk attempt (λ made. makes (step L.plan (world_of log.old) (event_of event)) ≡ Some (messages_of (listed made))) }
     requires durable { OnOk attempt (durable ≡ durable_in (after L.plan (world_of log.old) (event_of event)) (event_of event)) }
     requires cell { OnOk attempt (length (journal_of log.old) < length L.cells) }
     requires exact { IfErr attempt (λ fault. Exact L.plan L.slots (length L.cells) (journal_of log.old) (event_of event) fault) }
-    ensures told { Halts (event_of event) result (steps_of pass.old) (steps_of pass.new) (notes_of pass.old) (notes_of pass.new) }
+    ensures recorded { PassRecords (event_of event) result pass.old pass.new }
     ensures exact { IsExact L.plan L.slots (length L.cells) (journal_of log.old) (event_of event) result }
     ensures entered { Enters (event_of event) (journal_of log.old) (journal_of log.new) result }
     ensures seat { seat_of pass.new ≡ seat_of pass.old }

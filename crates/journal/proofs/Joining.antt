@@ -9,7 +9,7 @@ use Rattle.volume_model.specs.Node.{NodeAnswer}
 use Rattle.volume_model.specs.Client.{ClientAnswer}
 use Rattle.volume_model.specs.World.{Authority, AuthorityStep, World, Event, assigned, advanced, refreshed, grown, groups_joined, of_authority, of_client, of_node, step, after, after_step}
 use Rattle.volume_model.specs.World.Event.{Assign, Advance, Refresh, Grow, Issue, Take, Cut, Open, Resend, Read, Deliver, Hydrate, Restart, Offer}
-use Rattle.volume_model.specs.Told.{makes}
+use Rattle.volume_model.specs.StepResults.{makes}
 use Rattle.volume_model.proofs.Groups.{length-slice_set}
 use Rattle.volume_model.proofs.NodeSteps.{refuse_if-ok}
 use Rattle.journal.specs.Joined.{joined_after}

@@ -10,7 +10,7 @@ use Rattle.volume_model.specs.Judging.{Exact, IsNoted, IsRefused}
 use Rattle.volume_model.proofs.Judges.{noted_at_last}
 use Rattle.volume_model.proofs.Worlds.{last_at_most}
 use Rattle.volume_model.proofs.ListFacts.{get_within}
-use Rattle.journal.specs.declared.pass.Held.{Held}
+use Rattle.journal.specs.declared.pass.PassStep.{PassStep}
 use Rattle.journal.specs.Entries.{entry_of}
 use Rattle.journal.specs.Standing.{Made, made, Stands}
 use Rattle.journal.specs.Passes.{made_of, AtMost}
@@ -18,9 +18,9 @@ use Rattle.journal.proofs.Each.{all_map}
 
 module _ {X : Type 0} (plan : Plan) where
   -- steps that stand in the journal are not after its end
-  pub at_most_all : (es : List Entry) (hs : List (Held X)) (number : ℕ) → All (λ h. Stands plan es (made h.entry.now.cell (entry_of h.entry.now) h.entry.now.durable)) hs → number ≡ length es → AtMost number (map made_of hs)
+  pub at_most_all : (es : List Entry) (hs : List (PassStep X)) (number : ℕ) → All (λ h. Stands plan es (made h.entry.now.cell (entry_of h.entry.now) h.entry.now.durable)) hs → number ≡ length es → AtMost number (map made_of hs)
   at_most_all es hs number stand last =
-      all_map (λ (h : Held X). made_of h) (λ (s : Made). s.at < number) hs
+      all_map (λ (h : PassStep X). made_of h) (λ (s : Made). s.at < number) hs
       (λ k d lt. let h = get_or hs k d in let s = stand k d lt in let c = get_within es (entry_of h.entry.now) h.entry.now.cell s.stands in omega (arith, c, last))
 
 -- what the model refuses now may be noted by the length of the journal

@@ -5,6 +5,6 @@ pub mod History
 pub mod Fronts
 pub mod Named
 pub mod Tokens
-pub mod Lasts
+pub mod LastEntries
 pub mod Joined
 pub mod Passes

@@ -14,7 +14,7 @@ use Rattle.board.specs.Seats as board
 use Rattle.journal.specs.declared.row.Site.{Ghosts as SiteGhosts}
 use Rattle.journal.specs.declared.entry.Entry.{Entry}
 use Rattle.journal.specs.declared.entry.Receipt.{Receipt}
-use Rattle.journal.specs.declared.pass.Held.{Held}
+use Rattle.journal.specs.declared.pass.PassStep.{PassStep}
 use Rattle.journal.specs.declared.pass.Pass.{Pass}
 use Rattle.journal.specs.declared.cursor.ActorCursor.{ActorCursor}
 use Rattle.journal.specs.declared.message_ref.MessageRef.{MessageRef}
@@ -22,13 +22,13 @@ use Rattle.journal.specs.declared.log.Log.{Log}
 use Rattle.journal.specs.Actors.{seen_who}
 use Rattle.journal.specs.Entries.{entry_of, entries_of, note_of}
 use Rattle.journal.specs.Fronts.{front_log}
-use Rattle.journal.specs.Lasts.{last_in}
+use Rattle.journal.specs.LastEntries.{last_in}
 use Rattle.wire.specs.Listed.{listed}
 use Rattle.journal.specs.Standing.{Made, made}
 use Rattle.journal.specs.Tokens.{shown}
 
 -- a step that a pass holds
-abbrev pub made_of : {X : Type 0} → Held X → Made
+abbrev pub made_of : {X : Type 0} → PassStep X → Made
 made_of h = made h.entry.now.cell (entry_of h.entry.now) h.entry.now.durable
 
 module _ {X : Type 0} {s : SiteGhosts X} where

@@ -6,7 +6,7 @@ mod actor_name;
 mod cursor;
 mod entry;
 mod history;
-mod lasts;
+mod last_entries;
 mod log;
 mod message_ref;
 mod pass;

@@ -9,16 +9,16 @@ ghost use Rattle.world.specs.Events.{event_of};
 ghost use Rattle.journal.specs.Joined.{joined_after};
 ghost use Rattle.journal.specs.Entries.{entries_of};
 ghost use Rattle.journal.specs.Fronts.{front_book, front_log, log_of};
-ghost use Rattle.journal.specs.Lasts.{last_in, last_known};
+ghost use Rattle.journal.specs.LastEntries.{last_in, last_known};
 ghost use Rattle.journal.specs.Tokens.{ids_of, shown};
 
 use crate::actor_name::ActorName;
 use crate::cursor::ActorCursor;
 use crate::entry::{Entry, Receipt};
 use crate::history::{History, LogPrefix};
-use crate::lasts::Lasts;
+use crate::last_entries::LastEntries;
 use crate::message_ref::MessageRef;
-use crate::pass::{Held, Pass};
+use crate::pass::{Pass, PassStep};
 use crate::row::{Row, Site};
 use board::BoardSeat;
 use std::alloc::{AllocError, Global};
@@ -38,7 +38,7 @@ pub struct Log<'a, L: Site> {
     entries: Vec<&'a Entry>,
     firsts: Vec<u64>,
     messages: u64,
-    lasts: Lasts,
+    lasts: LastEntries,
     joined: u64,
     book: Book<L>,
     history: History<L>,
@@ -114,7 +114,7 @@ impl<'a, L: Site> Log<'a, L> {
     ghost use Rattle.volume_model.specs.World.{after, opening, step};
     ghost use Rattle.volume_model.specs.Actor.{actor_of, Agree};
     ghost use Rattle.volume_model.specs.Actor.Actor.{Client, Node};
-    ghost use Rattle.volume_model.specs.Told.{makes};
+    ghost use Rattle.volume_model.specs.StepResults.{makes};
     ghost use Rattle.volume_model.specs.Journal.{before, events};
     ghost use Rattle.volume_model.specs.Judging.{Exact, IsNoted, IsRefused};
     ghost use Rattle.wire.specs.Message.{messages_of};
@@ -150,7 +150,7 @@ impl<'a, L: Site> Log<'a, L> {
         ensures clients { IfOk result (λ log. (volume : ℕ) → volume ≤ slots → HasPlace log (Client volume)) }
         ensures nodes { IfOk result (λ log. (group member : ℕ) → group < groups → member < members → HasPlace log (Node group member)) }
     {
-        let lasts = Lasts::new(alloc, slots, groups)?;
+        let lasts = LastEntries::new(alloc, slots, groups)?;
         Ok(Log {
             entries: Vec::with_capacity(alloc, row.cells.len())?,
             firsts: Vec::with_capacity(alloc, row.cells.len())?,
@@ -264,7 +264,7 @@ impl<'a, L: Site> Log<'a, L> {
         *seen = history.opened.front();
         let whole = history.opened.front();
         book.add(share, 1);
-        steps.push_reserved(Held {
+        steps.push_reserved(PassStep {
             entry,
             site: PhantomData,
         });

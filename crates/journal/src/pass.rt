@@ -22,7 +22,7 @@ use world::Event;
 
 /// A step of a pass: its entry.
 #[derive(Drop)]
-pub struct Held<'a, L: Site> {
+pub struct PassStep<'a, L: Site> {
     pub(crate) entry: &'a Entry,
     pub(crate) site: PhantomData<L>,
 }
@@ -31,7 +31,7 @@ pub struct Held<'a, L: Site> {
 #[derive(Drop)]
 pub struct Pass<'a, L: Site> {
     pub(crate) share: Share<L>,
-    pub(crate) steps: Vec<Held<'a, L>>,
+    pub(crate) steps: Vec<PassStep<'a, L>>,
     pub(crate) notes: Vec<Note>,
     /// The entry that made the last message found; the next search starts there.
     pub(crate) near: usize,

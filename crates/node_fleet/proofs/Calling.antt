@@ -12,16 +12,16 @@ use Rattle.fleet_actors.specs.declared.client_action.ClientAction.{ClientAction}
 use Rattle.fleet_actors.specs.declared.client_action.ClientAction.TheVariants as action
 use Rattle.fleet_actors.specs.declared.halt.Halt.{Halt}
 use Rattle.fleet_actors.specs.declared.halt.Halt.TheVariants.{Refused}
-use Rattle.fleet_actors.specs.Halts.{Halts}
-use Rattle.node_fleet.specs.Calls.{NamesElse, Raises, RaisesBy, Tells}
+use Rattle.fleet_actors.specs.RecordsAttempt.{RecordsAttempt}
+use Rattle.node_fleet.specs.Calls.{NamesElse, Raises, RaisesBy, RecordsCall}
 use Rattle.fleet_actors.specs.Actions.{event_by}
 use Rattle.fleet_actors.specs.Volumes.{IsElsewhere, IsUnmade}
 
 -- a step of the last try, before which the pass was as at first
 pub adds_first : (event asked : Event) (r : Receipt) (first steps steps' : List Made) (notes notes' before : List Refusal) → asked ≡ event → steps ≡ first → notes ≡ before
     → AddsStep asked r steps steps' × (notes' ≡ notes) → AddsStep event r first steps' × (notes' ≡ before)
-adds_first event asked r first steps steps' notes notes' before is same kept told =
-    (subst (λ (e : Event). AddsStep e r first steps') is (subst (λ (s : List Made). AddsStep asked r s steps') same told.0), told.1 ∙ kept)
+adds_first event asked r first steps steps' notes notes' before is same kept recorded =
+    (subst (λ (e : Event). AddsStep e r first steps') is (subst (λ (s : List Made). AddsStep asked r s steps') same recorded.0), recorded.1 ∙ kept)
 
 -- what a deed raises
 pub raises_by : (volume : ℕ) (asked : ClientAction) (durable : ℕ) (seat seat' : List BoardStep) → Raises asked durable seat seat' → RaisesBy (event_by volume asked) durable seat seat'
@@ -42,8 +42,8 @@ names_else volume (action.Resend lsn) steps h = absurd h
 names_else volume (action.Read group block) steps h = absurd h
 
 -- a try that was refused
-pub tells_refused : (event : Event) (halt : Halt) (fault : Fault) (steps steps' : List Made) (notes notes' : List Refusal) → halt ≡ Refused fault → Halts event (Err halt) steps steps' notes notes' → Tells event (Err fault) steps steps' notes notes'
-tells_refused event halt fault steps steps' notes notes' is told = subst (λ (h : Halt). Halts event (Err h) steps steps' notes notes') is told
+pub records_refused : (event : Event) (halt : Halt) (fault : Fault) (steps steps' : List Made) (notes notes' : List Refusal) → halt ≡ Refused fault → RecordsAttempt event (Err halt) steps steps' notes notes' → RecordsCall event (Err fault) steps steps' notes notes'
+records_refused event halt fault steps steps' notes notes' is recorded = subst (λ (h : Halt). RecordsAttempt event (Err h) steps steps' notes notes') is recorded
 
 -- a refusal for want of a message
 pub lost_halt : (halt : Halt) (fault : Fault) → halt ≡ Refused fault → fault ≡ NoMessage → halt ≡ Refused NoMessage

@@ -4,7 +4,7 @@ use Rattle.volume_model.specs.declared.fault.Fault.TheVariants.{NoActor}
 use Rattle.volume_model.specs.Node.{NodeAnswer}
 use Rattle.volume_model.specs.Plan.{Plan, is_named}
 use Rattle.volume_model.specs.Refusal.{refuse_if}
-use Rattle.volume_model.specs.Told.{refusal}
+use Rattle.volume_model.specs.StepResults.{refusal}
 use Rattle.volume_model.specs.World.{World, Event, groups_joined, if_there, of_node, step}
 use Rattle.volume_model.specs.World.Event.{Assign, Advance, Refresh, Grow, Issue, Take, Cut, Open, Resend, Read, Deliver, Hydrate, Restart, Offer}
 use Rattle.node_fleet.specs.Calls.{IsOfNone}

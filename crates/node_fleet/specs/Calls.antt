@@ -10,16 +10,22 @@ use Rattle.volume_model.specs.Judging.{Refusal}
 use Rattle.board.specs.declared.BoardStep.{BoardStep}
 use Rattle.board.specs.declared.BoardStep.TheVariants.{Raised}
 use Rattle.journal.specs.declared.entry.Receipt.{Receipt}
-use Rattle.journal.specs.Passes.{AddsStep}
+use Rattle.journal.specs.declared.pass.Pass.{Pass}
+use Rattle.journal.specs.declared.row.Site.{Ghosts as SiteGhosts}
+use Rattle.journal.specs.Passes.{AddsStep, notes_of, steps_of}
 use Rattle.journal.specs.Standing.{IsElse, Made}
 use Rattle.fleet_actors.specs.declared.client_action.ClientAction.{ClientAction}
 use Rattle.fleet_actors.specs.declared.client_action.ClientAction.TheVariants as action
-use Rattle.fleet_actors.specs.Halts.{AddsNote}
+use Rattle.fleet_actors.specs.RecordsAttempt.{AddsNote}
 
 -- the pass has the step of this event more, as its receipt says, or a note of the refusal
-abbrev pub Tells : Event → Result Receipt Fault → List Made → List Made → List Refusal → List Refusal → Type 0
-Tells event (Ok r) steps steps' notes notes' = AddsStep event r steps steps' × (notes' ≡ notes)
-Tells event (Err fault) steps steps' notes notes' = (steps' ≡ steps) × AddsNote event fault steps notes notes'
+abbrev pub RecordsCall : Event → Result Receipt Fault → List Made → List Made → List Refusal → List Refusal → Type 0
+RecordsCall event (Ok r) steps steps' notes notes' = AddsStep event r steps steps' × (notes' ≡ notes)
+RecordsCall event (Err fault) steps steps' notes notes' = (steps' ≡ steps) × AddsNote event fault steps notes notes'
+
+-- the same of the pass itself, before and after
+abbrev pub PassRecordsCall : {X : Type 0} {s : SiteGhosts X} → Event → Result Receipt Fault → Pass X s → Pass X s → Type 0
+PassRecordsCall event result old new = RecordsCall event result (steps_of old) (steps_of new) (notes_of old) (notes_of new)
 
 -- a message that is said not to be there was made by none of these steps
 abbrev pub Unmade : ℕ → List Made → Fault → Type 0

@@ -1,10 +1,10 @@
 //! The authority's calls of a fleet.
 
 ghost use Rattle.std.specs.Prelude.{◌≡◌, IfErr};
-ghost use Rattle.journal.specs.Passes.{notes_of, seat_of, steps_of};
+ghost use Rattle.journal.specs.Passes.{seat_of};
 ghost use Rattle.fleet_actors.specs.Acts.{event_by};
-ghost use Rattle.fleet_actors.specs.Halts.{Halts};
-ghost use Rattle.node_fleet.specs.Calls.{Tells};
+ghost use Rattle.fleet_actors.specs.RecordsAttempt.{PassRecords};
+ghost use Rattle.node_fleet.specs.Calls.{PassRecordsCall};
 
 use crate::fleet::Fleet;
 use crate::site::FleetSite;
@@ -26,7 +26,7 @@ impl<'a, L: FleetSite> Fleet<'a, L> {
         pass: &mut Pass<'a, L>,
         act: AuthorityAct,
     ) -> Result<Receipt, Halt>
-        ensures told { Halts (event_by act) result (steps_of pass.old) (steps_of pass.new) (notes_of pass.old) (notes_of pass.new) }
+        ensures recorded { PassRecords (event_by act) result pass.old pass.new }
         ensures seat { seat_of pass.new ≡ seat_of pass.old }
         ensures found { result ≢ Err (Refused NoMessage) }
     {
@@ -42,7 +42,7 @@ impl<'a, L: FleetSite> Fleet<'a, L> {
         pass: &mut Pass<'a, L>,
         act: AuthorityAct,
     ) -> Result<Receipt, Fault>
-        ensures told { Tells (event_by act) result (steps_of pass.old) (steps_of pass.new) (notes_of pass.old) (notes_of pass.new) }
+        ensures recorded { PassRecordsCall (event_by act) result pass.old pass.new }
         ensures seat { seat_of pass.new ≡ seat_of pass.old }
         ensures found { IfErr result (λ fault. fault ≢ NoMessage) }
     {

@@ -1,6 +1,6 @@
 //! What a fleet stands on, before its site has a name.
 
-ghost use Rattle.std.specs.Prelude.{◌≡◌, ◌<◌, All, length, vec_len};
+ghost use Rattle.std.specs.Prelude.{length, vec_len, ◌<◌, ◌≡◌, All};
 ghost use Rattle.std.proofs.Props.{props};
 ghost use Rattle.board.specs.Seats.{seats_of, steps_of, IsSeatOf};
 ghost use Rattle.journal.specs.Fronts.{log_of};

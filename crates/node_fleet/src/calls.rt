@@ -5,7 +5,7 @@ ghost use Rattle.volume_model.specs.World.Event.{Deliver};
 ghost use Rattle.fleet_actors.specs.Acts as acts;
 ghost use Rattle.fleet_actors.specs.Actions as actions;
 ghost use Rattle.fleet_actors.specs.Nodes as nodes;
-ghost use Rattle.node_fleet.specs.Calls.{NamesElse, RaisesBy, Tells, Unmade};
+ghost use Rattle.node_fleet.specs.Calls.{NamesElse, PassRecordsCall, RaisesBy, Unmade};
 ghost use Rattle.node_fleet.specs.Passes.{notes_of, seat_of, steps_of, IsEntrySame, IsMailSame};
 
 use crate::fleet::Fleet;
@@ -19,7 +19,7 @@ use volume_model::Fault;
 use world::AuthorityAct;
 
 impl<'a, L: FleetSite> Fleet<'a, L> {
-    ghost use Rattle.std.specs.Prelude.{◌≢◌, ◌≤◌, ◌++◌, [], ◌∷◌, true, All, Some, None};
+    ghost use Rattle.std.specs.Prelude.{[], true, ◌++◌, ◌∷◌, ◌≢◌, ◌≤◌, All, None, Some};
     ghost use Rattle.volume_model.specs.declared.fault.Fault.TheVariants.{NoMessage};
     ghost use Rattle.volume_model.specs.Plan.{is_named};
     ghost use Rattle.world.specs.Slots.{slot_of};
@@ -40,7 +40,7 @@ impl<'a, L: FleetSite> Fleet<'a, L> {
         pass: &mut Pass<'a, L>,
         act: AuthorityAct,
     ) -> Result<Receipt, Fault>
-        ensures told { Tells (acts.event_by act) result (steps_of pass.old) (steps_of pass.new) (notes_of pass.old) (notes_of pass.new) }
+        ensures recorded { PassRecordsCall (acts.event_by act) result pass.old pass.new }
         ensures seat { seat_of pass.new ≡ seat_of pass.old }
         ensures mail { IsMailSame pass.old pass.new }
         ensures found { IfErr result (λ fault. fault ≢ NoMessage) }
@@ -63,7 +63,7 @@ impl<'a, L: FleetSite> Fleet<'a, L> {
         volume: u32,
         action: ClientAction,
     ) -> Result<Receipt, Fault>
-        ensures told { Tells (actions.event_by volume action) result (steps_of pass.old) (steps_of pass.new) (notes_of pass.old) (notes_of pass.new) }
+        ensures recorded { PassRecordsCall (actions.event_by volume action) result pass.old pass.new }
         ensures raised { IfOk result (λ r. RaisesBy (actions.event_by volume action) r.durable (seat_of pass.old) (seat_of pass.new)) }
         ensures still { OnErr result (seat_of pass.new ≡ seat_of pass.old) }
         ensures mail { IsMailSame pass.old pass.new }
@@ -83,7 +83,7 @@ impl<'a, L: FleetSite> Fleet<'a, L> {
         volume: u32,
         action: &ClientAction,
     ) -> Result<Receipt, Fault>
-        ensures told { Tells (actions.event_by volume action.now) result (steps_of pass.old) (steps_of pass.new) (notes_of pass.old) (notes_of pass.new) }
+        ensures recorded { PassRecordsCall (actions.event_by volume action.now) result pass.old pass.new }
         ensures raised { IfOk result (λ r. RaisesBy (actions.event_by volume action.now) r.durable (seat_of pass.old) (seat_of pass.new)) }
         ensures still { OnErr result (seat_of pass.new ≡ seat_of pass.old) }
         ensures mail { IsMailSame pass.old pass.new }
@@ -108,7 +108,7 @@ impl<'a, L: FleetSite> Fleet<'a, L> {
         message: u64,
         gate: &G,
     ) -> Result<Receipt, Fault>
-        ensures told { Tells (Deliver group member message) result (steps_of pass.old) (steps_of pass.new) (notes_of pass.old) (notes_of pass.new) }
+        ensures recorded { PassRecordsCall (Deliver group member message) result pass.old pass.new }
         ensures unmade { IfErr result (λ fault. Unmade message (steps_of pass.old) fault) }
         ensures seat { seat_of pass.new ≡ seat_of pass.old }
         ensures mail { IsMailSame pass.old pass.new }
@@ -130,7 +130,7 @@ impl<'a, L: FleetSite> Fleet<'a, L> {
         member: u8,
         action: NodeAction,
     ) -> Result<Receipt, Fault>
-        ensures told { Tells (nodes.event_by group member action) result (steps_of pass.old) (steps_of pass.new) (notes_of pass.old) (notes_of pass.new) }
+        ensures recorded { PassRecordsCall (nodes.event_by group member action) result pass.old pass.new }
         ensures found { IfErr result (λ fault. fault ≢ NoMessage) }
         ensures seat { seat_of pass.new ≡ seat_of pass.old }
         ensures mail { IsMailSame pass.old pass.new }

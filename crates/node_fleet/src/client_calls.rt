@@ -2,11 +2,11 @@
 
 ghost use Rattle.std.specs.Prelude.{◌≡◌, IfErr, IfOk, OnErr};
 ghost use Rattle.volume_model.specs.World.Event.{Take};
-ghost use Rattle.journal.specs.Passes.{notes_of, seat_of, steps_of};
+ghost use Rattle.journal.specs.Passes.{seat_of, steps_of};
 ghost use Rattle.fleet_actors.specs.Actions.{event_by};
-ghost use Rattle.fleet_actors.specs.Halts.{Halts};
+ghost use Rattle.fleet_actors.specs.RecordsAttempt.{PassRecords};
 ghost use Rattle.fleet_actors.specs.Volumes.{IsUnmade};
-ghost use Rattle.node_fleet.specs.Calls.{is_moving, NamesElse, Raises, RaisesBy, Tells};
+ghost use Rattle.node_fleet.specs.Calls.{is_moving, NamesElse, PassRecordsCall, Raises, RaisesBy};
 
 use crate::fleet::Fleet;
 use crate::settling::refusal_of;
@@ -26,7 +26,7 @@ fn moves(action: &ClientAction) -> bool
 }
 
 impl<'a, L: FleetSite> Fleet<'a, L> {
-    ghost use Rattle.std.specs.Prelude.{◌≢◌, Err, option_map};
+    ghost use Rattle.std.specs.Prelude.{option_map, ◌≢◌, Err};
     ghost use Rattle.std.specs.Option.{option_copied};
     ghost use Rattle.volume_model.specs.declared.fault.Fault.TheVariants.{NoMessage};
     ghost use Rattle.volume_model.specs.Client.{unborn};
@@ -54,7 +54,7 @@ impl<'a, L: FleetSite> Fleet<'a, L> {
         requires found { IsFound (world_of log.now).messages action (option_map message_of (option_copied found)) }
         requires settled { SeesAll pass.old log.now }
         requires room { HasNoteRoom pass.old }
-        ensures told { Halts (event_by volume action) (Err result) (steps_of pass.old) (steps_of pass.new) (notes_of pass.old) (notes_of pass.new) }
+        ensures recorded { PassRecords (event_by volume action) (Err result) pass.old pass.new }
         ensures seat { seat_of pass.new ≡ seat_of pass.old }
         ensures found { result ≢ Refused NoMessage }
     {
@@ -76,7 +76,7 @@ impl<'a, L: FleetSite> Fleet<'a, L> {
         volume: u32,
         action: ClientAction,
     ) -> Halt
-        ensures told { Halts (event_by volume action) (Err result) (steps_of pass.old) (steps_of pass.new) (notes_of pass.old) (notes_of pass.new) }
+        ensures recorded { PassRecords (event_by volume action) (Err result) pass.old pass.new }
         ensures seat { seat_of pass.new ≡ seat_of pass.old }
         ensures unmade { IsUnmade action (steps_of pass.old) (Err result) }
     {
@@ -111,7 +111,7 @@ impl<'a, L: FleetSite> Fleet<'a, L> {
         volume: u32,
         action: ClientAction,
     ) -> Result<Receipt, Halt>
-        ensures told { Halts (event_by volume action) result (steps_of pass.old) (steps_of pass.new) (notes_of pass.old) (notes_of pass.new) }
+        ensures recorded { PassRecords (event_by volume action) result pass.old pass.new }
         ensures raised { IfOk result (λ r. Raises action r.durable (seat_of pass.old) (seat_of pass.new)) }
         ensures still { OnErr result (seat_of pass.new ≡ seat_of pass.old) }
         ensures unmade { IsUnmade action (steps_of pass.old) result }
@@ -143,7 +143,7 @@ impl<'a, L: FleetSite> Fleet<'a, L> {
         volume: u32,
         action: ClientAction,
     ) -> Result<Receipt, Fault>
-        ensures told { Tells (event_by volume action) result (steps_of pass.old) (steps_of pass.new) (notes_of pass.old) (notes_of pass.new) }
+        ensures recorded { PassRecordsCall (event_by volume action) result pass.old pass.new }
         ensures raised { IfOk result (λ r. RaisesBy (event_by volume action) r.durable (seat_of pass.old) (seat_of pass.new)) }
         ensures still { OnErr result (seat_of pass.new ≡ seat_of pass.old) }
         ensures unmade { IfErr result (λ fault. fault ≡ NoMessage → NamesElse (event_by volume action) (steps_of pass.old)) }
@@ -163,7 +163,7 @@ impl<'a, L: FleetSite> Fleet<'a, L> {
         volume: u32,
         message: u64,
     ) -> Result<Receipt, Halt>
-        ensures told { Halts (Take volume message) result (steps_of pass.old) (steps_of pass.new) (notes_of pass.old) (notes_of pass.new) }
+        ensures recorded { PassRecords (Take volume message) result pass.old pass.new }
         ensures raised { IfOk result (λ r. Raises (ClientAction.Take message) r.durable (seat_of pass.old) (seat_of pass.new)) }
         ensures still { OnErr result (seat_of pass.new ≡ seat_of pass.old) }
         ensures unmade { IsUnmade (ClientAction.Take message) (steps_of pass.old) result }
@@ -193,7 +193,7 @@ impl<'a, L: FleetSite> Fleet<'a, L> {
         volume: u32,
         message: u64,
     ) -> Result<Receipt, Fault>
-        ensures told { Tells (Take volume message) result (steps_of pass.old) (steps_of pass.new) (notes_of pass.old) (notes_of pass.new) }
+        ensures recorded { PassRecordsCall (Take volume message) result pass.old pass.new }
         ensures raised { IfOk result (λ r. RaisesBy (Take volume message) r.durable (seat_of pass.old) (seat_of pass.new)) }
         ensures still { OnErr result (seat_of pass.new ≡ seat_of pass.old) }
         ensures unmade { IfErr result (λ fault. fault ≡ NoMessage → NamesElse (Take volume message) (steps_of pass.old)) }
@@ -212,7 +212,7 @@ impl<'a, L: FleetSite> Fleet<'a, L> {
         volume: u32,
         action: ClientAction,
     ) -> Result<Receipt, Fault>
-        ensures told { Tells (event_by volume action) result (steps_of pass.old) (steps_of pass.new) (notes_of pass.old) (notes_of pass.new) }
+        ensures recorded { PassRecordsCall (event_by volume action) result pass.old pass.new }
         ensures raised { IfOk result (λ r. RaisesBy (event_by volume action) r.durable (seat_of pass.old) (seat_of pass.new)) }
         ensures still { OnErr result (seat_of pass.new ≡ seat_of pass.old) }
         ensures unmade { IfErr result (λ fault. fault ≡ NoMessage → NamesElse (event_by volume action) (steps_of pass.old)) }
@@ -232,7 +232,7 @@ impl<'a, L: FleetSite> Fleet<'a, L> {
         volume: u32,
         action: &ClientAction,
     ) -> Result<Receipt, Fault>
-        ensures told { Tells (event_by volume action.now) result (steps_of pass.old) (steps_of pass.new) (notes_of pass.old) (notes_of pass.new) }
+        ensures recorded { PassRecordsCall (event_by volume action.now) result pass.old pass.new }
         ensures raised { IfOk result (λ r. RaisesBy (event_by volume action.now) r.durable (seat_of pass.old) (seat_of pass.new)) }
         ensures still { OnErr result (seat_of pass.new ≡ seat_of pass.old) }
         ensures unmade { IfErr result (λ fault. fault ≡ NoMessage → NamesElse (event_by volume action.now) (steps_of pass.old)) }
@@ -249,7 +249,7 @@ impl<'a, L: FleetSite> Fleet<'a, L> {
         volume: u32,
         action: &ClientAction,
     ) -> Result<Receipt, Fault>
-        ensures told { Tells (event_by volume action.now) result (steps_of pass.old) (steps_of pass.new) (notes_of pass.old) (notes_of pass.new) }
+        ensures recorded { PassRecordsCall (event_by volume action.now) result pass.old pass.new }
         ensures raised { IfOk result (λ r. RaisesBy (event_by volume action.now) r.durable (seat_of pass.old) (seat_of pass.new)) }
         ensures still { OnErr result (seat_of pass.new ≡ seat_of pass.old) }
         ensures unmade { IfErr result (λ fault. fault ≡ NoMessage → NamesElse (event_by volume action.now) (steps_of pass.old)) }

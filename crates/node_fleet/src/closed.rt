@@ -12,7 +12,7 @@ pub struct Journal<'a, L: Site> {
 }
 
 impl<'a, L: Site> Journal<'a, L> {
-    ghost use Rattle.std.specs.Prelude.{◌≡◌, IfErr, IfOk, length};
+    ghost use Rattle.std.specs.Prelude.{length, ◌≡◌, IfErr, IfOk};
     ghost use Rattle.volume_model.specs.Journal.{events};
     ghost use Rattle.volume_model.specs.declared.fault.Fault.TheVariants.{NoMemory};
     ghost use Rattle.world.specs.Events.{events_of};

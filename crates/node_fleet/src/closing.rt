@@ -1,6 +1,6 @@
 //! Taking back the passes of a fleet.
 
-ghost use Rattle.std.specs.Prelude.{◌≡◌, ◌<◌, All, length, map, sum_by, vec_len};
+ghost use Rattle.std.specs.Prelude.{length, map, sum_by, vec_len, ◌<◌, ◌≡◌, All};
 ghost use Rattle.volume_model.specs.Judging.{IsRefused};
 ghost use Rattle.board.specs.Seats.{board_table, returned, AreReturnedTo};
 ghost use Rattle.mailbox.specs.Mails.{ids_of, AreBack};

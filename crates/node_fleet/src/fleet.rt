@@ -1,6 +1,6 @@
 //! The actors of a volume, shared by threads, with their journal.
 
-ghost use Rattle.std.specs.Prelude.{◌≡◌, ◌+◌, vec_len};
+ghost use Rattle.std.specs.Prelude.{vec_len, ◌+◌, ◌≡◌};
 ghost use Rattle.std.specs.Arc.{arc_value};
 ghost use Rattle.std.specs.Coded.{Coded-set};
 ghost use Rattle.atomic_table.specs.Seated.{table_id_coded};
@@ -52,7 +52,7 @@ pub struct Fleet<'a, L: FleetSite> {
 }
 
 impl<'a, L: FleetSite> Fleet<'a, L> {
-    ghost use Rattle.std.specs.Prelude.{◌<◌, ℕ, All, length, map, sum_by};
+    ghost use Rattle.std.specs.Prelude.{length, map, sum_by, ◌<◌, All, ℕ};
     ghost use Rattle.volume_model.specs.Journal.{events, IsRun};
     ghost use Rattle.volume_model.specs.Judging.{IsRefused};
     ghost use Rattle.world.specs.Outcomes.{KeepsPromises};

@@ -1,14 +1,14 @@
 //! The nodes' calls of a fleet.
 
 ghost use Rattle.std.specs.Prelude.{◌≡◌, IfErr};
-ghost use Rattle.volume_model.specs.Told.{refusal};
+ghost use Rattle.volume_model.specs.StepResults.{refusal};
 ghost use Rattle.volume_model.specs.World.{step};
 ghost use Rattle.volume_model.specs.World.Event.{Deliver};
 ghost use Rattle.journal.specs.Passes.{journal_of, message_ref_number, notes_of, seat_of, steps_of, world_of};
 ghost use Rattle.world.specs.Events.{event_of};
-ghost use Rattle.fleet_actors.specs.Halts.{AddsNote, Halts};
+ghost use Rattle.fleet_actors.specs.RecordsAttempt.{AddsNote, PassRecords};
 ghost use Rattle.fleet_actors.specs.Nodes.{event_by};
-ghost use Rattle.node_fleet.specs.Calls.{IsOfNone, Tells, Unmade};
+ghost use Rattle.node_fleet.specs.Calls.{IsOfNone, PassRecordsCall, Unmade};
 
 use crate::fleet::Fleet;
 use crate::settling::refusal_of;
@@ -20,7 +20,7 @@ use volume_model::Fault;
 use world::{Event, slot};
 
 impl<'a, L: FleetSite> Fleet<'a, L> {
-    ghost use Rattle.std.specs.Prelude.{◌≢◌, false, IfNone, IfOk, OnOk};
+    ghost use Rattle.std.specs.Prelude.{false, ◌≢◌, IfNone, IfOk, OnOk};
     ghost use Rattle.volume_model.specs.Plan.{is_named};
     ghost use Rattle.volume_model.specs.declared.fault.Fault.TheVariants.{NoMessage};
     ghost use Rattle.fleet_actors.specs.declared.halt.Halt.TheVariants.{Refused};
@@ -105,7 +105,7 @@ impl<'a, L: FleetSite> Fleet<'a, L> {
         message_ref: &mut MessageRef<'a, L>,
         gate: &G,
     ) -> Result<Receipt, Halt>
-        ensures told { Halts (Deliver group member (message_ref_number message_ref.old)) result (steps_of pass.old) (steps_of pass.new) (notes_of pass.old) (notes_of pass.new) }
+        ensures recorded { PassRecords (Deliver group member (message_ref_number message_ref.old)) result pass.old pass.new }
         ensures found { IfErr result (λ halt. halt ≢ Refused NoMessage) }
         ensures seat { seat_of pass.new ≡ seat_of pass.old }
     {
@@ -126,7 +126,7 @@ impl<'a, L: FleetSite> Fleet<'a, L> {
         message: u64,
         gate: &G,
     ) -> Result<Receipt, Fault>
-        ensures told { Tells (Deliver group member message) result (steps_of pass.old) (steps_of pass.new) (notes_of pass.old) (notes_of pass.new) }
+        ensures recorded { PassRecordsCall (Deliver group member message) result pass.old pass.new }
         ensures unmade { IfErr result (λ fault. Unmade message (steps_of pass.old) fault) }
         ensures seat { seat_of pass.new ≡ seat_of pass.old }
     {
@@ -158,7 +158,7 @@ impl<'a, L: FleetSite> Fleet<'a, L> {
         member: u8,
         action: NodeAction,
     ) -> Result<Receipt, Halt>
-        ensures told { Halts (event_by group member action) result (steps_of pass.old) (steps_of pass.new) (notes_of pass.old) (notes_of pass.new) }
+        ensures recorded { PassRecords (event_by group member action) result pass.old pass.new }
         ensures found { IfErr result (λ halt. halt ≢ Refused NoMessage) }
         ensures seat { seat_of pass.new ≡ seat_of pass.old }
     {
@@ -179,7 +179,7 @@ impl<'a, L: FleetSite> Fleet<'a, L> {
         member: u8,
         action: NodeAction,
     ) -> Result<Receipt, Fault>
-        ensures told { Tells (event_by group member action) result (steps_of pass.old) (steps_of pass.new) (notes_of pass.old) (notes_of pass.new) }
+        ensures recorded { PassRecordsCall (event_by group member action) result pass.old pass.new }
         ensures found { IfErr result (λ fault. fault ≢ NoMessage) }
         ensures seat { seat_of pass.new ≡ seat_of pass.old }
     {

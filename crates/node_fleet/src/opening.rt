@@ -1,6 +1,6 @@
 //! A new fleet, with its passes.
 
-ghost use Rattle.std.specs.Prelude.{◌≡◌, ◌≤◌, ◌+◌, All, [], IfErr, IfOk, is_some, length, vec_len};
+ghost use Rattle.std.specs.Prelude.{[], is_some, length, vec_len, ◌+◌, ◌≡◌, ◌≤◌, All, IfErr, IfOk};
 ghost use Rattle.std.specs.Arc.{arc_value};
 ghost use Rattle.board.specs.Seats as board;
 ghost use Rattle.board.specs.Seats.{IsSeatIn};

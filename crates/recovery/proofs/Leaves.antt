@@ -4,7 +4,7 @@ use Rattle.std.proofs.lemmas.List.{take_more, take_all}
 use Rattle.volume_model.specs.declared.fault.Fault.{Fault}
 use Rattle.volume_model.specs.declared.fault.Fault.TheVariants.{LsnSpent, NoMemory, NotReady}
 use Rattle.std.specs.Prelude.{IfOk}
-use Rattle.volume_model.specs.Answer.{◌>>=◌, AnswersLate, AnswersNew, Fails, Gives, may_want_memory}
+use Rattle.volume_model.specs.Answer.{◌>>=◌, AnswersAfterGrowth, AnswersNew, Fails, Gives, may_run_out_of_memory}
 use Rattle.volume_model.specs.Refusal.{refuse_if}
 use Rattle.volume_model.specs.Plan.{Plan}
 use Rattle.volume_model.specs.Redo.{Redo, record_at, follow, chain_from, chain_or_none, ends_at_point, cut_of, log_found}
@@ -113,7 +113,7 @@ cut_with plan volume groups reported =
     extension parent volume (cut_of records) plan.lal >>= λ lineage. Ok (cut_step volume (keeping groups) (log_found records) lineage))
 
 -- memory may be missing wherever enough is read
-late-then : (b : Bool) (own : Lineage) (step : Lineage → ClientStep) → may_want_memory is_spent (refuse_if b LsnSpent (Ok own) >>= λ lineage. Ok (step lineage)) ≡ true
+late-then : (b : Bool) (own : Lineage) (step : Lineage → ClientStep) → may_run_out_of_memory is_spent (refuse_if b LsnSpent (Ok own) >>= λ lineage. Ok (step lineage)) ≡ true
 late-then true own step = refl
 late-then false own step = refl
 
@@ -134,11 +134,11 @@ module _ (plan : Plan) (volume : ℕ) (groups : List ClientGroup) (before : Opti
 
   -- what a recovery finds that hasn't cut, and has read enough, is what its cut leaves
   pub cut-found : (result : Result Found Fault) → Gives (λ f. lineage_of f.lineage) result found → IfOk result (λ f. log_of_set f.log ≡ log_found (live_records groups))
-      → AnswersLate is_spent (found_step volume) (cut_client plan volume (client_with groups before)) groups result groups
+      → AnswersAfterGrowth is_spent (found_step volume) (cut_client plan volume (client_with groups before)) groups result groups
   cut-found (Ok f) h log =
       cuts ∙ ap (λ (r : Result Lineage Fault). r >>= λ lineage. Ok (cut_under lineage)) h
       ∙ ap (λ (l : List Redo). Ok (cut_step volume (keeping groups) l (lineage_of f.lineage))) (sym log)
   cut-found (Err NoMemory) h log =
       let own = extended (newest (reports_in groups)) volume (cut_of (live_records groups)) plan.lal in
-      (ap (may_want_memory is_spent) cuts ∙ late-then (nat_lt (2 ^ 62) (last_start own)) own cut_under, refl)
+      (ap (may_run_out_of_memory is_spent) cuts ∙ late-then (nat_lt (2 ^ 62) (last_start own)) own cut_under, refl)
   cut-found (Err fault) h log = (cuts ∙ ap (λ (r : Result Lineage Fault). r >>= λ lineage. Ok (cut_under lineage)) h, refl)

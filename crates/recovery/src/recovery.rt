@@ -29,7 +29,7 @@ pub struct Recovery {
 impl Recovery {
     ghost use Rattle.std.specs.Prelude.{◌≢◌, false, length, map, IfErr, IfOk, MatchOption, OnOk};
     ghost use Rattle.std.specs.Arc.{arc_value};
-    ghost use Rattle.volume_model.specs.Answer.{Answers, AnswersLate, AnswersNew, refusal_of};
+    ghost use Rattle.volume_model.specs.Answer.{Answers, AnswersAfterGrowth, AnswersNew, refusal_of};
     ghost use Rattle.volume_model.specs.declared.fault.Fault.TheVariants.{NoMemory};
     ghost use Rattle.volume_model.specs.Client.{has_cut};
     ghost use Rattle.volume_model.specs.ClientRecovery.{cut_client, log_reported, opened};
@@ -238,7 +238,7 @@ impl Recovery {
 
     /// Finds the log that a cut would find, refused as [`Recovery::admits_cut`] says.
     fn find_cut(&self, alloc: Global) -> Result<Found, Fault>
-        ensures { AnswersLate is_spent (found_step (recovery_volume self.now)) (cut_client (recovery_plan self.now) (recovery_volume self.now) (client_of self.now)) (recovery_groups self.now) result (recovery_groups self.now) }
+        ensures { AnswersAfterGrowth is_spent (found_step (recovery_volume self.now)) (cut_client (recovery_plan self.now) (recovery_volume self.now) (client_of self.now)) (recovery_groups self.now) result (recovery_groups self.now) }
     {
         if self.found.is_some() {
             return Err(Fault::AlreadyDone);
@@ -256,7 +256,7 @@ impl Recovery {
     /// `LsnSpent` if its own numbers would begin above the greatest; `NoMemory`, which may come before `LsnSpent`,
     /// since the log is found first, if there is no memory.
     pub fn admits_cut(&self, alloc: Global) -> Result<(), Fault>
-        ensures { AnswersLate is_spent admitted (refusal_of (cut_client (recovery_plan self.now) (recovery_volume self.now) (client_of self.now))) tt result tt }
+        ensures { AnswersAfterGrowth is_spent admitted (refusal_of (cut_client (recovery_plan self.now) (recovery_volume self.now) (client_of self.now))) tt result tt }
     {
         match self.find_cut(alloc) {
             Ok(_) => Ok(()),
@@ -270,7 +270,7 @@ impl Recovery {
     /// # Errors
     /// As [`Recovery::admits_cut`] says; the recovery is unchanged.
     pub fn cut(&mut self, alloc: Global) -> Result<Vec<Message>, Fault>
-        ensures answers { AnswersLate is_spent acted (cut_client (recovery_plan self.old) (recovery_volume self.old) (client_of self.old)) (client_of self.old) result (client_of self.new) }
+        ensures answers { AnswersAfterGrowth is_spent acted (cut_client (recovery_plan self.old) (recovery_volume self.old) (client_of self.old)) (client_of self.old) result (client_of self.new) }
         ensures plan { recovery_plan self.new ≡ recovery_plan self.old }
         ensures volume { recovery_volume self.new ≡ recovery_volume self.old }
     {

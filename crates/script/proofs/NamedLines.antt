@@ -14,11 +14,11 @@ use Rattle.std.proofs.lemmas.Str.{IsUtf8-from_ascii}
 use Rattle.std.proofs.Math.Seq.{take-append-add, take-append_seam}
 use Rattle.world.specs.declared.event.Order.{Order}
 use Rattle.world.specs.declared.event.Order.TheVariants as orders
-use Rattle.script.specs.Grammar.{Deed, deed_of, most_blocks, most_ids, most_numbers, said}
-use Rattle.script.specs.Grammar.Deed.{Delivers, Takes}
+use Rattle.script.specs.Grammar.{LineAction, action_of, most_blocks, most_ids, most_numbers, said}
+use Rattle.script.specs.Grammar.LineAction.{Delivers, Takes}
 use Rattle.script.specs.Named.{EndsLine, HasName, HasOrder, IsFirstLine, IsNumberAt, IsVisible}
 use Rattle.script.specs.Pieces.{pieces, before_newline}
-use Rattle.script.specs.Seen.{Seen, asked_by, seen_deed}
+use Rattle.script.specs.Seen.{Seen, asked_by, seen_action}
 use Rattle.script.specs.Words.{is_numeral, number_in, sides_in, words_in}
 use Rattle.script.proofs.Heads.{and_both}
 use Rattle.script.proofs.Numerals.{begins, digit_more}
@@ -204,14 +204,14 @@ take_visible : IsVisible (codes "take")
 take_visible = visible_by (codes "take") refl
 
 -- a line at the head of a text that asks for this
-ordered : (text : List ℕ) (events : List (Option ℕ)) (order : Order) (after : List ℕ) (b : ℕ) (line tail : List ℕ) (deed : Deed) → text ≡ (b ∷ line) ++ tail → EndsLine tail after → All IsPlain (b ∷ line)
-    → deed_of (length events) (b ∷ line) ≡ Some deed → seen_deed events deed ≡ Seen.Asks (asked_by order) → HasOrder text events order after
-ordered text events order after b line tail deed whole ends plain says asks =
+ordered : (text : List ℕ) (events : List (Option ℕ)) (order : Order) (after : List ℕ) (b : ℕ) (line tail : List ℕ) (action : LineAction) → text ≡ (b ∷ line) ++ tail → EndsLine tail after → All IsPlain (b ∷ line)
+    → action_of (length events) (b ∷ line) ≡ Some action → seen_action events action ≡ Seen.Asks (asked_by order) → HasOrder text events order after
+ordered text events order after b line tail action whole ends plain says asks =
     record {
       line = b ∷ line;
       first = subst (λ (t : List ℕ). IsFirstLine t (b ∷ line) after) (sym whole) (first_of b line tail after plain ends);
       utf8 = plain_utf8 (b ∷ line) plain;
-      deed = deed;
+      action = action;
       says = says;
       asks = asks;
     }

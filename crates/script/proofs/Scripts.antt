@@ -7,29 +7,29 @@ use Rattle.std.proofs.lemmas.List.Sums.{fold-append, sum_by_push}
 use Rattle.std.proofs.Math.Seq.{take-suc}
 use Rattle.volume_model.specs.declared.fault.Fault.{Fault}
 use Rattle.volume_model.specs.declared.fault.Fault.TheVariants.{NoMemory}
-use Rattle.script.specs.Grammar.{Deed, deed_of}
+use Rattle.script.specs.Grammar.{LineAction, action_of}
 use Rattle.script.specs.Named.{AddsFirst, IsFirstLine}
 use Rattle.script.specs.Pieces.{pieces, before_newline}
-use Rattle.script.specs.Seen.{Seen, seen_deed}
+use Rattle.script.specs.Seen.{Seen, seen_action}
 use Rattle.script.specs.Seen.Seen.{Silent, Pause, Asks}
-use Rattle.script.specs.Script.{AddsLine, AreDeeds, Does, IsFirstBad, IsScript, Keeps, Kept, ReadsScript, kept_in, kept_of, line_at, nothing_kept, stop_at, with_deed, with_line}
-use Rattle.script.specs.Script.AreDeeds.{none, more}
+use Rattle.script.specs.Script.{AddsLine, AreActions, Does, IsFirstBad, IsScript, Keeps, Kept, ReadsScript, kept_in, kept_of, line_at, nothing_kept, stop_at, with_action, with_line}
+use Rattle.script.specs.Script.AreActions.{none, more}
 use Rattle.script.specs.declared.reading.Script.{Script}
 use Rattle.script.proofs.Lines.{first_there}
 
 -- Of a text the first lines were read; what comes after them is the rest, and there is so much room for it.
 pub record IsReading (text rest : List ℕ) (room : ℕ) (now : Kept) : Type 0 where
-  pub deeds : List Deed
-  pub are : AreDeeds text deeds
-  pub kept : now ≡ kept_of deeds
-  pub lines : length now.indexes ≡ length deeds
-  pub held : length deeds ≤ length (pieces text)
-  pub after : drop (length deeds) (pieces text) ≡ pieces rest
-  pub bytes : sum_by length (take (length deeds) (pieces text)) + room ≡ 16777216
+  pub actions : List LineAction
+  pub are : AreActions text actions
+  pub kept : now ≡ kept_of actions
+  pub lines : length now.indexes ≡ length actions
+  pub held : length actions ≤ length (pieces text)
+  pub after : drop (length actions) (pieces text) ≡ pieces rest
+  pub bytes : sum_by length (take (length actions) (pieces text)) + room ≡ 16777216
 
 -- before any line
 pub starts : (text : List ℕ) → IsReading text text 16777216 nothing_kept
-starts text = record { deeds = []; are = none; kept = refl; lines = refl; held = omega arith; after = refl; bytes = refl }
+starts text = record { actions = []; are = none; kept = refl; lines = refl; held = omega arith; after = refl; bytes = refl }
 
 one_line_more : (kept : Kept) (seen : Seen) → length (with_line kept seen).indexes ≡ suc (length kept.indexes)
 one_line_more kept Silent = length_push kept.indexes None ∙ omega arith
@@ -55,23 +55,23 @@ pub record IsNext (rest line after : List ℕ) (bytes : ℕ) : Type 0 where
 -- one line more
 pub reads_more : (text rest line later : List ℕ) (room bytes : ℕ) (now new : Kept) (u : Unit {0}) → IsReading text rest room now → IsNext rest line later bytes → bytes ≤ room → suc (length now.indexes) ≤ 100000
     → AddsLine line now (Ok u) new → IsReading text later (room - bytes) new
-reads_more text rest line later room bytes now new u so_far next fits few (deed, utf8, says, is_new) =
-    let k = length so_far.deeds in
+reads_more text rest line later room bytes now new u so_far next fits few (action, utf8, says, is_new) =
+    let k = length so_far.actions in
     let there = next_of (pieces text) k (take bytes rest) (pieces later) (so_far.after ∙ next.pieces_are) in
     let here : line_at text k ≡ line = ap before_newline there.1 ∙ sym next.first in
     let upto : sum_by length (take (suc k) (pieces text)) ≡ sum_by length (take k (pieces text)) + bytes = bytes_to text k (take bytes rest) there.0 there.1 ∙ ap (λ n. sum_by length (take k (pieces text)) + n) next.long in
-    let does : Does text k deed = record {
+    let does : Does text k action = record {
       few = omega (arith, so_far.lines, few);
       within = omega (arith, upto, so_far.bytes, fits);
       utf8 = subst IsUtf8 (sym here) utf8;
-      says = ap (deed_of k) here ∙ (ap (λ n. deed_of n line) (sym so_far.lines) ∙ says);
+      says = ap (action_of k) here ∙ (ap (λ n. action_of n line) (sym so_far.lines) ∙ says);
     } in
-    let pushed : length (so_far.deeds ++ deed ∷ []) ≡ suc k = length_push so_far.deeds deed ∙ omega arith in
+    let pushed : length (so_far.actions ++ action ∷ []) ≡ suc k = length_push so_far.actions action ∙ omega arith in
     record {
-      deeds = so_far.deeds ++ deed ∷ [];
-      are = more so_far.deeds deed so_far.are does;
-      kept = is_new ∙ (ap (λ n. with_deed n deed) so_far.kept ∙ sym (fold-append with_deed nothing_kept so_far.deeds (deed ∷ [])));
-      lines = ap (λ (n : Kept). length n.indexes) is_new ∙ (one_line_more now (seen_deed now.indexes deed) ∙ (ap suc so_far.lines ∙ sym pushed));
+      actions = so_far.actions ++ action ∷ [];
+      are = more so_far.actions action so_far.are does;
+      kept = is_new ∙ (ap (λ n. with_action n action) so_far.kept ∙ sym (fold-append with_action nothing_kept so_far.actions (action ∷ [])));
+      lines = ap (λ (n : Kept). length n.indexes) is_new ∙ (one_line_more now (seen_action now.indexes action) ∙ (ap suc so_far.lines ∙ sym pushed));
       held = omega (arith, pushed, there.0);
       after = rw pushed there.2;
       bytes = rw pushed (omega (arith, upto, so_far.bytes, fits));
@@ -79,19 +79,19 @@ reads_more text rest line later room bytes now new u so_far next fits few (deed,
 
 -- a line that may not stand there is the first bad one
 pub reads_bad : (text rest line later : List ℕ) (room bytes number : ℕ) (now : Kept) → number ≡ suc (length now.indexes) → IsReading text rest room now → IsNext rest line later bytes
-    → ((deed : Deed) → bytes ≤ room → suc (length now.indexes) ≤ 100000 → IsUtf8 line → deed_of (length now.indexes) line ≡ Some deed → ⊥) → IsFirstBad text number
+    → ((action : LineAction) → bytes ≤ room → suc (length now.indexes) ≤ 100000 → IsUtf8 line → action_of (length now.indexes) line ≡ Some action → ⊥) → IsFirstBad text number
 reads_bad text rest line later room bytes number now numbered so_far next refused =
-    let k = length so_far.deeds in
+    let k = length so_far.actions in
     let there = next_of (pieces text) k (take bytes rest) (pieces later) (so_far.after ∙ next.pieces_are) in
     let here : line_at text k ≡ line = ap before_newline there.1 ∙ sym next.first in
     let upto : sum_by length (take (suc k) (pieces text)) ≡ sum_by length (take k (pieces text)) + bytes = bytes_to text k (take bytes rest) there.0 there.1 ∙ ap (λ n. sum_by length (take k (pieces text)) + n) next.long in
     record {
-      deeds = so_far.deeds;
+      actions = so_far.actions;
       are = so_far.are;
       first = numbered ∙ ap suc so_far.lines;
       there = there.0;
-      bad = λ deed does. refused deed (omega (arith, upto, so_far.bytes, does.within)) (omega (arith, so_far.lines, does.few)) (subst IsUtf8 here does.utf8)
-          (ap (λ n. deed_of n line) so_far.lines ∙ (ap (deed_of k) (sym here) ∙ does.says));
+      bad = λ action does. refused action (omega (arith, upto, so_far.bytes, does.within)) (omega (arith, so_far.lines, does.few)) (subst IsUtf8 here does.utf8)
+          (ap (λ n. action_of n line) so_far.lines ∙ (ap (action_of k) (sym here) ∙ does.says));
     }
 
 -- a line that was refused ends the reading
@@ -99,7 +99,7 @@ pub reads_fault : (text rest line later : List ℕ) (room bytes number : ℕ) (n
     → AddsLine line now (Err fault) new → ReadsScript text (Err (stop_at fault number))
 reads_fault text rest line later room bytes number now new NoMemory numbered so_far next refused = tt
 reads_fault text rest line later room bytes number now new fault numbered so_far next refused =
-    reads_bad text rest line later room bytes number now numbered so_far next (λ deed fits few utf8 says. refused deed utf8 says)
+    reads_bad text rest line later room bytes number now numbered so_far next (λ action fits few utf8 says. refused action utf8 says)
 
 nil_of : (xs : List ℕ) → length xs ≤ 0 → xs ≡ []
 nil_of [] h = refl
@@ -107,12 +107,12 @@ nil_of (x ∷ xs) h = absurd (omega arith)
 
 -- where nothing is left, the text is a script
 pub reads_all : (text rest : List ℕ) (room : ℕ) (script : Script) (indexes : List (Option ℕ)) → length rest ≤ 0 → IsReading text rest room (kept_in script indexes)
-    → (deeds : List Deed) × IsScript text deeds × Keeps script deeds
+    → (actions : List LineAction) × IsScript text actions × Keeps script actions
 reads_all text rest room script indexes empty so_far =
-    let over : drop (length so_far.deeds) (pieces text) ≡ [] = so_far.after ∙ ap pieces (nil_of rest empty) in
-    let left : length (pieces text) - length so_far.deeds ≡ 0 = sym (length-drop (length so_far.deeds) (pieces text)) ∙ ap length over in
-    let whole : length so_far.deeds ≡ length (pieces text) = omega (arith, left, so_far.held) in
-    (so_far.deeds, record { are = so_far.are; all = whole }, record { steps_are = ap (λ (n : Kept). n.steps) so_far.kept; orders_are = ap (λ (n : Kept). n.asked) so_far.kept })
+    let over : drop (length so_far.actions) (pieces text) ≡ [] = so_far.after ∙ ap pieces (nil_of rest empty) in
+    let left : length (pieces text) - length so_far.actions ≡ 0 = sym (length-drop (length so_far.actions) (pieces text)) ∙ ap length over in
+    let whole : length so_far.actions ≡ length (pieces text) = omega (arith, left, so_far.held) in
+    (so_far.actions, record { are = so_far.are; all = whole }, record { steps_are = ap (λ (n : Kept). n.steps) so_far.kept; orders_are = ap (λ (n : Kept). n.asked) so_far.kept })
 
 -- an empty script keeps nothing
 pub starts_empty : (text : List ℕ) (script : Script) (indexes : List (Option ℕ)) → script.steps.items ≡ [] → script.orders.items ≡ [] → indexes ≡ [] → IsReading text text 16777216 (kept_in script indexes)
@@ -125,9 +125,9 @@ pub next_line : (rest line after : List ℕ) → IsFirstLine rest line after →
 next_line rest line after f = record { first = f.first; pieces_are = f.pieces_are; long = length-take-le (length rest - length after) rest (omega (arith, f.shorter)) }
 
 -- a line that asks for something says a deed that asks for it
-pub deed_seen : (there : Option Deed) (events : List (Option ℕ)) (asks : Seen) → option_map (seen_deed events) there ≡ Some asks → (deed : Deed) × (there ≡ Some deed) × (seen_deed events deed ≡ asks)
-deed_seen None events asks e = absurd cc
-deed_seen (Some deed) events asks e = let same : seen_deed events deed ≡ asks = cc in (deed, refl, same)
+pub action_seen : (there : Option LineAction) (events : List (Option ℕ)) (asks : Seen) → option_map (seen_action events) there ≡ Some asks → (action : LineAction) × (there ≡ Some action) × (seen_action events action ≡ asks)
+action_seen None events asks e = absurd cc
+action_seen (Some action) events asks e = let same : seen_action events action ≡ asks = cc in (action, refl, same)
 
 module _ (text rest : List ℕ) (room number : ℕ) (now new : Kept) (so_far : IsReading text rest room now) where
   -- the first line of the rest was added
@@ -137,7 +137,7 @@ module _ (text rest : List ℕ) (room number : ℕ) (now new : Kept) (so_far : I
   -- or it doesn't fit
   pub reads_over : (after : Bor (List ℕ)) → AddsFirst rest now (Ok after) new → number ≡ suc (length now.indexes) → room < length rest - length after.now → IsFirstBad text number
   reads_over after (line, first, adds) numbered over =
-      reads_bad text rest line after.now room (length rest - length after.now) number now numbered so_far (next_line rest line after.now first) (λ deed fits few utf8 says. omega (arith, fits, over))
+      reads_bad text rest line after.now room (length rest - length after.now) number now numbered so_far (next_line rest line after.now first) (λ action fits few utf8 says. omega (arith, fits, over))
 
   -- or it was refused
   pub reads_refused : (fault : Fault) → AddsFirst rest now (Err fault) new → number ≡ suc (length now.indexes) → ReadsScript text (Err (stop_at fault number))
@@ -145,9 +145,9 @@ module _ (text rest : List ℕ) (room number : ℕ) (now new : Kept) (so_far : I
       reads_fault text rest line after room (length rest - length after) number now new fault numbered so_far (next_line rest line after first) refused
 
   -- or there were too many before it
-  pub reads_late : rest ≢ [] → number ≡ suc (length now.indexes) → 100000 < number → IsFirstBad text number
-  reads_late some numbered late = go (first_there rest some)
+  pub reads_after_growth : rest ≢ [] → number ≡ suc (length now.indexes) → 100000 < number → IsFirstBad text number
+  reads_after_growth some numbered late = go (first_there rest some)
     where
       go : (line : List ℕ) × (after : List ℕ) × IsFirstLine rest line after → IsFirstBad text number
       go (line, after, first) =
-          reads_bad text rest line after room (length rest - length after) number now numbered so_far (next_line rest line after first) (λ deed fits few utf8 says. omega (arith, few, late, numbered))
+          reads_bad text rest line after room (length rest - length after) number now numbered so_far (next_line rest line after first) (λ action fits few utf8 says. omega (arith, few, late, numbered))

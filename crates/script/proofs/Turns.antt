@@ -9,7 +9,7 @@ use Rattle.volume_model.specs.World.{Event}
 use Rattle.volume_model.specs.declared.fault.Fault.{Fault}
 use Rattle.volume_model.specs.declared.fault.Fault.TheVariants.{Malformed, NoMemory}
 use Rattle.script.specs.Grammar.{change_by, deliver_in, most_blocks, most_ids, most_numbers, most_offsets, offer_in, read_in}
-use Rattle.script.specs.Grammar.Deed.{Delivers}
+use Rattle.script.specs.Grammar.LineAction.{Delivers}
 use Rattle.script.specs.Parts.{ended, first_number, only_name}
 use Rattle.script.specs.Reads.{ReadsBy}
 use Rattle.script.specs.Words.{all_bytes_in, bytes_in, digit_in, fields_in, number_in}

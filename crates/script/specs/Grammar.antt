@@ -10,12 +10,12 @@ use Rattle.script.specs.declared.line.Verb.TheVariants as verb
 -- What a line does: nothing, as an empty line or a comment; it waits for the lines before it; it makes an event happen; or it
 -- gives to a node or to a client the message that an earlier line made, the line and the message's place among those of the line both
 -- from 1.
-pub data Deed : Type 0 where
-  Nothing : Deed
-  Waits : Deed
-  Makes : Event → Deed
-  Delivers : (group member line place : ℕ) → Deed
-  Takes : (volume line place : ℕ) → Deed
+pub data LineAction : Type 0 where
+  Nothing : LineAction
+  Pauses : LineAction
+  Makes : Event → LineAction
+  Delivers : (group member line place : ℕ) → LineAction
+  Takes : (volume line place : ℕ) → LineAction
 
 -- the word that a line with this verb begins with
 abbrev pub name_of : Verb → List ℕ
@@ -137,23 +137,23 @@ name_in earlier (line ∷ place ∷ []) =
 name_in earlier _ = None
 
 -- `deliver G M L.K`
-abbrev pub deliver_in : ℕ → List (List ℕ) → Option Deed
+abbrev pub deliver_in : ℕ → List (List ℕ) → Option LineAction
 deliver_in earlier (group ∷ member ∷ name ∷ []) =
     option_and_then (λ g. option_and_then (λ m. option_map (λ n. Delivers g m n.0 n.1) (name_in earlier (sides_in name))) (number_in most_ids member)) (number_in most_ids group)
 deliver_in earlier _ = None
 
 -- `take V L.K`
-abbrev pub take_in : ℕ → List (List ℕ) → Option Deed
+abbrev pub take_in : ℕ → List (List ℕ) → Option LineAction
 take_in earlier (volume ∷ name ∷ []) = option_and_then (λ v. option_map (λ n. Takes v n.0 n.1) (name_in earlier (sides_in name))) (number_in most_blocks volume)
 take_in earlier _ = None
 
 -- `wait`
-abbrev pub wait_in : List (List ℕ) → Option Deed
-wait_in [] = Some Waits
+abbrev pub wait_in : List (List ℕ) → Option LineAction
+wait_in [] = Some Pauses
 wait_in _ = None
 
 -- what a verb says with the words after it, in a line after so many others
-abbrev pub said_by : ℕ → Verb → List (List ℕ) → Option Deed
+abbrev pub said_by : ℕ → Verb → List (List ℕ) → Option LineAction
 said_by earlier verb.Assign words = option_map Makes (assign_in words)
 said_by earlier verb.Advance words = option_map Makes (advance_in words)
 said_by earlier verb.Refresh words = option_map Makes (refresh_in words)
@@ -171,7 +171,7 @@ said_by earlier verb.Offer words = option_map Makes (offer_in words)
 said_by earlier verb.Wait words = wait_in words
 
 -- the same of all words of a line
-abbrev pub said : ℕ → List (List ℕ) → Option Deed
+abbrev pub said : ℕ → List (List ℕ) → Option LineAction
 said earlier [] = None
 said earlier (word ∷ words) = option_and_then (λ verb. said_by earlier verb words) (verb_in word)
 
@@ -181,5 +181,5 @@ is_silent [] = true
 is_silent (first ∷ more) = first == 35
 
 -- what a line does after so many others; none where it is outside the grammar
-abbrev pub deed_of : ℕ → List ℕ → Option Deed
-deed_of earlier line = if is_silent line then Some Nothing else said earlier (words_in line)
+abbrev pub action_of : ℕ → List ℕ → Option LineAction
+action_of earlier line = if is_silent line then Some Nothing else said earlier (words_in line)

@@ -6,10 +6,10 @@ use Rattle.std.specs.Str.{IsUtf8}
 use Rattle.std.specs.Str.Parse.{digits_value}
 use Rattle.volume_model.specs.declared.fault.Fault.{Fault}
 use Rattle.world.specs.declared.event.Order.{Order}
-use Rattle.script.specs.Grammar.{Deed, deed_of, name_in}
+use Rattle.script.specs.Grammar.{LineAction, action_of, name_in}
 use Rattle.script.specs.Pieces.{pieces, before_newline}
 use Rattle.script.specs.Script.{AddsLine, Kept}
-use Rattle.script.specs.Seen.{Seen, asked_by, seen_deed}
+use Rattle.script.specs.Seen.{Seen, asked_by, seen_action}
 use Rattle.script.specs.Words.{is_numeral, sides_in}
 
 -- a text begins with a numeral of this value below 2^32, and goes on with this
@@ -52,9 +52,9 @@ pub record HasOrder (text : List ℕ) (events : List (Option ℕ)) (order : Orde
   pub line : List ℕ
   pub first : IsFirstLine text line after
   pub utf8 : IsUtf8 line
-  pub deed : Deed
-  pub says : deed_of (length events) line ≡ Some deed
-  pub asks : seen_deed events deed ≡ Seen.Asks (asked_by order)
+  pub action : LineAction
+  pub says : action_of (length events) line ≡ Some action
+  pub asks : seen_action events action ≡ Seen.Asks (asked_by order)
 
 -- the first line of a text was added to what is kept and this comes after it, or it isn't one that may stand there
 abbrev pub AddsFirst : List ℕ → Kept → Result (Bor (List ℕ)) Fault → Kept → Type 0

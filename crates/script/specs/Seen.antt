@@ -4,8 +4,8 @@ use Rattle.volume_model.specs.World as model
 use Rattle.world.specs.Events.{event_of}
 use Rattle.world.specs.declared.event.Order.{Order}
 use Rattle.world.specs.declared.event.Order.TheVariants as orders
-use Rattle.script.specs.Grammar.{Deed}
-use Rattle.script.specs.Grammar.Deed.{Nothing, Waits, Makes, Delivers, Takes}
+use Rattle.script.specs.Grammar.{LineAction}
+use Rattle.script.specs.Grammar.LineAction.{Nothing, Pauses, Makes, Delivers, Takes}
 use Rattle.script.specs.declared.line.Line.{Line}
 use Rattle.script.specs.declared.line.Line.TheVariants as lines
 
@@ -43,9 +43,9 @@ take_from volume place (Some event) = Asked.TakeFrom volume event place
 take_from volume place None = Asked.Fixed (model.Event.Take volume 0)
 
 -- what a deed asks for, where these are the indexes of the earlier lines' events
-abbrev pub seen_deed : List (Option ℕ) → Deed → Seen
-seen_deed events Nothing = Seen.Silent
-seen_deed events Waits = Seen.Pause
-seen_deed events (Makes event) = Seen.Asks (Asked.Fixed event)
-seen_deed events (Delivers group member line place) = Seen.Asks (asked_from group member place (slice_index_or events (line - 1) None))
-seen_deed events (Takes volume line place) = Seen.Asks (take_from volume place (slice_index_or events (line - 1) None))
+abbrev pub seen_action : List (Option ℕ) → LineAction → Seen
+seen_action events Nothing = Seen.Silent
+seen_action events Pauses = Seen.Pause
+seen_action events (Makes event) = Seen.Asks (Asked.Fixed event)
+seen_action events (Delivers group member line place) = Seen.Asks (asked_from group member place (slice_index_or events (line - 1) None))
+seen_action events (Takes volume line place) = Seen.Asks (take_from volume place (slice_index_or events (line - 1) None))

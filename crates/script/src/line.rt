@@ -2,10 +2,10 @@
 
 ghost use Rattle.std.specs.Prelude.{◌≡◌, [], IfOk, length, option_map};
 ghost use Rattle.world.specs.Events.{event_of};
-ghost use Rattle.script.specs.Grammar.{deed_of, is_silent, said_by, verb_in, wait_in};
+ghost use Rattle.script.specs.Grammar.{action_of, is_silent, said_by, verb_in, wait_in};
 ghost use Rattle.script.specs.Reads.{ReadsBy};
 ghost use Rattle.script.specs.Parts.{parts_left};
-ghost use Rattle.script.specs.Seen.{Asked, Seen, seen, seen_deed};
+ghost use Rattle.script.specs.Seen.{Asked, Seen, seen, seen_action};
 
 use crate::changes::issue;
 use crate::names::{deliver, take};
@@ -93,7 +93,7 @@ fn is_silent(line: &[u8]) -> bool
 /// Returns what a line does, or that it isn't one of a script. `events` has the index of each earlier line's event.
 #[inline(always)]
 pub fn line_of(alloc: Global, text: &[u8], events: &[Option<u32>]) -> Result<Line, Fault>
-    ensures { ReadsBy seen (option_map (seen_deed events.now) (deed_of (length events.now) text.now)) result }
+    ensures { ReadsBy seen (option_map (seen_action events.now) (action_of (length events.now) text.now)) result }
 {
     if is_silent(text) {
         return Ok(Line::Empty);
@@ -112,7 +112,7 @@ pub fn line_of(alloc: Global, text: &[u8], events: &[Option<u32>]) -> Result<Lin
 #[inline(always)]
 fn said_by(alloc: Global, verb: Verb, words: Parts, events: &[Option<u32>]) -> Result<Line, Fault>
     requires { words.separator ≡ 32 }
-    ensures { ReadsBy seen (option_map (seen_deed events.now) (said_by (length events.now) verb (parts_left words.entry))) result }
+    ensures { ReadsBy seen (option_map (seen_action events.now) (said_by (length events.now) verb (parts_left words.entry))) result }
 {
     match verb {
         Verb::Assign => Ok(line_by(alloc, assign(words)?)?),
@@ -143,7 +143,7 @@ fn line_by(alloc: Global, event: Event) -> Result<Line, AllocError>
 
 /// `wait`
 fn wait(words: Parts) -> Result<Line, Fault>
-    ensures { ReadsBy seen (option_map (seen_deed []) (wait_in (parts_left words.entry))) result }
+    ensures { ReadsBy seen (option_map (seen_action []) (wait_in (parts_left words.entry))) result }
 {
     if words.is_empty() {
         Ok(Line::Wait)

@@ -4,7 +4,7 @@ ghost use Rattle.std.specs.Prelude.{◌≡◌, IfOk, length, option_map};
 ghost use Rattle.script.specs.Grammar.{deliver_in, name_in, take_in};
 ghost use Rattle.script.specs.Reads.{ReadsBy};
 ghost use Rattle.script.specs.Parts.{only_name, parts_left};
-ghost use Rattle.script.specs.Seen.{Seen, asked_by, asked_from, seen_deed, take_from};
+ghost use Rattle.script.specs.Seen.{Seen, asked_by, asked_from, seen_action, take_from};
 ghost use Rattle.script.specs.Words.{sides_in};
 
 use crate::parts::Parts;
@@ -42,7 +42,7 @@ fn last_name(words: Parts, earlier: usize) -> Result<(u64, u64), Fault>
 #[inline(always)]
 pub fn deliver(alloc: Global, mut words: Parts, events: &[Option<u32>]) -> Result<Order, Fault>
     requires { words.separator ≡ 32 }
-    ensures { ReadsBy (λ order. Seen.Asks (asked_by order)) (option_map (seen_deed events.now) (deliver_in (length events.now) (parts_left words.entry))) result }
+    ensures { ReadsBy (λ order. Seen.Asks (asked_by order)) (option_map (seen_action events.now) (deliver_in (length events.now) (parts_left words.entry))) result }
 {
     let group = words.take_id()?;
     let member = words.take_id()?;
@@ -84,7 +84,7 @@ fn delivery(
 /// `take V L.K`, where L is an earlier line.
 pub fn take(alloc: Global, mut words: Parts, events: &[Option<u32>]) -> Result<Order, Fault>
     requires { words.separator ≡ 32 }
-    ensures { ReadsBy (λ order. Seen.Asks (asked_by order)) (option_map (seen_deed events.now) (take_in (length events.now) (parts_left words.entry))) result }
+    ensures { ReadsBy (λ order. Seen.Asks (asked_by order)) (option_map (seen_action events.now) (take_in (length events.now) (parts_left words.entry))) result }
 {
     let volume = words.take_block()?;
     let (line, place) = last_name(words, events.len())?;

@@ -6,7 +6,6 @@ mod assembly;
 mod block_list;
 mod block_places;
 mod blocks;
-mod held;
 mod one_chain;
 mod ordered;
 mod page_index;
@@ -14,6 +13,7 @@ mod pending_insert;
 mod prepared;
 mod records;
 mod segment;
+mod segment_state;
 mod snapshot;
 
 pub use act::NodeAct;

@@ -12,9 +12,9 @@ ghost use Rattle.plan.specs.CheckedModel.{checked_model};
 
 use crate::act::NodeAct;
 use crate::assembly::Assembly;
-use crate::held::Held;
 use crate::prepared::{Effect, Prepared};
 use crate::records::Records;
+use crate::segment_state::SegmentState;
 use hydration::Hydration;
 use lineage::Lineage;
 use plan::CheckedPlan;
@@ -43,7 +43,7 @@ pub struct Segment {
     /// The membership epoch of that configuration, 0 before its first step.
     epoch: u32,
     whole: bool,
-    held: Held,
+    held: SegmentState,
     /// The copies that it was sent while it wasn't whole: of each sender the pieces of one copy.
     copies: Hydration,
     /// The pieces that it has of an install that isn't complete.
@@ -55,7 +55,7 @@ pub struct Segment {
 
 impl Segment {
     ghost use Rattle.std.specs.Prelude.{◌==◌, false, not, [], ◌∷◌, Ok, Err, IfErr, MatchResult, ◌≢◌};
-    ghost use Rattle.volume_model.specs.Answer.{Answers, AnswersAlways, AnswersLate, AnswersNew};
+    ghost use Rattle.volume_model.specs.Answer.{Answers, AnswersAlways, AnswersAfterGrowth, AnswersNew};
     ghost use Rattle.volume_model.specs.Refusal.{refuse_if};
     ghost use Rattle.volume_model.specs.declared.fault.Fault.TheVariants.{NoMemory, NotAddressed, NotInstalled};
     ghost use Rattle.volume_model.specs.Redo.{record_at, scl};
@@ -67,7 +67,7 @@ impl Segment {
     ghost use Rattle.wire.specs.Contents.{contents_of, piece_in};
     ghost use Rattle.wire.specs.Listed.{listed};
     ghost use Rattle.wire.specs.Message.{label_of, message_of, messages_of};
-    ghost use Rattle.segment_core.specs.Acts.{act_late};
+    ghost use Rattle.segment_core.specs.Acts.{act_after_growth};
     ghost use Rattle.segment_core.specs.Prepared.{answers_of, effected, step_of};
     ghost use Rattle.segment_core.specs.Segment.{node_of, segment_plan, segment_group, segment_member, act_of, answered, born, offered_step, reaction_of, replaced, CanTake, IsSegmentOf, IsSameActor, IsReady};
 
@@ -97,7 +97,7 @@ impl Segment {
                 configuration: 0,
                 epoch: 1,
                 whole: true,
-                held: Held::new(lineage, Records::new(alloc)),
+                held: SegmentState::new(lineage, Records::new(alloc)),
                 copies: Hydration::new(alloc),
                 assembly: Assembly::new(),
                 copied: 0,
@@ -111,7 +111,7 @@ impl Segment {
                 configuration: 0,
                 epoch: 0,
                 whole: false,
-                held: Held::new(Lineage::empty(alloc), Records::new(alloc)),
+                held: SegmentState::new(Lineage::empty(alloc), Records::new(alloc)),
                 copies: Hydration::new(alloc),
                 assembly: Assembly::new(),
                 copied: 0,
@@ -449,7 +449,7 @@ impl Segment {
     /// [`Segment::offer`] for [`NodeAct::Offer`]; `NoMemory` if none applies and memory ran out.
     #[inline(always)]
     pub fn prepare_act(&mut self, alloc: Global, act: NodeAct<'_>) -> Result<Prepared, Fault>
-        ensures step { AnswersLate (act_late act.entry) step_of (act_of self.old act.entry) (node_of self.old) result (node_of self.old) }
+        ensures step { AnswersAfterGrowth (act_after_growth act.entry) step_of (act_of self.old act.entry) (node_of self.old) result (node_of self.old) }
         ensures ready { IfOk result (λ prepared. IsReady self.new prepared) }
         ensures node { node_of self.new ≡ node_of self.old }
         ensures actor { IsSameActor self.old self.new }
@@ -493,7 +493,7 @@ impl Segment {
                 records,
             } => {
                 self.volume = volume;
-                self.held = Held::new(lineage, Box::into_inner(records));
+                self.held = SegmentState::new(lineage, Box::into_inner(records));
                 self.assembly.clear();
             }
             Effect::Keep(keeping) => self.copies.keep(Box::into_inner(keeping)),
@@ -504,7 +504,7 @@ impl Segment {
                 records,
             } => {
                 self.volume = volume;
-                self.held = Held::new(lineage, Box::into_inner(records));
+                self.held = SegmentState::new(lineage, Box::into_inner(records));
                 self.whole = true;
             }
         }

@@ -14,7 +14,7 @@ use Rattle.volume_model.specs.ClientRecovery.{cut_client, opened}
 use Rattle.volume_model.specs.World.{Authority, World, Event, AuthorityStep, Step, assigned, advanced, refreshed, grown, deliver, take, if_there, of_authority, of_client, of_node, step, groups_joined}
 use Rattle.volume_model.specs.World.Event.{Assign, Advance, Refresh, Grow, Issue, Take, Cut, Open, Resend, Read, Deliver, Hydrate, Restart, Offer}
 use Rattle.volume_model.specs.Actor.{actor_of, Agree, Keeps, JoinedAlike}
-use Rattle.volume_model.specs.Told.{answer, makes, refusal}
+use Rattle.volume_model.specs.StepResults.{answer, makes, refusal}
 use Rattle.volume_model.proofs.ListFacts.{by_test, numbered_kept}
 
 -- what is told of a step of each kind of actor
@@ -62,8 +62,8 @@ module _ (plan : Plan) where
   take_same : (w v : World) (c n : ℕ) → w.clients c ≡ v.clients c → Keeps w v → answer (of_client w c (take plan c (w.clients c) (numbered w.messages n))) ≢ Err NoMessage
       → take plan c (w.clients c) (numbered w.messages n) ≡ take plan c (v.clients c) (numbered v.messages n)
   take_same w v c n same keeps found =
-      let told = of_client-answer w c (take plan c (w.clients c) (numbered w.messages n)) in
-      let message = same_message (λ o. client_answer (take plan c (w.clients c) o)) (Err NoMessage) refl w v keeps n (λ e. found (told ∙ e)) (numbered w.messages n) refl in
+      let event_result = of_client-answer w c (take plan c (w.clients c) (numbered w.messages n)) in
+      let message = same_message (λ o. client_answer (take plan c (w.clients c) o)) (Err NoMessage) refl w v keeps n (λ e. found (event_result ∙ e)) (numbered w.messages n) refl in
       ap (λ o. take plan c (w.clients c) o) (sym message) ∙ ap (λ (s : model.Client). take plan c s (numbered v.messages n)) same
 
   -- a Deliver to the same node
@@ -71,9 +71,9 @@ module _ (plan : Plan) where
       → if_there plan joined g m (deliver plan g m (w.nodes g m) (numbered w.messages n)) ≡ if_there plan joined g m (deliver plan g m (v.nodes g m) (numbered v.messages n))
   deliver_same joined w v g m n same keeps found = ⊎_elim
       (λ (there : (nat_lt g joined && is_named plan g m) ≡ true).
-      let told = of_node-answer w g m (if_there plan joined g m (deliver plan g m (w.nodes g m) (numbered w.messages n))) in
+      let event_result = of_node-answer w g m (if_there plan joined g m (deliver plan g m (w.nodes g m) (numbered w.messages n))) in
       let none : node_answer (if_there plan joined g m (Err NoMessage)) ≡ Err NoMessage = ap (λ (b : Bool). node_answer (refuse_if (not b) NoActor (Err NoMessage))) there in
-      let message = same_message (λ o. node_answer (if_there plan joined g m (deliver plan g m (w.nodes g m) o))) (Err NoMessage) none w v keeps n (λ e. found (told ∙ e)) (numbered w.messages n) refl in
+      let message = same_message (λ o. node_answer (if_there plan joined g m (deliver plan g m (w.nodes g m) o))) (Err NoMessage) none w v keeps n (λ e. found (event_result ∙ e)) (numbered w.messages n) refl in
       ap (λ o. if_there plan joined g m (deliver plan g m (w.nodes g m) o)) (sym message) ∙ ap (λ (s : Node). if_there plan joined g m (deliver plan g m s (numbered v.messages n))) same)
       (λ (absent : (nat_lt g joined && is_named plan g m) ≡ false).
       let refused : (r : NodeAnswer) → if_there plan joined g m r ≡ Err NoActor = λ r. ap (λ (b : Bool). refuse_if (not b) NoActor r) absent in
@@ -101,9 +101,9 @@ module _ (plan : Plan) where
   answered_alike w v (Restart group member) same there keeps found = node_alike w v group member (if_there plan (groups_joined w.authority) group member (Ok (record { made = []; node = restarted (w.nodes group member) }))) (if_there plan (groups_joined v.authority) group member (Ok (record { made = []; node = restarted (v.nodes group member) }))) (ap (λ (s : Node). if_there plan (groups_joined w.authority) group member (Ok (record { made = []; node = restarted s }))) same ∙ there_alike (groups_joined w.authority) (groups_joined v.authority) group member (Ok (record { made = []; node = restarted (v.nodes group member) })) there)
   answered_alike w v (Offer group member lsn) same there keeps found = node_alike w v group member (if_there plan (groups_joined w.authority) group member (offered group (w.nodes group member) lsn)) (if_there plan (groups_joined v.authority) group member (offered group (v.nodes group member) lsn)) (ap (λ (s : Node). if_there plan (groups_joined w.authority) group member (offered group s lsn)) same ∙ there_alike (groups_joined w.authority) (groups_joined v.authority) group member (offered group (v.nodes group member) lsn) there)
 
-  told-fault : (r : Result Step Fault) (fault : Fault) → answer r ≡ Err fault → r ≡ Err fault
-  told-fault (Err other) fault h = let e : other ≡ fault = cc in ap Err e
-  told-fault (Ok s) fault h = absurd (cc)
+  event_result-fault : (r : Result Step Fault) (fault : Fault) → answer r ≡ Err fault → r ≡ Err fault
+  event_result-fault (Err other) fault h = let e : other ≡ fault = cc in ap Err e
+  event_result-fault (Ok s) fault h = absurd (cc)
 
   answer-refusal : (r : Result Step Fault) → refusal (answer r) ≡ refusal r
   answer-refusal (Err fault) = refl
@@ -118,7 +118,7 @@ module _ (plan : Plan) where
   pub refused_alike : (w v : World) (e : Event) (fault : Fault) → fault ≢ NoMessage → Agree (actor_of e) w v → JoinedAlike e w v → Keeps w v → step plan w e ≡ Err fault → step plan v e ≡ Err fault
   refused_alike w v e fault other same there keeps h =
       let is : answer (step plan w e) ≡ Err fault = ap answer h in
-      told-fault (step plan v e) fault (answered_alike w v e same there keeps (λ none. let both : fault ≡ NoMessage = cc in other both) ∙ is)
+      event_result-fault (step plan v e) fault (answered_alike w v e same there keeps (λ none. let both : fault ≡ NoMessage = cc in other both) ∙ is)
 
   -- the same refusal, by its number
   pub refusal_alike : (w v : World) (e : Event) (number : ℕ) → number ≢ 80 → Agree (actor_of e) w v → JoinedAlike e w v → Keeps w v → refusal (step plan w e) ≡ number → refusal (step plan v e) ≡ number

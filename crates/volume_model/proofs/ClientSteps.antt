@@ -202,7 +202,7 @@ module _ (plan : Plan) (certified : IsCertified plan) {held : Held} (world : Wor
             parent_cut = child.parent_cut;
             lineage = child.lineage ∙ ap (λ z. extended (lineage_of world child.parent) v (cut_of (found_in (lineage_of world child.parent) z)) plan.lal) all;
             found = child.found ∙ ap (λ z. log_found (found_in (lineage_of world child.parent) z)) all;
-            told = λ group there from i. child.told group there from (subst (λ z. IsIn from z) (same group) i);
+            event_result = λ group there from i. child.event_result group there from (subst (λ z. IsIn from z) (same group) i);
             reads = λ group there views. (let r : HasRead plan world v client child.parent group = child.reads group there views in record {
               at = r.at;
               positive = r.positive;
@@ -387,7 +387,7 @@ module _ (plan : Plan) (certified : IsCertified plan) {held : Held} (world : Wor
                 parent_cut = child.parent_cut;
                 lineage = child.lineage;
                 found = child.found;
-                told = child.told;
+                event_result = child.event_result;
                 reads = λ group t views. (let r : HasRead plan world v client child.parent group = child.reads group t views in record { at = r.at; positive = r.positive; there = r.there; was = r.was; reads = r.reads; kept = r.kept });
               })
             ];
@@ -449,9 +449,9 @@ module _ (plan : Plan) (certified : IsCertified plan) {held : Held} (world : Wor
   -- the Installs of a client that has cut, with what it found of each group that they are for
   installs_says : (after : Client) → has_cut after.stage ≡ true → (groups : ℕ) (places : ℕ → Place) (found : List Redo) (test : ℕ → Bool) → ((group : ℕ) → test group ≡ true → of_group group found ≡ of_group group after.found) → (m : Message) → IsIn m (installs groups v places after.lineage found test) → ClientSays v after m
   installs_says after cut groups places found test alike m i =
-      let told : ℕ → List Message = λ group. in_pieces (to_install after.lineage found group) (Install group (label_of v places group)) in
-      let (ms, j, k) = IsIn-joined (each_below groups test told) m i in
-      let (group, l, chosen, same) = each_below-chosen groups test told ms j in
+      let event_result : ℕ → List Message = λ group. in_pieces (to_install after.lineage found group) (Install group (label_of v places group)) in
+      let (ms, j, k) = IsIn-joined (each_below groups test event_result) m i in
+      let (group, l, chosen, same) = each_below-chosen groups test event_result ms j in
       let (p, c, is, e) = in_pieces-from (to_install after.lineage found group) (Install group (label_of v places group)) m (subst (λ z. IsIn m z) same k) in
       let is' : IsPieceOf (to_install after.lineage after.found group) p c = subst (λ z. IsPieceOf (record { lineage = after.lineage; records = z }) p c) (alike group chosen) is in
       subst (λ z. ClientSays v after z) (sym e) (cut, refl, is')
@@ -497,13 +497,13 @@ module _ (plan : Plan) (certified : IsCertified plan) {held : Held} (world : Wor
       let one : (d : Contents) × IsIn d reported × (parent ≡ d.lineage) = newest-of reported first.0.contents (all_reports-has (reports_of client.groups) groups 0 first.0 zero_there first.1) in
       let d : Contents = one.0 in
       let came : (group : ℕ) × (group < groups) × (from : From) × IsIn from (reports_of client.groups group) × (from.contents ≡ d) = all_reports-from (reports_of client.groups) groups d one.1 in
-      let told : IsMade world (Report came.0 (label v (place_of client.groups came.0).epoch) came.2.sender came.2.contents) × (last_epoch came.2.contents.lineage < v) = now.reading a came.0 came.1 came.2 came.3 in
-      let report : MessageKept plan held world (Report came.0 (label v (place_of client.groups came.0).epoch) came.2.sender came.2.contents) = kept.messages _ told.0 in
+      let event_result : IsMade world (Report came.0 (label v (place_of client.groups came.0).epoch) came.2.sender came.2.contents) × (last_epoch came.2.contents.lineage < v) = now.reading a came.0 came.1 came.2 came.3 in
+      let report : MessageKept plan held world (Report came.0 (label v (place_of client.groups came.0).epoch) came.2.sender came.2.contents) = kept.messages _ event_result.0 in
       let copy : IsCopy world came.0 d = subst (λ z. IsCopy world came.0 z) came.4 report.0 in
       let p : ℕ = last_epoch parent in
       let same_last : last_epoch d.lineage ≡ p = ap last_epoch (sym one.2) in
       let known : parent ≡ lineage_of world p = one.2 ∙ copy.lineage ∙ ap (λ u. lineage_of world u) same_last in
-      let below : last_epoch d.lineage < v = subst (λ z. last_epoch z.lineage < v) came.4 told.1 in
+      let below : last_epoch d.lineage < v = subst (λ z. last_epoch z.lineage < v) came.4 event_result.1 in
       let after : Client = record client { stage = Installing; lineage = lineage; found = found; log = found } in
       let child : IsHeir plan world v after = record {
         parent = p;
@@ -511,7 +511,7 @@ module _ (plan : Plan) (certified : IsCertified plan) {held : Held} (world : Wor
         parent_cut = subst (λ u. HasCut world u) same_last copy.cut;
         lineage = ap (λ z. extended z v (cut_of (found_in z reported)) plan.lal) known ∙ ap (λ z. extended (lineage_of world p) v (cut_of (found_in (lineage_of world p) z)) plan.lal) (sym beyond);
         found = ap (λ z. log_found (found_in z reported)) known ∙ ap (λ z. log_found (found_in (lineage_of world p) z)) (sym beyond);
-        told = λ group there from i. (
+        event_result = λ group there from i. (
             let t : group < groups = from_there client.groups group from i in
             ((place_of client.groups group).epoch, (now.reading a group t from i).0, newest-most reported from.contents (all_reports-has (reports_of client.groups) groups group from t i)));
         reads = λ group there views. (

@@ -14,7 +14,7 @@ use Rattle.volume_model.specs.World.{World, groups_joined}
 use Rattle.volume_model.specs.PieceLaws.{IsPieceOf}
 use Rattle.volume_model.proofs.Pieces.{ArePieces-more}
 use Rattle.volume_model.proofs.Invariant.{Held, epoch_now, path, config, log_of, found_of, lineage_of, HasCut, IsMade, WasAt, IsCopy, IsSource, IsSourced, MessageSourced, IsHistory}
-use Rattle.volume_model.proofs.Kept.{IsPlace, Retains, NodeGrows, IsToldCopy, IsToldInstall, install_of, NodeKept, HasRead, reported_to, IsHeir, IsReached, ClientKept, IsWrite, MessageKept}
+use Rattle.volume_model.proofs.Kept.{IsPlace, Retains, NodeGrows, IsCopyOfPiece, IsInstallOfPiece, install_of, NodeKept, HasRead, reported_to, IsHeir, IsReached, ClientKept, IsWrite, MessageKept}
 
 -- what was so in the one world is so in the other
 pub record Extends (plan : Plan) (world later : World) : Type 0 where
@@ -104,7 +104,7 @@ module _ (plan : Plan) (world later : World) (extends : Extends plan world later
         lineage = h.lineage ∙ ap (λ z. extended z v (cut_of (found_in z (reported_to plan client))) plan.lal) same;
         found = h.found ∙ ap (λ z. log_found (found_in z (reported_to plan client))) same;
         reads = λ group there views. HasRead-later v client h.parent group (h.reads group there (λ q m. views q (extends.messages _ m)));
-        told = λ group there from i. (let (at, m, l) = h.told group there from i in (at, extends.messages _ m, l));
+        event_result = λ group there from i. (let (at, m, l) = h.event_result group there from i in (at, extends.messages _ m, l));
       }
 
   IsReached-later : (v group n : ℕ) → IsReached plan world v group n → IsReached plan later v group n
@@ -178,8 +178,8 @@ module _ (plan : Plan) (held : Held) (world later : World) (extends : Extends pl
   pub NodeKept-later : (group x : ℕ) (node : Node) → NodeKept plan held world group x node → NodeKept plan held later group x node
   NodeKept-later group x node h = record {
     place = elim h.place [ inl z ↦ inl z | inr p ↦ inr (IsPlace-later plan world later extends group node.place p) ];
-    copies = λ copy i. ArePieces-more (IsToldCopy world group node.place.epoch copy.sender) (IsToldCopy later group node.place.epoch copy.sender) (λ s p c m. extends.messages _ m) copy.pieces (h.copies copy i);
-    install = λ pieces e. ArePieces-more (IsToldInstall world group) (IsToldInstall later group) (λ s p c m. (m.0, extends.messages _ m.1)) pieces (h.install pieces e);
+    copies = λ copy i. ArePieces-more (IsCopyOfPiece world group node.place.epoch copy.sender) (IsCopyOfPiece later group node.place.epoch copy.sender) (λ s p c m. extends.messages _ m) copy.pieces (h.copies copy i);
+    install = λ pieces e. ArePieces-more (IsInstallOfPiece world group) (IsInstallOfPiece later group) (λ s p c m. (m.0, extends.messages _ m.1)) pieces (h.install pieces e);
     whole = λ w. record {
       copy = IsCopy-later plan world later extends group node.contents (h.whole w).copy;
       below = (h.whole w).below;

@@ -11,7 +11,7 @@ use Rattle.volume_model.specs.World.{World, Event, step, after, deliver, if_ther
 use Rattle.volume_model.specs.World as model
 use Rattle.volume_model.specs.World.Event.{Assign, Advance, Refresh, Grow, Issue, Take, Cut, Open, Resend, Read, Deliver, Hydrate, Restart, Offer}
 use Rattle.volume_model.specs.Actor.{Keeps, named_by}
-use Rattle.volume_model.specs.Told.{makes}
+use Rattle.volume_model.specs.StepResults.{makes}
 use Rattle.volume_model.specs.Journal.{Entry, world_at, IsRun, before}
 use Rattle.volume_model.proofs.ListFacts.{numbered_kept, numbered_small, numbered_added, numbered_either, get_there}
 use Rattle.volume_model.proofs.Growing.{messages_grow}

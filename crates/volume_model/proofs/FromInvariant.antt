@@ -152,8 +152,8 @@ module _ (plan : Plan) (certified : IsCertified plan) {held : Held} (world : Wor
       same : up_to n (log_of world later) ≡ up_to n (log_of world v)
 
     -- some report that a later client kept tells of the record
-    told : (later : ℕ) → v < later → (h : HasParent plan world later) → (s : Redo) → IsIn s (log_of world v) → s.lsn ≤ n → (from : From) × IsIn from (reports_of (world.clients later).groups s.group) × IsCopy world s.group from.contents × Covers world s.group v s.lsn from.contents × (last_epoch from.contents.lineage ≤ h.parent)
-    told later below h s i l =
+    event_result : (later : ℕ) → v < later → (h : HasParent plan world later) → (s : Redo) → IsIn s (log_of world v) → s.lsn ≤ n → (from : From) × IsIn from (reports_of (world.clients later).groups s.group) × IsCopy world s.group from.contents × Covers world s.group v s.lsn from.contents × (last_epoch from.contents.lineage ≤ h.parent)
+    event_result later below h s i l =
         let group : ℕ = s.group in
         let logged : IsLogged plan world v = sound.logged v cut in
         let there : group < plan.groups = logged.group_there s i in
@@ -190,7 +190,7 @@ module _ (plan : Plan) (certified : IsCertified plan) {held : Held} (world : Wor
     -- each record of the part was reported
     reported : (later : ℕ) → v < later → (h : HasParent plan world later) → ((u : ℕ) → u < later → v < u → HasCut world u → Keeps u) → (s : Redo) → IsIn s (log_of world v) → s.lsn ≤ n → IsReported world later s
     reported later below h earlier s i l =
-        let (from, j, copy, covers, at_most) = told later below h s i l in
+        let (from, j, copy, covers, at_most) = event_result later below h s i l in
         let u : ℕ = last_epoch from.contents.lineage in
         let low : v ≤ u = covers.epoch in
         let high : h.parent < later = h.below in
@@ -206,7 +206,7 @@ module _ (plan : Plan) (certified : IsCertified plan) {held : Held} (world : Wor
 
     keeps_step : (later : ℕ) → v < later → HasCut world later → (h : HasParent plan world later) → ((u : ℕ) → u < later → v < u → HasCut world u → Keeps u) → Keeps later
     keeps_step later below c h earlier =
-        let (from, j, copy, covers, at_most) = told later below h r stands (omega arith) in
+        let (from, j, copy, covers, at_most) = event_result later below h r stands (omega arith) in
         let low : v ≤ last_epoch from.contents.lineage = covers.epoch in
         let same : up_to n (log_of world h.parent) ≡ up_to n (log_of world v) = parent_same later h earlier (omega arith) in
         let there : IsIn r (log_of world h.parent) = from_up_to n (log_of world h.parent) r (subst (λ z. IsIn r z) (sym same) (IsIn-up_to n (log_of world v) r stands (omega arith))) in

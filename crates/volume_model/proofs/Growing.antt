@@ -11,7 +11,7 @@ use Rattle.volume_model.specs.ClientRecovery.{cut_client, opened}
 use Rattle.volume_model.specs.World.{World, Event, AuthorityStep, Step, assigned, advanced, refreshed, grown, deliver, take, if_there, of_authority, of_client, of_node, step, after, after_step, groups_joined}
 use Rattle.volume_model.specs.World.Event.{Assign, Advance, Refresh, Grow, Issue, Take, Cut, Open, Resend, Read, Deliver, Hydrate, Restart, Offer}
 use Rattle.volume_model.specs.Actor.{Keeps}
-use Rattle.volume_model.specs.Told.{makes}
+use Rattle.volume_model.specs.StepResults.{makes}
 use Rattle.volume_model.proofs.ListFacts.{added_before, beginning-refl, length-added}
 
 -- a step that isn't refused puts what it makes before the messages

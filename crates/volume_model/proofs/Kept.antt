@@ -54,18 +54,18 @@ pub record IsWhole (plan : Plan) (held : Held) (world : World) (group x : ℕ) (
   pub ordered : IsOrdered node.contents.records
 
 -- a member told this piece of its copy at an epoch
-abbrev pub IsToldCopy : World → ℕ → ℕ → ℕ → ℕ → Piece → Contents → Type 0
-IsToldCopy world group epoch sender series piece c = IsMade world (CopyReport group epoch sender series piece c)
+abbrev pub IsCopyOfPiece : World → ℕ → ℕ → ℕ → ℕ → Piece → Contents → Type 0
+IsCopyOfPiece world group epoch sender series piece c = IsMade world (CopyReport group epoch sender series piece c)
 
 -- a client of this volume epoch told this piece of its install
-abbrev pub IsToldInstall : World → ℕ → ℕ → Piece → Contents → Type 0
-IsToldInstall world group volume piece c = (e : ℕ) × IsMade world (Install group (label volume e) piece c)
+abbrev pub IsInstallOfPiece : World → ℕ → ℕ → Piece → Contents → Type 0
+IsInstallOfPiece world group volume piece c = (e : ℕ) × IsMade world (Install group (label volume e) piece c)
 
 -- what is known of a node
 pub record NodeKept (plan : Plan) (held : Held) (world : World) (group x : ℕ) (node : Node) : Type 0 where
   pub place : (node.place.epoch ≡ 0) ⊎ IsPlace plan world group node.place
-  pub copies : (copy : Copy) → IsIn copy node.copies → ArePieces (IsToldCopy world group node.place.epoch copy.sender) copy.pieces
-  pub install : (pieces : Pieces) → node.install ≡ Some pieces → ArePieces (IsToldInstall world group) pieces
+  pub copies : (copy : Copy) → IsIn copy node.copies → ArePieces (IsCopyOfPiece world group node.place.epoch copy.sender) copy.pieces
+  pub install : (pieces : Pieces) → node.install ≡ Some pieces → ArePieces (IsInstallOfPiece world group) pieces
   pub whole : node.whole ≡ true → IsWhole plan held world group x node
 
 -- of a group, a client has read a read set of an epoch at which it was
@@ -93,7 +93,7 @@ pub record IsHeir (plan : Plan) (world : World) (v : ℕ) (client : Client) : Ty
   pub lineage : client.lineage ≡ extended (lineage_of world parent) v (cut_of (records_of plan world client parent)) plan.lal
   pub found : client.found ≡ log_found (records_of plan world client parent)
   pub reads : (group : ℕ) → group < plan.groups → IsInViews world v group → HasRead plan world v client parent group
-  pub told : (group : ℕ) → group < plan.groups → (from : From) → IsIn from (reports_of client.groups group) → (at : ℕ) × IsMade world (Report group (label v at) from.sender from.contents) × (last_epoch from.contents.lineage ≤ parent)
+  pub event_result : (group : ℕ) → group < plan.groups → (from : From) → IsIn from (reports_of client.groups group) → (at : ℕ) × IsMade world (Report group (label v at) from.sender from.contents) × (last_epoch from.contents.lineage ≤ parent)
 
 -- the first writer
 pub record IsRoot (v : ℕ) (client : Client) : Type 0 where

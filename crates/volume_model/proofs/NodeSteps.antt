@@ -20,7 +20,7 @@ use Rattle.volume_model.proofs.Invariant.{Held, label, path, log_of, found_of, l
 use Rattle.volume_model.specs.PieceLaws.{IsPieceOf}
 use Rattle.volume_model.proofs.Pieces.{in_pieces-from, ArePieces, with_install-are, with_install-series, with_copy-are, AreOf, part_of_contents, complete_some, all_contents, united-from, united-has, united-ordered, brought-from, brought-has, copied_by-has}
 use Rattle.volume_model.proofs.Renewed.{IsReady}
-use Rattle.volume_model.proofs.Kept.{IsPlace, NodeGrows, IsToldCopy, IsToldInstall, install_of, IsInstall, IsCopied, IsWhole, NodeKept, IsWrite, IsPage, MessageKept, IsKept}
+use Rattle.volume_model.proofs.Kept.{IsPlace, NodeGrows, IsCopyOfPiece, IsInstallOfPiece, install_of, IsInstall, IsCopied, IsWhole, NodeKept, IsWrite, IsPage, MessageKept, IsKept}
 use Rattle.volume_model.proofs.Ordered.{IsOrdered, with_record-ordered, found_in-ordered}
 use Rattle.volume_model.proofs.Extends.{NodeGrows-same}
 use Rattle.volume_model.proofs.Added.{MessageNew, messages_added}
@@ -233,7 +233,7 @@ module _ (plan : Plan) (certified : IsCertified plan) {held : Held} (world : Wor
         }
 
     -- contents that only grew come in, under the volume epoch of their lineage
-    join_good : (l : Label) → Passed l → (q : Contents) → IsCopy world group q → last_epoch q.lineage ≡ l.volume → IsSource node.contents q → IsOrdered q.records → (install : Option Pieces) → ((pieces : Pieces) → install ≡ Some pieces → ArePieces (IsToldInstall world group) pieces) → IsGoodStep plan held world group x (record { made = Ack group l x (scl q.records) ∷ []; node = record node { volume = l.volume; contents = q; install = install } })
+    join_good : (l : Label) → Passed l → (q : Contents) → IsCopy world group q → last_epoch q.lineage ≡ l.volume → IsSource node.contents q → IsOrdered q.records → (install : Option Pieces) → ((pieces : Pieces) → install ≡ Some pieces → ArePieces (IsInstallOfPiece world group) pieces) → IsGoodStep plan held world group x (record { made = Ack group l x (scl q.records) ∷ []; node = record node { volume = l.volume; contents = q; install = install } })
     join_good l p q copy e source ordered install pieces =
         let w : IsWhole plan held world group x node = now.whole p.whole in
         let v : node.volume ≤ l.volume = p.volume in
@@ -272,7 +272,7 @@ module _ (plan : Plan) (certified : IsCertified plan) {held : Held} (world : Wor
         (subst (λ v. IsGoodStep plan held world group x (record { made = Ack group l x (scl q.records) ∷ []; node = record node { volume = v; contents = q } })) at
         (join_good l p q copy e (record { epoch = omega arith; records = λ same s i. with_record-keeps r node.contents.records s i }) (with_record-ordered r node.contents.records w.ordered) node.install now.install))
 
-    no_install : (pieces : Pieces) → ◌≡◌ {A = Option Pieces} None (Some pieces) → ArePieces (IsToldInstall world group) pieces
+    no_install : (pieces : Pieces) → ◌≡◌ {A = Option Pieces} None (Some pieces) → ArePieces (IsInstallOfPiece world group) pieces
     no_install pieces e = cc
 
     -- what has the lineage and the records of a copy is one
@@ -291,14 +291,14 @@ module _ (plan : Plan) (certified : IsCertified plan) {held : Held} (world : Wor
       abbrev whole_install : Contents
       whole_install = install_of world group l.volume
 
-      all_told : ArePieces (IsToldInstall world group) all
-      all_told = with_install-are (IsToldInstall world group) node.install l.volume piece c now.install other some (l.member, made)
+      all_reported : ArePieces (IsInstallOfPiece world group) all
+      all_reported = with_install-are (IsInstallOfPiece world group) node.install l.volume piece c now.install other some (l.member, made)
 
       are : AreOf whole_install all
       are = record {
-        some = all_told.some;
+        some = all_reported.some;
         each = λ kept' i. (
-            let (e, m) = all_told.each kept' i in
+            let (e, m) = all_reported.each kept' i in
             let k : IsInstall world group (label all.series e) (piece_in all kept') kept'.contents = kept.messages _ m in
             subst (λ v. IsPieceOf (install_of world group v) (piece_in all kept') kept'.contents) (with_install-series node.install l.volume piece c) k.is);
       }
@@ -326,7 +326,7 @@ module _ (plan : Plan) (certified : IsCertified plan) {held : Held} (world : Wor
               node = record {
                 place = now.place;
                 copies = now.copies;
-                install = λ pieces is. (let same : all ≡ pieces = cc in subst (λ z. ArePieces (IsToldInstall world group) z) same all_told);
+                install = λ pieces is. (let same : all ≡ pieces = cc in subst (λ z. ArePieces (IsInstallOfPiece world group) z) same all_reported);
                 whole = λ h. record { copy = w.copy; below = omega arith; sourced = w.sourced; ordered = w.ordered };
               };
               says = λ m i. absurd i;
@@ -430,12 +430,12 @@ module _ (plan : Plan) (certified : IsCertified plan) {held : Held} (world : Wor
         let e : to ≡ group = eqb-true to group (and_parts (eqb to group) (in_group group c) addressed.0).0 in
         let same : epoch ≡ node.place.epoch = omega arith in
         let copies : List Copy = with_copy sender s piece c node.copies in
-        let made' : IsToldCopy world group node.place.epoch sender s piece c = subst (λ f. IsMade world (CopyReport group f sender s piece c)) same (subst (λ g. IsMade world (CopyReport g epoch sender s piece c)) e made) in
+        let made' : IsCopyOfPiece world group node.place.epoch sender s piece c = subst (λ f. IsMade world (CopyReport group f sender s piece c)) same (subst (λ g. IsMade world (CopyReport g epoch sender s piece c)) e made) in
         subst (λ z. IsGoodStep plan held world group x z) (Ok-is _ step h5) (record {
           grows = record { volume = omega arith; epoch = omega arith; whole = λ h. h; contents = λ h. source_same node.contents; copied = omega arith };
           node = record {
             place = now.place;
-            copies = with_copy-are (IsToldCopy world group node.place.epoch) sender s piece c node.copies now.copies good.1 (omega arith) made';
+            copies = with_copy-are (IsCopyOfPiece world group node.place.epoch) sender s piece c node.copies now.copies good.1 (omega arith) made';
             install = now.install;
             whole = λ h. record { copy = (now.whole h).copy; below = (now.whole h).below; sourced = (now.whole h).sourced; ordered = (now.whole h).ordered };
           };
@@ -468,7 +468,7 @@ module _ (plan : Plan) (certified : IsCertified plan) {held : Held} (world : Wor
     reaction_good (Page to l from block point bytes) made step h = cc
 
     -- what a complete copy brought is a part of what its sender held, and all of that was brought
-    record IsTold (snapshot c : Contents) : Type 0 where
+    record IsReportedPiece (snapshot c : Contents) : Type 0 where
       copy : IsCopy world group snapshot
       lineage : c.lineage ≡ snapshot.lineage
       within : (r : Redo) → IsIn r c.records → IsIn r snapshot.records
@@ -478,12 +478,12 @@ module _ (plan : Plan) (certified : IsCertified plan) {held : Held} (world : Wor
     abbrev held_by : Copy → Contents
     held_by copy = held group copy.sender copy.pieces.series
 
-    told_by : (copy : Copy) → IsIn copy node.copies → is_complete copy.pieces ≡ true → (c : Contents) → IsIn c (contents_in copy.pieces) → IsTold (held_by copy) c
-    told_by copy i complete c j =
-        let told : ArePieces (IsToldCopy world group node.place.epoch copy.sender) copy.pieces = now.copies copy i in
-        let of_it : (k : KeptPiece) → IsIn k copy.pieces.kept → IsCopied held world group node.place.epoch copy.sender copy.pieces.series (piece_in copy.pieces k) k.contents = λ k l. kept.messages _ (told.each k l) in
-        let are : AreOf (held_by copy) copy.pieces = record { some = told.some; each = λ k l. (of_it k l).is } in
-        let (k, l) = complete_some _ copy.pieces told complete in
+    reported_by : (copy : Copy) → IsIn copy node.copies → is_complete copy.pieces ≡ true → (c : Contents) → IsIn c (contents_in copy.pieces) → IsReportedPiece (held_by copy) c
+    reported_by copy i complete c j =
+        let event_result : ArePieces (IsCopyOfPiece world group node.place.epoch copy.sender) copy.pieces = now.copies copy i in
+        let of_it : (k : KeptPiece) → IsIn k copy.pieces.kept → IsCopied held world group node.place.epoch copy.sender copy.pieces.series (piece_in copy.pieces k) k.contents = λ k l. kept.messages _ (event_result.each k l) in
+        let are : AreOf (held_by copy) copy.pieces = record { some = event_result.some; each = λ k l. (of_it k l).is } in
+        let (k, l) = complete_some _ copy.pieces event_result complete in
         let part : (c.lineage ≡ (held_by copy).lineage) × ((r : Redo) → IsIn r c.records → IsIn r (held_by copy).records) = part_of_contents (held_by copy) copy.pieces are c j in
         record {
           copy = (of_it k l).copy;
@@ -492,8 +492,8 @@ module _ (plan : Plan) (certified : IsCertified plan) {held : Held} (world : Wor
           all = λ r m. (let (d, n, h) = all_contents (held_by copy) copy.pieces are complete r m in (d, brought-has node.copies copy d i complete n, h));
         }
 
-    told : (c : Contents) → IsIn c (brought node.copies) → (snapshot : Contents) × IsTold snapshot c
-    told c i = let (copy, j, complete, part) = brought-from node.copies c i in (held_by copy, told_by copy j complete c part)
+    event_result : (c : Contents) → IsIn c (brought node.copies) → (snapshot : Contents) × IsReportedPiece snapshot c
+    event_result c i = let (copy, j, complete, part) = brought-from node.copies c i in (held_by copy, reported_by copy j complete c part)
 
     -- becoming whole
     pub hydrated_good : (step : NodeStep) → hydrated plan group x node ≡ Ok step → IsGoodStep plan held world group x step
@@ -519,27 +519,27 @@ module _ (plan : Plan) (certified : IsCertified plan) {held : Held} (world : Wor
             let piece : (piece : KeptPiece) × IsIn piece first.0.pieces.kept = complete_some _ first.0.pieces (now.copies first.0 first.1) first.3 in
             let one : (d : Contents) × IsIn d all × (lineage ≡ d.lineage) = newest-of all piece.0.contents (brought-has node.copies first.0 piece.0.contents first.1 first.3 (map-has (λ piece. piece.contents) first.0.pieces.kept piece.0 piece.1)) in
             let d : Contents = one.0 in
-            let (newest_held, newest_told) = told d one.1 in
-            let newest_copy : IsCopy world group newest_held = newest_told.copy in
+            let (newest_held, newest_reported) = event_result d one.1 in
+            let newest_copy : IsCopy world group newest_held = newest_reported.copy in
             let last : ℕ = last_epoch lineage in
-            let same_lineage : lineage ≡ newest_held.lineage = one.2 ∙ newest_told.lineage in
+            let same_lineage : lineage ≡ newest_held.lineage = one.2 ∙ newest_reported.lineage in
             let same_last : last_epoch newest_held.lineage ≡ last = ap last_epoch (sym same_lineage) in
             let cut : HasCut world last = subst (λ u. HasCut world u) same_last newest_copy.cut in
             let known : lineage ≡ lineage_of world last = same_lineage ∙ newest_copy.lineage ∙ ap (λ u. lineage_of world u) same_last in
             let f : Facts plan world last = facts plan certified world kept last cut in
             let live : (r : Redo) → IsIn r (log_of world last) → is_live lineage r.volume r.lsn ≡ true = λ r i. subst (λ z. is_live z r.volume r.lsn ≡ true) (sym known) (f.live r i) in
-            let most : (snapshot c : Contents) → IsIn c all → IsTold snapshot c → last_epoch snapshot.lineage ≤ last = λ snapshot c i t. subst (λ z. last_epoch z ≤ last) t.lineage (newest-most all c i) in
+            let most : (snapshot c : Contents) → IsIn c all → IsReportedPiece snapshot c → last_epoch snapshot.lineage ≤ last = λ snapshot c i t. subst (λ z. last_epoch z ≤ last) t.lineage (newest-most all c i) in
             let copy : IsCopy world group q = record {
               cut = cut;
               lineage = known;
               records = λ r i. (
                   let t : (c : Contents) × IsIn c all × IsIn r c.records × (is_live lineage r.volume r.lsn ≡ true) = found_in-from lineage all r i in
-                  let (snapshot, k) = told t.0 t.1 in
+                  let (snapshot, k) = event_result t.0 t.1 in
                   let j : IsIn r snapshot.records = k.within r t.2 in
                   (f.stands (last_epoch snapshot.lineage) (most snapshot t.0 t.1 k) k.copy.cut r (k.copy.records r j).0 (subst (λ z. is_live z r.volume r.lsn ≡ true) known t.3), (k.copy.records r j).1));
               found = λ r i g. (
                   let j : IsIn r newest_held.records = newest_copy.found r (subst (λ u. IsIn r (found_of world u)) (sym same_last) i) g in
-                  let (c, k, h) = newest_told.all r j in
+                  let (c, k, h) = newest_reported.all r j in
                   found_in-has lineage all c r k h (live r (found_in_log plan certified world kept last cut r i)));
             } in
             let hydrated_now : IsHydrated plan held world world.messages group x q = record {
@@ -553,7 +553,7 @@ module _ (plan : Plan) (certified : IsCertified plan) {held : Held} (world : Wor
                   let (z, i, same, complete) = copied_by-has node.copies y r in
                   let (k, j) = complete_some _ z.pieces (now.copies z i) complete in
                   let there' : IsIn k.contents (contents_in z.pieces) = map-has (λ piece. piece.contents) z.pieces.kept k j in
-                  let t : IsTold (held_by z) k.contents = told_by z i complete k.contents there' in
+                  let t : IsReportedPiece (held_by z) k.contents = reported_by z i complete k.contents there' in
                   subst (λ y. (s : ℕ) × (p : Piece) × (c : Contents) × IsMade world (CopyReport group at y s p c) × IsSource (held group y s) q) same (
                     z.pieces.series,
                     piece_in z.pieces k,

@@ -15,7 +15,7 @@ use Rattle.volume_model.specs.ClientWriter.{Change, issued, resent, write_of, pa
 use Rattle.volume_model.specs.ClientRecovery.{cut_step, cut_client, opened, reported}
 use Rattle.volume_model.specs.ClientMessages.{taken}
 use Rattle.volume_model.specs.World.{Authority, AuthorityStep, assigned, advanced, refreshed, grown}
-use Rattle.volume_model.specs.Told.{Refuses, IsOwn, IsOwnOfClient}
+use Rattle.volume_model.specs.StepResults.{Refuses, IsOwn, IsOwnOfClient}
 
 module _ {A : Type 0} (P : Fault → Type 0) where
   -- one refusal before others

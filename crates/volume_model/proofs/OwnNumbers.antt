@@ -3,7 +3,7 @@ use Rattle.std.proofs.Common.{◌≡◌, ◌≢◌, ℕ, ◌==◌, ◌||◌, Boo
 use Rattle.volume_model.specs.declared.fault.Fault.{Fault}
 use Rattle.volume_model.specs.declared.fault.Fault.TheVariants.{Short, BadField, Trailing, NoMemory, BadCount, TooDeep, NotAMember, Malformed, NoSuchItem, NotDead, NoClash, NotAll, TooFewPicked, BadPair, CountTooSmall, BranchCount, BadParent, MemberReused, NoCertificate, Certificate, OverLimit, Superseded, NotInPlan, NoGroup, EpochsSpent, AllGrown, StaleVolume, StaleMember, AheadMember, NotInstalled, NotWhole, Full, AlreadyWhole, NotEnough, NoRecord, BadPiece, TailSegment, PointAhead, SeriesSpent, NotOpen, LimitReached, BadTransaction, LsnSpent, NotReady, AlreadyDone, NoLogRecord, NotJoined, NoMessage, NotAddressed, NoActor, NoSlot, JournalFull}
 use Rattle.volume_model.specs.Numbers.{number_of}
-use Rattle.volume_model.specs.Told.{Refuses, IsOwn, refusal}
+use Rattle.volume_model.specs.StepResults.{Refuses, IsOwn, refusal}
 
 -- the numbers 9, 80, 82, 83, 84
 abbrev pub is_outer : ℕ → Bool

@@ -189,14 +189,14 @@ module _ (plan : Plan) (certified : IsCertified plan) (events : List Event) wher
 
   of_copy : (group x : ℕ) → group < plan.groups → (copy : Copy) → IsIn copy (world.nodes group x).copies → ArePiecesOf (held plan certified events group copy.sender copy.pieces.series) copy.pieces
   of_copy group x there copy i k j =
-      let told : IsCopied (held plan certified events) world group (world.nodes group x).place.epoch copy.sender copy.pieces.series (piece_in copy.pieces k) k.contents = is_kept.messages _ (((is_kept.nodes group x there).copies copy i).each k j) in
-      told.is
+      let event_result : IsCopied (held plan certified events) world group (world.nodes group x).place.epoch copy.sender copy.pieces.series (piece_in copy.pieces k) k.contents = is_kept.messages _ (((is_kept.nodes group x there).copies copy i).each k j) in
+      event_result.is
 
   of_install : (group x : ℕ) → group < plan.groups → (pieces : Pieces) → (world.nodes group x).install ≡ Some pieces → ArePiecesOf (install_of world group pieces.series) pieces
   of_install group x there pieces is k j =
       let (e, made) = ((is_kept.nodes group x there).install pieces is).each k j in
-      let told : IsInstall world group (label pieces.series e) (piece_in pieces k) k.contents = is_kept.messages _ made in
-      told.is
+      let event_result : IsInstall world group (label pieces.series e) (piece_in pieces k) k.contents = is_kept.messages _ made in
+      event_result.is
 
   of_one : KeepsPiecesOfOne plan world
   of_one = record {

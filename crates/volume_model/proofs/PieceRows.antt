@@ -38,35 +38,35 @@ holding lineage records = record { lineage = lineage; records = records }
 
 -- a whole node at membership epoch 1, which has told so many copies
 abbrev whole_node : List Redo → ℕ → Node
-whole_node records told = record { volume = 1; place = record { configuration = 0; epoch = 1 }; whole = true; contents = holding birth records; copies = []; install = None; copied = told }
+whole_node records event_result = record { volume = 1; place = record { configuration = 0; epoch = 1 }; whole = true; contents = holding birth records; copies = []; install = None; copied = event_result }
 
 -- of each piece of a copy its series, its number, of how many it is, and how many records it has
-abbrev piece_told : Message → List ℕ
-piece_told (CopyReport group epoch sender series piece contents) = series ∷ piece.number ∷ piece.of ∷ length contents.records ∷ []
-piece_told (View volume places) = []
-piece_told (StepTo group place) = []
-piece_told (Fence group label) = []
-piece_told (Report group label sender contents) = []
-piece_told (Install group label piece contents) = []
-piece_told (Write group label r) = []
-piece_told (Gossip group label r) = []
-piece_told (Ack group label sender reached) = []
-piece_told (CopyAsk group epoch) = []
-piece_told (PageAsk group label block point) = []
-piece_told (Page group label sender block point bytes) = []
+abbrev piece_reported : Message → List ℕ
+piece_reported (CopyReport group epoch sender series piece contents) = series ∷ piece.number ∷ piece.of ∷ length contents.records ∷ []
+piece_reported (View volume places) = []
+piece_reported (StepTo group place) = []
+piece_reported (Fence group label) = []
+piece_reported (Report group label sender contents) = []
+piece_reported (Install group label piece contents) = []
+piece_reported (Write group label r) = []
+piece_reported (Gossip group label r) = []
+piece_reported (Ack group label sender reached) = []
+piece_reported (CopyAsk group epoch) = []
+piece_reported (PageAsk group label block point) = []
+piece_reported (Page group label sender block point bytes) = []
 
 -- what is told of an answer
 abbrev told_of : NodeAnswer → Result (List (List ℕ)) Fault
 told_of (Err fault) = Err fault
-told_of (Ok step) = Ok (map piece_told step.made)
+told_of (Ok step) = Ok (map piece_reported step.made)
 
 -- the node after an answer
 abbrev node_after : Node → NodeAnswer → Node
 node_after node (Err fault) = node
 node_after node (Ok step) = step.node
 
-copy_told : told_of (reaction member_replaced 0 0 (whole_node (chained 600 []) 0) (CopyAsk 0 1)) ≡ Ok ((1 ∷ 0 ∷ 3 ∷ 256 ∷ []) ∷ (1 ∷ 1 ∷ 3 ∷ 256 ∷ []) ∷ (1 ∷ 2 ∷ 3 ∷ 88 ∷ []) ∷ [])
-copy_told = refl
+copy_reported : told_of (reaction member_replaced 0 0 (whole_node (chained 600 []) 0) (CopyAsk 0 1)) ≡ Ok ((1 ∷ 0 ∷ 3 ∷ 256 ∷ []) ∷ (1 ∷ 1 ∷ 3 ∷ 256 ∷ []) ∷ (1 ∷ 2 ∷ 3 ∷ 88 ∷ []) ∷ [])
+copy_reported = refl
 
 -- the next copy has the next number
 copy_again : told_of (reaction member_replaced 0 0 (node_after (whole_node (chained 600 []) 0) (reaction member_replaced 0 0 (whole_node (chained 600 []) 0) (CopyAsk 0 1))) (CopyAsk 0 1)) ≡ Ok ((2 ∷ 0 ∷ 3 ∷ 256 ∷ []) ∷ (2 ∷ 1 ∷ 3 ∷ 256 ∷ []) ∷ (2 ∷ 2 ∷ 3 ∷ 88 ∷ []) ∷ [])

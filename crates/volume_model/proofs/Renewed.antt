@@ -30,11 +30,11 @@ pub renewed_ready : (held : Held) (world : World) → IsReady (renewed held worl
 renewed_ready held world group x = rw (lt-leb (suc (world.nodes group x).copied) (world.nodes group x).copied (omega arith)) refl
 
 module _ (plan : Plan) {held : Held} (world : World) (kept : IsKept plan held world) where
-  told_same : (group x s : ℕ) → s ≤ (world.nodes group x).copied → held group x s ≡ renewed held world group x s
-  told_same group x s l = rw (le-leb s (world.nodes group x).copied l) refl
+  result_same : (group x s : ℕ) → s ≤ (world.nodes group x).copied → held group x s ≡ renewed held world group x s
+  result_same group x s l = rw (le-leb s (world.nodes group x).copied l) refl
 
   made_same : (group f x s : ℕ) (p : Piece) (c : Contents) → IsMade world (CopyReport group f x s p c) → held group x s ≡ renewed held world group x s
-  made_same group f x s p c i = let k : IsCopied held world group f x s p c = kept.messages _ i in told_same group x s k.number
+  made_same group f x s p c i = let k : IsCopied held world group f x s p c = kept.messages _ i in result_same group x s k.number
 
   sourced_again : (older : List Message) → ((m : Message) → IsIn m older → IsMade world m) → (group x : ℕ) (q : Contents) → IsSourced plan held world older group x q → IsSourced plan (renewed held world) world older group x q
   sourced_again older within group x q (inl h) = inl h

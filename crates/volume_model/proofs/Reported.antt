@@ -26,7 +26,7 @@ module _ (plan : Plan) (certified : IsCertified plan) (events : List Event) wher
       elim (cases_Bool (has_cut (world.clients v).stage)) [
         | inl cut ↦ elim ((is_kept.clients v).cut cut).origin [
           | inl root ↦ absurd (later root.one)
-          | inr heir ↦ (let (at, made, below) = heir.told group there from i in (at, made))
+          | inr heir ↦ (let (at, made, below) = heir.event_result group there from i in (at, made))
         ]
         | inr not_cut ↦ ((place_of (world.clients v).groups group).epoch, ((is_kept.clients v).reading not_cut group (from_there (world.clients v).groups group from i) from i).0)
       ]

@@ -60,9 +60,9 @@ module _ (plan : Plan) (certified : IsCertified plan) {held : Held} (world : Wor
   assigned_good s h =
       let (a, h1) = refuse_if-ok _ EpochsSpent _ s h in
       let next : Authority = record world.authority { last_volume = suc world.authority.last_volume } in
-      let told : Message = View (suc world.authority.last_volume) (places_now plan world.authority) in
-      as_answered (record { made = told ∷ []; authority = next }) s h1
-      (volume_assigned plan world kept, one_new (record world { authority = next }) told (refl, refl))
+      let event_result : Message = View (suc world.authority.last_volume) (places_now plan world.authority) in
+      as_answered (record { made = event_result ∷ []; authority = next }) s h1
+      (volume_assigned plan world kept, one_new (record world { authority = next }) event_result (refl, refl))
 
   advanced_good : (group c : ℕ) (s : AuthorityStep) → advanced plan world.authority group c ≡ Ok s → IsGood s
   advanced_good group c s h =

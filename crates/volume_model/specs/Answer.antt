@@ -21,33 +21,33 @@ Gives view (Ok x) defined = defined ≡ Ok (view x)
 Gives view (Err fault) defined = Fails fault defined
 
 -- no refusal comes after want of memory: every refusal of a call is found before it makes any growth
-abbrev pub never_late : Fault → Bool
-never_late fault = false
+abbrev pub never_after_growth : Fault → Bool
+never_after_growth fault = false
 
 -- The definition refuses nothing, but with a fault that may come after want of memory.
-abbrev pub may_want_memory : {T : Type 0} → (Fault → Bool) → Result T Fault → Bool
-may_want_memory late (Ok step) = true
-may_want_memory late (Err fault) = late fault
+abbrev pub may_run_out_of_memory : {T : Type 0} → (Fault → Bool) → Result T Fault → Bool
+may_run_out_of_memory late (Ok step) = true
+may_run_out_of_memory late (Err fault) = late fault
 
 -- What a call of an actor answers, that was old and is new: the step that is defined, seen with the actor as it is then; or the refusal that is
 -- defined, and the actor is what it was. Want of memory leaves the actor as it was too, and is answered only where the definition refuses
 -- nothing, but with a late fault.
-abbrev pub AnswersLate : {R S T : Type 0} → (Fault → Bool) → (R → S → T) → Result T Fault → S → Result R Fault → S → Type 0
-AnswersLate late step defined old (Ok made) new = defined ≡ Ok (step made new)
-AnswersLate late step defined old (Err NoMemory) new = (may_want_memory late defined ≡ true) × (new ≡ old)
-AnswersLate late step defined old (Err fault) new = (defined ≡ Err fault) × (new ≡ old)
+abbrev pub AnswersAfterGrowth : {R S T : Type 0} → (Fault → Bool) → (R → S → T) → Result T Fault → S → Result R Fault → S → Type 0
+AnswersAfterGrowth late step defined old (Ok made) new = defined ≡ Ok (step made new)
+AnswersAfterGrowth late step defined old (Err NoMemory) new = (may_run_out_of_memory late defined ≡ true) × (new ≡ old)
+AnswersAfterGrowth late step defined old (Err fault) new = (defined ≡ Err fault) × (new ≡ old)
 
 -- The same of a call that finds every refusal before it makes any growth.
 abbrev pub Answers : {R S T : Type 0} → (R → S → T) → Result T Fault → S → Result R Fault → S → Type 0
-Answers step defined old result new = AnswersLate never_late step defined old result new
+Answers step defined old result new = AnswersAfterGrowth never_after_growth step defined old result new
 
 -- The same of a call that makes something new and changes nothing: what it made, seen by view, is what is defined.
-abbrev pub AnswersNewLate : {R T : Type 0} → (Fault → Bool) → (R → T) → Result T Fault → Result R Fault → Type 0
-AnswersNewLate late view defined result = AnswersLate {S = Unit {0}} late (λ made u. view made) defined tt result tt
+abbrev pub AnswersNewAfterGrowth : {R T : Type 0} → (Fault → Bool) → (R → T) → Result T Fault → Result R Fault → Type 0
+AnswersNewAfterGrowth late view defined result = AnswersAfterGrowth {S = Unit {0}} late (λ made u. view made) defined tt result tt
 
 -- The same of such a call that finds every refusal before it makes any growth.
 abbrev pub AnswersNew : {R T : Type 0} → (R → T) → Result T Fault → Result R Fault → Type 0
-AnswersNew view defined result = AnswersNewLate never_late view defined result
+AnswersNew view defined result = AnswersNewAfterGrowth never_after_growth view defined result
 
 -- whether a call is refused, and why, without its step
 abbrev pub refusal_of : {T : Type 0} → Result T Fault → Result (Unit {0}) Fault

@@ -4,7 +4,7 @@ use Rattle.volume_model.specs.Plan.{Plan}
 use Rattle.volume_model.specs.Message.{Message}
 use Rattle.volume_model.specs.World.{World, Event, opening, step, run}
 use Rattle.volume_model.specs.Actor.{Actor, actor_of, same_actor}
-use Rattle.volume_model.specs.Told.{makes}
+use Rattle.volume_model.specs.StepResults.{makes}
 
 -- one step: what happened, the messages that it made, and how many were made before
 pub record Entry : Type 0 where

@@ -13,7 +13,7 @@ use Rattle.volume_model.specs.ClientRecovery.{cut_client, opened}
 use Rattle.volume_model.specs.ClientMessages.{taken}
 use Rattle.volume_model.specs.World.{World, Event, Authority, step, after, assigned, advanced, groups_joined, grown, refreshed}
 use Rattle.volume_model.specs.Actor.{Actor, acted, actor_of, in_world, named_by, same_actor, state_in, Agree, JoinedAlike, Keeps}
-use Rattle.volume_model.specs.Told.{makes, Refuses, IsOwn, IsOwnOfClient}
+use Rattle.volume_model.specs.StepResults.{makes, Refuses, IsOwn, IsOwnOfClient}
 use Rattle.volume_model.specs.Journal.{Entry, world_at, Goes, IsRun, last_of, before}
 use Rattle.volume_model.specs.Judging.{Refusal, IsRefused, Exact, IsNoted}
 

@@ -7,7 +7,7 @@ use Rattle.volume_model.specs.Numbers.{number_of}
 use Rattle.volume_model.specs.Plan.{Plan}
 use Rattle.volume_model.specs.World.{World, Event, step}
 use Rattle.volume_model.specs.Actor.{Actor, actor_of}
-use Rattle.volume_model.specs.Told.{refusal}
+use Rattle.volume_model.specs.StepResults.{refusal}
 use Rattle.volume_model.specs.Journal.{Entry, world_at}
 
 -- the world v, but for one actor, which is as in w; for a node, as many groups have joined as in w
@@ -43,7 +43,7 @@ pub record Refusal : Type 0 where
 -- the refusal is true of this journal
 pub record IsRefused (plan : Plan) (slots cells : ℕ) (es : List Entry) (n : Refusal) : Type 0 where
   pub within : n.number ≤ length es
-  pub told : found_in plan es n.number n.event n.fault ≡ wanted slots cells n.fault
+  pub judged_so : found_in plan es n.number n.event n.fault ≡ wanted slots cells n.fault
 
 -- The refusal is true after these entries. NoSlot is of Assign alone, where the model assigns and the last volume epoch is the number of slots; the
 -- journal is full where the model refuses nothing and it has as many entries as there are cells; any other is the model's. Want of memory says nothing

@@ -22,7 +22,7 @@ pub mod World
 pub mod Outcome
 pub mod Headline
 pub mod Actor
-pub mod Told
+pub mod StepResults
 pub mod Journal
 pub mod Judging
 pub mod JournalLaws

@@ -8,6 +8,6 @@ mod messages;
 mod nodes;
 mod plans;
 mod refusals;
+mod reports;
 mod rows;
 mod steps;
-mod told;

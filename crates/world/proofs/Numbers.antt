@@ -4,7 +4,7 @@ use Rattle.std.proofs.Common.{Bool, true, false, ◌⊎◌, inl, inr}
 use Rattle.std.proofs.lemmas.Bool.Decides.{nat_tests}
 use Rattle.volume_model.specs.declared.fault.Fault.{Fault}
 use Rattle.volume_model.specs.Plan.{Plan}
-use Rattle.volume_model.specs.World.{World, Event, AuthorityStep, step, after, after_step, told, of_authority, of_client, of_node}
+use Rattle.volume_model.specs.World.{World, Event, AuthorityStep, step, after, after_step, event_result, of_authority, of_client, of_node}
 use Rattle.volume_model.specs.World.Event.{Assign, Advance, Refresh, Grow, Issue, Take, Cut, Open, Resend, Read, Deliver, Hydrate, Restart, Offer}
 use Rattle.volume_model.specs.Node.{NodeAnswer}
 use Rattle.volume_model.specs.Client.{ClientAnswer}
@@ -36,19 +36,19 @@ total_made-push [] r = omega arith
 total_made-push (s ∷ later) r = omega (arith, total_made-push later r)
 
 -- the messages of a world grow by those that are told of
-authority_grows : (w : World) (answer : Result AuthorityStep Fault) → length (after_step w (of_authority w answer)).messages ≡ length w.messages + made_by (told (of_authority w answer))
+authority_grows : (w : World) (answer : Result AuthorityStep Fault) → length (after_step w (of_authority w answer)).messages ≡ length w.messages + made_by (event_result (of_authority w answer))
 authority_grows w (Ok s) = length-added s.made w.messages ∙ omega arith
 authority_grows w (Err fault) = omega arith
 
-client_grows : (w : World) (volume : ℕ) (answer : ClientAnswer) → length (after_step w (of_client w volume answer)).messages ≡ length w.messages + made_by (told (of_client w volume answer))
+client_grows : (w : World) (volume : ℕ) (answer : ClientAnswer) → length (after_step w (of_client w volume answer)).messages ≡ length w.messages + made_by (event_result (of_client w volume answer))
 client_grows w volume (Ok s) = length-added s.made w.messages ∙ omega arith
 client_grows w volume (Err fault) = omega arith
 
-node_grows : (w : World) (group member : ℕ) (answer : NodeAnswer) → length (after_step w (of_node w group member answer)).messages ≡ length w.messages + made_by (told (of_node w group member answer))
+node_grows : (w : World) (group member : ℕ) (answer : NodeAnswer) → length (after_step w (of_node w group member answer)).messages ≡ length w.messages + made_by (event_result (of_node w group member answer))
 node_grows w group member (Ok s) = length-added s.made w.messages ∙ omega arith
 node_grows w group member (Err fault) = omega arith
 
-pub grows : (plan : Plan) (w : World) (event : Event) → length (after plan w event).messages ≡ length w.messages + made_by (told (step plan w event))
+pub grows : (plan : Plan) (w : World) (event : Event) → length (after plan w event).messages ≡ length w.messages + made_by (event_result (step plan w event))
 grows plan w Assign = authority_grows w _
 grows plan w (Advance group c) = authority_grows w _
 grows plan w (Refresh volume) = authority_grows w _

@@ -41,11 +41,11 @@ in_each_below x (suc n) test f h =
     here false passed none = absurd none
 
 -- what is told of a writer of the world, and of a recovery that has cut
-abbrev told_writer : World → ℕ → model.Opened
-told_writer world volume = opened_client volume (world.clients volume)
+abbrev writer_result : World → ℕ → model.Opened
+writer_result world volume = opened_client volume (world.clients volume)
 
-abbrev told_find : World → ℕ → model.Find
-told_find world volume = found_client volume (world.clients volume)
+abbrev find_result : World → ℕ → model.Find
+find_result world volume = found_client volume (world.clients volume)
 
 -- a returned writer is one of the world
 record IsWriterOf (world : World) (w : WriterOutcome) : Type 0 where
@@ -55,7 +55,7 @@ record IsWriterOf (world : World) (w : WriterOutcome) : Type 0 where
 
 writer_of : (world : World) (w : WriterOutcome) (ws : List WriterOutcome) → map opened_of ws ≡ writers_in world → IsIn w ws → IsWriterOf world w
 writer_of world w ws are within =
-    let found = in_each_below (opened_of w) (suc world.authority.last_volume) (λ (v : ℕ). is_open (world.clients v).stage) (told_writer world) (subst (IsIn (opened_of w)) are (is_in-map opened_of w ws within)) in
+    let found = in_each_below (opened_of w) (suc world.authority.last_volume) (λ (v : ℕ). is_open (world.clients v).stage) (writer_result world) (subst (IsIn (opened_of w)) are (is_in-map opened_of w ws within)) in
     let v : w.volume ≡ found.0 = ap (λ (o : model.Opened). o.volume) found.1.1 in
     record {
       open_is = ap (λ (n : ℕ). is_open (world.clients n).stage) v ∙ found.1.0;
@@ -70,7 +70,7 @@ record IsFinderOf (world : World) (f : RecoveryOutcome) : Type 0 where
 
 finder_of : (world : World) (f : RecoveryOutcome) (fs : List RecoveryOutcome) → map find_of fs ≡ finds_in world → IsIn f fs → IsFinderOf world f
 finder_of world f fs are within =
-    let found = in_each_below (find_of f) (suc world.authority.last_volume) (λ (v : ℕ). nat_lt 1 v && has_cut (world.clients v).stage) (told_find world) (subst (IsIn (find_of f)) are (is_in-map find_of f fs within)) in
+    let found = in_each_below (find_of f) (suc world.authority.last_volume) (λ (v : ℕ). nat_lt 1 v && has_cut (world.clients v).stage) (find_result world) (subst (IsIn (find_of f)) are (is_in-map find_of f fs within)) in
     let v : f.volume ≡ found.0 = ap (λ (o : model.Find). o.volume) found.1.1 in
     let tests = and_parts (nat_lt 1 found.0) (has_cut (world.clients found.0).stage) found.1.0 in
     let later : 1 < found.0 = ltb-true 1 found.0 tests.0 in

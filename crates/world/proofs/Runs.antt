@@ -5,7 +5,7 @@ use Rattle.volume_model.specs.declared.fault.Fault.TheVariants.{NoMemory}
 use Rattle.volume_model.specs.Headline.{AcknowledgementsLast, StaysSo}
 use Rattle.volume_model.specs.Finds.{FindsLast, StaysFound}
 use Rattle.volume_model.specs.Plan.{Plan, IsCertified}
-use Rattle.volume_model.specs.World.{World, Event, Step, step, after, after_step, opening, told, run, results}
+use Rattle.volume_model.specs.World.{World, Event, Step, step, after, after_step, opening, event_result, run, results}
 use Rattle.world.specs.declared.event.Order.{Order}
 use Rattle.world.specs.Events.{made_by, total_made, ordered, events_from}
 use Rattle.world.specs.Actors.{moved, moved_of, Moved, Steps}
@@ -13,27 +13,27 @@ use Rattle.world.specs.Outcomes.{KeepsAcknowledgements, KeepsFinds}
 use Rattle.world.proofs.Numbers.{grows, total_made-push}
 
 -- what is told where memory didn't run out
-told_moved : (defined : Result Step Fault) (old new : World) (count : ℕ) → moved_of defined ≡ Ok (moved count new) → (told defined ≡ Ok count) × (after_step old defined ≡ new)
-told_moved (Err fault) old new count e = absurd cc
-told_moved (Ok step) old new count e =
+moved_result : (defined : Result Step Fault) (old new : World) (count : ℕ) → moved_of defined ≡ Ok (moved count new) → (event_result defined ≡ Ok count) × (after_step old defined ≡ new)
+moved_result (Err fault) old new count e = absurd cc
+moved_result (Ok step) old new count e =
     let same : record { count = length step.made; world = step.world } ≡ moved count new = cc in
     (ap (λ (m : Moved). Ok m.count) same, ap (λ (m : Moved). m.world) same)
 
-told_refused : (defined : Result Step Fault) (old new : World) (fault : Fault) → moved_of defined ≡ Err fault → new ≡ old → (told defined ≡ Err fault) × (after_step old defined ≡ new)
-told_refused (Err other) old new fault e same = let is : other ≡ fault = cc in (ap Err is, sym same)
-told_refused (Ok step) old new fault e same = absurd cc
+refused_result : (defined : Result Step Fault) (old new : World) (fault : Fault) → moved_of defined ≡ Err fault → new ≡ old → (event_result defined ≡ Err fault) × (after_step old defined ≡ new)
+refused_result (Err other) old new fault e same = let is : other ≡ fault = cc in (ap Err is, sym same)
+refused_result (Ok step) old new fault e same = absurd cc
 
-pub steps_told : (late : Fault → Bool) (defined : Result Step Fault) (old new : World) (result : Result ℕ Fault) → result ≢ Err NoMemory → Steps late defined old result new → (told defined ≡ result) × (after_step old defined ≡ new)
-steps_told late defined old new (Ok made) ne steps = told_moved defined old new made steps
-steps_told late defined old new (Err NoMemory) ne steps = absurd (ne refl)
-steps_told late defined old new (Err fault) ne steps = told_refused defined old new fault steps.0 steps.1
+pub steps_result : (late : Fault → Bool) (defined : Result Step Fault) (old new : World) (result : Result ℕ Fault) → result ≢ Err NoMemory → Steps late defined old result new → (event_result defined ≡ result) × (after_step old defined ≡ new)
+steps_result late defined old new (Ok made) ne steps = moved_result defined old new made steps
+steps_result late defined old new (Err NoMemory) ne steps = absurd (ne refl)
+steps_result late defined old new (Err fault) ne steps = refused_result defined old new fault steps.0 steps.1
 
 module _ (late : Fault → Bool) (plan : Plan) (old new : World) (event : Event) (result : Result ℕ Fault) (ne : result ≢ Err NoMemory) (steps : Steps late (step plan old event) old result new) (so_far : List (Result ℕ Fault)) (later : List Event) where
-  both : (told (step plan old event) ≡ result) × (after_step old (step plan old event) ≡ new)
-  both = steps_told late (step plan old event) old new result ne steps
+  both : (event_result (step plan old event) ≡ result) × (after_step old (step plan old event) ≡ new)
+  both = steps_result late (step plan old event) old new result ne steps
 
-  pub told_on : (so_far ++ result ∷ []) ++ results plan new later ≡ so_far ++ results plan old (event ∷ later)
-  told_on = append_assoc so_far (result ∷ []) (results plan new later) ∙ sym (ap₂ (λ (r : Result ℕ Fault) (w : World). so_far ++ r ∷ results plan w later) both.0 both.1)
+  pub results_on : (so_far ++ result ∷ []) ++ results plan new later ≡ so_far ++ results plan old (event ∷ later)
+  results_on = append_assoc so_far (result ∷ []) (results plan new later) ∙ sym (ap₂ (λ (r : Result ℕ Fault) (w : World). so_far ++ r ∷ results plan w later) both.0 both.1)
 
   pub run_on : run plan new later ≡ run plan old (event ∷ later)
   run_on = sym (ap (λ (w : World). run plan w later) both.1)
@@ -42,16 +42,16 @@ module _ (late : Fault → Bool) (plan : Plan) (old new : World) (event : Event)
 pub order_rest : (late : Fault → Bool) (plan : Plan) (old new : World) (results : List (Result ℕ Fault)) (orders left : List Order) (order : Order) → orders ≡ order ∷ left → (result : Result ℕ Fault) → result ≢ Err NoMemory → Steps late (step plan old (ordered results order)) old result new
     → events_from plan old results orders ≡ ordered results order ∷ events_from plan new (results ++ result ∷ []) left
 order_rest late plan old new results orders left order is result ne steps =
-    let told_is = steps_told late (step plan old (ordered results order)) old new result ne steps in
+    let result_is = steps_result late (step plan old (ordered results order)) old new result ne steps in
     ap (events_from plan old results) is
-    ∙ ap₂ (λ (r : Result ℕ Fault) (w : World). ordered results order ∷ events_from plan w (results ++ r ∷ []) left) told_is.0 told_is.1
+    ∙ ap₂ (λ (r : Result ℕ Fault) (w : World). ordered results order ∷ events_from plan w (results ++ r ∷ []) left) result_is.0 result_is.1
 
 -- how many messages were made, when one event more has happened
 pub total_on : (late : Fault → Bool) (plan : Plan) (old new : World) (event : Event) (result : Result ℕ Fault) → result ≢ Err NoMemory → Steps late (step plan old event) old result new → (so_far : List (Result ℕ Fault)) → total_made so_far ≡ length old.messages → total_made (so_far ++ result ∷ []) ≡ length new.messages
 total_on late plan old new event result ne steps so_far total =
-    let told_is = steps_told late (step plan old event) old new result ne steps in
+    let result_is = steps_result late (step plan old event) old new result ne steps in
     let more : length new.messages ≡ length old.messages + made_by result =
-    ap (λ (w : World). length w.messages) (sym told_is.1) ∙ grows plan old event ∙ ap (λ (r : Result ℕ Fault). length old.messages + made_by r) told_is.0 in
+    ap (λ (w : World). length w.messages) (sym result_is.1) ∙ grows plan old event ∙ ap (λ (r : Result ℕ Fault). length old.messages + made_by r) result_is.0 in
     total_made-push so_far result ∙ omega (arith, more, total)
 
 -- one list of events after another

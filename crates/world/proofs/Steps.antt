@@ -11,7 +11,7 @@ use Rattle.volume_model.specs.declared.fault.Fault.TheVariants.{NoActor}
 use Rattle.volume_model.specs.Lists.{some_below, put, put_at}
 use Rattle.volume_model.specs.Plan.{Plan, is_named, has_member}
 use Rattle.volume_model.specs.Message.{Message}
-use Rattle.volume_model.specs.Answer.{never_late, AnswersLate}
+use Rattle.volume_model.specs.Answer.{never_after_growth, AnswersAfterGrowth}
 use Rattle.volume_model.specs.Refusal.{refuse_if}
 use Rattle.volume_model.specs.Node.{Node, NodeAnswer, NodeStep, born_node}
 use Rattle.volume_model.specs.Client.{Client, ClientAnswer, ClientStep}
@@ -21,7 +21,7 @@ use Rattle.segment_core.specs.Segment.{node_of, segment_plan, segment_group, seg
 use Rattle.world.specs.Slots.{members, slot_of, in_slot, node_or, node_at, FindsSlot}
 use Rattle.world.specs.Homes.{nodes_of, IsPlace, AreHomes}
 use Rattle.world.specs.Worlds.{world_with}
-use Rattle.world.specs.Moves.{counted, told_of, AuthorityMoves, ClientMoves, Held, Moves, NodeMoves, Told}
+use Rattle.world.specs.Moves.{counted, result_of_step, AuthorityMoves, ClientMoves, ActorState, Moves, NodeMoves, StepResult}
 use Rattle.world.specs.Actors.{moved, moved_of, Moved, Steps}
 use Rattle.world.proofs.Moving.{answers_along, map_ok}
 use Rattle.world.proofs.OneNode.{node_at-set, put_at-same, slice_get-map, in_place, each-set, map-set, put-same}
@@ -77,21 +77,21 @@ pub unjoined_steps : (late : Fault → Bool) (plan : Plan) (world : World) (join
 unjoined_steps late plan world joined g m defined h = absent_steps late plan world joined g m defined (ap (λ (b : Bool). b && is_named plan g m) (le-ltb g joined h))
 
 -- what the step of an actor leaves in the world, where the world in which the actor is this and these are all messages is placed so
-module _ {S T : Type 0} (made : T → List Message) (actor : T → S) (placed : Held S → World) where
+module _ {S T : Type 0} (made : T → List Message) (actor : T → S) (placed : ActorState S → World) where
   -- what is told of the actor, told of the world
-  abbrev pub onward : Told S → Moved
+  abbrev pub onward : StepResult S → Moved
   onward t = record { count = t.count; world = placed (record { actor = t.actor; messages = t.messages }) }
 
-  pub placed_steps : (late : Fault → Bool) (defined : Result T Fault) (whole : Result Step Fault) (kept now : List Message) (old new : S) (before after : World) → map_ok onward (told_of made actor kept defined) ≡ moved_of whole
+  pub placed_steps : (late : Fault → Bool) (defined : Result T Fault) (whole : Result Step Fault) (kept now : List Message) (old new : S) (before after : World) → map_ok onward (result_of_step made actor kept defined) ≡ moved_of whole
       → placed (record { actor = old; messages = kept }) ≡ before → placed (record { actor = new; messages = now }) ≡ after → (result : Result ℕ Fault) → Moves made actor late defined old kept result new now → Steps late whole before result after
   placed_steps late defined whole kept now old new before after is here there result moves =
-      let told : Result (Told S) Fault = told_of made actor kept defined in
-      let was : Held S = record { actor = old; messages = kept } in
-      let will_be : Held S = record { actor = new; messages = now } in
-      subst (λ (d : Result Moved Fault). AnswersLate late moved d before result after) is
-      (subst (λ (w : World). AnswersLate late moved (map_ok onward told) w result after) here
-      (subst (λ (w : World). AnswersLate late moved (map_ok onward told) (placed was) result w) there
-      (answers_along late counted moved onward placed (λ r h. refl) told was result will_be moves)))
+      let event_result : Result (StepResult S) Fault = result_of_step made actor kept defined in
+      let was : ActorState S = record { actor = old; messages = kept } in
+      let will_be : ActorState S = record { actor = new; messages = now } in
+      subst (λ (d : Result Moved Fault). AnswersAfterGrowth late moved d before result after) is
+      (subst (λ (w : World). AnswersAfterGrowth late moved (map_ok onward event_result) w result after) here
+      (subst (λ (w : World). AnswersAfterGrowth late moved (map_ok onward event_result) (placed was) result w) there
+      (answers_along late counted moved onward placed (λ r h. refl) event_result was result will_be moves)))
 
 -- what a node's step leaves in the world
 module _ (plan : Plan) (authority : Authority) (slots : List (Option Node)) (clients : ℕ → Client) (kept : List Message) (g m : ℕ) (low : m < 64) (within : slot_of g m < length slots) (old new : Node) (there : node_at plan slots g m ≡ old) (joined : nat_lt g (groups_joined authority) ≡ true) (named : is_named plan g m ≡ true) (defined : NodeAnswer) where
@@ -105,10 +105,10 @@ module _ (plan : Plan) (authority : Authority) (slots : List (Option Node)) (cli
   asked = ap₂ (λ (b c : Bool). of_node before g m (refuse_if (not (b && c)) NoActor defined)) joined named
 
   -- the world in which the node is this, and these are all messages
-  abbrev placed : Held Node → World
+  abbrev placed : ActorState Node → World
   placed held = world_with authority (put_at (node_at plan slots) g m held.actor) clients held.messages
 
-  moved_on : (answer : NodeAnswer) → map_ok (onward (λ (s : NodeStep). s.made) (λ (s : NodeStep). s.node) placed) (told_of (λ (s : NodeStep). s.made) (λ (s : NodeStep). s.node) kept answer) ≡ moved_of (of_node before g m answer)
+  moved_on : (answer : NodeAnswer) → map_ok (onward (λ (s : NodeStep). s.made) (λ (s : NodeStep). s.node) placed) (result_of_step (λ (s : NodeStep). s.made) (λ (s : NodeStep). s.node) kept answer) ≡ moved_of (of_node before g m answer)
   moved_on (Err fault) = refl
   moved_on (Ok step) = refl
 
@@ -158,10 +158,10 @@ module _ (authority : Authority) (nodes : ℕ → ℕ → Node) (clients : ℕ �
   begun = world_with authority nodes clients kept
 
   -- the world in which the client is this, and these are all messages
-  abbrev client_placed : Held Client → World
+  abbrev client_placed : ActorState Client → World
   client_placed held = world_with authority nodes (put clients v held.actor) held.messages
 
-  client_moved_on : (answer : ClientAnswer) → map_ok (onward (λ (s : ClientStep). s.made) (λ (s : ClientStep). s.client) client_placed) (told_of (λ (s : ClientStep). s.made) (λ (s : ClientStep). s.client) kept answer) ≡ moved_of (of_client begun v answer)
+  client_moved_on : (answer : ClientAnswer) → map_ok (onward (λ (s : ClientStep). s.made) (λ (s : ClientStep). s.client) client_placed) (result_of_step (λ (s : ClientStep). s.made) (λ (s : ClientStep). s.client) kept answer) ≡ moved_of (of_client begun v answer)
   client_moved_on (Err fault) = refl
   client_moved_on (Ok step) = refl
 
@@ -176,13 +176,13 @@ module _ (old : Authority) (nodes : ℕ → ℕ → Node) (clients : ℕ → Cli
   asked_of = world_with old nodes clients kept
 
   -- the world in which the authority is this, and these are all messages
-  abbrev authority_placed : Held Authority → World
+  abbrev authority_placed : ActorState Authority → World
   authority_placed held = world_with held.actor nodes clients held.messages
 
-  authority_moved_on : (answer : Result AuthorityStep Fault) → map_ok (onward (λ (s : AuthorityStep). s.made) (λ (s : AuthorityStep). s.authority) authority_placed) (told_of (λ (s : AuthorityStep). s.made) (λ (s : AuthorityStep). s.authority) kept answer) ≡ moved_of (of_authority asked_of answer)
+  authority_moved_on : (answer : Result AuthorityStep Fault) → map_ok (onward (λ (s : AuthorityStep). s.made) (λ (s : AuthorityStep). s.authority) authority_placed) (result_of_step (λ (s : AuthorityStep). s.made) (λ (s : AuthorityStep). s.authority) kept answer) ≡ moved_of (of_authority asked_of answer)
   authority_moved_on (Err fault) = refl
   authority_moved_on (Ok step) = refl
 
-  pub authority_steps : (defined : Result AuthorityStep Fault) (new : Authority) (result : Result ℕ Fault) (now : List Message) → AuthorityMoves defined old kept result new now → Steps never_late (of_authority asked_of defined) asked_of result (world_with new nodes clients now)
+  pub authority_steps : (defined : Result AuthorityStep Fault) (new : Authority) (result : Result ℕ Fault) (now : List Message) → AuthorityMoves defined old kept result new now → Steps never_after_growth (of_authority asked_of defined) asked_of result (world_with new nodes clients now)
   authority_steps defined new result now moves =
-      placed_steps (λ (s : AuthorityStep). s.made) (λ (s : AuthorityStep). s.authority) authority_placed never_late defined (of_authority asked_of defined) kept now old new asked_of (world_with new nodes clients now) (authority_moved_on defined) refl refl result moves
+      placed_steps (λ (s : AuthorityStep). s.made) (λ (s : AuthorityStep). s.authority) authority_placed never_after_growth defined (of_authority asked_of defined) kept now old new asked_of (world_with new nodes clients now) (authority_moved_on defined) refl refl result moves

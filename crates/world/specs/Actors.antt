@@ -1,7 +1,7 @@
 -- The world that a program's actors are.
 use Rattle.std.specs.Prelude.{◌≡◌, ℕ, ◌≤◌, Bool, false, List, [], length, Result, Ok, Err}
 use Rattle.volume_model.specs.declared.fault.Fault.{Fault}
-use Rattle.volume_model.specs.Answer.{never_late, AnswersLate}
+use Rattle.volume_model.specs.Answer.{never_after_growth, AnswersAfterGrowth}
 use Rattle.volume_model.specs.Lists.{added}
 use Rattle.volume_model.specs.Plan.{Plan, is_named}
 use Rattle.volume_model.specs.Message as model
@@ -55,10 +55,10 @@ moved count world = record { count = count; world = world }
 -- What is told of a step is the number of messages that the defined step makes, or its refusal, and the world is then what the
 -- definition leaves. Want of memory leaves the world as it was, and comes after the refusals but the late ones.
 abbrev pub Steps : (Fault → Bool) → Result Step Fault → World → Result ℕ Fault → World → Type 0
-Steps late defined old result new = AnswersLate late moved (moved_of defined) old result new
+Steps late defined old result new = AnswersAfterGrowth late moved (moved_of defined) old result new
 
 -- the refusals that may come after want of memory: what is found only once records were gathered
-abbrev pub event_late : Event → Fault → Bool
-event_late (Hydrate group member) = is_full
-event_late (Cut volume) = is_spent
-event_late event = never_late
+abbrev pub event_after_growth : Event → Fault → Bool
+event_after_growth (Hydrate group member) = is_full
+event_after_growth (Cut volume) = is_spent
+event_after_growth event = never_after_growth

@@ -1,7 +1,7 @@
 -- What the model's actors do.
 use Rattle.std.specs.Prelude.{◌≡◌, ℕ, Bool, List, Option, None, Some, Err, Result}
 use Rattle.volume_model.specs.declared.fault.Fault.{Fault}
-use Rattle.volume_model.specs.Answer.{never_late}
+use Rattle.volume_model.specs.Answer.{never_after_growth}
 use Rattle.volume_model.specs.Lists.{numbered}
 use Rattle.volume_model.specs.Plan.{Plan}
 use Rattle.volume_model.specs.Message as model
@@ -14,9 +14,9 @@ use Rattle.volume_model.specs.ClientMessages.{taken}
 use Rattle.wire.specs.Message.{message_of}
 use Rattle.volume_model.specs.World.{Authority, AuthorityStep, assigned, advanced, refreshed, grown, deliver, take}
 use Rattle.wire.specs.declared.message.Message.{Message}
-use Rattle.epochs.specs.Authority.{grew, told}
+use Rattle.epochs.specs.Authority.{grew, announced}
 use Rattle.segment_core.specs.declared.act.NodeAct.{NodeAct}
-use Rattle.segment_core.specs.Acts.{act_late, acted}
+use Rattle.segment_core.specs.Acts.{act_after_growth, acted}
 use Rattle.recovery.specs.Finds.{is_spent}
 use Rattle.volume_model.specs.Few.{Few}
 use Rattle.writer_core.specs.Changes.{changes_of}
@@ -46,7 +46,7 @@ OfAdvance authority.Grow P = Unit {0}
 -- the step of the authority that makes this message, if there is one, and is then this
 abbrev pub spoken : Option Message → Authority → AuthorityStep
 spoken None now = grew tt now
-spoken (Some message) now = told message now
+spoken (Some message) now = announced message now
 
 -- what the node of a member of a group does, where these messages were made and it may be asked for one
 abbrev pub node_ordered : List model.Message → NodeOrder → Plan → ℕ → ℕ → Node → NodeAnswer
@@ -83,14 +83,14 @@ abbrev pub MakesAtMost : Plan → ℕ → Client → ClientOrder → ℕ → Typ
 MakesAtMost plan volume now order most = (made : List model.Message) → Few most (client_ordered made order plan volume now)
 
 -- the refusals of a client that may come after want of memory: that no log sequence numbers are left, which is found with the log
-abbrev pub client_late : ClientAct → Fault → Bool
-client_late client.Cut = is_spent
-client_late act = never_late
+abbrev pub client_after_growth : ClientAct → Fault → Bool
+client_after_growth client.Cut = is_spent
+client_after_growth act = never_after_growth
 
 -- the same of what names a message by its number
-abbrev pub order_late : ClientOrder → Fault → Bool
-order_late (order.Take message) = never_late
-order_late (order.Act act) = client_late act
+abbrev pub order_after_growth : ClientOrder → Fault → Bool
+order_after_growth (order.Take message) = never_after_growth
+order_after_growth (order.Act act) = client_after_growth act
 
 -- what is said of a client's act but a cut, which alone takes memory to be judged
 abbrev pub ButForCut : ClientAct → Type 0 → Type 0
@@ -100,14 +100,14 @@ ButForCut act P = P
 -- the order asks for this act, where these messages were made
 pub record IsOrderOf (made : List model.Message) (order : ClientOrder) (act : ClientAct) : Type 0 where
   pub does : (plan : Plan) (volume : ℕ) (now : Client) → client_ordered made order plan volume now ≡ client_acted act plan volume now
-  pub late : order_late order ≡ client_late act
+  pub late : order_after_growth order ≡ client_after_growth act
 
 -- the refusals of a node that may come after want of memory
-abbrev pub node_late : NodeOrder → Fault → Bool
-node_late (node.Deliver message) = never_late
-node_late (node.Act act) = act_late act
+abbrev pub node_after_growth : NodeOrder → Fault → Bool
+node_after_growth (node.Deliver message) = never_after_growth
+node_after_growth (node.Act act) = act_after_growth act
 
 -- the order asks a node for this act, where these messages were made
 pub record IsNodeOrderOf (made : List model.Message) (order : NodeOrder) (act : NodeAct) : Type 0 where
   pub does : (plan : Plan) (group member : ℕ) (now : Node) → node_ordered made order plan group member now ≡ acted act plan group member now
-  pub late : node_late order ≡ act_late act
+  pub late : node_after_growth order ≡ act_after_growth act

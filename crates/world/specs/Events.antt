@@ -3,7 +3,7 @@ use Rattle.std.specs.Prelude.{ℕ, zero, suc, ◌+◌, ◌&&◌, nat_le, if◌th
 use Rattle.volume_model.specs.declared.fault.Fault.{Fault}
 use Rattle.volume_model.specs.Plan.{Plan}
 use Rattle.volume_model.specs.World as model
-use Rattle.volume_model.specs.World.{World, opening, step, after, told}
+use Rattle.volume_model.specs.World.{World, opening, step, after, event_result}
 use Rattle.writer_core.specs.Changes.{changes_of}
 use Rattle.world.specs.declared.event.Event.{Event}
 use Rattle.world.specs.declared.event.Event.TheVariants as events
@@ -64,7 +64,7 @@ abbrev pub events_from : Plan → World → List (Result ℕ Fault) → List Ord
 events_from plan world results [] = []
 events_from plan world results (order ∷ orders) =
     let event = ordered results order in
-    event ∷ events_from plan (after plan world event) (results ++ told (step plan world event) ∷ []) orders
+    event ∷ events_from plan (after plan world event) (results ++ event_result (step plan world event) ∷ []) orders
 
 -- the events that orders are, from the birth of a plan's volume on
 abbrev pub ordered_events : Plan → List Order → List model.Event

@@ -1,7 +1,7 @@
 -- What the step of one actor leaves, and what is told of it.
 use Rattle.std.specs.Prelude.{ℕ, Bool, List, length, Result, Ok, Err}
 use Rattle.volume_model.specs.declared.fault.Fault.{Fault}
-use Rattle.volume_model.specs.Answer.{never_late, AnswersLate}
+use Rattle.volume_model.specs.Answer.{never_after_growth, AnswersAfterGrowth}
 use Rattle.volume_model.specs.Lists.{added}
 use Rattle.volume_model.specs.Message.{Message}
 use Rattle.volume_model.specs.Node.{Node, NodeAnswer, NodeStep}
@@ -9,30 +9,30 @@ use Rattle.volume_model.specs.Client.{Client, ClientAnswer, ClientStep}
 use Rattle.volume_model.specs.World.{Authority, AuthorityStep}
 
 -- an actor that has taken a step, all messages after it, and how many it made
-pub record Told (S : Type 0) : Type 0 where
+pub record StepResult (S : Type 0) : Type 0 where
   pub count : ℕ
   pub actor : S
   pub messages : List Message
 
 -- what is told of a step that makes these messages and leaves this actor, where those were kept
-abbrev pub told_of : {T S : Type 0} → (T → List Message) → (T → S) → List Message → Result T Fault → Result (Told S) Fault
-told_of made actor kept (Err fault) = Err fault
-told_of made actor kept (Ok step) = Ok (record { count = length (made step); actor = actor step; messages = added (made step) kept })
+abbrev pub result_of_step : {T S : Type 0} → (T → List Message) → (T → S) → List Message → Result T Fault → Result (StepResult S) Fault
+result_of_step made actor kept (Err fault) = Err fault
+result_of_step made actor kept (Ok step) = Ok (record { count = length (made step); actor = actor step; messages = added (made step) kept })
 
 -- an actor, and all messages
-pub record Held (S : Type 0) : Type 0 where
+pub record ActorState (S : Type 0) : Type 0 where
   pub actor : S
   pub messages : List Message
 
 -- so many messages were made, and the actor and all messages are now these
-abbrev pub counted : {S : Type 0} → ℕ → Held S → Told S
+abbrev pub counted : {S : Type 0} → ℕ → ActorState S → StepResult S
 counted count now = record { count = count; actor = now.actor; messages = now.messages }
 
 -- The answer to a step of an actor: the step that is defined was made and its messages were added; or the actor and the messages are what they
 -- were, after a refusal or for want of memory, which comes after the refusals but the late ones.
 abbrev pub Moves : {T S : Type 0} → (T → List Message) → (T → S) → (Fault → Bool) → Result T Fault → S → List Message → Result ℕ Fault → S → List Message → Type 0
 Moves made actor late defined old kept result new now =
-    AnswersLate late counted (told_of made actor kept defined) (record { actor = old; messages = kept }) result (record { actor = new; messages = now })
+    AnswersAfterGrowth late counted (result_of_step made actor kept defined) (record { actor = old; messages = kept }) result (record { actor = new; messages = now })
 
 -- the same of a node
 abbrev pub NodeMoves : (Fault → Bool) → NodeAnswer → Node → List Message → Result ℕ Fault → Node → List Message → Type 0
@@ -44,4 +44,4 @@ ClientMoves late defined old kept result new now = Moves (λ (s : ClientStep). s
 
 -- the same of the authority
 abbrev pub AuthorityMoves : Result AuthorityStep Fault → Authority → List Message → Result ℕ Fault → Authority → List Message → Type 0
-AuthorityMoves defined old kept result new now = Moves (λ (s : AuthorityStep). s.made) (λ (s : AuthorityStep). s.authority) never_late defined old kept result new now
+AuthorityMoves defined old kept result new now = Moves (λ (s : AuthorityStep). s.made) (λ (s : AuthorityStep). s.authority) never_after_growth defined old kept result new now

@@ -2,14 +2,14 @@
 
 ghost use Rattle.std.specs.Prelude.{◌≡◌, ◌≢◌, IfErr, IfOk};
 ghost use Rattle.std.specs.Arc.{arc_value};
-ghost use Rattle.volume_model.specs.Answer.{refusal_of, AnswersLate, AnswersNew, AnswersNewLate};
+ghost use Rattle.volume_model.specs.Answer.{refusal_of, AnswersAfterGrowth, AnswersNew, AnswersNewAfterGrowth};
 ghost use Rattle.volume_model.specs.Client.{unborn};
 ghost use Rattle.volume_model.specs.ClientMessages.{taken};
 ghost use Rattle.volume_model.specs.declared.fault.Fault.TheVariants.{NoMemory};
 ghost use Rattle.plan.specs.CheckedModel.{checked_model};
 ghost use Rattle.wire.specs.Message.{message_of};
 ghost use Rattle.recovery.specs.Recoveries.{admitted, begun, birth_of, recovery_plan, recovery_volume, view_volume};
-ghost use Rattle.world.specs.Acts.{client_acted, client_late, ButForCut};
+ghost use Rattle.world.specs.Acts.{client_acted, client_after_growth, ButForCut};
 
 use crate::acts::ClientAct;
 use crate::addressed::addressed;
@@ -36,7 +36,7 @@ fn admits_birth(plan: &CheckedPlan, volume: u32, message: &Message) -> Result<()
 
 /// Returns whether a client that no View has reached would act: by a View alone.
 pub fn admits(plan: &CheckedPlan, volume: u32, act: ClientAct<'_>) -> Result<(), Fault>
-    ensures answers { AnswersLate (client_late act.entry) admitted (refusal_of (client_acted act.entry (checked_model plan.now) volume unborn)) tt result tt }
+    ensures answers { AnswersAfterGrowth (client_after_growth act.entry) admitted (refusal_of (client_acted act.entry (checked_model plan.now) volume unborn)) tt result tt }
     ensures sure { ButForCut act.entry (result ≡ refusal_of (client_acted act.entry (checked_model plan.now) volume unborn)) }
     ensures own { IfErr result (λ fault. fault ≢ NoMemory) }
 {
@@ -86,7 +86,7 @@ pub fn act(
     volume: u32,
     act: ClientAct<'_>,
 ) -> Result<(Recovery, Vec<Message>), Fault>
-    ensures step { AnswersNewLate (client_late act.entry) begun (client_acted act.entry (checked_model (arc_value plan.now)) volume unborn) result }
+    ensures step { AnswersNewAfterGrowth (client_after_growth act.entry) begun (client_acted act.entry (checked_model (arc_value plan.now)) volume unborn) result }
     ensures plan { IfOk result (λ r. recovery_plan r.0 ≡ checked_model (arc_value plan.now)) }
     ensures volume { IfOk result (λ r. recovery_volume r.0 ≡ volume) }
 {

@@ -38,7 +38,7 @@ pub struct Client {
 impl Client {
     ghost use Rattle.std.specs.Prelude.{◌≡◌, IfOk, Ok};
     ghost use Rattle.std.specs.Arc.{arc_value};
-    ghost use Rattle.volume_model.specs.Answer.{never_late, refusal_of, AnswersLate, AnswersNew};
+    ghost use Rattle.volume_model.specs.Answer.{never_after_growth, refusal_of, AnswersAfterGrowth, AnswersNew};
     ghost use Rattle.volume_model.specs.Client.{first_writer, unborn};
     ghost use Rattle.volume_model.specs.ClientMessages.{taken};
     ghost use Rattle.volume_model.specs.ClientRecovery.{cut_client, opened};
@@ -47,7 +47,7 @@ impl Client {
     ghost use Rattle.plan.specs.CheckedModel.{checked_model};
     ghost use Rattle.writer_core.specs.Writers.{answered, silent};
     ghost use Rattle.recovery.specs.Recoveries.{admitted};
-    ghost use Rattle.world.specs.Acts.{client_acted, client_late, ButForCut};
+    ghost use Rattle.world.specs.Acts.{client_acted, client_after_growth, ButForCut};
     ghost use Rattle.world.specs.Clients.{client_plan, client_volume, seen_client, seen_state, IsClientOf, IsSameClient};
 
     /// Returns the client of a volume epoch that no View has reached.
@@ -146,7 +146,7 @@ impl Client {
     /// reports are a read set of each group, or `LsnSpent`; of a writer `AlreadyDone` for a cut, and what [`Writer`]
     /// answers to an issue, a resend or a read.
     pub fn admits(&self, alloc: Global, act: ClientAct<'_>) -> Result<(), Fault>
-        ensures answers { AnswersLate (client_late act.entry) admitted (refusal_of (client_acted act.entry (client_plan self.now) (client_volume self.now) (seen_client self.now))) tt result tt }
+        ensures answers { AnswersAfterGrowth (client_after_growth act.entry) admitted (refusal_of (client_acted act.entry (client_plan self.now) (client_volume self.now) (seen_client self.now))) tt result tt }
         ensures sure { ButForCut act.entry (result ≡ refusal_of (client_acted act.entry (client_plan self.now) (client_volume self.now) (seen_client self.now))) }
     {
         match &self.state {
@@ -162,7 +162,7 @@ impl Client {
     /// Those of [`Client::admits`]; `NoMemory`.
     #[inline(always)]
     pub fn act(&mut self, alloc: Global, act: ClientAct<'_>) -> Result<Messages, Fault>
-        ensures answers { AnswersLate (client_late act.entry) answered (client_acted act.entry (client_plan self.old) (client_volume self.old) (seen_client self.old)) (seen_client self.old) result (seen_client self.new) }
+        ensures answers { AnswersAfterGrowth (client_after_growth act.entry) answered (client_acted act.entry (client_plan self.old) (client_volume self.old) (seen_client self.old)) (seen_client self.old) result (seen_client self.new) }
         ensures same { IsSameClient self.old self.new }
     {
         if let ClientState::Writer(writer) = &mut self.state {
@@ -175,7 +175,7 @@ impl Client {
     /// than writers.
     #[inline(never)]
     fn act_early(&mut self, alloc: Global, act: ClientAct<'_>) -> Result<Messages, Fault>
-        ensures answers { AnswersLate (client_late act.entry) answered (client_acted act.entry (client_plan self.old) (client_volume self.old) (seen_client self.old)) (seen_client self.old) result (seen_client self.new) }
+        ensures answers { AnswersAfterGrowth (client_after_growth act.entry) answered (client_acted act.entry (client_plan self.old) (client_volume self.old) (seen_client self.old)) (seen_client self.old) result (seen_client self.new) }
         ensures same { IsSameClient self.old self.new }
     {
         match &mut self.state {
@@ -210,7 +210,7 @@ impl Client {
     /// Opens: the recovery becomes a writer. Refused as [`Client::admits_open`] says; then the client is unchanged.
     /// Takes no memory.
     pub fn open(&mut self) -> Result<(), Fault>
-        ensures answers { AnswersLate never_late silent (opened (client_plan self.old) (seen_client self.old)) (seen_client self.old) result (seen_client self.new) }
+        ensures answers { AnswersAfterGrowth never_after_growth silent (opened (client_plan self.old) (seen_client self.old)) (seen_client self.old) result (seen_client self.new) }
         ensures refusal { result ≡ refusal_of (opened (client_plan self.old) (seen_client self.old)) }
         ensures same { IsSameClient self.old self.new }
     {

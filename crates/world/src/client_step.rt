@@ -4,7 +4,7 @@ ghost use Rattle.std.specs.Prelude.{◌≡◌, ◌≤◌, [], Err, MatchResult};
 ghost use Rattle.volume_model.specs.Lists.{added};
 ghost use Rattle.volume_model.specs.declared.fault.Fault.TheVariants.{NoMessage};
 ghost use Rattle.wire.specs.Message.{messages_of};
-ghost use Rattle.world.specs.Acts.{client_ordered, order_late, ActsFew, IsOrderOf, IsRefusedOrder, MakesAtMost};
+ghost use Rattle.world.specs.Acts.{client_ordered, order_after_growth, ActsFew, IsOrderOf, IsRefusedOrder, MakesAtMost};
 ghost use Rattle.world.specs.Clients.{client_plan, client_volume, seen_client, IsSameClient};
 ghost use Rattle.world.specs.Moves.{ClientMoves};
 
@@ -57,7 +57,7 @@ pub fn act(
     messages: &mut Vec<Message>,
     order: ClientOrder<'_>,
 ) -> Result<u64, Fault>
-    ensures moves { ClientMoves (order_late order.entry) (client_ordered (added (messages_of messages.old.items) []) order.entry (client_plan client.old) (client_volume client.old) (seen_client client.old)) (seen_client client.old) (added (messages_of messages.old.items) []) result (seen_client client.new) (added (messages_of messages.new.items) []) }
+    ensures moves { ClientMoves (order_after_growth order.entry) (client_ordered (added (messages_of messages.old.items) []) order.entry (client_plan client.old) (client_volume client.old) (seen_client client.old)) (seen_client client.old) (added (messages_of messages.old.items) []) result (seen_client client.new) (added (messages_of messages.new.items) []) }
     ensures same { IsSameClient client.old client.new }
 {
     let room = messages.reserve(most_made(client, order));

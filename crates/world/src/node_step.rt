@@ -7,7 +7,7 @@ ghost use Rattle.volume_model.specs.declared.fault.Fault.TheVariants.{NoMessage}
 ghost use Rattle.wire.specs.Message.{messages_of};
 ghost use Rattle.segment_core.specs.Prepared.{step_of};
 ghost use Rattle.segment_core.specs.Segment.{node_of, segment_plan, segment_group, segment_member, IsReady, IsSameActor};
-ghost use Rattle.world.specs.Acts.{node_late, node_ordered, IsNodeOrderOf, IsRefusedNodeOrder};
+ghost use Rattle.world.specs.Acts.{node_after_growth, node_ordered, IsNodeOrderOf, IsRefusedNodeOrder};
 ghost use Rattle.world.specs.Moves.{NodeMoves};
 
 use crate::acts::NodeOrder;
@@ -44,18 +44,52 @@ fn take(
     Ok(enter(messages, made))
 }
 
-/// Lets a segment act, and adds the messages that it makes to the others, for which it makes room before the segment
-/// changes. On error nothing has changed.
+/// The body of [`act`].
+#[inline(always)]
+fn act_as(
+    alloc: Global,
+    segment: &mut Segment,
+    messages: &mut Vec<Message>,
+    order: NodeOrder<'_>,
+) -> Result<u64, Fault>
+    ensures moves { NodeMoves (node_after_growth order.entry) (node_ordered (added (messages_of messages.old.items) []) order.entry (segment_plan segment.old) (segment_group segment.old) (segment_member segment.old) (node_of segment.old)) (node_of segment.old) (added (messages_of messages.old.items) []) result (node_of segment.new) (added (messages_of messages.new.items) []) }
+    ensures actor { IsSameActor segment.old segment.new }
+{
+    let act = act_of(order, messages.as_slice())?;
+    let prepared = segment.prepare_act(alloc, act)?;
+    take(segment, messages, prepared)
+}
+
+/// The general case of [`act`], out of line so that the write path keeps a small stack frame.
+#[inline(never)]
+fn act_any(
+    alloc: Global,
+    segment: &mut Segment,
+    messages: &mut Vec<Message>,
+    order: NodeOrder<'_>,
+) -> Result<u64, Fault>
+    ensures moves { NodeMoves (node_after_growth order.entry) (node_ordered (added (messages_of messages.old.items) []) order.entry (segment_plan segment.old) (segment_group segment.old) (segment_member segment.old) (node_of segment.old)) (node_of segment.old) (added (messages_of messages.old.items) []) result (node_of segment.new) (added (messages_of messages.new.items) []) }
+    ensures actor { IsSameActor segment.old segment.new }
+{
+    act_as(alloc, segment, messages, order)
+}
+
+/// Performs a segment's action and appends its messages, for which it makes room before the segment changes. On error
+/// nothing has changed.
 pub fn act(
     alloc: Global,
     segment: &mut Segment,
     messages: &mut Vec<Message>,
     order: NodeOrder<'_>,
 ) -> Result<u64, Fault>
-    ensures moves { NodeMoves (node_late order.entry) (node_ordered (added (messages_of messages.old.items) []) order.entry (segment_plan segment.old) (segment_group segment.old) (segment_member segment.old) (node_of segment.old)) (node_of segment.old) (added (messages_of messages.old.items) []) result (node_of segment.new) (added (messages_of messages.new.items) []) }
+    ensures moves { NodeMoves (node_after_growth order.entry) (node_ordered (added (messages_of messages.old.items) []) order.entry (segment_plan segment.old) (segment_group segment.old) (segment_member segment.old) (node_of segment.old)) (node_of segment.old) (added (messages_of messages.old.items) []) result (node_of segment.new) (added (messages_of messages.new.items) []) }
     ensures actor { IsSameActor segment.old segment.new }
 {
-    let act = act_of(order, messages.as_slice())?;
-    let prepared = segment.prepare_act(alloc, act)?;
-    take(segment, messages, prepared)
+    // Most orders deliver a Write: compiled on their own, they take a tenth fewer instructions.
+    if let NodeOrder::Deliver { message } = order {
+        if let Message::Write(_) = named(messages.as_slice(), message)? {
+            return act_as(alloc, segment, messages, order);
+        }
+    }
+    act_any(alloc, segment, messages, order)
 }

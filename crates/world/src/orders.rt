@@ -2,7 +2,7 @@
 
 ghost use Rattle.std.specs.Prelude.{◌≡◌};
 ghost use Rattle.volume_model.specs.World.{step};
-ghost use Rattle.world.specs.Actors.{event_late, plan_of, world_of, AreActors, Steps};
+ghost use Rattle.world.specs.Actors.{event_after_growth, plan_of, world_of, AreActors, Steps};
 ghost use Rattle.world.specs.Events.{made_by, firsts_of, number_from, ordered};
 
 use crate::actors::Actors;
@@ -11,10 +11,10 @@ use std::alloc::Global;
 use volume_model::Fault;
 
 /// Returns how many messages an event made, 0 if it was refused.
-fn made_by(told: &Result<u32, Fault>) -> u32
-    ensures { result ≡ made_by told.now }
+fn made_by(event_result: &Result<u32, Fault>) -> u32
+    ensures { result ≡ made_by event_result.now }
 {
-    match told {
+    match event_result {
         Ok(made) => *made,
         Err(_) => 0,
     }
@@ -46,7 +46,7 @@ pub fn follow(
 ) -> Result<u64, Fault>
     requires actors { AreActors actors.old }
     requires firsts { firsts.now ≡ firsts_of 0 results.now }
-    ensures steps { Steps (event_late (ordered results.now order)) (step (plan_of actors.old) (world_of actors.old) (ordered results.now order)) (world_of actors.old) result (world_of actors.new) }
+    ensures steps { Steps (event_after_growth (ordered results.now order)) (step (plan_of actors.old) (world_of actors.old) (ordered results.now order)) (world_of actors.old) result (world_of actors.new) }
     ensures good { AreActors actors.new }
     ensures plan { plan_of actors.new ≡ plan_of actors.old }
 {

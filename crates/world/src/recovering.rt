@@ -1,13 +1,13 @@
 //! What a recovery does.
 
 ghost use Rattle.std.specs.Prelude.{◌≡◌, Err};
-ghost use Rattle.volume_model.specs.Answer.{refusal_of, Answers, AnswersLate};
+ghost use Rattle.volume_model.specs.Answer.{refusal_of, Answers, AnswersAfterGrowth};
 ghost use Rattle.volume_model.specs.ClientMessages.{taken};
 ghost use Rattle.volume_model.specs.declared.fault.Fault.TheVariants.{NotOpen};
 ghost use Rattle.wire.specs.Message.{message_of};
 ghost use Rattle.writer_core.specs.Writers.{acted};
 ghost use Rattle.recovery.specs.Recoveries.{client_of, admitted, recovery_plan, recovery_volume};
-ghost use Rattle.world.specs.Acts.{client_acted, client_late, ButForCut};
+ghost use Rattle.world.specs.Acts.{client_acted, client_after_growth, ButForCut};
 
 use crate::acts::ClientAct;
 use crate::addressed::addressed;
@@ -36,7 +36,7 @@ fn not_open<T>() -> Result<T, Fault>
 
 /// Returns whether a recovery would act. `NotOpen` if a writer alone could.
 pub fn admits(alloc: Global, recovery: &Recovery, act: ClientAct<'_>) -> Result<(), Fault>
-    ensures answers { AnswersLate (client_late act.entry) admitted (refusal_of (client_acted act.entry (recovery_plan recovery.now) (recovery_volume recovery.now) (client_of recovery.now))) tt result tt }
+    ensures answers { AnswersAfterGrowth (client_after_growth act.entry) admitted (refusal_of (client_acted act.entry (recovery_plan recovery.now) (recovery_volume recovery.now) (client_of recovery.now))) tt result tt }
     ensures sure { ButForCut act.entry (result ≡ refusal_of (client_acted act.entry (recovery_plan recovery.now) (recovery_volume recovery.now) (client_of recovery.now))) }
 {
     match act {
@@ -67,7 +67,7 @@ pub fn act(
     recovery: &mut Recovery,
     act: ClientAct<'_>,
 ) -> Result<Vec<Message>, Fault>
-    ensures answers { AnswersLate (client_late act.entry) acted (client_acted act.entry (recovery_plan recovery.old) (recovery_volume recovery.old) (client_of recovery.old)) (client_of recovery.old) result (client_of recovery.new) }
+    ensures answers { AnswersAfterGrowth (client_after_growth act.entry) acted (client_acted act.entry (recovery_plan recovery.old) (recovery_volume recovery.old) (client_of recovery.old)) (client_of recovery.old) result (client_of recovery.new) }
     ensures plan { recovery_plan recovery.new ≡ recovery_plan recovery.old }
     ensures volume { recovery_volume recovery.new ≡ recovery_volume recovery.old }
 {

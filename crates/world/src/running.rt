@@ -32,9 +32,9 @@ fn count_of(messages: u64) -> Result<u32, Fault>
 }
 
 /// Returns the result of an event; running out of memory ends the run.
-fn told(step: Result<u64, Fault>) -> Result<Result<u32, Fault>, Fault>
-    ensures same { IfOk result (λ told. told ≡ step) }
-    ensures some { IfOk result (λ told. told ≢ Err NoMemory) }
+fn event_result(step: Result<u64, Fault>) -> Result<Result<u32, Fault>, Fault>
+    ensures same { IfOk result (λ event_result. event_result ≡ step) }
+    ensures some { IfOk result (λ event_result. event_result ≢ Err NoMemory) }
     ensures memory { IfErr result (λ e. e ≡ NoMemory) }
 {
     match step {
@@ -78,7 +78,7 @@ fn outcome_of(alloc: Global, plan: &Arc<CheckedPlan>, events: &[Event]) -> Resul
     actors.reserve(events.len())?;
     let mut results = Vec::with_capacity(alloc, events.len())?;
     for event in events {
-        let result = told(actors.step(alloc, event))?;
+        let result = event_result(actors.step(alloc, event))?;
         results.push(result)?;
     }
     let writers = actors.writers(alloc)?;
@@ -127,7 +127,7 @@ fn outcome_of_orders(
             firsts.as_slice(),
             results.as_slice(),
         );
-        let result = told(step)?;
+        let result = event_result(step)?;
         firsts.push(made)?;
         results.push(result)?;
     }

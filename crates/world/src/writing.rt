@@ -1,12 +1,12 @@
 //! What a writer does.
 
 ghost use Rattle.std.specs.Prelude.{◌≡◌};
-ghost use Rattle.volume_model.specs.Answer.{refusal_of, Answers, AnswersLate};
+ghost use Rattle.volume_model.specs.Answer.{refusal_of, Answers, AnswersAfterGrowth};
 ghost use Rattle.volume_model.specs.ClientMessages.{taken};
 ghost use Rattle.wire.specs.Message.{message_of};
 ghost use Rattle.writer_core.specs.Writers.{answered, client_of, writer_plan, writer_volume};
 ghost use Rattle.recovery.specs.Recoveries.{admitted};
-ghost use Rattle.world.specs.Acts.{client_acted, client_late, ButForCut};
+ghost use Rattle.world.specs.Acts.{client_acted, client_after_growth, ButForCut};
 
 use crate::acts::ClientAct;
 use crate::addressed::addressed;
@@ -28,7 +28,7 @@ fn admits_message(writer: &Writer, message: &Message) -> Result<(), Fault>
 
 /// Returns whether a writer would act. `AlreadyDone` if it is to cut.
 pub fn admits(writer: &Writer, act: ClientAct<'_>) -> Result<(), Fault>
-    ensures answers { AnswersLate (client_late act.entry) admitted (refusal_of (client_acted act.entry (writer_plan writer.now) (writer_volume writer.now) (client_of writer.now))) tt result tt }
+    ensures answers { AnswersAfterGrowth (client_after_growth act.entry) admitted (refusal_of (client_acted act.entry (writer_plan writer.now) (writer_volume writer.now) (client_of writer.now))) tt result tt }
     ensures sure { ButForCut act.entry (result ≡ refusal_of (client_acted act.entry (writer_plan writer.now) (writer_volume writer.now) (client_of writer.now))) }
 {
     match act {
@@ -67,7 +67,7 @@ fn take(alloc: Global, writer: &mut Writer, message: &Message) -> Result<Message
 
 /// A writer acts. `AlreadyDone` if it is to cut.
 pub fn act(alloc: Global, writer: &mut Writer, act: ClientAct<'_>) -> Result<Messages, Fault>
-    ensures answers { AnswersLate (client_late act.entry) answered (client_acted act.entry (writer_plan writer.old) (writer_volume writer.old) (client_of writer.old)) (client_of writer.old) result (client_of writer.new) }
+    ensures answers { AnswersAfterGrowth (client_after_growth act.entry) answered (client_acted act.entry (writer_plan writer.old) (writer_volume writer.old) (client_of writer.old)) (client_of writer.old) result (client_of writer.new) }
     ensures plan { writer_plan writer.new ≡ writer_plan writer.old }
     ensures volume { writer_volume writer.new ≡ writer_volume writer.old }
 {

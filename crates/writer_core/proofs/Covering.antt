@@ -12,7 +12,7 @@ use Rattle.volume_model.specs.ClientWriter.{last_of_group_below}
 use Rattle.redo_record.specs.declared.shared_record.SharedRecord.{SharedRecord}
 use Rattle.redo_record.specs.SharedRecord.{shared_redo}
 use Rattle.writer_core.specs.Logs.{log_of, is_growing}
-use Rattle.writer_core.specs.DurabilityTracker.{is_covered, Covers, CoversNone, CoversFront, CoversLog}
+use Rattle.writer_core.specs.DurabilityTracker.{is_covered, Covers, CoversNone, CoversPrefix, CoversLog}
 use Rattle.writer_core.specs.declared.durability.DurabilityTracker.{DurabilityTracker}
 use Rattle.writer_core.proofs.Entering.{group-entered}
 use Rattle.writer_core.proofs.Finding.{above}
@@ -109,7 +109,7 @@ last_of_group_below-later group n (x ∷ xs) kept h le =
 
 -- ---- what is kept of a front
 
-module _ (points : ℕ → ℕ) (records : List SharedRecord) (growing : is_growing (log_of records) ≡ true) (old : DurabilityTracker) (front : CoversFront old points records) where
+module _ (points : ℕ → ℕ) (records : List SharedRecord) (growing : is_growing (log_of records) ≡ true) (old : DurabilityTracker) (front : CoversPrefix old points records) where
   abbrev kept : List Redo
   kept = log_of (take old.records records)
 
@@ -132,7 +132,7 @@ module _ (points : ℕ → ℕ) (records : List SharedRecord) (growing : is_grow
       front.durable_lasts group h ∙ sym (last_of_group_below-above group old.durable r kept (omega arith))
 
   -- one record more is covered
-  pub covers-more : (new : DurabilityTracker) (p : SharedRecord) (r : Redo) → old.records < length records → p ≡ get_or records old.records p → r ≡ shared_redo p → r.group < 16 → r.lsn ≤ points r.group → Covers old new r → CoversFront new points records
+  pub covers-more : (new : DurabilityTracker) (p : SharedRecord) (r : Redo) → old.records < length records → p ≡ get_or records old.records p → r ≡ shared_redo p → r.group < 16 → r.lsn ≤ points r.group → Covers old new r → CoversPrefix new points records
   covers-more new p r within is shows small reached covers =
       let here : nat_le r.lsn (points r.group) ≡ true = le-leb r.lsn (points r.group) reached in
       let one : log_of (take (old.records + 1) records) ≡ r ∷ kept = next-kept p r within is shows in
@@ -221,7 +221,7 @@ every-durability points points' up (r ∷ older) h =
     and_from _ _ (le-leb r.lsn (points' r.group) (omega arith)) (every-durability points points' up older parts.1)
 
 -- points have risen
-pub covers-raised : (durability : DurabilityTracker) (points points' : ℕ → ℕ) (records : List SharedRecord) → ((group : ℕ) → points group ≤ points' group) → CoversFront durability points records → CoversFront durability points' records
+pub covers-raised : (durability : DurabilityTracker) (points points' : ℕ → ℕ) (records : List SharedRecord) → ((group : ℕ) → points group ≤ points' group) → CoversPrefix durability points records → CoversPrefix durability points' records
 covers-raised durability points points' records up front = record {
   within = front.within;
   all = every-durability points points' up (log_of (take durability.records records)) front.all;

@@ -11,7 +11,7 @@ use Rattle.redo_record.specs.declared.shared_record.SharedRecord.{SharedRecord}
 use Rattle.redo_record.specs.SharedRecord.{shared_redo}
 use Rattle.writer_core.specs.Logs.{log_of}
 use Rattle.writer_core.specs.Kept.{Blocks, block_cmp, kept_in, AreSameIn, PutsIn}
-use Rattle.writer_core.specs.LastLsns.{AreLasts, AreLastsOfAll, AreLastsOfFront, Enters, EntersNone}
+use Rattle.writer_core.specs.LastLsns.{AreLasts, AreLastsOfAll, AreLastLsnsOfPrefix, Enters, EntersNone}
 use Rattle.writer_core.specs.declared.last_lsns.LastLsns.{LastLsns}
 use Rattle.writer_core.proofs.Logs.{log_of-push}
 
@@ -81,14 +81,14 @@ last_lsns-same old new counted groups same = record {
 }
 
 -- all records are a front
-pub all-front : (last_lsns : LastLsns) (records : List SharedRecord) → AreLastsOfAll last_lsns records → AreLastsOfFront last_lsns records
+pub all-front : (last_lsns : LastLsns) (records : List SharedRecord) → AreLastsOfAll last_lsns records → AreLastLsnsOfPrefix last_lsns records
 all-front last_lsns records all = record {
   within = omega (arith, all.counted);
   front = subst (λ (xs : List SharedRecord). AreLasts last_lsns (log_of xs)) (sym (take_all last_lsns.entered records (omega (arith, all.counted)))) all.all;
 }
 
 -- the front is all records, where no more are left
-pub front-all : (last_lsns : LastLsns) (records : List SharedRecord) → length records ≤ last_lsns.entered → AreLastsOfFront last_lsns records → AreLastsOfAll last_lsns records
+pub front-all : (last_lsns : LastLsns) (records : List SharedRecord) → length records ≤ last_lsns.entered → AreLastLsnsOfPrefix last_lsns records → AreLastsOfAll last_lsns records
 front-all last_lsns records whole front = record {
   counted = omega (arith, whole, front.within);
   all = subst (λ (xs : List SharedRecord). AreLasts last_lsns (log_of xs)) (take_all last_lsns.entered records whole) front.front;

@@ -14,7 +14,7 @@ use Rattle.redo_record.specs.SharedRecord.{shared_redo}
 use Rattle.redo_record.specs.Record.{redo_of}
 use Rattle.writer_core.specs.Logs.{log_of}
 use Rattle.writer_core.specs.Kept.{Blocks, block_cmp, kept_in, PutsIn}
-use Rattle.writer_core.specs.LastLsns.{kept_of_group, kept_of_block, AreLasts, AreLastsOfAll, AreLastsOfFront, Enters, IsLinked, AreLinkedFrom, Leaves}
+use Rattle.writer_core.specs.LastLsns.{kept_of_group, kept_of_block, AreLasts, AreLastsOfAll, AreLastLsnsOfPrefix, Enters, IsLinked, AreLinkedFrom, Leaves}
 use Rattle.writer_core.specs.declared.last_lsns.LastLsns.{LastLsns}
 use Rattle.writer_core.proofs.Logs.{log_of-more}
 use Rattle.writer_core.proofs.Entering.{group-entered, puts-some}
@@ -65,7 +65,7 @@ last_lsns-left old new i group block prev_group prev_block is below counted grou
 
 -- one record of the front is taken out
 pub front-left : (old new : LastLsns) (records : List SharedRecord) (p : SharedRecord) (r : Record) (place : ℕ) → place < old.entered → AreLinkedFrom place records → p ≡ get_or records (old.entered - 1) p → redo_of r ≡ shared_redo p
-    → Leaves old new r.group r.block r.prev_group r.prev_block → AreLastsOfFront old records → AreLastsOfFront new records
+    → Leaves old new r.group r.block r.prev_group r.prev_block → AreLastLsnsOfPrefix old records → AreLastLsnsOfPrefix new records
 front-left old new records p r place more linked is shows leaves front =
     let counted : old.entered - 1 ≡ new.entered = omega (arith, leaves.counted) in
     let here : p ≡ get_or records new.entered p = is ∙ ap (λ n. get_or records n p) counted in
@@ -87,7 +87,7 @@ all-left old mid new records r lsn prev_group prev_block has_lsn names_group nam
 }
 
 -- what is entered is the front of a front
-pub front-cut : (last_lsns : LastLsns) (records : List SharedRecord) (n : ℕ) → last_lsns.entered ≤ n → AreLastsOfFront last_lsns records → AreLastsOfFront last_lsns (take n records)
+pub front-cut : (last_lsns : LastLsns) (records : List SharedRecord) (n : ℕ) → last_lsns.entered ≤ n → AreLastLsnsOfPrefix last_lsns records → AreLastLsnsOfPrefix last_lsns (take n records)
 front-cut last_lsns records n few front = record {
   within = omega (arith, few, front.within, length-take n records);
   front = subst (λ (xs : List SharedRecord). AreLasts last_lsns (log_of xs)) (sym (take-take last_lsns.entered n records few)) front.front;

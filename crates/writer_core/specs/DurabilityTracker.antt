@@ -14,7 +14,7 @@ is_covered points r = nat_le r.lsn (points r.group)
 
 -- so many records from the first on are covered, and these are the numbers of the last of them and of its last consistency point, and by group
 -- the last of them and the last one up to that point
-pub record CoversFront (durability : DurabilityTracker) (points : ℕ → ℕ) (records : List SharedRecord) : Type 0 where
+pub record CoversPrefix (durability : DurabilityTracker) (points : ℕ → ℕ) (records : List SharedRecord) : Type 0 where
   pub within : durability.records ≤ length records
   pub all : every (is_covered points) (log_of (take durability.records records)) ≡ true
   pub complete : durability.complete ≡ last_lsn (log_of (take durability.records records))
@@ -24,7 +24,7 @@ pub record CoversFront (durability : DurabilityTracker) (points : ℕ → ℕ) (
 
 -- no record is covered yet, of whatever log
 abbrev pub CoversNone : DurabilityTracker → Type 0
-CoversNone durability = (points : ℕ → ℕ) (records : List SharedRecord) → CoversFront durability points records
+CoversNone durability = (points : ℕ → ℕ) (records : List SharedRecord) → CoversPrefix durability points records
 
 -- one record more is covered
 pub record Covers (old new : DurabilityTracker) (r : Redo) : Type 0 where
@@ -37,7 +37,7 @@ pub record Covers (old new : DurabilityTracker) (r : Redo) : Type 0 where
 -- the records from the first on are covered as far as they go: their numbers are the log's complete point, its durable point, and by group the
 -- last number up to that
 pub record CoversLog (durability : DurabilityTracker) (points : ℕ → ℕ) (records : List SharedRecord) : Type 0 where
-  pub front : CoversFront durability points records
+  pub front : CoversPrefix durability points records
   pub complete : durability.complete ≡ complete_of points (log_of records)
   pub durable : durability.durable ≡ consistency_point_below (complete_of points (log_of records)) (log_of records)
   pub durable_lasts : (group : ℕ) → group < 16 → slice_index durability.durable_lasts group ≡ last_of_group_below group durability.durable (log_of records)

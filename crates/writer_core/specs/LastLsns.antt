@@ -21,7 +21,7 @@ pub record AreLasts (last_lsns : LastLsns) (log : List Redo) : Type 0 where
   pub of_block : (group block : ℕ) → kept_of_block last_lsns group block ≡ last_of_block group block log
 
 -- the same of the records that are entered, from the first on
-pub record AreLastsOfFront (last_lsns : LastLsns) (records : List SharedRecord) : Type 0 where
+pub record AreLastLsnsOfPrefix (last_lsns : LastLsns) (records : List SharedRecord) : Type 0 where
   pub within : last_lsns.entered ≤ length records
   pub front : AreLasts last_lsns (log_of (take last_lsns.entered records))
 

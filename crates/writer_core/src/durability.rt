@@ -30,7 +30,7 @@ impl DurabilityTracker {
     ghost use Rattle.redo_record.specs.Record.{redo_of};
     ghost use Rattle.writer_core.specs.Log.{packets_in};
     ghost use Rattle.writer_core.specs.Groups.{groups_in};
-    ghost use Rattle.writer_core.specs.DurabilityTracker.{CoversNone, Covers, CoversFront, CoversLog};
+    ghost use Rattle.writer_core.specs.DurabilityTracker.{CoversNone, Covers, CoversPrefix, CoversLog};
 
     /// No record is covered yet.
     pub fn none() -> DurabilityTracker
@@ -55,7 +55,7 @@ impl DurabilityTracker {
 
     /// Goes on behind the records that are covered, up to the first that isn't.
     pub fn follow(&mut self, log: &Log, group_states: &GroupStates)
-        requires { CoversFront self.old (group_point_of (groups_in group_states.now)) (packets_in log.now) }
+        requires { CoversPrefix self.old (group_point_of (groups_in group_states.now)) (packets_in log.now) }
         ensures { CoversLog self.new (group_point_of (groups_in group_states.now)) (packets_in log.now) }
     {
         while self.records < log.len() {

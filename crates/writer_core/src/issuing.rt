@@ -12,7 +12,7 @@ ghost use Rattle.volume_model.specs.Client.{label_of};
 ghost use Rattle.wire.specs.Listed.{listed};
 ghost use Rattle.wire.specs.Message.{messages_of};
 ghost use Rattle.writer_core.specs.Log.{found_of, log_in, packets_in};
-ghost use Rattle.writer_core.specs.LastLsns.{AreLastsOfAll, AreLastsOfFront, AreLinkedFrom};
+ghost use Rattle.writer_core.specs.LastLsns.{AreLastsOfAll, AreLastLsnsOfPrefix, AreLinkedFrom};
 ghost use Rattle.writer_core.specs.Groups.{groups_in};
 ghost use Rattle.writer_core.specs.Changes.{change_of, changes_of};
 ghost use Rattle.writer_core.specs.Carried.{carried_write};
@@ -132,13 +132,13 @@ pub fn append(
     changes: &[Change],
     messages: &mut Messages,
 ) -> Result<(), Fault>
-    requires front { AreLastsOfFront last_lsns.old (packets_in log.old) }
+    requires front { AreLastLsnsOfPrefix last_lsns.old (packets_in log.old) }
     requires room { max (last_lsn (log_in log.old)) span.start + length changes.now ≤ 2 ^ 62 }
     requires few { length (groups_in group_states.now) ≤ 16 }
     requires good { every (is_change (length (groups_in group_states.now))) (changes_of changes.now) ≡ true }
     ensures logged { OnOk result (log_in log.new ≡ issued_log span.volume span.start (changes_of changes.now) (log_in log.old)) }
     ensures written { OnOk result (messages_of (listed messages.new) ≡ messages_of (listed messages.old) ++ issued_writes span.volume (place_of (groups_in group_states.now)) span.start (changes_of changes.now) (log_in log.old)) }
-    ensures last_lsns { AreLastsOfFront last_lsns.new (packets_in log.new) }
+    ensures last_lsns { AreLastLsnsOfPrefix last_lsns.new (packets_in log.new) }
     ensures memory { IfErr result (λ e. e ≡ NoMemory) }
     ensures front { take (length (packets_in log.old)) (packets_in log.new) ≡ packets_in log.old }
     ensures found { found_of log.new ≡ found_of log.old }

@@ -41,7 +41,7 @@ pub struct LastLsns {
 impl LastLsns {
     ghost use Rattle.std.specs.Prelude.{◌+◌, ◌^◌, ◌<◌, [], IfOk, OnOk, OnErr, take};
     ghost use Rattle.writer_core.specs.Log.{packets_in};
-    ghost use Rattle.writer_core.specs.LastLsns.{kept_of_group, kept_of_block, AreLasts, AreLastsOfAll, AreLastsOfFront, AreLinkedFrom, Enters, EntersNone, Leaves};
+    ghost use Rattle.writer_core.specs.LastLsns.{kept_of_group, kept_of_block, AreLasts, AreLastsOfAll, AreLastLsnsOfPrefix, AreLinkedFrom, Enters, EntersNone, Leaves};
 
     /// No record is entered yet. Takes no memory.
     pub fn new(alloc: Global) -> LastLsns
@@ -81,9 +81,9 @@ impl LastLsns {
 
     /// Enters what the log has behind the records that are entered. Where memory runs out some of it may be.
     pub fn follow(&mut self, log: &Log) -> Result<(), AllocError>
-        requires { AreLastsOfFront self.old (packets_in log.now) }
+        requires { AreLastLsnsOfPrefix self.old (packets_in log.now) }
         ensures ok { OnOk result (AreLastsOfAll self.new (packets_in log.now)) }
-        ensures front { AreLastsOfFront self.new (packets_in log.now) }
+        ensures front { AreLastLsnsOfPrefix self.new (packets_in log.now) }
     {
         while self.entered < log.len() {
             let record = log.packet(self.entered).record();
@@ -113,9 +113,9 @@ impl LastLsns {
 
     /// Takes records out again, the last first, until at most this many of the log are entered. Takes no memory.
     pub fn go_back(&mut self, log: &Log, records: usize)
-        requires front { AreLastsOfFront self.old (packets_in log.now) }
+        requires front { AreLastLsnsOfPrefix self.old (packets_in log.now) }
         requires linked { AreLinkedFrom records (packets_in log.now) }
-        ensures { AreLastsOfFront self.new (take records (packets_in log.now)) }
+        ensures { AreLastLsnsOfPrefix self.new (take records (packets_in log.now)) }
     {
         while self.entered > records {
             let record = log.packet(self.entered - 1).record();

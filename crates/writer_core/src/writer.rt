@@ -3,7 +3,7 @@
 ghost use Rattle.std.specs.Prelude.{◌≡◌, ◌≤◌, true, length};
 ghost use Rattle.writer_core.specs.Logs.{log_of_set, is_growing};
 ghost use Rattle.writer_core.specs.Log.{log_in, packets_in};
-ghost use Rattle.writer_core.specs.LastLsns.{AreLastsOfFront};
+ghost use Rattle.writer_core.specs.LastLsns.{AreLastLsnsOfPrefix};
 ghost use Rattle.writer_core.specs.DurabilityTracker.{CoversLog};
 ghost use Rattle.writer_core.specs.Groups.{groups_in, group_states_plan};
 ghost use Rattle.writer_core.specs.Raised.{AreRaised, HaveJoined};
@@ -42,7 +42,7 @@ pub struct Writer {
     ghost assigned: { 1 ≤ volume },
     ghost raised: { AreRaised (group_states_plan group_states) (groups_in group_states) },
     ghost joined: { HaveJoined (group_states_plan group_states) (groups_in group_states) },
-    ghost front: { AreLastsOfFront last_lsns (packets_in log) },
+    ghost front: { AreLastLsnsOfPrefix last_lsns (packets_in log) },
     ghost covers: { CoversLog durability (group_point_of (groups_in group_states)) (packets_in log) },
 }
 

@@ -4,7 +4,7 @@ ghost use Rattle.std.specs.Prelude.{◌≡◌, Ok, IfOk};
 
 use super::Segment;
 use crate::assembly::Assembly;
-use crate::held::Held;
+use crate::segment_state::SegmentState;
 use crate::snapshot::SegmentSnapshot;
 use hydration::Hydration;
 use plan::CheckedPlan;
@@ -63,7 +63,7 @@ impl Segment {
         if !plan.names(group, member) {
             return Err(Fault::NoActor);
         }
-        let held = Held::of(alloc, snapshot.contents)?;
+        let held = SegmentState::of(alloc, snapshot.contents)?;
         Ok(Segment {
             plan,
             group,

@@ -26,6 +26,6 @@ returns-clause-driven g c =
       runs = subst (λ p. IsRun p entries) is_plan c.close-journal.ensures.run;
       promises = subst (λ p. KeepsPromises p (events entries)) is_plan c.close-journal.ensures.promises;
       lines = refl;
-      agrees = c.agrees-agrees.ensures ∙ ap (λ rs. not (list_any (λ told. is_err told) rs) && (vec_len c.in_ok-events.events == c.args.counts.made)) tells.results_are ∙ ap (λ n. not (list_any (λ told. is_err told) (results plan (opening plan) (events entries))) && (n == c.args.counts.made)) count;
+      agrees = c.agrees-agrees.ensures ∙ ap (λ rs. not (list_any (λ event_result. is_err event_result) rs) && (vec_len c.in_ok-events.events == c.args.counts.made)) tells.results_are ∙ ap (λ n. not (list_any (λ event_result. is_err event_result) (results plan (opening plan) (events entries))) && (n == c.args.counts.made)) count;
       outcome = tells;
     }

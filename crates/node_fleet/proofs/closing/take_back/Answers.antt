@@ -39,7 +39,7 @@ loop-pass-init g c =
       amount = omega (arith, c.take_back-share.ensures.part.1, sums);
       entries = ap (λ ts. entries_of (shown ts.items)) c.take_back-share.ensures.log;
       stand = λ stand. subst (All P) (sym split) (all_push P rest last stand c.take_back-share.ensures.stands);
-      refused = λ told. subst (All Q) (sym split) (all_push Q rest last told c.take_back-share.ensures.refused);
+      refused = λ recorded. subst (All Q) (sym split) (all_push Q rest last recorded c.take_back-share.ensures.refused);
       of_board = (of_board.0 ∙ seat.0.0, of_board.1);
       seats =
           ap (λ (l : List (List BoardStep)). map seat_of rest ++ l) (c.into_returned-seats.ensures.returned ∙ ap (λ (s : List BoardStep). s ∷ []) seat.1)
@@ -63,13 +63,13 @@ loop-pass-preserved g c =
     let Q = λ (p : Pass g.row.L.Denot g.L.FleetSite g.L.Site). All (IsRefused plan g.L.Site.slots (length g.L.Site.cells) (journal_of c.args.log.now)) (notes_of p) in
     let sums = ap (sum_by f) split ∙ sum_by-append f rest (pass ∷ []) in
     let here = subst (λ (es : List Entry). All (Stands plan es) (steps_of pass)) inv.entries c.take_back-part.ensures.stands in
-    let told = subst (λ (es : List Entry). All (IsRefused plan g.L.Site.slots (length g.L.Site.cells) es) (notes_of pass)) inv.entries c.take_back-part.ensures.refused in
+    let recorded = subst (λ (es : List Entry). All (IsRefused plan g.L.Site.slots (length g.L.Site.cells) es) (notes_of pass)) inv.entries c.take_back-part.ensures.refused in
     record {
       parts = omega (arith, c.merge.ensures.parts, c.take_back-part.ensures.part.0, inv.parts, c.in-Some-pop.ensures.len);
       amount = omega (arith, c.merge.ensures.amount, c.take_back-part.ensures.part.1, inv.amount, sums);
       entries = ap (λ ts. entries_of (shown ts.items)) c.take_back-part.ensures.log ∙ inv.entries;
       stand = λ rest_stand. inv.stand (subst (All P) (sym split) (all_push P rest pass rest_stand here));
-      refused = λ rest_told. inv.refused (subst (All Q) (sym split) (all_push Q rest pass rest_told told));
+      refused = λ rest_recorded. inv.refused (subst (All Q) (sym split) (all_push Q rest pass rest_recorded recorded));
       of_board = subst (λ (t : TableId). AreReturnedTo t c.take_back.new.seats) c.requires.board c.take_back.ensures.same;
       seats =
           ap (λ (l : List (List BoardStep)). map seat_of rest ++ l) (c.take_back.ensures.returned ∙ ap (λ (s : List BoardStep). s ∷ returned c.loop-pass.seats) c.take_back-part.ensures.seat.1)

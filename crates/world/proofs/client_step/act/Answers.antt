@@ -3,7 +3,7 @@ use Rattle.std.specs.Prelude.{vec_capacity}
 use Rattle.std.proofs.lemmas.List.{length-map}
 use Rattle.std.proofs.lemmas.Result.{err_from_is_err_and}
 use Rattle.volume_model.specs.declared.fault.Fault.{Fault}
-use Rattle.volume_model.specs.Answer.{refusal_of, AnswersLate}
+use Rattle.volume_model.specs.Answer.{refusal_of, AnswersAfterGrowth}
 use Rattle.volume_model.specs.Few.{Few}
 use Rattle.volume_model.specs.Lists.{added}
 use Rattle.volume_model.specs.Plan.{Plan}
@@ -13,9 +13,9 @@ use Rattle.wire.specs.Listed.{listed}
 use Rattle.wire.specs.Message.{message_of, messages_of}
 use Rattle.recovery.specs.Recoveries.{admitted}
 use Rattle.writer_core.specs.Writers.{answered}
-use Rattle.world.specs.Acts.{client_acted, client_ordered, client_late, order_late, IsOrderOf}
+use Rattle.world.specs.Acts.{client_acted, client_ordered, client_after_growth, order_after_growth, IsOrderOf}
 use Rattle.world.specs.Clients.{client_plan, client_volume, seen_client}
-use Rattle.world.proofs.Moving.{judged_moves, of_success, told_made}
+use Rattle.world.proofs.Moving.{judged_moves, of_success, made_result}
 use Rattle.world.proofs.client_step.act.Goals as goal
 
 pub enter-requires : goal.enter-requires
@@ -42,7 +42,7 @@ returns-clause-moves c =
     let old : Client = seen_client c.args.client.now in
     let new : Client = seen_client c.act.new.self in
     let ordered : IsOrderOf (added (messages_of kept) []) c.args.order c.in-Ok.act = subst (λ (ms : List Message). IsOrderOf (added (messages_of ms) []) c.args.order c.in-Ok.act) (c.as_slice.ensures.value ∙ c.reserve-room.ensures.items) c.in-Ok.ensures in
-    told_made (λ (step : ClientStep). step.made) (λ (step : ClientStep). step.client) kept c.enter.new.messages.items made (client_ordered (added (messages_of kept) []) c.args.order plan volume old) (answered c.in_ok-made.made new) new c.enter.result
+    made_result (λ (step : ClientStep). step.made) (λ (step : ClientStep). step.client) kept c.enter.new.messages.items made (client_ordered (added (messages_of kept) []) c.args.order plan volume old) (answered c.in_ok-made.made new) new c.enter.result
     (ordered.does plan volume old ∙ c.in_ok-made.ensures.answers) refl refl c.enter.ensures.count
     (c.enter.ensures.added ∙ ap (λ (ms : List Message). ms ++ made) c.reserve-room.ensures.items)
 
@@ -54,9 +54,9 @@ returns-in_err-admits-clause-moves c =
     let old : Client = seen_client c.args.client.now in
     let fault : Fault = c.in_err-admits.field-0.0 in
     let ordered : IsOrderOf (added (messages_of kept) []) c.args.order c.in-Ok.act = subst (λ (ms : List Message). IsOrderOf (added (messages_of ms) []) c.args.order c.in-Ok.act) (c.as_slice.ensures.value ∙ c.reserve-room.ensures.items) c.in-Ok.ensures in
-    let judged : AnswersLate (client_late c.in-Ok.act) admitted (refusal_of (client_acted c.in-Ok.act plan volume old)) tt (Err fault) tt = c.in_err-admits.ensures.answers in
-    let whole : AnswersLate (order_late c.args.order) admitted (refusal_of (client_ordered (added (messages_of kept) []) c.args.order plan volume old)) tt (Err fault) tt =
-    subst (λ (late : Fault → Bool). AnswersLate late admitted (refusal_of (client_ordered (added (messages_of kept) []) c.args.order plan volume old)) tt (Err fault) tt) (sym ordered.late)
-    (subst (λ (d : ClientAnswer). AnswersLate (client_late c.in-Ok.act) admitted (refusal_of d) tt (Err fault) tt) (sym (ordered.does plan volume old)) judged) in
+    let judged : AnswersAfterGrowth (client_after_growth c.in-Ok.act) admitted (refusal_of (client_acted c.in-Ok.act plan volume old)) tt (Err fault) tt = c.in_err-admits.ensures.answers in
+    let whole : AnswersAfterGrowth (order_after_growth c.args.order) admitted (refusal_of (client_ordered (added (messages_of kept) []) c.args.order plan volume old)) tt (Err fault) tt =
+    subst (λ (late : Fault → Bool). AnswersAfterGrowth late admitted (refusal_of (client_ordered (added (messages_of kept) []) c.args.order plan volume old)) tt (Err fault) tt) (sym ordered.late)
+    (subst (λ (d : ClientAnswer). AnswersAfterGrowth (client_after_growth c.in-Ok.act) admitted (refusal_of d) tt (Err fault) tt) (sym (ordered.does plan volume old)) judged) in
     let p = err_from_is_err_and c.from_residual.result c.from_residual.ensures.1 in
-    rw (p.1, p.2, c.reserve-room.ensures.items) (judged_moves (order_late c.args.order) (client_ordered (added (messages_of kept) []) c.args.order plan volume old) fault old (added (messages_of kept) []) whole)
+    rw (p.1, p.2, c.reserve-room.ensures.items) (judged_moves (order_after_growth c.args.order) (client_ordered (added (messages_of kept) []) c.args.order plan volume old) fault old (added (messages_of kept) []) whole)

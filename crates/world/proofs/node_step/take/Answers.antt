@@ -6,7 +6,7 @@ use Rattle.wire.specs.Listed.{listed}
 use Rattle.segment_core.specs.declared.prepared.Prepared.{Prepared}
 use Rattle.segment_core.specs.Prepared.{step_of}
 use Rattle.segment_core.specs.Segment.{node_of}
-use Rattle.world.proofs.Moving.{told_made}
+use Rattle.world.proofs.Moving.{made_result}
 use Rattle.world.proofs.node_step.take.Goals as goal
 
 pub returns-clause-moves : goal.returns-clause-moves
@@ -15,7 +15,7 @@ returns-clause-moves c late =
     let kept : List Message = c.args.messages.now.items in
     let prepared : Prepared = c.args.prepared in
     let answers : List Message = listed prepared.answers in
-    told_made (λ (step : NodeStep). step.made) (λ (step : NodeStep). step.node) kept c.enter.new.messages.items answers (Ok (step_of prepared node)) (step_of prepared node) (node_of c.apply-made.new.self) c.enter.result
+    made_result (λ (step : NodeStep). step.made) (λ (step : NodeStep). step.node) kept c.enter.new.messages.items answers (Ok (step_of prepared node)) (step_of prepared node) (node_of c.apply-made.new.self) c.enter.result
     refl
     refl
     (sym c.apply-made.ensures.node)

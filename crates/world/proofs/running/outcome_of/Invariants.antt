@@ -12,6 +12,6 @@ invariant-loop-event l =
     record {
       good : AreActors l.actors;
       plan_is : plan_of l.actors ≡ plan;
-      told : l.results.items ++ model.results plan (world_of l.actors) (events_of (drop l.event-index l.events)) ≡ model.results plan (model.opening plan) (events_of l.events);
+      event_result : l.results.items ++ model.results plan (world_of l.actors) (events_of (drop l.event-index l.events)) ≡ model.results plan (model.opening plan) (events_of l.events);
       rest : model.run plan (world_of l.actors) (events_of (drop l.event-index l.events)) ≡ model.run plan (model.opening plan) (events_of l.events);
     }

@@ -13,7 +13,7 @@ invariant-loop-order l =
     record {
       good : AreActors l.actors;
       plan_is : plan_of l.actors ≡ plan;
-      told : l.results.items ++ model.results plan (world_of l.actors) (events_from plan (world_of l.actors) l.results.items (into_iter_items l.order-iterator)) ≡ model.results plan (model.opening plan) (events_from plan (model.opening plan) [] l.fn.orders.items);
+      event_result : l.results.items ++ model.results plan (world_of l.actors) (events_from plan (world_of l.actors) l.results.items (into_iter_items l.order-iterator)) ≡ model.results plan (model.opening plan) (events_from plan (model.opening plan) [] l.fn.orders.items);
       rest : model.run plan (world_of l.actors) (events_from plan (world_of l.actors) l.results.items (into_iter_items l.order-iterator)) ≡ model.run plan (model.opening plan) (events_from plan (model.opening plan) [] l.fn.orders.items);
       firsts : l.firsts.items ≡ firsts_of 0 l.results.items;
       total : total_made l.results.items ≡ length (messages_in l.actors);

@@ -5,7 +5,7 @@ use Rattle.world.specs.Acts.{authority_acted}
 use Rattle.world.specs.Events.{event_of}
 use Rattle.journal.specs.Passes.{journal_of, marked, seen_at}
 use Rattle.fleet_actors.specs.Acts.{IsSpent}
-use Rattle.fleet_actors.proofs.Exactly.{tried_exact}
+use Rattle.fleet_actors.proofs.Exactly.{attempt_exact}
 use Rattle.fleet_actors.proofs.Ruling.{authority_here, authority_refuses, ruled_state, slots_spent}
 use Rattle.fleet_actors.proofs.authority.AuthorityActor.act.Goals as goal
 
@@ -22,7 +22,7 @@ commit_or_note-requires-clause-exact g c =
     let here = authority_here (marked self.cursor) (world_at plan (seen_at self.cursor)) w old self.who c.in_default.ensures.agree self.state in
     let same = authority_refuses plan own self.plan w act old event here c.event.ensures in
     let spends = slots_spent w act old event c.args.slots g.L.Site.slots here c.event.ensures c.requires.slots in
-    tried_exact plan g.L.Site.slots (length g.L.Site.cells) es event (IsSpent act old c.args.slots) c.is_full.result (authority_acted own old act) spends c.is_full.ensures same c.try_step-done.result c.try_step-done.ensures.refused
+    attempt_exact plan g.L.Site.slots (length g.L.Site.cells) es event (IsSpent act old c.args.slots) c.is_full.result (authority_acted own old act) spends c.is_full.ensures same c.try_step-done.result c.try_step-done.ensures.refused
 
 pub invariant_of-self-2-clause-who : goal.invariant_of-self-2-clause-who
 invariant_of-self-2-clause-who g c = c.commit_or_note.ensures.cursor ∙ c.catch_up_and_reserve.ensures.cursor.0 ∙ c.args.self.now.who

@@ -7,8 +7,8 @@ use Rattle.world.specs.Clients.{client_plan, client_volume, seen_client}
 use Rattle.world.specs.Events.{event_of}
 use Rattle.journal.specs.Passes.{journal_of, marked, seen_at}
 use Rattle.fleet_actors.specs.Actions.{action_acted, event_by, IsFound}
-use Rattle.fleet_actors.proofs.Acting.{client_here, refuses_alike, tried_makes, tried_state}
-use Rattle.fleet_actors.proofs.Exactly.{tried_exact}
+use Rattle.fleet_actors.proofs.Acting.{client_here, refuses_alike, attempt_makes, attempt_state}
+use Rattle.fleet_actors.proofs.Exactly.{attempt_exact}
 use Rattle.fleet_actors.proofs.client.ClientActor.step.Goals as goal
 
 pub commit_or_note-requires-clause-goes : goal.commit_or_note-requires-clause-goes
@@ -27,7 +27,7 @@ commit_or_note-requires-clause-goes g c =
     let here = client_here (marked self.cursor) volume (world_at plan (seen_at self.cursor)) w old self.who c.in_default.ensures.agree self.state in
     let is = c.event.ensures ∙ ap (λ v. event_by v action) c.volume-volume.ensures in
     let heard = subst (λ (l : List Entry). IsFound (world_at plan l).messages action found) (sym c.reserve_step.ensures.log) c.requires.found in
-    tried_makes plan (client_plan client) self.plan w volume action found old new event here is heard c.try_step-done.result c.try_step-done.ensures.done
+    attempt_makes plan (client_plan client) self.plan w volume action found old new event here is heard c.try_step-done.result c.try_step-done.ensures.done
 
 pub commit_or_note-requires-clause-exact : goal.commit_or_note-requires-clause-exact
 commit_or_note-requires-clause-exact g c =
@@ -46,7 +46,7 @@ commit_or_note-requires-clause-exact g c =
     let is = c.event.ensures ∙ ap (λ v. event_by v action) c.volume-volume.ensures in
     let heard = subst (λ (l : List Entry). IsFound (world_at plan l).messages action found) (sym c.reserve_step.ensures.log) c.requires.found in
     let same = refuses_alike plan (client_plan client) self.plan w volume action found old new event here is heard in
-    tried_exact plan g.L.Site.slots (length g.L.Site.cells) es event ⊥ c.is_full.result (action_acted found action (client_plan client) volume old) (λ h. absurd h) c.is_full.ensures same c.try_step-done.result c.try_step-done.ensures.refused
+    attempt_exact plan g.L.Site.slots (length g.L.Site.cells) es event ⊥ c.is_full.result (action_acted found action (client_plan client) volume old) (λ h. absurd h) c.is_full.ensures same c.try_step-done.result c.try_step-done.ensures.refused
 
 pub invariant_of-self-2 : goal.invariant_of-self-2
 invariant_of-self-2 g c =
@@ -65,7 +65,7 @@ invariant_of-self-2 g c =
     let is = c.event.ensures ∙ ap (λ v. event_by v action) c.volume-volume.ensures in
     let heard = subst (λ (l : List Entry). IsFound (world_at plan l).messages action found) (sym c.reserve_step.ensures.log) c.requires.found in
     let same = c.try_step-done.ensures.same in
-    let now = tried_state plan (client_plan client) self.plan w volume action found old new event here is heard c.try_step-done.result c.try_step-done.ensures.done c.try_step-done.ensures.still (seen_at c.reserve_step.new.cursor) (seen_at c.commit_or_note.new.cursor) (self.state ∙ ap (λ (l : List Entry). (world_at plan l).clients volume) (sym c.reserve_step.ensures.cursor.2)) c.commit_or_note.ensures.seen in
+    let now = attempt_state plan (client_plan client) self.plan w volume action found old new event here is heard c.try_step-done.result c.try_step-done.ensures.done c.try_step-done.ensures.still (seen_at c.reserve_step.new.cursor) (seen_at c.commit_or_note.new.cursor) (self.state ∙ ap (λ (l : List Entry). (world_at plan l).clients volume) (sym c.reserve_step.ensures.cursor.2)) c.commit_or_note.ensures.seen in
     record {
       who = c.commit_or_note.ensures.cursor ∙ c.reserve_step.ensures.cursor.0 ∙ self.who ∙ ap Actor.Client (sym same.volume_is);
       plan = same.plan_is ∙ self.plan;

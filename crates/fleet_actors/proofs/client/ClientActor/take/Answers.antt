@@ -12,8 +12,8 @@ use Rattle.journal.specs.Tokens.{shown}
 use Rattle.fleet_actors.specs.declared.client_action.ClientAction.{ClientAction}
 use Rattle.fleet_actors.specs.declared.client_action.ClientAction.TheVariants as action
 use Rattle.fleet_actors.specs.Actions.{action_acted, event_by, IsFound}
-use Rattle.fleet_actors.proofs.Acting.{client_here, refuses_alike, tried_makes, tried_state}
-use Rattle.fleet_actors.proofs.Exactly.{tried_exact}
+use Rattle.fleet_actors.proofs.Acting.{client_here, refuses_alike, attempt_makes, attempt_state}
+use Rattle.fleet_actors.proofs.Exactly.{attempt_exact}
 use Rattle.fleet_actors.proofs.client.ClientActor.take.Goals as goal
 
 pub commit_or_note-requires-clause-goes : goal.commit_or_note-requires-clause-goes
@@ -31,7 +31,7 @@ commit_or_note-requires-clause-goes g c =
     let here = client_here (marked self.cursor) volume (world_at plan (seen_at self.cursor)) w old self.who c.in_default-reserve_step.ensures.agree self.state in
     let is : event ≡ event_by volume asked = ap (λ v. Event.Take v c.args.message) c.volume-volume.ensures in
     let heard : IsFound w.messages asked found = (refl, ap (λ (l : List Entry). numbered (world_at plan l).messages c.args.message) (c.reserve_step.ensures.log ∙ ap (λ ts. entries_of (shown ts.items)) c.seek.ensures.log.0) ∙ c.in-Some.ensures.is ∙ c.message.ensures) in
-    tried_makes plan (client_plan client) self.plan w volume asked found old new event here is heard c.try_take-done.result c.try_take-done.ensures.done
+    attempt_makes plan (client_plan client) self.plan w volume asked found old new event here is heard c.try_take-done.result c.try_take-done.ensures.done
 
 pub commit_or_note-requires-clause-exact : goal.commit_or_note-requires-clause-exact
 commit_or_note-requires-clause-exact g c =
@@ -50,7 +50,7 @@ commit_or_note-requires-clause-exact g c =
     let is : event ≡ event_by volume asked = ap (λ v. Event.Take v c.args.message) c.volume-volume.ensures in
     let heard : IsFound w.messages asked found = (refl, ap (λ (l : List Entry). numbered (world_at plan l).messages c.args.message) (c.reserve_step.ensures.log ∙ ap (λ ts. entries_of (shown ts.items)) c.seek.ensures.log.0) ∙ c.in-Some.ensures.is ∙ c.message.ensures) in
     let same = refuses_alike plan (client_plan client) self.plan w volume asked found old new event here is heard in
-    tried_exact plan g.L.Site.slots (length g.L.Site.cells) es event ⊥ c.is_full.result (action_acted found asked (client_plan client) volume old) (λ h. absurd h) c.is_full.ensures same c.try_take-done.result c.try_take-done.ensures.refused
+    attempt_exact plan g.L.Site.slots (length g.L.Site.cells) es event ⊥ c.is_full.result (action_acted found asked (client_plan client) volume old) (λ h. absurd h) c.is_full.ensures same c.try_take-done.result c.try_take-done.ensures.refused
 
 pub invariant_of-self-2 : goal.invariant_of-self-2
 invariant_of-self-2 g c =
@@ -69,7 +69,7 @@ invariant_of-self-2 g c =
     let heard : IsFound w.messages asked found = (refl, ap (λ (l : List Entry). numbered (world_at plan l).messages c.args.message) (c.reserve_step.ensures.log ∙ ap (λ ts. entries_of (shown ts.items)) c.seek.ensures.log.0) ∙ c.in-Some.ensures.is ∙ c.message.ensures) in
     let same = c.try_take-done.ensures.same in
     let was = self.state ∙ ap (λ (l : List Entry). (world_at plan l).clients volume) (sym c.reserve_step.ensures.cursor.2) in
-    let now = tried_state plan (client_plan client) self.plan w volume asked found old new event here is heard c.try_take-done.result c.try_take-done.ensures.done c.try_take-done.ensures.still (seen_at c.reserve_step.new.cursor) (seen_at c.commit_or_note.new.cursor) was c.commit_or_note.ensures.seen in
+    let now = attempt_state plan (client_plan client) self.plan w volume asked found old new event here is heard c.try_take-done.result c.try_take-done.ensures.done c.try_take-done.ensures.still (seen_at c.reserve_step.new.cursor) (seen_at c.commit_or_note.new.cursor) was c.commit_or_note.ensures.seen in
     record {
       who = c.commit_or_note.ensures.cursor ∙ c.reserve_step.ensures.cursor.0 ∙ self.who ∙ ap Actor.Client (sym same.volume_is);
       plan = same.plan_is ∙ self.plan;

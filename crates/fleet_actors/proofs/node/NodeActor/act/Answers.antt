@@ -4,7 +4,7 @@ use Rattle.volume_model.specs.Actor.{actor_of}
 use Rattle.volume_model.specs.Judging.{Exact}
 use Rattle.volume_model.specs.Journal.{Entry, world_at}
 use Rattle.volume_model.specs.Node.{Node, NodeStep}
-use Rattle.volume_model.specs.Told.{makes, refusal}
+use Rattle.volume_model.specs.StepResults.{makes, refusal}
 use Rattle.volume_model.specs.World.{Event, World, after, step}
 use Rattle.wire.specs.Listed.{listed}
 use Rattle.wire.specs.Message.{messages_of}
@@ -12,7 +12,7 @@ use Rattle.segment_core.specs.Prepared.{step_of}
 use Rattle.segment_core.specs.Segment.{node_of}
 use Rattle.journal.specs.Passes.{journal_of, marked, seen_at}
 use Rattle.fleet_actors.specs.declared.halt.Halt.{Halt}
-use Rattle.fleet_actors.specs.Halts.{IsExact}
+use Rattle.fleet_actors.specs.RecordsAttempt.{IsExact}
 use Rattle.fleet_actors.specs.Nodes.{done_by, event_by}
 use Rattle.fleet_actors.proofs.NodeSteps.{action_actor, deed_fails, deed_own, deed_steps, denies, done, grants, not_joined, not_lost, same_of, there_joined, tells, unjoined_deed}
 use Rattle.fleet_actors.proofs.node.NodeActor.act.Goals as goal

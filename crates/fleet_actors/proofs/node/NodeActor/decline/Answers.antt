@@ -7,7 +7,7 @@ use Rattle.segment_core.specs.Segment.{node_of}
 use Rattle.wire.specs.Listed.{listed}
 use Rattle.journal.specs.Passes.{journal_of, message_ref_message, message_ref_number, marked, seen_at}
 use Rattle.fleet_actors.specs.declared.halt.Halt.{Halt}
-use Rattle.fleet_actors.specs.Halts.{IsExact}
+use Rattle.fleet_actors.specs.RecordsAttempt.{IsExact}
 use Rattle.fleet_actors.specs.Nodes.{delivery_of}
 use Rattle.fleet_actors.proofs.NodeSteps.{declines, letter_own, not_joined, not_lost, there_joined, unjoined_delivery}
 use Rattle.fleet_actors.proofs.node.NodeActor.decline.Goals as goal

@@ -4,11 +4,11 @@ use Rattle.volume_model.specs.Actor.{same_actor}
 use Rattle.volume_model.specs.Journal.{Goes, world_at}
 use Rattle.volume_model.proofs.Judges.{refused_longer}
 use Rattle.journal.specs.declared.entry.Entry.{Entry}
-use Rattle.journal.specs.declared.pass.Held.{Held}
+use Rattle.journal.specs.declared.pass.PassStep.{PassStep}
 use Rattle.journal.specs.Actors.{seen_who}
 use Rattle.journal.specs.Entries.{entry_of, entries_of, note_of}
 use Rattle.journal.specs.Fronts.{front_log, log_of}
-use Rattle.journal.specs.Lasts.{last_known, or_zero}
+use Rattle.journal.specs.LastEntries.{last_known, or_zero}
 use Rattle.wire.specs.Listed.{listed}
 use Rattle.journal.specs.Standing.{made, Stands}
 use Rattle.journal.specs.Tokens.{shown}
@@ -64,14 +64,14 @@ invariant_of-pass g c =
     let place : c.write-entry.result.now.cell ≡ length (entries_of es) = ap (λ (y : Entry). y.cell) c.write-entry.ensures.value ∙ c.requires.place ∙ sym long ∙ sym (length-entries es) in
     let shows = ap (λ (y : Entry). y.durable) c.write-entry.ensures.value ∙ c.requires.durable in
     let here = stands_new plan (entries_of es) (entries_of now) (entry_of x) (entry_of c.write-entry.result.now) c.write-entry.result.now.cell c.write-entry.result.now.durable (entries_push es now x longer) place (ap entry_of c.write-entry.ensures.value) shows in
-    let told = λ (h : Held g.row.L.Denot). Stands plan (entries_of now) (made h.entry.now.cell (entry_of h.entry.now) h.entry.now.durable) in
+    let stands_in = λ (h : PassStep g.row.L.Denot). Stands plan (entries_of now) (made h.entry.now.cell (entry_of h.entry.now) h.entry.now.durable) in
     record {
       board = pass.board;
       no_slot = pass.no_slot;
       history = c.front.ensures.front.1 ∙ c.add.ensures.1 ∙ log.history.history;
       room = room;
-      stand = subst (All told) (sym c.push_reserved.ensures.items)
-          (all_push told pass.steps.items _ (λ k d lt. let h = get_or pass.steps.items k d in stands_longer plan (entries_of (front_log pass.seen)) (entries_of now) (made h.entry.now.cell (entry_of h.entry.now) h.entry.now.durable) begin (pass.stand k d lt)) here);
+      stand = subst (All stands_in) (sym c.push_reserved.ensures.items)
+          (all_push stands_in pass.steps.items _ (λ k d lt. let h = get_or pass.steps.items k d in stands_longer plan (entries_of (front_log pass.seen)) (entries_of now) (made h.entry.now.cell (entry_of h.entry.now) h.entry.now.durable) begin (pass.stand k d lt)) here);
       refused = λ k d lt. refused_longer plan g.L.Site.slots (length g.L.Site.cells) (entries_of (front_log pass.seen)) (entries_of now) (note_of (get_or pass.notes.items k d)) begin few (pass.refused k d lt);
       part = c.add-2.ensures.parts ∙ pass.part;
       counted = omega (arith, c.add-2.ensures.amount, pass.counted, c.push_reserved.ensures.len);

@@ -6,7 +6,7 @@ use Rattle.journal.specs.declared.entry.Entry.{Entry}
 use Rattle.journal.specs.Actors.{seen_who}
 use Rattle.journal.specs.Entries.{entries_of}
 use Rattle.journal.specs.Fronts.{front_log}
-use Rattle.journal.specs.Lasts.{last_in, or_zero}
+use Rattle.journal.specs.LastEntries.{last_in, or_zero}
 use Rattle.journal.specs.Tokens.{shown}
 use Rattle.journal.proofs.Entered.{entries_begin, length-entries}
 use Rattle.journal.proofs.log.Log.compare.Goals as goal

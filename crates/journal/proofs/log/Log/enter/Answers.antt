@@ -5,7 +5,7 @@ use Rattle.volume_model.proofs.ListFacts.{get_within}
 use Rattle.wire.specs.Message.{message_of, messages_of}
 use Rattle.world.specs.Events.{event_of}
 use Rattle.journal.specs.declared.entry.Entry.{Entry}
-use Rattle.journal.specs.declared.pass.Held.{Held}
+use Rattle.journal.specs.declared.pass.PassStep.{PassStep}
 use Rattle.journal.specs.Entries.{entry_of, entries_of}
 use Rattle.wire.specs.Listed.{listed}
 use Rattle.journal.specs.Passes.{steps_of, made_of}
@@ -27,7 +27,7 @@ returns-clause-step g c =
     let entry : Entry = record { event = c.args.event; made = c.args.made; first = log.messages; cell = c.len-cell.result; durable = c.args.durable } in
     let count : length (entry_of entry).made ≡ c.len-count.result =
     map-length message_of (listed entry.made) ∙ sym c.len-count.ensures in
-    let below : All (λ (s : Made). s.at + 1 < c.len-cell.result + 1) (steps_of pass) = all_map (λ (h : Held g.row.L.Denot). made_of h) (λ (s : Made). s.at + 1 < c.len-cell.result + 1) pass.steps.items
+    let below : All (λ (s : Made). s.at + 1 < c.len-cell.result + 1) (steps_of pass) = all_map (λ (h : PassStep g.row.L.Denot). made_of h) (λ (s : Made). s.at + 1 < c.len-cell.result + 1) pass.steps.items
     (λ k d lt. let h = get_or pass.steps.items k d in let s = pass.stand k d lt in let w = get_within (entries_of (front_log pass.seen)) (entry_of h.entry.now) h.entry.now.cell s.stands in let same = ap length c.requires.settled in omega (arith, w, same, length-entries (front_log pass.seen), long)) in
     (made (length es) (entry_of entry) c.args.durable, c.append-seen.ensures.steps, omega (arith, long), refl, count, sym c.total.ensures, refl, below)
 

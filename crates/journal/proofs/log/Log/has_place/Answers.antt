@@ -7,7 +7,7 @@ use Rattle.volume_model.proofs.Fronts.{prefix_self}
 use Rattle.volume_model.proofs.Worlds.{known}
 use Rattle.journal.specs.Actors.{seen_who}
 use Rattle.journal.specs.Entries.{entries_of}
-use Rattle.journal.specs.Lasts.{last_in, or_zero}
+use Rattle.journal.specs.LastEntries.{last_in, or_zero}
 use Rattle.journal.specs.Passes.{world_of}
 use Rattle.journal.specs.Tokens.{shown}
 use Rattle.journal.proofs.log.Log.has_place.Goals as goal

@@ -2,7 +2,7 @@ use Rattle.std.proofs.Common.{◌≡◌, List, length, All, sym, ◌∙◌, subs
 use Rattle.volume_model.specs.Judging.{IsRefused}
 use Rattle.world.specs.Events.{event_of}
 use Rattle.journal.specs.declared.entry.Entry.{Entry}
-use Rattle.journal.specs.declared.pass.Held.{Held}
+use Rattle.journal.specs.declared.pass.PassStep.{PassStep}
 use Rattle.journal.specs.Entries.{entry_of, entries_of}
 use Rattle.journal.specs.Standing.{made, Stands}
 use Rattle.journal.specs.Tokens.{shown}
@@ -28,5 +28,5 @@ returns-clause-note g c =
     let plan = g.L.Site.plan in
     let es = shown log.entries.items in
     let long : c.len.result ≡ length (entries_of es) = c.len.ensures ∙ search rules ∙ sym (length-shown log.entries.items) ∙ sym (length-entries es) in
-    let stand = subst (λ (l : List Entry). All (λ (h : Held g.row.L.Denot). Stands plan (entries_of l) (made h.entry.now.cell (entry_of h.entry.now) h.entry.now.durable)) pass.steps.items) c.requires.settled pass.stand in
+    let stand = subst (λ (l : List Entry). All (λ (h : PassStep g.row.L.Denot). Stands plan (entries_of l) (made h.entry.now.cell (entry_of h.entry.now) h.entry.now.durable)) pass.steps.items) c.requires.settled pass.stand in
     (c.len.result, c.note.ensures.note, at_most_all plan (entries_of es) pass.steps.items c.len.result stand long)

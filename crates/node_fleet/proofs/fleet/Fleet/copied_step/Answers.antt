@@ -2,14 +2,14 @@ use Rattle.std.proofs.Common.{IfErr, IfOk, subst, ◌≡◌}
 use Rattle.volume_model.specs.World.{Event}
 use Rattle.volume_model.specs.declared.fault.Fault.TheVariants.{NoMessage}
 use Rattle.journal.specs.Passes.{notes_of, seat_of, steps_of}
-use Rattle.node_fleet.specs.Calls.{NamesElse, RaisesBy, Tells}
+use Rattle.node_fleet.specs.Calls.{NamesElse, RaisesBy, RecordsCall}
 use Rattle.node_fleet.proofs.fleet.Fleet.copied_step.Goals as goal
 
-pub returns-clause-told : goal.returns-clause-told
-returns-clause-told g c =
+pub returns-clause-recorded : goal.returns-clause-recorded
+returns-clause-recorded g c =
     let first = c.args.pass.now in
     let new = c.enter_client.new.pass in
-    subst (λ (e : Event). Tells e c.enter_client.result (steps_of first) (steps_of new) (notes_of first) (notes_of new)) (c.in_ok-asked.ensures.cases c.args.volume) c.enter_client.ensures.told
+    subst (λ (e : Event). RecordsCall e c.enter_client.result (steps_of first) (steps_of new) (notes_of first) (notes_of new)) (c.in_ok-asked.ensures.cases c.args.volume) c.enter_client.ensures.recorded
 
 pub returns-clause-raised : goal.returns-clause-raised
 returns-clause-raised g c =

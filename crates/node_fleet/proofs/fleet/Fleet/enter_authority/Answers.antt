@@ -4,10 +4,10 @@ use Rattle.fleet_actors.specs.Acts.{event_by}
 use Rattle.node_fleet.proofs.Calling.{adds_first}
 use Rattle.node_fleet.proofs.fleet.Fleet.enter_authority.Goals as goal
 
-pub returns-in-Ok-clause-told : goal.returns-in-Ok-clause-told
-returns-in-Ok-clause-told g c =
+pub returns-in-Ok-clause-recorded : goal.returns-in-Ok-clause-recorded
+returns-in-Ok-clause-recorded g c =
     let event = event_by c.args.act in
     let first = c.args.pass.now in
     let old = c.loop.pass in
     let new = c.try_authority.new.pass in
-    adds_first event event c.in-Ok.receipt (steps_of first) (steps_of old) (steps_of new) (notes_of old) (notes_of new) (notes_of first) refl c.loop.invariant.steps c.loop.invariant.notes c.in-Ok.ensures.told
+    adds_first event event c.in-Ok.receipt (steps_of first) (steps_of old) (steps_of new) (notes_of old) (notes_of new) (notes_of first) refl c.loop.invariant.steps c.loop.invariant.notes c.in-Ok.ensures.recorded

@@ -1,14 +1,14 @@
 use Rattle.volume_model.specs.World.Event.{Take}
 use Rattle.journal.specs.Passes.{notes_of, steps_of}
 use Rattle.fleet_actors.specs.declared.client_action.ClientAction.TheVariants as action
-use Rattle.node_fleet.proofs.Calling.{lost_halt, tells_refused, unmade_names}
+use Rattle.node_fleet.proofs.Calling.{lost_halt, records_refused, unmade_names}
 use Rattle.node_fleet.proofs.fleet.Fleet.take.Goals as goal
 
-pub returns-in-Err-clause-told : goal.returns-in-Err-clause-told
-returns-in-Err-clause-told g c =
+pub returns-in-Err-clause-recorded : goal.returns-in-Err-clause-recorded
+returns-in-Err-clause-recorded g c =
     let first = c.args.pass.now in
     let new = c.try_take.new.pass in
-    tells_refused (Take c.args.volume c.args.message) c.in-Err.halt c.refusal_of.result (steps_of first) (steps_of new) (notes_of first) (notes_of new) c.refusal_of.ensures c.in-Err.ensures.told
+    records_refused (Take c.args.volume c.args.message) c.in-Err.halt c.refusal_of.result (steps_of first) (steps_of new) (notes_of first) (notes_of new) c.refusal_of.ensures c.in-Err.ensures.recorded
 
 pub returns-in-Err-clause-unmade : goal.returns-in-Err-clause-unmade
 returns-in-Err-clause-unmade g c lost = unmade_names c.args.volume (action.Take c.args.message) (steps_of c.args.pass.now) c.in-Err.halt c.in-Err.ensures.unmade (lost_halt c.in-Err.halt c.refusal_of.result c.refusal_of.ensures lost)

@@ -1,6 +1,6 @@
 use Rattle.std.proofs.Common.{◌≡◌, List, map, true, Err, sym, ap, subst, ◌∙◌}
 use Rattle.std.specs.Arc.{arc_value}
-use Rattle.volume_model.specs.Answer.{never_late, refusal_of}
+use Rattle.volume_model.specs.Answer.{never_after_growth, refusal_of}
 use Rattle.volume_model.specs.declared.fault.Fault.{Fault}
 use Rattle.volume_model.specs.Plan.{Plan}
 use Rattle.volume_model.specs.Client.{ClientAnswer, newly_at}
@@ -24,7 +24,7 @@ returns-in-Err-clause-birth c =
     let defined : ClientAnswer = birth_of (checked_model (arc_value c.args.plan)) (message_of c.args.message.now) in
     let fault : Fault = c.in-Err.fault in
     let refusal : Err fault ≡ refusal_of defined = c.in-Err.ensures.refusal ∙ ap (λ (p : CheckedPlan). refusal_of (birth_of (checked_model p) (message_of c.args.message.now))) c.deref.ensures in
-    refused never_late (λ made u. begun made) fault defined tt c.in-Err.ensures.own (judged fault defined refusal)
+    refused never_after_growth (λ made u. begun made) fault defined tt c.in-Err.ensures.own (judged fault defined refusal)
 
 pub returns-clause-birth : goal.returns-clause-birth
 returns-clause-birth c =

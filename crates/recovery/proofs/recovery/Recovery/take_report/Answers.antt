@@ -1,6 +1,6 @@
 use Rattle.std.proofs.Common.{◌≡◌, ◌<◌, true, Result, Err, sym, ap, ◌∙◌, subst}
 use Rattle.std.proofs.lemmas.Result.{err_from_is_err_and}
-use Rattle.volume_model.specs.Answer.{Answers, never_late}
+use Rattle.volume_model.specs.Answer.{Answers, never_after_growth}
 use Rattle.volume_model.specs.Client.{Client, ClientAnswer}
 use Rattle.volume_model.specs.ClientMessages.{taken}
 use Rattle.volume_model.specs.declared.fault.Fault.{Fault}
@@ -37,4 +37,4 @@ returns-in_err-admits_report-clause-answers c =
     let p = err_from_is_err_and c.from_residual.result c.from_residual.ensures.1 in
     let same : c.from_residual.result ≡ Err fault = p.1 ∙ ap Err p.2 in
     subst (λ (r : Result (Unit {0}) Fault). Answers silent defined client r client) (sym same)
-    (refused never_late silent fault defined client c.in_err-admits_report.ensures.own (judged fault defined c.in_err-admits_report.ensures.refusal))
+    (refused never_after_growth silent fault defined client c.in_err-admits_report.ensures.own (judged fault defined c.in_err-admits_report.ensures.refusal))

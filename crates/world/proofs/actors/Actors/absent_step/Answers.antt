@@ -3,7 +3,7 @@ use Rattle.std.specs.Arc.{arc_value}
 use Rattle.std.specs.Global.{Box}
 use Rattle.plan.specs.CheckedModel.{checked_model}
 use Rattle.volume_model.specs.Lists.{added, put}
-use Rattle.volume_model.specs.Answer.{may_want_memory}
+use Rattle.volume_model.specs.Answer.{may_run_out_of_memory}
 use Rattle.volume_model.specs.declared.fault.Fault.{Fault}
 use Rattle.volume_model.specs.declared.fault.Fault.TheVariants.{NoMemory}
 use Rattle.volume_model.specs.Client as model
@@ -18,11 +18,11 @@ use Rattle.world.specs.declared.client.Client.{Client}
 use Rattle.world.specs.Slots.{node_at}
 use Rattle.world.specs.Homes.{nodes_of}
 use Rattle.world.specs.Clients.{client_plan, client_volume, seen_client, client_or_unborn, clients_of, IsClientOf, IsPut}
-use Rattle.world.specs.Acts.{client_acted, client_ordered, order_late, IsOrderOf}
+use Rattle.world.specs.Acts.{client_acted, client_ordered, order_after_growth, IsOrderOf}
 use Rattle.world.specs.Actors.{moved_of, plan_of, messages_in, world_of, Steps}
 use Rattle.world.specs.Worlds.{world_with}
 use Rattle.world.proofs.ClientTable.{client_put, clients_on, kept_clients, same_client, same_clients}
-use Rattle.world.proofs.Moving.{told_made}
+use Rattle.world.proofs.Moving.{made_result}
 use Rattle.world.proofs.Steps.{client_steps}
 use Rattle.world.proofs.actors.Actors.absent_step.Goals as goal
 
@@ -43,9 +43,9 @@ returns-clause-steps c =
     let asked : client_acted c.in_ok-act.act (plan_of self) c.args.volume unborn ≡ client_acted c.in_ok-act.act (client_plan new) (client_volume new) (seen_client new) =
     λ i. client_acted c.in_ok-act.act (sym (c.unborn-client.ensures.own.plan_is ∙ cloned ∙ c.requires.actors.plan) i) (sym c.unborn-client.ensures.own.volume_is i) (sym c.unborn-client.ensures.client i) in
     let steps : defined ≡ Ok (answered c.in_ok-made.made (seen_client born)) = ordered.does (plan_of self) c.args.volume unborn ∙ asked ∙ c.in_ok-made.ensures.answers in
-    client_steps (authority_of self.authority) (node_at (plan_of self) (nodes_of self.nodes.items)) (clients_of self.clients.items) (messages_in self) c.args.volume (order_late c.args.order) defined unborn (seen_client born) (ap client_or_unborn c.requires.absent)
+    client_steps (authority_of self.authority) (node_at (plan_of self) (nodes_of self.nodes.items)) (clients_of self.clients.items) (messages_in self) c.args.volume (order_after_growth c.args.order) defined unborn (seen_client born) (ap client_or_unborn c.requires.absent)
     (clients_of c.keep.new.clients.items) put_is (Ok c.enter.result) (added (messages_of c.enter.new.messages.items) [])
-    (told_made (λ (step : ClientStep). step.made) (λ (step : ClientStep). step.client) kept c.enter.new.messages.items made defined (answered c.in_ok-made.made (seen_client born)) (seen_client born) c.enter.result
+    (made_result (λ (step : ClientStep). step.made) (λ (step : ClientStep). step.client) kept c.enter.new.messages.items made defined (answered c.in_ok-made.made (seen_client born)) (seen_client born) c.enter.result
     steps refl refl c.enter.ensures.count (c.enter.ensures.added ∙ ap (λ (ms : List Message). ms ++ made) c.in_ok-reserve.ensures.items))
 
 pub returns-clause-good : goal.returns-clause-good
@@ -87,8 +87,8 @@ returns-in_err-keep-clause-steps c =
     let asked : client_acted c.in_ok-act.act (plan_of self) c.args.volume unborn ≡ client_acted c.in_ok-act.act (client_plan new) (client_volume new) (seen_client new) =
     λ i. client_acted c.in_ok-act.act (sym (c.unborn-client.ensures.own.plan_is ∙ cloned ∙ c.requires.actors.plan) i) (sym c.unborn-client.ensures.own.volume_is i) (sym c.unborn-client.ensures.client i) in
     let steps : defined ≡ Ok (answered c.in_ok-made.made (seen_client born)) = ordered.does (plan_of self) c.args.volume unborn ∙ asked ∙ c.in_ok-made.ensures.answers in
-    let late = order_late c.args.order in
-    let wants : may_want_memory late (moved_of (of_client (world_of self) c.args.volume defined)) ≡ true = ap (λ (a : ClientAnswer). may_want_memory late (moved_of (of_client (world_of self) c.args.volume a))) steps in
+    let late = order_after_growth c.args.order in
+    let wants : may_run_out_of_memory late (moved_of (of_client (world_of self) c.args.volume defined)) ≡ true = ap (λ (a : ClientAnswer). may_run_out_of_memory late (moved_of (of_client (world_of self) c.args.volume a))) steps in
     let failed : c.from_residual-in_err-keep.result ≡ Err NoMemory = search rules in
     let clients : clients_of c.keep.new.clients.items ≡ clients_of self.clients.items = kept_clients self.clients.items c.keep.new.clients.items c.in_err-keep.ensures.same in
     let messages : c.reserve.new.self.items ≡ self.messages.items = c.in_ok-reserve.ensures.items in

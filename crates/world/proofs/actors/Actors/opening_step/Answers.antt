@@ -3,7 +3,7 @@ use Rattle.std.proofs.lemmas.Result.{err_from_is_err_and}
 use Rattle.std.specs.Box.{with_value}
 use Rattle.std.specs.Global.{Box}
 use Rattle.epochs.specs.Authority.{authority_of}
-use Rattle.volume_model.specs.Answer.{never_late, AnswersLate}
+use Rattle.volume_model.specs.Answer.{never_after_growth, AnswersAfterGrowth}
 use Rattle.volume_model.specs.declared.fault.Fault.{Fault}
 use Rattle.volume_model.specs.Client.{ClientAnswer, ClientStep}
 use Rattle.volume_model.specs.ClientRecovery.{opened}
@@ -13,7 +13,7 @@ use Rattle.world.specs.Slots.{node_at}
 use Rattle.world.specs.Homes.{nodes_of}
 use Rattle.world.specs.Clients.{client_plan, seen_client, client_or_unborn, client_in, clients_of, AreClients, IsClientOf, IsPut}
 use Rattle.world.specs.Actors.{plan_of, messages_in}
-use Rattle.world.specs.Moves.{told_of}
+use Rattle.world.specs.Moves.{result_of_step}
 use Rattle.world.proofs.ClientTable.{client_put, clients_on, found_in, same_client, set_put}
 use Rattle.world.proofs.OneNode.{set-read}
 use Rattle.world.proofs.Moving.{refused_moves}
@@ -35,12 +35,12 @@ returns-in_err-open-in-Some-clause-steps c =
     let own : IsClientOf (plan_of self) c.args.volume old = subst (IsClientOf (plan_of self) c.args.volume) (sym c.deref_mut.ensures.value) (c.requires.clients c.args.volume home there) in
     let at : clients_of kept c.args.volume ≡ seen_client old = ap client_or_unborn there ∙ ap seen_client (sym c.deref_mut.ensures.value) in
     let asked : opened (client_plan old) (seen_client old) ≡ opened (plan_of self) (clients_of kept c.args.volume) = λ i. opened (own.plan_is i) (sym at i) in
-    let answers : AnswersLate never_late silent (opened (plan_of self) (clients_of kept c.args.volume)) (seen_client old) (Err fault) (seen_client new) =
-    subst (λ (d : ClientAnswer). AnswersLate never_late silent d (seen_client old) (Err fault) (seen_client new)) asked c.in_err-open-in-Some.ensures.answers in
+    let answers : AnswersAfterGrowth never_after_growth silent (opened (plan_of self) (clients_of kept c.args.volume)) (seen_client old) (Err fault) (seen_client new) =
+    subst (λ (d : ClientAnswer). AnswersAfterGrowth never_after_growth silent d (seen_client old) (Err fault) (seen_client new)) asked c.in_err-open-in-Some.ensures.answers in
     let p = err_from_is_err_and c.from_residual.result c.from_residual.ensures.1 in
-    rw (p.1, p.2) (client_steps (authority_of self.authority) (node_at (plan_of self) (nodes_of self.nodes.items)) (clients_of kept) (messages_in self) c.args.volume never_late _ (seen_client old) (seen_client new) at
+    rw (p.1, p.2) (client_steps (authority_of self.authority) (node_at (plan_of self) (nodes_of self.nodes.items)) (clients_of kept) (messages_in self) c.args.volume never_after_growth _ (seen_client old) (seen_client new) at
     (clients_of (set kept c.args.volume (Some later))) (client_put kept (set kept c.args.volume (Some later)) c.args.volume later is) (Err fault) (messages_in self)
-    (refused_moves (λ (step : ClientStep). step.made) (λ (step : ClientStep). step.client) never_late silent _ (seen_client old) (seen_client new) (messages_in self) fault answers))
+    (refused_moves (λ (step : ClientStep). step.made) (λ (step : ClientStep). step.client) never_after_growth silent _ (seen_client old) (seen_client new) (messages_in self) fault answers))
 
 pub returns-in_err-open-in-Some-clause-good : goal.returns-in_err-open-in-Some-clause-good
 returns-in_err-open-in-Some-clause-good c =
@@ -96,9 +96,9 @@ returns-in_ok-open-in-Some-clause-steps c =
     let asked : opened (client_plan old) (seen_client old) ≡ opened (plan_of self) (clients_of kept c.args.volume) = λ i. opened (own.plan_is i) (sym at i) in
     let step : ClientStep = silent tt (seen_client new) in
     let made : opened (plan_of self) (clients_of kept c.args.volume) ≡ Ok step = sym asked ∙ c.in_ok-open-in-Some.ensures.answers in
-    client_steps (authority_of self.authority) (node_at (plan_of self) (nodes_of self.nodes.items)) (clients_of kept) (messages_in self) c.args.volume never_late _ (seen_client old) (seen_client new) at
+    client_steps (authority_of self.authority) (node_at (plan_of self) (nodes_of self.nodes.items)) (clients_of kept) (messages_in self) c.args.volume never_after_growth _ (seen_client old) (seen_client new) at
     (clients_of (set kept c.args.volume (Some later))) (client_put kept (set kept c.args.volume (Some later)) c.args.volume later is) (Ok 0) (messages_in self)
-    (ap (told_of (λ (s : ClientStep). s.made) (λ (s : ClientStep). s.client) (messages_in self)) made)
+    (ap (result_of_step (λ (s : ClientStep). s.made) (λ (s : ClientStep). s.client) (messages_in self)) made)
 
 pub returns-in-None-clause-good : goal.returns-in-None-clause-good
 returns-in-None-clause-good c =

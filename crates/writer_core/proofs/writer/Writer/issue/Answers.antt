@@ -2,7 +2,7 @@ use Rattle.std.proofs.Common.{◌≡◌, ℕ, length, take, List, Result, Err, s
 use Rattle.std.proofs.lemmas.Result.{err_from_is_err_and}
 use Rattle.redo_record.specs.declared.shared_record.SharedRecord.{SharedRecord}
 use Rattle.wire.specs.declared.messages.Messages.{Messages}
-use Rattle.volume_model.specs.Answer.{Answers, never_late}
+use Rattle.volume_model.specs.Answer.{Answers, never_after_growth}
 use Rattle.volume_model.specs.Client.{Client, ClientAnswer, group_point_of}
 use Rattle.volume_model.specs.ClientWriter.{issued}
 use Rattle.volume_model.specs.declared.fault.Fault.{Fault}
@@ -22,7 +22,7 @@ returns-in_err-admits-clause-answers c =
     let fault : Fault = c.in_err-admits.field-0.0 in
     let p = err_from_is_err_and c.from_residual.result c.from_residual.ensures.1 in
     let same : c.from_residual.result ≡ Err fault = p.1 ∙ ap Err p.2 in
-    subst (λ (r : Result Messages Fault). Answers answered defined client r client) (sym same) (refused never_late answered fault defined client c.in_err-admits.ensures.own (judged fault defined c.in_err-admits.ensures.refusal))
+    subst (λ (r : Result Messages Fault). Answers answered defined client r client) (sym same) (refused never_after_growth answered fault defined client c.in_err-admits.ensures.own (judged fault defined c.in_err-admits.ensures.refusal))
 
 pub invariant_of-self-in-Err-clause-covers : goal.invariant_of-self-in-Err-clause-covers
 invariant_of-self-in-Err-clause-covers c =

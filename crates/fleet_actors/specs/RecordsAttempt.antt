@@ -6,7 +6,9 @@ use Rattle.volume_model.specs.World.{Event}
 use Rattle.volume_model.specs.Journal.{Entry}
 use Rattle.volume_model.specs.Judging.{Exact, IsNoted, Refusal}
 use Rattle.journal.specs.declared.entry.Receipt.{Receipt}
-use Rattle.journal.specs.Passes.{AddsStep, AddsRefusal}
+use Rattle.journal.specs.declared.pass.Pass.{Pass}
+use Rattle.journal.specs.declared.row.Site.{Ghosts as SiteGhosts}
+use Rattle.journal.specs.Passes.{AddsStep, AddsRefusal, notes_of, steps_of}
 use Rattle.journal.specs.Standing.{Made}
 use Rattle.fleet_actors.specs.declared.halt.Halt.{Halt}
 use Rattle.fleet_actors.specs.declared.halt.Halt.TheVariants.{StaleCursor, Refused}
@@ -17,10 +19,14 @@ pub record AddsNote (event : Event) (fault : Fault) (steps : List Made) (before 
   pub silent : (IsNoted fault → ⊥) → after ≡ before
 
 -- what a step under both locks does to a pass
-abbrev pub Halts : Event → Result Receipt Halt → List Made → List Made → List Refusal → List Refusal → Type 0
-Halts event (Ok r) steps steps' notes notes' = AddsStep event r steps steps' × (notes' ≡ notes)
-Halts event (Err StaleCursor) steps steps' notes notes' = (steps' ≡ steps) × (notes' ≡ notes)
-Halts event (Err (Refused fault)) steps steps' notes notes' = (steps' ≡ steps) × AddsNote event fault steps notes notes'
+abbrev pub RecordsAttempt : Event → Result Receipt Halt → List Made → List Made → List Refusal → List Refusal → Type 0
+RecordsAttempt event (Ok r) steps steps' notes notes' = AddsStep event r steps steps' × (notes' ≡ notes)
+RecordsAttempt event (Err StaleCursor) steps steps' notes notes' = (steps' ≡ steps) × (notes' ≡ notes)
+RecordsAttempt event (Err (Refused fault)) steps steps' notes notes' = (steps' ≡ steps) × AddsNote event fault steps notes notes'
+
+-- the same of the pass itself, before and after
+abbrev pub PassRecords : {X : Type 0} {s : SiteGhosts X} → Event → Result Receipt Halt → Pass X s → Pass X s → Type 0
+PassRecords event result old new = RecordsAttempt event result (steps_of old) (steps_of new) (notes_of old) (notes_of new)
 
 -- the refusal is the one of the model
 abbrev pub IsExact : Plan → ℕ → ℕ → List Entry → Event → Result Receipt Halt → Type 0

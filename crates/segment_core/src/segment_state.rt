@@ -4,7 +4,7 @@ ghost use Rattle.std.specs.Prelude.{option_map};
 ghost use Rattle.std.specs.Arc.{arc_value};
 ghost use Rattle.lineage.specs.Lineage.{lineage_of};
 ghost use Rattle.segment_core.specs.Records.{records_of};
-ghost use Rattle.segment_core.specs.Told.{TellsAll, told_of};
+ghost use Rattle.segment_core.specs.Reported.{IsReported, contents_with};
 
 use crate::pending_insert::PendingInsert;
 use crate::records::Records;
@@ -18,64 +18,64 @@ use wire::Contents;
 
 /// What a segment holds, and its last report, which later reports share until a record comes.
 #[derive(Drop)]
-pub struct Held {
+pub struct SegmentState {
     /// The lineage.
     pub lineage: Lineage,
     /// Its records.
     pub records: Records,
     /// The last report's contents, if no record has come since.
-    told: Option<Arc<Contents>>,
-    ghost tells: { ∥ TellsAll (option_map arc_value told) (told_of lineage records) ∥₁ },
+    reported: Option<Arc<Contents>>,
+    ghost is_report: { ∥ IsReported (option_map arc_value reported) (contents_with lineage records) ∥₁ },
 }
 
-impl Held {
+impl SegmentState {
     ghost use Rattle.std.specs.Prelude.{◌≡◌, IfOk};
     ghost use Rattle.volume_model.specs.Node.{page_of};
     ghost use Rattle.volume_model.specs.Redo.{with_record};
     ghost use Rattle.redo_record.specs.SharedRecord.{shared_redo};
     ghost use Rattle.wire.specs.Contents.{contents_of};
-    ghost use Rattle.segment_core.specs.Held.{held_in, entered};
+    ghost use Rattle.segment_core.specs.SegmentState.{state_contents, entered};
     ghost use Rattle.segment_core.specs.Ordered.{StandsAt};
     ghost use Rattle.segment_core.specs.Records.{CanEnter};
 
     /// Returns this lineage and these records.
-    pub fn new(lineage: Lineage, records: Records) -> Held
-        ensures { held_in result ≡ told_of lineage records }
+    pub fn new(lineage: Lineage, records: Records) -> SegmentState
+        ensures { state_contents result ≡ contents_with lineage records }
     {
-        Held {
+        SegmentState {
             lineage,
             records,
-            told: None,
+            reported: None,
         }
     }
 
     /// Makes the state of these contents, which reports share. Fails only with `NoMemory`.
-    pub fn of(alloc: Global, contents: Arc<Contents>) -> Result<Held, AllocError>
-        ensures { IfOk result (λ held. held_in held ≡ contents_of (arc_value contents)) }
+    pub fn of(alloc: Global, contents: Arc<Contents>) -> Result<SegmentState, AllocError>
+        ensures { IfOk result (λ held. state_contents held ≡ contents_of (arc_value contents)) }
     {
         let lineage = contents.lineage.clone()?;
         let records = Records::from_set(alloc, &contents.records)?;
-        Ok(Held {
+        Ok(SegmentState {
             lineage,
             records,
-            told: Some(contents),
+            reported: Some(contents),
         })
     }
 
     /// All that is held, which is shared with later calls until a record comes. Fails only with `NoMemory`.
     pub fn contents(&mut self, alloc: Global) -> Result<Arc<Contents>, AllocError>
-        ensures contents { IfOk result (λ contents. contents_of (arc_value contents) ≡ held_in self.new) }
-        ensures same { held_in self.new ≡ held_in self.old }
+        ensures contents { IfOk result (λ contents. contents_of (arc_value contents) ≡ state_contents self.new) }
+        ensures same { state_contents self.new ≡ state_contents self.old }
     {
-        if let Some(told) = &self.told {
-            return told.clone();
+        if let Some(reported) = &self.reported {
+            return reported.clone();
         }
         let contents = Contents {
             lineage: self.lineage.clone()?,
             records: self.records.to_set(alloc)?,
         };
         let shared = Arc::new(alloc, contents)?;
-        self.told = Some(shared.clone()?);
+        self.reported = Some(shared.clone()?);
         Ok(shared)
     }
 
@@ -86,8 +86,8 @@ impl Held {
     /// `AllocError` if there is no memory.
     #[inline(always)]
     pub fn page(&mut self, alloc: Global, block: u32, point: u64) -> Result<[u8; BLOCK], AllocError>
-        ensures page { IfOk result (λ page. page ≡ page_of (held_in self.new).records block point) }
-        ensures same { held_in self.new ≡ held_in self.old }
+        ensures page { IfOk result (λ page. page ≡ page_of (state_contents self.new).records block point) }
+        ensures same { state_contents self.new ≡ state_contents self.old }
     {
         self.records.page(alloc, block, point)
     }
@@ -106,7 +106,7 @@ impl Held {
         requires { StandsAt place self.old.records.ordered (shared_redo packet.now) }
         ensures ready { IfOk result (λ pending_insert. CanEnter self.new.records pending_insert) }
         ensures packet { IfOk result (λ pending_insert. shared_redo pending_insert.packet ≡ shared_redo packet.now) }
-        ensures same { held_in self.new ≡ held_in self.old }
+        ensures same { state_contents self.new ≡ state_contents self.old }
     {
         self.records.prepare(alloc, place, packet)
     }
@@ -115,9 +115,9 @@ impl Held {
     #[inline(always)]
     pub fn enter(&mut self, pending_insert: PendingInsert)
         requires { CanEnter self.old.records pending_insert }
-        ensures { held_in self.new ≡ entered (shared_redo pending_insert.packet) (held_in self.old) }
+        ensures { state_contents self.new ≡ entered (shared_redo pending_insert.packet) (state_contents self.old) }
     {
-        self.told = None;
+        self.reported = None;
         self.records.enter(pending_insert);
     }
 }

@@ -11,7 +11,7 @@ const MEMBERS: usize = 64;
 
 /// The number of each actor's last entry, 0 if it has none.
 #[derive(Drop)]
-pub struct Lasts {
+pub struct LastEntries {
     /// The authority's number.
     authority: usize,
     /// Each client's number, by volume epoch. No client has volume epoch 0.
@@ -38,21 +38,21 @@ fn place(group: u8, member: u8) -> usize
     usize::from(group) * MEMBERS + usize::from(member)
 }
 
-impl Lasts {
+impl LastEntries {
     ghost use Rattle.std.specs.Prelude.{ℕ, ◌≡◌, ◌<◌, ◌≤◌, IfOk, IsSome, MatchBool, Some};
     ghost use Rattle.volume_model.specs.Actor.{Actor, same_actor};
     ghost use Rattle.volume_model.specs.Actor.Actor.{Client, Node};
     ghost use Rattle.world.specs.Slots.{members};
     ghost use Rattle.journal.specs.Actors.{seen_who};
-    ghost use Rattle.journal.specs.Lasts.{last_in, last_known};
+    ghost use Rattle.journal.specs.LastEntries.{last_in, last_known};
 
     /// Makes a table for clients of volume epochs up to `slots` and for the nodes of `groups` groups, all numbers 0.
-    pub(crate) fn new(alloc: Global, slots: u32, groups: u8) -> Result<Lasts, AllocError>
+    pub(crate) fn new(alloc: Global, slots: u32, groups: u8) -> Result<LastEntries, AllocError>
         ensures clients { IfOk result (λ l. (volume : ℕ) → volume ≤ slots → last_in l (Client volume) ≡ Some 0) }
         ensures nodes { IfOk result (λ l. (group member : ℕ) → group < groups → member < members → last_in l (Node group member) ≡ Some 0) }
         ensures none { IfOk result (λ l. (actor : Actor) → last_known l actor ≡ 0) }
     {
-        Ok(Lasts {
+        Ok(LastEntries {
             authority: 0,
             clients: none_yet(alloc, slots as usize + 1)?,
             nodes: none_yet(alloc, usize::from(groups) * MEMBERS)?,
