@@ -137,7 +137,7 @@ others_joined (h ∷ hs) = ap (λ l. others_of h ++ l) (others_joined hs)
 others_at : (hands : List Hand) (i j : ℕ) (h : Hand) (s : Sight) → slice_get hands i ≡ Some h → slice_get (others_of h) j ≡ Some s → (k : ℕ) × (slice_get (all_others hands) k ≡ Some s)
 others_at hands i j h s e f = let t = joined_at others_of hands i j h s e f in (t.0, ap (λ l. slice_get l t.0) (sym (others_joined hands)) ∙ t.1)
 
--- the views of a deque among those of hands, each of which has one, but for one hand
+-- the views of a deque among those of hands, each of which has one, except one hand
 module _ (d : ℕ) where
   abbrev Each : ℕ → List Hand → Type 0
   Each a hands = (i : ℕ) (h : Hand) → slice_get hands i ≡ Some h → (a + i ≡ d → tally d (others_of h) ≡ 0) × (a + i ≢ d → tally d (others_of h) ≡ 1)

@@ -224,7 +224,7 @@ pub takes_any : (old new : Hand) (r : Option ℕ) → IfSome r (λ c. GetsOne (c
 takes_any old new (Some c) g = takes_claim old new c g
 takes_any old new None g = tt
 
--- The deal stays where what is known of the deques does, but for the claims that were had.
+-- The deal stays where what is known of the deques does, except the claims that were had.
 module _ (old new : Hand) (same : map face (calms new.own new.others.items) ≡ map face (calms old.own old.others.items)) (out : own_out new.own ≡ own_out old.own) where
   faces : map face (sights_of new) ≡ map face (sights_of old)
   faces = sym (calm_faces new.own new.others.items) ∙ same ∙ calm_faces old.own old.others.items

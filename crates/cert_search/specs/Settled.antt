@@ -1,4 +1,4 @@
--- The hands of a deal are taken back, and what they have had is told.
+-- The hands of a deal are taken back, and what they have had is returned.
 use Rattle.std.specs.Prelude.{◌≡◌, ◌<◌, ℕ, ◌==◌, if◌then◌else◌, List, [], ◌∷◌, ◌++◌, map, length, Some, slice_get, true, ◌%◌}
 use mathlib.Core.Option.{some}
 use lib.ListN.{get_elem?}

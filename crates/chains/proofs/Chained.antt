@@ -18,7 +18,7 @@ use Rattle.chains.specs.PendingRecords.{waiters, IsPendingIn, AreReleased}
 use Rattle.chains.proofs.Rise.{is_in}
 use Rattle.chains.proofs.Releasing.{CanTell, keeps_number, one_waits, waits_still, waits_now, still_number, waited, not_woken, waits_on, reaches_number, woken_number}
 
--- whether a number is reached can be told
+-- whether a number is reached can be decided
 pub can_tell : (records : List Redo) → GroupLinksFall records → CanTell records
 can_tell records fall n =
     elim (cases_eq n 0) [
@@ -105,12 +105,12 @@ last_most (x ∷ y ∷ ys) d m g i = elim i [
       let s : length (x ∷ y ∷ ys) - 1 ≡ suc (length (y ∷ ys) - 1) = omega arith in rw s (omega arith))
 ]
 
--- what wakes what in one way does so in a wider one
+-- what releases what in one way does so in a wider one
 wakes_as : (V W : ℕ → ℕ → Type 0) (n : ℕ) → ((k m : ℕ) → V k m → W k m) → (m : ℕ) → IsReleased V n m → IsReleased W n m
 wakes_as V W n to m itself = itself
 wakes_as V W n to m (next k j w h) = next k j (wakes_as V W n to k w) (to k j h)
 
--- a record lands, and wakes those that waited for it
+-- a record lands, and releases those that waited for it
 module _ (r : Redo) (records : List Redo) (released : List ℕ) (old : Chains) (near : IsReached records r.prev_group) (fall : GroupLinksFall (with_record r records)) (are : AreReleased (IsPendingIn old.pending) r.lsn released) (c : AreChainsOf records old) where
   abbrev all : List Redo
   all = with_record r records
@@ -124,7 +124,7 @@ module _ (r : Redo) (records : List Redo) (released : List ℕ) (old : Chains) (
   woke : (n : ℕ) → IsReleased (IsPending records) r.lsn n → IsIn n released
   woke n w = are.each n (wakes_as (IsPending records) (IsPendingIn old.pending) r.lsn c.kept n w)
 
-  -- the greatest number that is woken is the complete point, where it is above the old one
+  -- the greatest number that is released is the complete point, where it is above the old one
   pub point_lands : (last : ℕ) → last ≡ get_or released (length released - 1) last → max old.point last ≡ scl (with_record r records)
   point_lands last at = one_greatest (IsGroundedNumber all) (IsGroundedNumber all) (max old.point last) (scl all) (λ n p. p) (λ n p. p) greatest (complete_point_is_greatest all fall)
     where

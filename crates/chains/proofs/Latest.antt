@@ -1,4 +1,4 @@
--- Who has come to wait of late.
+-- Who has begun to wait recently.
 use Rattle.std.proofs.Common.{◌≡◌, ◌≢◌, ℕ, suc, ◌+◌, ◌<◌, ◌==◌, ◌||◌, not, MatchBool, Bool, true, false, if◌then◌else◌, List, [], ◌∷◌, ◌++◌, length, drop, get_or, refl, sym, ap, ◌∙◌, subst, inl, inr, arith}
 use Rattle.std.proofs.lemmas.Bool.{cases_Bool, true≢false}
 use Rattle.std.proofs.lemmas.Bool.Decides.{nat_tests}
@@ -38,7 +38,7 @@ pub is_behind : (m : ℕ) (xs ys : List ℕ) → IsIn m ys → IsIn m (xs ++ ys)
 is_behind m [] ys i = i
 is_behind m (x ∷ xs) ys i = inr (is_behind m xs ys i)
 
--- where there are no later ones the earlier ones tell
+-- where there are no later ones the earlier ones decide
 pub told_by : (xs ys : List ℕ) → ys ≡ [] → MatchBool (not (length xs == 0)) ((m : ℕ) × IsIn m (xs ++ ys)) ((m : ℕ) → IsIn m (xs ++ ys) → ⊥)
 told_by [] ys none = λ m i. subst (IsIn m) none i
 told_by (x ∷ xs) ys none =
@@ -49,11 +49,11 @@ same_any : (test : ℕ → Bool) (ns : List ℕ) → list_any test ns ≡ any te
 same_any test [] = refl
 same_any test (n ∷ ns) = ap (λ b. test n || b) (same_any test ns)
 
--- whoever waits for a number that isn't woken
+-- whoever waits for a number that isn't released
 abbrev pub is_left : List ℕ → PendingRecord → Bool
 is_left released w = not (list_any (λ n. n == w.before) released)
 
--- those that waited for a woken number are gone, and all others are left
+-- those that waited for a released number are gone, and all others are left
 pub left_over : (released : List ℕ) (pending : List PendingRecord) (k : ℕ) → recent_waiters (filter (is_left released) pending) k ≡ (if any (λ n. n == k) released then [] else recent_waiters pending k)
 left_over released [] k = elim (cases_Bool (any (λ n. n == k) released)) [ inl e ↦ rw e refl | inr e ↦ rw e refl ]
 left_over released (w ∷ pending) k =

@@ -1,4 +1,4 @@
--- How the numbers that one wakes are gathered.
+-- How the numbers that one releases are gathered.
 use Rattle.std.proofs.Common.{◌≡◌, ℕ, suc, ◌<◌, ◌≤◌, ◌+◌, ◌⊎◌, List, [], ◌∷◌, length, get_or, refl, sym, ap, ◌∙◌, subst, inl, inr, arith, le_refl}
 use Rattle.std.proofs.lemmas.Bool.{cases_lt}
 use Rattle.volume_model.specs.Lists.{IsIn}
@@ -7,7 +7,7 @@ use Rattle.chains.specs.Pending.{IsReleased}
 use Rattle.chains.specs.Pending.IsReleased.{itself, next}
 use Rattle.chains.proofs.Rise.{is_in, with_number-keeps, with_number-from, with_number-growing, with_number-longer, with_number-front}
 
--- numbers in growing order, all woken by the first
+-- numbers in growing order, all released by the first
 pub record AreSome (pending : ℕ → ℕ → Type 0) (n : ℕ) (xs : List ℕ) : Type 0 where
   pub growing : AreGrowing xs
   pub only : (m : ℕ) → IsIn m xs → IsReleased pending n m
@@ -47,7 +47,7 @@ module _ (pending : ℕ → ℕ → Type 0) (n : ℕ) where
     start = with_number-keeps m xs n some.start;
   }
 
-  -- once each is closed all that are woken are there
+  -- once each is closed all that are released are there
   pub all_there : (xs : List ℕ) → AreSome pending n xs → AreClosed pending xs (length xs) → (m : ℕ) → IsReleased pending n m → IsIn m xs
   all_there xs some closed m itself = some.start
   all_there xs some closed m (next k j w h) = let (i, l, e) = place_of xs k (all_there xs some closed k w) in closed i 0 m l (subst (λ z. pending z m) (sym e) h)

@@ -1,4 +1,4 @@
--- What is left of who waits, once some are woken.
+-- What is left of who waits, once some are released.
 use Rattle.std.proofs.Common.{◌≡◌, ℕ, Bool, ◌==◌, cond, List, [], ◌∷◌, if◌then◌else◌, None, refl, ap, ◌∙◌, inl, inr, arith, ◌<◌, ◌++◌, ◌⊎◌, subst, true, false}
 use Rattle.std.proofs.lemmas.Bool.{cases_Bool, eqb-true}
 use Rattle.std.proofs.lemmas.Bool.Decides.{nat_tests}
@@ -8,7 +8,7 @@ use Rattle.volume_model.specs.Lists.{any, IsIn}
 use Rattle.chains.specs.declared.waiters.Waiters.{Waiters}
 use Rattle.chains.specs.Listed.{numbers_in}
 
--- a number is found by itself, and by no other
+-- a number is found on its own, and by no other
 pub found_by : (x k : ℕ) → is_at (nat_cmp x) k ≡ (x == k)
 found_by x k = grind (arith, nat_tests)
 
@@ -20,7 +20,7 @@ taken_out old new x is k =
       | inr e ↦ rw e (ap numbers_in (is k ∙ ap (λ b. cond b None (get nat_cmp old k)) (found_by x k ∙ e)))
     ]
 
--- one is woken, and then the others
+-- one is released, and then the others
 pub one_and_others : (x : ℕ) (rest : List ℕ) (old new : ℕ → List ℕ) → ((k : ℕ) → new k ≡ (if x == k then [] else old k)) → (k : ℕ) → (if any (λ n. n == k) rest then [] else new k) ≡ (if any (λ n. n == k) (x ∷ rest) then [] else old k)
 one_and_others x rest old new is k =
     elim (cases_Bool (x == k)) [

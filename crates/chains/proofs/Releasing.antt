@@ -7,7 +7,7 @@ use Rattle.volume_model.proofs.Records.{with_record-has, with_record-keeps, with
 use Rattle.chains.specs.Pending.{IsReached, IsPending, IsReleased}
 use Rattle.chains.specs.Pending.IsReleased.{itself, next}
 
--- whether a number is reached can be told
+-- whether a number is reached can be decided
 abbrev pub CanTell : List Redo → Type 0
 CanTell records = (n : ℕ) → IsReached records n ⊎ (IsReached records n → ⊥)
 
@@ -67,7 +67,7 @@ module _ (r : Redo) (records : List Redo) where
     abbrev pub Released : ℕ → Type 0
     Released = IsReleased (IsPending records) r.lsn
 
-    -- a number that is grounded now was so before, or is woken
+    -- a number that is grounded now was so before, or is released
     reaches : (q : Redo) → IsGrounded all q → IsGroundedNumber records q.lsn ⊎ Released q.lsn
     reaches t (from_none q i e) = elim (with_record-from r records q i) [
       | inl p ↦ inr (subst (λ (s : Redo). Released s.lsn) (sym p) itself)
@@ -92,7 +92,7 @@ module _ (r : Redo) (records : List Redo) where
     lands (inl z) = from_none r (with_record-has r records) z
     lands (inr p) = let (b, g, e) = p in from_one r b (with_record-has r records) g e
 
-    -- what is woken is grounded
+    -- what is released is grounded
     pub woken_number : (n : ℕ) → Released n → IsGroundedNumber all n
     woken_number n itself = (r, lands (keeps_reached r.prev_group near), refl)
     woken_number n (next k m w pending) =
@@ -100,7 +100,7 @@ module _ (r : Redo) (records : List Redo) where
         let (off, (q, i, a, c)) = pending in
         (q, from_one q b (with_record-keeps r records q i) g (e ∙ sym a), c)
 
-    -- those wait that waited before, for a number that isn't woken
+    -- those wait that waited before, for a number that isn't released
     pub waited : (k m : ℕ) → IsPending all k m → IsPending records k m
     waited k m w =
         let (off, (q, i, a, b)) = w in

@@ -1,4 +1,4 @@
--- What tells whether a number is reached.
+-- What decides whether a number is reached.
 use Rattle.std.proofs.Common.{◌≡◌, ◌≢◌, ℕ, ◌==◌, true, false, List, [], ◌∷◌, refl, sym, ◌∙◌, subst, inl, inr, le_refl}
 use Rattle.std.proofs.lemmas.Bool.{cases_Bool, or_cases, or_left, or_right, true≢false, eqb-true, eq-eqb}
 use Rattle.volume_model.specs.Lists.{IsIn}
@@ -54,7 +54,7 @@ module _ (records : List Redo) (fall : GroupLinksFall records) where
   pub point-reached : IsReached records (scl records)
   point-reached = (complete_point_is_greatest records fall).is_one
 
--- a number for which nobody waits wakes nobody else
+-- a number for which nobody waits releases nobody else
 pub wakes_none : (pending : ℕ → ℕ → Type 0) (n : ℕ) → ((m : ℕ) → pending n m → ⊥) → AreReleased pending n (n ∷ [])
 wakes_none pending n none = record {
   growing = ((λ y i. absurd i), tt);

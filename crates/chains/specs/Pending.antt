@@ -20,7 +20,7 @@ IsLink records k m = (r : Redo) × IsIn r records × (r.prev_group ≡ k) × (r.
 abbrev pub IsPending : List Redo → ℕ → ℕ → Type 0
 IsPending records k m = (IsReached records k → ⊥) × IsLink records k m
 
--- The numbers that one number wakes: itself, and those that wait for a number that is woken.
+-- The numbers that one number releases: itself, and those that wait for a number that is released.
 pub data IsReleased (pending : ℕ → ℕ → Type 0) (n : ℕ) : ℕ → Type 0 where
   itself : IsReleased pending n n
   next : (k m : ℕ) → IsReleased pending n k → pending k m → IsReleased pending n m

@@ -19,7 +19,7 @@ IsPendingIn pending k m = IsIn m (waiters pending k)
 abbrev pub HasRoomFor : ℕ → PendingRecords → Type 0
 HasRoomFor k pending = length pending.recent.items < vec_capacity pending.recent
 
--- the list has exactly those that the number wakes, and it itself, in growing order
+-- the list has exactly those that the number releases, and it itself, in growing order
 pub record AreReleased (pending : ℕ → ℕ → Type 0) (n : ℕ) (released : List ℕ) : Type 0 where
   pub growing : AreGrowing released
   pub only : (m : ℕ) → IsIn m released → IsReleased pending n m

@@ -1,4 +1,4 @@
--- Who has come to wait of late.
+-- Who has begun to wait recently.
 use Rattle.std.specs.Prelude.{ℕ, ◌==◌, if◌then◌else◌, List, [], ◌∷◌}
 use Rattle.chains.specs.declared.pending_record.PendingRecord.{PendingRecord}
 

@@ -1,4 +1,4 @@
--- What is told of orders, and how many of them were made and refused.
+-- The result of orders, and how many of them were made and refused.
 use Rattle.std.specs.Prelude.{◌+◌, Bool, true, false, Result, Ok, Err}
 use Rattle.volume_model.specs.declared.fault.Fault.{Fault}
 use Rattle.volume_model.specs.declared.fault.Fault.TheVariants.{NoMemory}

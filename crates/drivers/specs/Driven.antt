@@ -13,7 +13,7 @@ abbrev pub replays : Plan → List Event → ℕ → Bool
 replays plan events steps = not (list_any (λ event_result. is_err event_result) (results plan (opening plan) events)) && (length events == steps)
 
 -- The threads left a journal, a run of the model over the plan, of which every promise of the volume holds. Each event of the
--- script was made or refused. What is told is how that journal's run ends, and whether it refuses nothing and has as many
+-- script was made or refused. The result is how that journal's run ends, and whether it refuses nothing and has as many
 -- steps as were made.
 pub record IsDriven (plan : Plan) (orders : ℕ) (driven : Driven) : Type 0 where
   pub entries : List Entry

@@ -40,7 +40,7 @@ impl CompletionSlot {
         }
     }
 
-    /// Sets the completion and wakes all threads that sleep on the slot.
+    /// Sets the completion and releases all threads that sleep on the slot.
     pub fn set(&self, completion: Completion) {
         let state = match completion {
             Completion::Made { first, count } => {

@@ -48,7 +48,7 @@ found_there made action.Open found is = tt
 found_there made (action.Resend lsn) found is = tt
 found_there made (action.Read group block) found is = tt
 
--- the step of a deed is that of the client's answer
+-- the step of an action is that of the client's answer
 deed_step : (plan : Plan) (w : World) (volume : ℕ) (asked : ClientAction) (found : Option model.Message) → IsFound w.messages asked found
     → step plan w (event_by volume asked) ≡ of_client w volume (action_acted found asked plan volume (w.clients volume))
 deed_step plan w volume (action.Issue changes) found is = refl

@@ -15,7 +15,7 @@ use Rattle.fleet_actors.specs.declared.client_action.ClientAction.TheVariants as
 use Rattle.fleet_actors.specs.Actions.{action_acted, HasFound}
 use Rattle.fleet_actors.specs.Attempts.{JudgedOf}
 
--- a client finds its refusals by itself
+-- a client finds its refusals on its own
 pub deed_own : (asked : ClientAction) (found : Option Message) (plan : Plan) (volume : ℕ) (now : Client) → HasFound asked found → Refuses IsOwnOfClient (action_acted found asked plan volume now)
 deed_own (action.Issue changes) found plan volume now has = issued_own plan volume now (changes_of changes.items)
 deed_own (action.Take message) None plan volume now has = absurd cc

@@ -83,7 +83,7 @@ pub failed : (answer : NodeAnswer) (fault : Fault) → answer ≡ Err fault → 
 failed answer NoMemory h = tt
 failed answer fault h = h
 
--- a node doesn't refuse for want of a message
+-- a node doesn't refuse for lack of a message
 pub not_lost : (answer : NodeAnswer) (fault : Fault) → Refuses IsOwn answer → Fails fault answer → fault ≢ NoMessage
 not_lost answer fault own fails e = subst (Refuses IsOwn) (subst (λ (f : Fault). Fails f answer) e fails) own
 
@@ -152,7 +152,7 @@ pub same_of : (plan : Plan) (g m : ℕ) (old new : Segment) → IsSegmentOf plan
 same_of plan g m old new of same =
     record { plan_is = same.plan_is ∙ of.plan_is; group_is = same.group_is ∙ of.group_is; member_is = same.member_is ∙ of.member_is }
 
--- want of memory, or the refusal that is defined
+-- running out of memory, or the refusal that is defined
 late_fails : {R S T : Type 0} (late : Fault → Bool) (step : R → S → T) (defined : Result T Fault) (old new : S) (fault : Fault) → AnswersAfterGrowth late step defined old (Err fault) new → Fails fault defined
 late_fails late step defined old new NoMemory h = tt
 late_fails late step defined old new fault h = h.0

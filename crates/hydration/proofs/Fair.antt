@@ -40,11 +40,11 @@ low n h = grind (arith, nat_tests)
 high : (n : ℕ) → 64 ≤ n → nat_le 64 n ≡ true
 high n h = le-leb 64 n h
 
--- what a piece comes to, by both tests
+-- what a piece amounts to, by both tests
 abbrev tested : CopyReport → List Copy → Bool → Bool → Result (List Copy) Fault
 tested report copies unknown bad = refuse_if unknown NotAddressed (refuse_if bad BadPiece (Ok (with_report report copies)))
 
--- what a piece comes to: its sender is no member, it can't be a piece, or it is kept
+-- what a piece amounts to: its sender is no member, it can't be a piece, or it is kept
 pub kept-unknown : (report : CopyReport) (copies : List Copy) → 64 ≤ report.from → kept_after report copies ≡ Err NotAddressed
 kept-unknown report copies h = ap (λ unknown. tested report copies unknown (is_bad report copies)) (high report.from h)
 

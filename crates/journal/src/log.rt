@@ -472,7 +472,7 @@ impl<'a, L: Site> Log<'a, L> {
         pass.note(event, fault, self.entries.len());
     }
 
-    // Each step and each note of the pass is told by the journal.
+    // Each step and each note of the pass is in the journal.
     fn check(&mut self, pass: &mut Pass<'a, L>)
         ensures log { self.new.entries ≡ self.old.entries }
         ensures stands { All (Stands L.plan (journal_of self.old)) (steps_of pass.old) }

@@ -20,7 +20,7 @@ use wire::Contents;
 /// The bytes of a record's numbers, which stand before the bytes that it writes.
 const HEAD_BYTES: usize = 45;
 
-/// Reads a record, which tells its own length in its last number.
+/// Reads a record, which gives its own length in its last number.
 #[tactic(auto, unfolding(crate::specs::Contents::redo_at))]
 pub fn packet_of(alloc: Global, bytes: &[u8]) -> Result<(SharedRecord, &[u8]), Fault>
     ensures { Gives (λ x. (shared_redo x.0, x.1.now)) result (redo_at bytes.now) }

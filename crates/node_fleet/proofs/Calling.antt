@@ -1,4 +1,4 @@
--- What a try of a call tells of the call.
+-- What an attempt says of the call.
 use Rattle.std.proofs.Common.{◌≡◌, ℕ, List, Result, Err, refl, ap, ◌∙◌, subst}
 use Rattle.volume_model.specs.declared.fault.Fault.{Fault}
 use Rattle.volume_model.specs.declared.fault.Fault.TheVariants.{NoMessage}
@@ -23,7 +23,7 @@ pub adds_first : (event asked : Event) (r : Receipt) (first steps steps' : List 
 adds_first event asked r first steps steps' notes notes' before is same kept recorded =
     (subst (λ (e : Event). AddsStep e r first steps') is (subst (λ (s : List Made). AddsStep asked r s steps') same recorded.0), recorded.1 ∙ kept)
 
--- what a deed raises
+-- what an action raises
 pub raises_by : (volume : ℕ) (asked : ClientAction) (durable : ℕ) (seat seat' : List BoardStep) → Raises asked durable seat seat' → RaisesBy (event_by volume asked) durable seat seat'
 raises_by volume (action.Issue changes) durable seat seat' h = h
 raises_by volume (action.Take message) durable seat seat' h = h
@@ -49,6 +49,6 @@ records_refused event halt fault steps steps' notes notes' is recorded = subst (
 pub lost_halt : (halt : Halt) (fault : Fault) → halt ≡ Refused fault → fault ≡ NoMessage → halt ≡ Refused NoMessage
 lost_halt halt fault is lost = is ∙ ap Refused lost
 
--- what is told of a message that is not there
+-- the result of a message that is not there
 pub unmade_names : (volume : ℕ) (asked : ClientAction) (steps : List Made) (halt : Halt) → IsUnmade asked steps (Err halt) → halt ≡ Refused NoMessage → NamesElse (event_by volume asked) steps
 unmade_names volume asked steps halt unmade is = names_else volume asked steps (unmade (ap (λ (h : Halt). let r : Result Receipt Halt = Err h in r) is))

@@ -33,7 +33,7 @@ impl<'a, L: FleetSite> Fleet<'a, L> {
         self.nodes[slot].as_ref()
     }
 
-    // Refuses the event of a node that isn't there: the plan doesn't name it, or its group hasn't joined. Want of memory is
+    // Refuses the event of a node that isn't there: the plan doesn't name it, or its group hasn't joined. Running out of memory is
     // told, and not noted.
     fn refuse_missing(&self, log: &mut Log<'a, L>, pass: &mut Pass<'a, L>, event: Event) -> Fault
         requires missing { refusal (step L.plan (world_of log.old) (event_of event)) ≡ 82 }

@@ -59,7 +59,7 @@ module _ (claims_of : ℕ → Result (List PlacedClaim) PlanFault) (count : ℕ 
         ))
       ]
 
--- ---- the same configurations, but for their certificates
+-- ---- the same configurations, except their certificates
 
 parent-same : (xs : List ConfigurationData) (rules : List (Option Rule)) (c : ℕ) → (configuration_at (configurations_with xs rules) c).parent ≡ (configuration_at xs c).parent
 parent-same [] rules c = refl

@@ -20,7 +20,7 @@ use Rattle.plan.proofs.RereadPlan.{AreRead, IsBorn, header_of-ok, header_of-obje
 use Rattle.plan.proofs.Rewrites.{value-nests}
 use Rattle.plan.proofs.GoodParents.{parents-good}
 
--- both values spell these fields, but for certificates
+-- both values spell these fields, except certificates
 record SameFields (d y : Data) : Type 0 where
   fields : Fields
   old : own_fields d ≡ Ok fields
@@ -36,7 +36,7 @@ configuration-kept c d y vs h =
       new = ap (λ (r : Result Fields Fault). r >>= λ g. Ok (without_certificates g)) (fields_of-object f.0 (meets_value c vs) (step_value c vs));
     })
 
--- both lists spell these configurations, but for certificates
+-- both lists spell these configurations, except certificates
 record SameEach (ds ys : Items) : Type 0 where
   each : List Fields
   old : each_own ds ≡ Ok each
@@ -75,7 +75,7 @@ group-kept d ds y vs items h =
       new = ap (λ (r : Result Items Fault). r >>= each_own) (group_items-object all.0 few) ∙ kept.new;
     })
 
--- both lists spell these groups, but for certificates
+-- both lists spell these groups, except certificates
 record SameGroups (ds ys : Items) : Type 0 where
   groups : List (List Fields)
   old : groups_own ds ≡ Ok groups
@@ -104,7 +104,7 @@ groups-kept (item d ds) ys vs h =
       counted = ap suc there.counted;
     })
 
--- both values spell this plan, but for certificates
+-- both values spell this plan, except certificates
 record SameValues (d y : Data) : Type 0 where
   values : OwnValues
   old : own_values d ≡ Ok values
@@ -132,7 +132,7 @@ plan-kept d y vs h =
           ∙ ap (λ (r : Result (List (List Fields)) Fault). r >>= λ gs. Ok (record { format = format; lal = lal; born = born; groups = gs })) kept.new;
     })
 
--- The bytes that are written spell the values of the text, but for certificates.
+-- The bytes that are written spell the values of the text, except certificates.
 pub keeps-values : (text bytes : List ℕ) (d y : Data) (plan : PlanData) (claims : List PlacedClaim) (vs : List Data) (rs : List (Option Rule)) → value_of text ≡ Ok d → plan_in d ≡ Ok plan → claims_in plan ≡ Ok claims → AreRead vs rs → plan_written d vs ≡ Ok y
     → IsUtf8 bytes → (depth y ≤ max_depth → read bytes ≡ Some y) → KeepsValues text bytes
 keeps-values text bytes d y plan claims vs rs value is listed h written utf8 back =

@@ -30,7 +30,7 @@ pub shape-refused : {X : Type 0} (view : X → List PlacedClaim) (g c : ℕ) (gr
 shape-refused view g c group (Ok x) fault found h = absurd h
 shape-refused view g c group (Err f) fault found h = λ other. ap (λ o. unless o (claims_at g group c)) (found (λ out. other (h ∙ out))) ∙ ap Err (sym h)
 
--- want of memory fits each definition
+-- running out of memory fits each definition
 pub wants : {X Y : Type 0} (view : X → Y) (r : Result X PlanFault) (defined : Result Y PlanFault) → IsErrAnd r (λ f. f ≡ Text NoMemory) → Reads view r defined
 wants view (Ok x) defined h = absurd h
 wants view (Err f) defined h = λ other. absurd (other h)

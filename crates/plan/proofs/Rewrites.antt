@@ -92,7 +92,7 @@ compact text bytes d y plan claims vs rs value is listed h written utf8 back pla
     let shallow : depth y ≤ max_depth = subst (λ z. depth z ≤ max_depth) same (again.nests max_depth (value-nests text d value) (omega arith)) in
     (y, is_json bytes y utf8 (back shallow), plain)
 
--- want of memory alone keeps the value from being written
+-- only running out of memory keeps the value from being written
 only-memory : (fault : Fault) (y : Data) → Fails fault (Ok y) → fault ≡ NoMemory
 only-memory NoMemory y h = refl
 only-memory fault y h = absurd (cc)

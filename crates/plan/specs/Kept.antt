@@ -34,6 +34,6 @@ pub record OwnValues : Type 0 where
 unfoldable pub own_values : Data → Result OwnValues Fault
 own_values d = header_of d >>= λ h. groups_own h.groups >>= λ gs. Ok (record { format = h.format; lal = h.lal; born = h.born; groups = gs })
 
--- The bytes spell the same values as the text, but for certificates.
+-- The bytes spell the same values as the text, except certificates.
 abbrev pub KeepsValues : List ℕ → List ℕ → Type 0
 KeepsValues text bytes = IsOkAnd (value_of text >>= own_values) (λ values. (json_of bytes >>= own_values) ≡ Ok values)

@@ -29,7 +29,7 @@ order-more x y xs ys o is = record {
     same-more : (x y : ℕ) (o : Ordering) (b : Bool) → is_eq o ≡ b → is_eq (ordering_then (nat_cmp x y) o) ≡ (x == y && b)
     same-more x y o b e = grind (arith, nat_tests)
 
--- the same, of a test that is told
+-- the same, of a test with a result
 pub order-then : (x y : ℕ) (xs ys : List ℕ) (first rest : Ordering) → first ≡ nat_cmp x y → IsOrderOf xs ys rest → IsOrderOf (x ∷ xs) (y ∷ ys) (ordering_then first rest)
 order-then x y xs ys first rest e is = subst (λ (o : Ordering). IsOrderOf (x ∷ xs) (y ∷ ys) (ordering_then o rest)) (sym e) (order-more x y xs ys rest is)
 

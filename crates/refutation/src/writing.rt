@@ -221,7 +221,7 @@ fn branches_json<A: Allocator>(
     Ok(list)
 }
 
-/// The JSON of a certificate, which is read back as that certificate. It nests at most 81 deep. Fails for want of memory alone.
+/// The JSON of a certificate, which is read back as that certificate. It nests at most 81 deep. Fails only if memory runs out.
 pub fn write_certificate<A: Allocator>(
     alloc: Global,
     certificate: &Certificate<A>,

@@ -124,7 +124,7 @@ starts_empty text script indexes no_steps no_orders no_indexes =
 pub next_line : (rest line after : List ℕ) → IsFirstLine rest line after → IsNext rest line after (length rest - length after)
 next_line rest line after f = record { first = f.first; pieces_are = f.pieces_are; long = length-take-le (length rest - length after) rest (omega (arith, f.shorter)) }
 
--- a line that asks for something says a deed that asks for it
+-- a line that asks for something says an action that asks for it
 pub action_seen : (there : Option LineAction) (events : List (Option ℕ)) (asks : Seen) → option_map (seen_action events) there ≡ Some asks → (action : LineAction) × (there ≡ Some action) × (seen_action events action ≡ asks)
 action_seen None events asks e = absurd cc
 action_seen (Some action) events asks e = let same : seen_action events action ≡ asks = cc in (action, refl, same)

@@ -86,7 +86,7 @@ abbrev pub stop_at : Fault → ℕ → ScriptFault
 stop_at faults.NoMemory line = script.NoMemory
 stop_at fault line = script.Line line
 
--- the program's script is that of these deeds
+-- the program's script is that of these actions
 pub record Keeps (script : Script) (actions : List LineAction) : Type 0 where
   pub steps_are : script.steps.items ≡ (kept_of actions).steps
   pub orders_are : map asked_by script.orders.items ≡ (kept_of actions).asked

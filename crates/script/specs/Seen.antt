@@ -42,7 +42,7 @@ abbrev pub take_from : ℕ → ℕ → Option ℕ → Asked
 take_from volume place (Some event) = Asked.TakeFrom volume event place
 take_from volume place None = Asked.Fixed (model.Event.Take volume 0)
 
--- what a deed asks for, where these are the indexes of the earlier lines' events
+-- what an action asks for, where these are the indexes of the earlier lines' events
 abbrev pub seen_action : List (Option ℕ) → LineAction → Seen
 seen_action events Nothing = Seen.Silent
 seen_action events Pauses = Seen.Pause

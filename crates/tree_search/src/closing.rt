@@ -1,4 +1,4 @@
-//! Which pairs of subexpressions of the two sides can be closed, each pair by itself: the one can't hold, they are one member, two
+//! Which pairs of subexpressions of the two sides can be closed, each pair on its own: the one can't hold, they are one member, two
 //! choices have enough pairs of children that close, or a choice has enough children that close with the other.
 
 use crate::grid::Grid;

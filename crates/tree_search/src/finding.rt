@@ -46,7 +46,7 @@ fn closing_of<A: Allocator, B: Allocator + Clone>(
     Ok(closing)
 }
 
-/// Returns what refutes a claim whose two expressions close by themselves.
+/// Returns what refutes a claim whose two expressions close on their own.
 fn whole<B: Allocator>(
     search: &mut Search<Global>,
     closing: &Closing<B>,
@@ -89,7 +89,7 @@ fn searched<A: Allocator, B: Allocator + Clone>(
 }
 
 /// Returns a tree that is to refute a claim, or none where the search gave up: first by the pairs of its
-/// subexpressions that close, each by itself, then by the rules that look at items and by the cases of members. The
+/// subexpressions that close, each on its own, then by the rules that look at items and by the cases of members. The
 /// budget bounds how many nodes are tried, and with them the steps, and so the time and the memory of all of it.
 /// Tables and items lie in the arena, and so does a tree that isn't read off the pairs.
 ///

@@ -212,7 +212,7 @@ fn pick_some<A: Allocator, B: Allocator + Clone>(
     Ok(None)
 }
 
-/// Returns the pairs of children of two thresholds that close, each by itself, and for each left child a bit for each
+/// Returns the pairs of children of two thresholds that close, each on its own, and for each left child a bit for each
 /// right child with which it does.
 #[cycle(rules)]
 fn close_pairs<A: Allocator, B: Allocator + Clone>(

@@ -17,7 +17,7 @@ use Rattle.volume_model.specs.Actor.{actor_of, Agree, Keeps, JoinedAlike}
 use Rattle.volume_model.specs.StepResults.{answer, makes, refusal}
 use Rattle.volume_model.proofs.ListFacts.{by_test, numbered_kept}
 
--- what is told of a step of each kind of actor
+-- the result of a step of each kind of actor
 abbrev pub authority_answer : Result AuthorityStep Fault → Result (List Message) Fault
 authority_answer (Err fault) = Err fault
 authority_answer (Ok s) = Ok s.made
@@ -42,13 +42,13 @@ of_node-answer : (w : World) (g m : ℕ) (r : NodeAnswer) → answer (of_node w 
 of_node-answer w g m (Err fault) = refl
 of_node-answer w g m (Ok s) = refl
 
--- a message that was found stays the same, unless what is told is what is told of none
+-- a message that was found stays the same, unless the result is the result of none
 same_message : {B : Type 0} (f : Option Message → B) (none : B) → f None ≡ none → (w v : World) → Keeps w v → (n : ℕ) → f (numbered w.messages n) ≢ none → (o : Option Message) → numbered w.messages n ≡ o → numbered v.messages n ≡ numbered w.messages n
 same_message f none e w v k n found None is = absurd (found (ap f is ∙ e))
 same_message f none e w v k n found (Some x) is = numbered_kept w.messages v.messages k n x is ∙ sym is
 
 module _ (plan : Plan) where
-  -- what is told of each kind, where the actors are one
+  -- the result of each kind, where the actors are one
   authority_alike : (w v : World) (r s : Result AuthorityStep Fault) → r ≡ s → answer (of_authority v s) ≡ answer (of_authority w r)
   authority_alike w v r s e = of_authority-answer v s ∙ ap authority_answer (sym e) ∙ sym (of_authority-answer w r)
 

@@ -220,7 +220,7 @@ module _ (plan : Plan) (certified : IsCertified plan) (events : List Event) wher
   pub known : IsKeptWorld plan end
   known = run_kept plan certified events (opening plan) (opening_kept plan certified)
 
-  -- what its members held when they told their copies
+  -- what its members held when they made their copies
   abbrev pub held : Held
   held = known.held
 

@@ -108,7 +108,7 @@ module _ (plan : Plan) (certified : IsCertified plan) {held : Held} (world : Wor
     copy_covers (k ∷ older) history within f x s p c (inr i) h (inr late) =
         copy_covers older history.1 (λ k' j. within k' (inr j)) f x s p c i h (inr late)
 
-    -- what a later client is told by a node that wrote, or that is late
+    -- what a later client receives from a node that wrote, or that is behind
     report_covers : (l : Label) (x : ℕ) (q : Contents) → IsMade world (Report group l x q) → v < l.volume → (writers x ≡ true) ⊎ IsLate plan group line e x → Covers world group v m q
     report_covers l x q i h (inl w) =
         let (a, s, p, k, made) = acked x w in
@@ -151,7 +151,7 @@ module _ (plan : Plan) (certified : IsCertified plan) {held : Held} (world : Wor
       above : n ≤ origin.cut
       same : up_to n (log_of world later) ≡ up_to n (log_of world v)
 
-    -- some report that a later client kept tells of the record
+    -- some report that a later client kept has the record
     event_result : (later : ℕ) → v < later → (h : HasParent plan world later) → (s : Redo) → IsIn s (log_of world v) → s.lsn ≤ n → (from : From) × IsIn from (reports_of (world.clients later).groups s.group) × IsCopy world s.group from.contents × Covers world s.group v s.lsn from.contents × (last_epoch from.contents.lineage ≤ h.parent)
     event_result later below h s i l =
         let group : ℕ = s.group in

@@ -76,7 +76,7 @@ pub record IsSource (source q : Contents) : Type 0 where
   pub epoch : last_epoch source.lineage ≤ last_epoch q.lineage
   pub records : last_epoch source.lineage ≡ last_epoch q.lineage → (r : Redo) → IsIn r source.records → IsIn r q.records
 
--- what a member of a group held when it told its copy of a number
+-- what a member of a group held when it made its copy of a number
 abbrev pub Held : Type 0
 Held = ℕ → ℕ → ℕ → Contents
 

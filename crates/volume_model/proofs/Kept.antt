@@ -53,11 +53,11 @@ pub record IsWhole (plan : Plan) (held : Held) (world : World) (group x : ℕ) (
   pub sourced : IsSourced plan held world world.messages group x node.contents
   pub ordered : IsOrdered node.contents.records
 
--- a member told this piece of its copy at an epoch
+-- a member sent this piece of its copy at an epoch
 abbrev pub IsCopyOfPiece : World → ℕ → ℕ → ℕ → ℕ → Piece → Contents → Type 0
 IsCopyOfPiece world group epoch sender series piece c = IsMade world (CopyReport group epoch sender series piece c)
 
--- a client of this volume epoch told this piece of its install
+-- a client of this volume epoch sent this piece of its install
 abbrev pub IsInstallOfPiece : World → ℕ → ℕ → Piece → Contents → Type 0
 IsInstallOfPiece world group volume piece c = (e : ℕ) × IsMade world (Install group (label volume e) piece c)
 
@@ -192,7 +192,7 @@ pub record IsInstall (world : World) (group : ℕ) (l : Label) (piece : Piece) (
   pub head : last_epoch (lineage_of world l.volume) ≡ l.volume
   pub is : IsPieceOf (install_of world group l.volume) piece c
 
--- a piece of what a member held when it told its copy of a number
+-- a piece of what a member held when it made its copy of a number
 pub record IsCopied (held : Held) (world : World) (group f x s : ℕ) (piece : Piece) (c : Contents) : Type 0 where
   pub copy : IsCopy world group (held group x s)
   pub is : IsPieceOf (held group x s) piece c

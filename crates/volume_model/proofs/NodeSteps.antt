@@ -62,7 +62,7 @@ page_answer-ok plan group member node l block point step h =
     let (c, h3) = refuse_if-ok (nat_lt (scl node.contents.records) point) PointAhead _ step h2 in
     (eqb-true _ _ (not-false _ a), c, cc)
 
--- what all copies come to
+-- what all copies amount to
 abbrev pub all_of : List Copy → Hydrated
 all_of copies =
     let lineage = newest (brought copies) in
@@ -359,7 +359,7 @@ module _ (plan : Plan) (certified : IsCertified plan) {held : Held} (world : Wor
         let j : (m ≡ CopyAsk group epoch) ⊎ ⊥ = i in
         elim j [ inl e ↦ subst (λ z. NodeSays held world group x after z) (sym e) tt | inr z ↦ absurd z ]
 
-    -- the copy that a whole node tells
+    -- the copy that a whole node makes
     copied_good : (epoch : ℕ) → epoch ≡ node.place.epoch → node.whole ≡ true → IsGoodStep plan held world group x (record { made = in_pieces node.contents (CopyReport group epoch x (suc node.copied)); node = record node { copied = suc node.copied } })
     copied_good epoch at whole =
         let after : Node = record node { copied = suc node.copied } in

@@ -1,4 +1,4 @@
--- What each actor refuses by itself.
+-- What each actor refuses on its own.
 use Rattle.std.proofs.Common.{◌≡◌, ℕ, ◌^◌, Bool, true, false, not, nat_lt, List, Option, Some, None, Result, Ok, Err}
 use Rattle.volume_model.specs.declared.fault.Fault.{Fault}
 use Rattle.volume_model.specs.declared.fault.Fault.TheVariants.{LsnSpent, NoLogRecord}

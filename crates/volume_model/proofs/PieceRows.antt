@@ -36,7 +36,7 @@ chained (suc n) later = chained n (record_of n ∷ later)
 abbrev holding : Lineage → List Redo → Contents
 holding lineage records = record { lineage = lineage; records = records }
 
--- a whole node at membership epoch 1, which has told so many copies
+-- a whole node at membership epoch 1, which has made so many copies
 abbrev whole_node : List Redo → ℕ → Node
 whole_node records event_result = record { volume = 1; place = record { configuration = 0; epoch = 1 }; whole = true; contents = holding birth records; copies = []; install = None; copied = event_result }
 
@@ -55,7 +55,7 @@ piece_reported (CopyAsk group epoch) = []
 piece_reported (PageAsk group label block point) = []
 piece_reported (Page group label sender block point bytes) = []
 
--- what is told of an answer
+-- the result of an answer
 abbrev told_of : NodeAnswer → Result (List (List ℕ)) Fault
 told_of (Err fault) = Err fault
 told_of (Ok step) = Ok (map piece_reported step.made)
@@ -89,7 +89,7 @@ count_of (Ok step) = Ok (length step.made)
 abbrev answer_of : ℕ → Node → Message → NodeAnswer
 answer_of member node m = reaction member_replaced 0 member node m
 
--- what is told of messages that come one after the other
+-- the result of messages that come one after the other
 abbrev answers_of : ℕ → Node → List Message → List (Result ℕ Fault)
 answers_of member node [] = []
 answers_of member node (m ∷ rest) = count_of (answer_of member node m) ∷ answers_of member (node_after node (answer_of member node m)) rest
@@ -103,7 +103,7 @@ after_all member node (m ∷ rest) = after_all member (node_after node (answer_o
 abbrev piece : ℕ → ℕ → Piece
 piece number of = record { number = number; of = of }
 
--- a piece of the copy of a number that member 0 tells at epoch 2
+-- a piece of the copy of a number that member 0 makes at epoch 2
 abbrev copy : ℕ → ℕ → ℕ → Message
 copy series number of = CopyReport 0 2 0 series (piece number of) (holding birth (record_of number ∷ []))
 

@@ -152,7 +152,7 @@ module _ (Is : ℕ → ℕ → Piece → Contents → Type 0) (sender series : �
             ])
       ]
 
--- ---- what kept pieces come to
+-- ---- what kept pieces amount to
 
 -- all kept pieces are pieces of the contents
 abbrev pub AreOf : Contents → Pieces → Type 0

@@ -1,4 +1,4 @@
--- What a member held when it told its copies: of those that it has not told yet, what it holds now
+-- What a member held when it made its copies: of those that it has not told yet, what it holds now
 use Rattle.std.proofs.Common.{◌≡◌, ℕ, suc, ◌≤◌, nat_le, List, [], ◌∷◌, if◌then◌else◌, refl, subst, inl, inr, arith}
 use Rattle.std.proofs.lemmas.Bool.{lt-leb, le-leb}
 use Rattle.volume_model.specs.Lists.{IsIn}
@@ -13,11 +13,11 @@ use Rattle.volume_model.specs.PieceLaws.{IsPieceOf}
 use Rattle.volume_model.proofs.Invariant.{Held, IsMade, IsCopy, IsSource, IsSourced, MessageSourced, IsHistory}
 use Rattle.volume_model.proofs.Kept.{Retains, NodeKept, IsCopied, MessageKept, IsKept}
 
--- the copies that were told, and what each member holds now as its next ones
+-- the copies that were made, and what each member holds now as its next ones
 abbrev pub renewed : Held → World → Held
 renewed held world group x s = if nat_le s (world.nodes group x).copied then held group x s else (world.nodes group x).contents
 
--- what each member holds now is what it will have held when it tells its next copy
+-- what each member holds now is what it will have held when it makes its next copy
 abbrev pub IsReady : Held → World → Type 0
 IsReady held world = (group x : ℕ) → held group x (suc (world.nodes group x).copied) ≡ (world.nodes group x).contents
 

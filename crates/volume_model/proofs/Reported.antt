@@ -1,4 +1,4 @@
--- What clients and nodes keep of what they were told is in messages that were made
+-- What clients and nodes keep of what they received is in messages that were made
 use Rattle.std.proofs.Common.{◌≢◌, ℕ, ◌<◌, List, inl, inr}
 use Rattle.std.proofs.lemmas.Bool.{cases_Bool}
 use Rattle.volume_model.specs.Lists.{IsIn}

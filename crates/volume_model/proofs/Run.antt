@@ -99,7 +99,7 @@ module _ (plan : Plan) (certified : IsCertified plan) {held : Held} (world : Wor
   grow_kept : IsKept plan held (after_step world (of_authority world (grown plan world.authority)))
   grow_kept = authority_step (grown plan world.authority) grown_good
 
-  -- an event that no node tells a copy at
+  -- an event that no node makes a copy at
   by_event : (event : Event) → IsKept plan held (after plan world event) → IsKeptWorld plan (after plan world event)
   by_event event kept' = record { held = held; kept = kept' }
 
@@ -148,7 +148,7 @@ module _ (plan : Plan) (certified : IsCertified plan) where
         configuration = subst (λ c. 0 ≡ ancestor plan group (epoch_of plan group c - 1) c) (sym (at_first group)) (ap (λ n. ancestor plan group n 0) d);
       }
 
-  -- nothing was told yet
+  -- nothing was reported yet
   abbrev none_held : Held
   none_held group x s = record { lineage = []; records = [] }
 

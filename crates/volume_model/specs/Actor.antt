@@ -1,4 +1,4 @@
--- Actors, and what each does by itself, over the messages that it is handed.
+-- Actors, and what each does on its own, over the messages that it is handed.
 use Rattle.std.specs.Prelude.{◌≡◌, ℕ, Bool, true, false, ◌&&◌, ◌==◌, nat_lt, List, [], Option, Some, None, Result, Ok, Err}
 use Rattle.volume_model.specs.declared.fault.Fault.{Fault}
 use Rattle.volume_model.specs.Lists.{added, numbered, put, put_at, IsBeginningOf}

@@ -1,4 +1,4 @@
--- What a call answers beside what its definition gives. Want of memory is answered only where a growth was refused, so no
+-- What a call answers beside what its definition gives. Running out of memory is answered only where a growth was refused, so no
 -- definition speaks of it.
 use Rattle.std.specs.Prelude.{◌≡◌, Bool, true, false, Result, Ok, Err}
 use Rattle.volume_model.specs.declared.fault.Fault.{Fault}
@@ -20,18 +20,18 @@ abbrev pub Gives : {X Y : Type 0} → (X → Y) → Result X Fault → Result Y 
 Gives view (Ok x) defined = defined ≡ Ok (view x)
 Gives view (Err fault) defined = Fails fault defined
 
--- no refusal comes after want of memory: every refusal of a call is found before it makes any growth
+-- no refusal comes after a growth was refused: every refusal of a call is found before it makes any growth
 abbrev pub never_after_growth : Fault → Bool
 never_after_growth fault = false
 
--- The definition refuses nothing, but with a fault that may come after want of memory.
+-- The definition refuses nothing, but with a fault that may come after a growth was refused.
 abbrev pub may_run_out_of_memory : {T : Type 0} → (Fault → Bool) → Result T Fault → Bool
 may_run_out_of_memory late (Ok step) = true
 may_run_out_of_memory late (Err fault) = late fault
 
 -- What a call of an actor answers, that was old and is new: the step that is defined, seen with the actor as it is then; or the refusal that is
--- defined, and the actor is what it was. Want of memory leaves the actor as it was too, and is answered only where the definition refuses
--- nothing, but with a late fault.
+-- defined, and the actor is what it was. Running out of memory leaves the actor as it was too, and is answered only where the definition refuses
+-- nothing, except with a fault that may come after a growth.
 abbrev pub AnswersAfterGrowth : {R S T : Type 0} → (Fault → Bool) → (R → S → T) → Result T Fault → S → Result R Fault → S → Type 0
 AnswersAfterGrowth late step defined old (Ok made) new = defined ≡ Ok (step made new)
 AnswersAfterGrowth late step defined old (Err NoMemory) new = (may_run_out_of_memory late defined ≡ true) × (new ≡ old)
@@ -54,7 +54,7 @@ abbrev pub refusal_of : {T : Type 0} → Result T Fault → Result (Unit {0}) Fa
 refusal_of (Ok step) = Ok tt
 refusal_of (Err fault) = Err fault
 
--- The same of a call that makes no growth, and so never wants memory.
+-- The same of a call that makes no growth, and so never runs out of memory.
 abbrev pub AnswersAlways : {R S T : Type 0} → (R → S → T) → Result T Fault → S → Result R Fault → S → Type 0
 AnswersAlways step defined old (Ok made) new = defined ≡ Ok (step made new)
 AnswersAlways step defined old (Err fault) new = (defined ≡ Err fault) × (new ≡ old)

@@ -1,4 +1,4 @@
--- What the entries of a journal come to.
+-- What the entries of a journal amount to.
 use Rattle.std.specs.Prelude.{◌≡◌, ℕ, suc, if◌then◌else◌, List, [], ◌∷◌, length, map, take, Some, slice_get}
 use Rattle.volume_model.specs.Plan.{Plan}
 use Rattle.volume_model.specs.Message.{Message}

@@ -46,13 +46,13 @@ pub record StepsAlike : Type 0 where
   pub refused : (plan : Plan) (w v : World) (e : Event) (fault : Fault) → (fault ≡ NoMessage → ⊥) → Agree (actor_of e) w v → JoinedAlike e w v → Keeps w v → step plan w e ≡ Err fault → step plan v e ≡ Err fault
   pub made : (plan : Plan) (w v : World) (e : Event) (ms : List Message) → Agree (actor_of e) w v → JoinedAlike e w v → Keeps w v → makes (step plan w e) ≡ Some ms → makes (step plan v e) ≡ Some ms
 
--- a message keeps its number, which its entry and its place in it tell
+-- a message keeps its number, which its entry and its place in it give
 pub record MessagesAreFound : Type 0 where
   pub later : (plan : Plan) (es fs : List Entry) → IsPrefix es fs → (n : ℕ) (x : Message) → numbered (world_at plan es).messages n ≡ Some x → numbered (world_at plan fs).messages n ≡ Some x
   pub made : (plan : Plan) (es : List Entry) (k index : ℕ) (x : Message) (e : Entry) → IsRun plan es → slice_get es k ≡ Some e → slice_get e.made index ≡ Some x → numbered (world_at plan es).messages (e.first + index + 1) ≡ Some x
   pub named : (plan : Plan) (es : List Entry) → IsRun plan es → (k : ℕ) (e : Entry) (n : ℕ) → slice_get es k ≡ Some e → named_by e.event ≡ Some n → n ≤ before plan es k
 
--- an actor by itself doesn't refuse for want of a message, an actor, a slot or a cell; but a client that isn't born does
+-- an actor on its own doesn't refuse for lack of a message, an actor, a slot or a cell; but a client that isn't born does
 pub record RefusalsAreOwn : Type 0 where
   pub deliver : (plan : Plan) (group member : ℕ) (node : Node) (m : Message) → Refuses IsOwn (reaction plan group member node m)
   pub hydrate : (plan : Plan) (group member : ℕ) (node : Node) → Refuses IsOwn (hydrated plan group member node)

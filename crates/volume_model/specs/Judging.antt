@@ -10,18 +10,18 @@ use Rattle.volume_model.specs.Actor.{Actor, actor_of}
 use Rattle.volume_model.specs.StepResults.{refusal}
 use Rattle.volume_model.specs.Journal.{Entry, world_at}
 
--- the world v, but for one actor, which is as in w; for a node, as many groups have joined as in w
+-- the world v, except one actor, which is as in w; for a node, as many groups have joined as in w
 abbrev pub placed : Actor → World → World → World
 placed Actor.TheAuthority w v = record v { authority = w.authority }
 placed (Actor.Client c) w v = record v { clients = put v.clients c (w.clients c) }
 placed (Actor.Node g m) w v = record v { authority = w.authority; nodes = put_at v.nodes g m (w.nodes g m) }
 
--- the world of these entries, but for the actor of an event, which is as after so many of them
+-- the world of these entries, except the actor of an event, which is as after so many of them
 abbrev pub judged : Plan → List Entry → ℕ → Event → World
 judged plan es number event = placed (actor_of event) (world_at plan (take number es)) (world_at plan es)
 
 -- What a refusal says is that these two numbers are one: the last volume epoch and the number of slots, the length of the journal and the number
--- of cells, or the number of the refusal with which the event is refused and its own. Want of memory and of a message are not noted
+-- of cells, or the number of the refusal with which the event is refused and its own. Running out of memory, and a missing message, are not noted
 abbrev pub found_in : Plan → List Entry → ℕ → Event → Fault → ℕ
 found_in plan es number event NoMemory = 0
 found_in plan es number event NoMessage = 0
@@ -46,7 +46,7 @@ pub record IsRefused (plan : Plan) (slots cells : ℕ) (es : List Entry) (n : Re
   pub judged_so : found_in plan es n.number n.event n.fault ≡ wanted slots cells n.fault
 
 -- The refusal is true after these entries. NoSlot is of Assign alone, where the model assigns and the last volume epoch is the number of slots; the
--- journal is full where the model refuses nothing and it has as many entries as there are cells; any other is the model's. Want of memory says nothing
+-- journal is full where the model refuses nothing and it has as many entries as there are cells; any other is the model's. Running out of memory says nothing
 abbrev pub Exact : Plan → ℕ → ℕ → List Entry → Event → Fault → Type 0
 Exact plan slots cells es event NoMemory = Unit {0}
 Exact plan slots cells es event NoSlot =

@@ -17,8 +17,8 @@ pub record From : Type 0 where
   pub sender : ℕ
   pub contents : Contents
 
--- a segment of a group: its volume epoch, where its group stands as far as it was told, whether it is whole,
--- what it holds, the pieces kept of the copies that it has been sent and of an install, and how often it has told a copy
+-- a segment of a group: its volume epoch, where its group stands as far as it was informed, whether it is whole,
+-- what it holds, the pieces kept of the copies that it has been sent and of an install, and how often it has made a copy
 pub record Node : Type 0 where
   pub volume : ℕ
   pub place : Place
@@ -92,7 +92,7 @@ take_record group member node label r =
       node = record node { contents = record { lineage = node.contents.lineage; records = records } };
     }))))
 
--- what an install of these pieces comes to: nothing is answered until all are kept; then lineage and records are replaced, and the
+-- what an install of these pieces amounts to: nothing is answered until all are kept; then lineage and records are replaced, and the
 -- pieces dropped
 abbrev pub install_step : ℕ → ℕ → Node → Label → Lineage → Pieces → NodeStep
 install_step group member node label lineage pieces =
@@ -110,7 +110,7 @@ installed group member node label piece contents =
     then record { made = ack_of group member label node.contents.records ∷ []; node = record node { volume = label.volume } }
     else install_step group member node label contents.lineage (with_install node.install label.volume piece contents)
 
--- how many copies a node may tell
+-- how many copies a node may make
 abbrev pub most_copies : ℕ
 most_copies = 2 ^ 62
 
@@ -214,7 +214,7 @@ finished read copies =
     then Some (record { volume = last_epoch lineage; contents = record { lineage = lineage; records = found_in lineage (brought copies) } })
     else None
 
--- what copies come to, refused where they are not enough
+-- what copies amount to, refused where they are not enough
 abbrev pub or_not_enough : Option Hydrated → Result Hydrated Fault
 or_not_enough None = Err NotEnough
 or_not_enough (Some h) = Ok h

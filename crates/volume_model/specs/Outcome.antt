@@ -1,4 +1,4 @@
--- What is told of a world when a run has ended.
+-- The result of a world when a run has ended.
 use Rattle.std.specs.Prelude.{ℕ, suc, ◌&&◌, nat_lt, List}
 use Rattle.volume_model.specs.Lists.{each_below}
 use Rattle.volume_model.specs.Redo.{Redo}
@@ -21,11 +21,11 @@ pub record Find : Type 0 where
   pub cut : ℕ
   pub lineage : Lineage
 
--- what is told of the client of a volume epoch as a writer
+-- the result of the client of a volume epoch as a writer
 abbrev pub opened_client : ℕ → Client → Opened
 opened_client volume client = record { volume = volume; start = last_start client.lineage; log = client.log; durable = durable_point client }
 
--- what is told of it as a recovery that has cut
+-- the result of it as a recovery that has cut
 abbrev pub found_client : ℕ → Client → Find
 found_client volume client = record { volume = volume; found = client.found; cut = last_cut client.lineage; lineage = client.lineage }
 

@@ -1,4 +1,4 @@
--- What pieces come to, in the words of what they were cut from.
+-- What pieces amount to, in the words of what they were cut from.
 use Rattle.std.specs.Prelude.{◌≡◌, ◌↔◌, ℕ, ◌*◌, ◌<◌, ◌≤◌, true, false, ◌==◌, List, [], ◌∷◌, length, map, flat_map, Some}
 use Rattle.volume_model.specs.Lists.{IsIn, any, each_below}
 use Rattle.volume_model.specs.Redo.{Redo}
@@ -28,12 +28,12 @@ abbrev pub AreOnce : ℕ → List KeptPiece → Type 0
 AreOnce of [] = Unit {0}
 AreOnce of (kept ∷ rest) = (kept.number < of) × (any (λ other. other.number == kept.number) rest ≡ false) × AreOnce of rest
 
--- Whether all pieces are kept is told by how many they are, where each is kept once; and so it stays where the first of each number is kept.
+-- Whether all pieces are kept follows from how many they are, where each is kept once; and so it stays where the first of each number is kept.
 pub record CountTells : Type 0 where
   pub complete : (pieces : Pieces) → AreOnce pieces.of pieces.kept → is_complete pieces ≡ (length pieces.kept == pieces.of)
   pub stays : (pieces : Pieces) (piece : Piece) (c : Contents) → AreOnce pieces.of pieces.kept → piece.number < pieces.of → AreOnce pieces.of (with_piece pieces piece c).kept
 
--- what a complete copy brought, united, as if it were told under this lineage
+-- what a complete copy brought, united, as if it were reported under this lineage
 abbrev pub united_copy : Lineage → Copy → Contents
 united_copy lineage copy = record { lineage = lineage; records = united (brought_by copy) }
 

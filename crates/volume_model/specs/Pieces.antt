@@ -1,4 +1,4 @@
--- Contents that are told in pieces: how they are cut, which pieces are kept, and what these come to.
+-- Contents that are sent in pieces: how they are cut, which pieces are kept, and what these amount to.
 use Rattle.std.specs.Prelude.{ℕ, ◌*◌, Bool, true, false, not, ◌&&◌, ◌||◌, ◌==◌, nat_lt, nat_le, if◌then◌else◌, List, [], ◌∷◌, ◌++◌, Option, Some, None, length, map, max, take, drop, flat_map}
 use Rattle.std.specs.Int.{div_ceil}
 use Rattle.volume_model.specs.Lists.{any, every_below, each_below}

@@ -1,4 +1,4 @@
--- What clients and nodes keep of what they were told is in messages that were made.
+-- What clients and nodes keep of what they received is in messages that were made.
 use Rattle.std.specs.Prelude.{◌≡◌, ◌≢◌, ℕ, ◌<◌, List, Some}
 use Rattle.volume_model.specs.Lists.{IsIn}
 use Rattle.volume_model.specs.Pieces.{KeptPiece, Pieces, Copy, piece_in}

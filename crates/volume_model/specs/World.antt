@@ -177,12 +177,12 @@ abbrev pub run : Plan → World → List Event → World
 run plan world [] = world
 run plan world (event ∷ events) = run plan (after plan world event) events
 
--- what is told of an event: the number of messages that it made, or of its refusal
+-- the result of an event: the number of messages that it made, or of its refusal
 abbrev pub event_result : Result Step Fault → Result ℕ Fault
 event_result (Err number) = Err number
 event_result (Ok s) = Ok (length s.made)
 
--- what is told of each event
+-- the result of each event
 abbrev pub results : Plan → World → List Event → List (Result ℕ Fault)
 results plan world [] = []
 results plan world (event ∷ events) = event_result (step plan world event) ∷ results plan (after plan world event) events

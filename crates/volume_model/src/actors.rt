@@ -27,17 +27,17 @@ pub fn runs_go_on()
     ensures { RunsGoOn }
 {}
 
-/// What is told of an event rests on its actor and on the messages alone.
+/// The result of an event rests on its actor and on the messages alone.
 pub fn steps_alike()
     ensures { StepsAlike }
 {}
 
-/// A message is found by the number that its entry and its place in it tell, for good.
+/// A message is found by the number that its entry and its place in it give, for good.
 pub fn messages_are_found()
     ensures { MessagesAreFound }
 {}
 
-/// Which refusals an actor finds by itself.
+/// Which refusals an actor finds on its own.
 pub fn refusals_are_own()
     ensures { RefusalsAreOwn }
 {}

@@ -88,7 +88,7 @@ pub enum Fault {
     TailSegment = 60,
     /// The segment isn't complete up to the point.
     PointAhead = 61,
-    /// The node has told as many copies as it may.
+    /// The node has made as many copies as it may.
     SeriesSpent = 62,
     /// The client isn't an open writer.
     NotOpen = 70,

@@ -102,7 +102,7 @@ pub fn reports_were_made()
 {}
 
 /// No piece has more records than it may, all pieces together have the records that were cut, and so have all that are kept,
-/// in whatever order they came. Whether all are kept is told by their number.
+/// in whatever order they came. Whether all are kept follows from their number.
 pub fn pieces_make_up()
     ensures { PiecesMakeUp }
 {}

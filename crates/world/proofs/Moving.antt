@@ -32,7 +32,7 @@ answers_along late step onward f g law defined old (Ok r) new h = ap (map_ok f) 
 answers_along late step onward f g law defined old (Err NoMemory) new h = (wants-map late f defined ∙ h.0, ap g h.1)
 answers_along late step onward f g law defined old (Err fault) new h = (ap (map_ok f) h.0, ap g h.1)
 
--- what is told of a step that makes these messages
+-- the result of a step that makes these messages
 pub made_result : {T S : Type 0} (made : T → List model.Message) (actor : T → S) (kept now answers : List Message) (defined : Result T Fault) (step : T) (new : S) (count : ℕ)
     → defined ≡ Ok step → made step ≡ messages_of answers → actor step ≡ new → count ≡ length answers → now ≡ kept ++ answers
     → result_of_step made actor (added (messages_of kept) []) defined ≡ Ok (record { count = count; actor = new; messages = added (messages_of now) [] })
@@ -54,7 +54,7 @@ judged_moves late (Err other) NoMemory old kept h = (h.0, refl)
 judged_moves late (Ok step) fault old kept h = absurd cc
 judged_moves late (Err other) fault old kept h = let same : other ≡ fault = cc in (ap Err same, refl)
 
--- memory may be wanted of what is told of a step where it may be wanted of the step
+-- memory may be wanted of the result of a step where it may be wanted of the step
 wants_result : {T S : Type 0} (late : Fault → Bool) (made : T → List model.Message) (actor : T → S) (kept : List model.Message) (defined : Result T Fault) → may_run_out_of_memory late (result_of_step made actor kept defined) ≡ may_run_out_of_memory late defined
 wants_result late made actor kept (Err fault) = refl
 wants_result late made actor kept (Ok step) = refl

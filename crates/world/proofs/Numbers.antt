@@ -35,7 +35,7 @@ pub total_made-push : (results : List (Result ℕ Fault)) (r : Result ℕ Fault)
 total_made-push [] r = omega arith
 total_made-push (s ∷ later) r = omega (arith, total_made-push later r)
 
--- the messages of a world grow by those that are told of
+-- the messages of a world grow by those of the step
 authority_grows : (w : World) (answer : Result AuthorityStep Fault) → length (after_step w (of_authority w answer)).messages ≡ length w.messages + made_by (event_result (of_authority w answer))
 authority_grows w (Ok s) = length-added s.made w.messages ∙ omega arith
 authority_grows w (Err fault) = omega arith

@@ -40,7 +40,7 @@ in_each_below x (suc n) test f h =
     here true passed (inr none) = absurd none
     here false passed none = absurd none
 
--- what is told of a writer of the world, and of a recovery that has cut
+-- the result of a writer of the world, and of a recovery that has cut
 abbrev writer_result : World → ℕ → model.Opened
 writer_result world volume = opened_client volume (world.clients volume)
 

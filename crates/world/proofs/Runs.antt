@@ -12,7 +12,7 @@ use Rattle.world.specs.Actors.{moved, moved_of, Moved, Steps}
 use Rattle.world.specs.Outcomes.{KeepsAcknowledgements, KeepsFinds}
 use Rattle.world.proofs.Numbers.{grows, total_made-push}
 
--- what is told where memory didn't run out
+-- the result where memory didn't run out
 moved_result : (defined : Result Step Fault) (old new : World) (count : ℕ) → moved_of defined ≡ Ok (moved count new) → (event_result defined ≡ Ok count) × (after_step old defined ≡ new)
 moved_result (Err fault) old new count e = absurd cc
 moved_result (Ok step) old new count e =

@@ -78,7 +78,7 @@ unjoined_steps late plan world joined g m defined h = absent_steps late plan wor
 
 -- what the step of an actor leaves in the world, where the world in which the actor is this and these are all messages is placed so
 module _ {S T : Type 0} (made : T → List Message) (actor : T → S) (placed : ActorState S → World) where
-  -- what is told of the actor, told of the world
+  -- the result of the actor, told of the world
   abbrev pub onward : StepResult S → Moved
   onward t = record { count = t.count; world = placed (record { actor = t.actor; messages = t.messages }) }
 

@@ -38,7 +38,7 @@ pub record AreActors (a : Actors) : Type 0 where
   pub low : (group member : ℕ) → members ≤ member → is_named (plan_of a) group member ≡ false
   pub clients : AreClients (plan_of a) a.clients.items
 
--- what is told of a step of the world, and the world after it
+-- the result of a step of the world, and the world after it
 pub record Moved : Type 0 where
   pub count : ℕ
   pub world : World
@@ -52,12 +52,12 @@ moved_of (Ok step) = Ok (record { count = length step.made; world = step.world }
 abbrev pub moved : ℕ → World → Moved
 moved count world = record { count = count; world = world }
 
--- What is told of a step is the number of messages that the defined step makes, or its refusal, and the world is then what the
--- definition leaves. Want of memory leaves the world as it was, and comes after the refusals but the late ones.
+-- The result of a step is the number of messages that the defined step makes, or its refusal, and the world is then what the
+-- definition leaves. Running out of memory leaves the world as it was, and comes after all refusals except those that need a growth.
 abbrev pub Steps : (Fault → Bool) → Result Step Fault → World → Result ℕ Fault → World → Type 0
 Steps late defined old result new = AnswersAfterGrowth late moved (moved_of defined) old result new
 
--- the refusals that may come after want of memory: what is found only once records were gathered
+-- the refusals that may come after a growth was refused: what is found only once records were gathered
 abbrev pub event_after_growth : Event → Fault → Bool
 event_after_growth (Hydrate group member) = is_full
 event_after_growth (Cut volume) = is_spent

@@ -57,7 +57,7 @@ node_ordered made (node.Act act) plan group member now = acted act plan group me
 abbrev pub IsRefusedNodeOrder : List model.Message → NodeOrder → Type 0
 IsRefusedNodeOrder made order = (plan : Plan) (group member : ℕ) (now : Node) → node_ordered made order plan group member now ≡ Err NoMessage
 
--- what the client of a volume epoch does, but for becoming a writer
+-- what the client of a volume epoch does, except becoming a writer
 abbrev pub client_acted : ClientAct → Plan → ℕ → Client → ClientAnswer
 client_acted (client.Issue changes) plan volume now = issued plan volume now (changes_of changes.now)
 client_acted (client.Take message) plan volume now = taken plan volume now (message_of message.now)
@@ -82,7 +82,7 @@ ActsFew plan volume now act most = Few most (client_acted act plan volume now)
 abbrev pub MakesAtMost : Plan → ℕ → Client → ClientOrder → ℕ → Type 0
 MakesAtMost plan volume now order most = (made : List model.Message) → Few most (client_ordered made order plan volume now)
 
--- the refusals of a client that may come after want of memory: that no log sequence numbers are left, which is found with the log
+-- the refusals of a client that may come after a growth was refused: that no log sequence numbers are left, which is found with the log
 abbrev pub client_after_growth : ClientAct → Fault → Bool
 client_after_growth client.Cut = is_spent
 client_after_growth act = never_after_growth
@@ -102,7 +102,7 @@ pub record IsOrderOf (made : List model.Message) (order : ClientOrder) (act : Cl
   pub does : (plan : Plan) (volume : ℕ) (now : Client) → client_ordered made order plan volume now ≡ client_acted act plan volume now
   pub late : order_after_growth order ≡ client_after_growth act
 
--- the refusals of a node that may come after want of memory
+-- the refusals of a node that may come after a growth was refused
 abbrev pub node_after_growth : NodeOrder → Fault → Bool
 node_after_growth (node.Deliver message) = never_after_growth
 node_after_growth (node.Act act) = act_after_growth act

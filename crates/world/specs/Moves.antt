@@ -1,4 +1,4 @@
--- What the step of one actor leaves, and what is told of it.
+-- What the step of one actor leaves, and the result of it.
 use Rattle.std.specs.Prelude.{ℕ, Bool, List, length, Result, Ok, Err}
 use Rattle.volume_model.specs.declared.fault.Fault.{Fault}
 use Rattle.volume_model.specs.Answer.{never_after_growth, AnswersAfterGrowth}
@@ -14,7 +14,7 @@ pub record StepResult (S : Type 0) : Type 0 where
   pub actor : S
   pub messages : List Message
 
--- what is told of a step that makes these messages and leaves this actor, where those were kept
+-- the result of a step that makes these messages and leaves this actor, where those were kept
 abbrev pub result_of_step : {T S : Type 0} → (T → List Message) → (T → S) → List Message → Result T Fault → Result (StepResult S) Fault
 result_of_step made actor kept (Err fault) = Err fault
 result_of_step made actor kept (Ok step) = Ok (record { count = length (made step); actor = actor step; messages = added (made step) kept })
@@ -29,7 +29,7 @@ abbrev pub counted : {S : Type 0} → ℕ → ActorState S → StepResult S
 counted count now = record { count = count; actor = now.actor; messages = now.messages }
 
 -- The answer to a step of an actor: the step that is defined was made and its messages were added; or the actor and the messages are what they
--- were, after a refusal or for want of memory, which comes after the refusals but the late ones.
+-- were, after a refusal or if memory runs out, which comes after all refusals except those that need a growth.
 abbrev pub Moves : {T S : Type 0} → (T → List Message) → (T → S) → (Fault → Bool) → Result T Fault → S → List Message → Result ℕ Fault → S → List Message → Type 0
 Moves made actor late defined old kept result new now =
     AnswersAfterGrowth late counted (result_of_step made actor kept defined) (record { actor = old; messages = kept }) result (record { actor = new; messages = now })

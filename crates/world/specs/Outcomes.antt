@@ -1,4 +1,4 @@
--- What a program's outcome tells.
+-- What a program's outcome says.
 use Rattle.std.specs.Prelude.{◌≡◌, ℕ, ◌<◌, true, ◌&&◌, nat_le, List, ◌++◌, ◌∷◌, Ok, map}
 use Rattle.volume_model.specs.Plan.{Plan}
 use Rattle.volume_model.specs.Lists.{IsIn, IsBeginningOf}
@@ -43,7 +43,7 @@ abbrev pub OpenAtTheirCuts : Plan → List Event → Type 0
 OpenAtTheirCuts plan events =
     (earlier later : List Event) (volume : ℕ) (opened : Step) → earlier ++ Open volume ∷ later ≡ events → step plan (run plan (opening plan) earlier) (Open volume) ≡ Ok opened → IsAtItsCut (opened.world.clients volume)
 
--- The outcome tells exactly the model's run of these events: what is told of each event, and of the world after them the opened
+-- The outcome is exactly the model's run of these events: the result of each event, and of the world after them the opened
 -- writers and the recoveries that have cut.
 pub record TellsRun (plan : Plan) (events : List Event) (outcome : Outcome) : Type 0 where
   pub results_are : outcome.results.items ≡ results plan (opening plan) events

@@ -26,7 +26,7 @@ pub enum NodeOrder<'a> {
     Act(NodeAct<'a>),
 }
 
-/// What a client does, but for becoming a writer.
+/// What a client does, except becoming a writer.
 #[derive(Clone, Copy)]
 pub enum ClientAct<'a> {
     /// Issues a transaction of 1 to 32 changes.

@@ -19,7 +19,7 @@ use volume_model::{
     pages_are_true, runs_are_orderly, volume_keeps_commits,
 };
 
-/// Returns a number of messages. More than one can tell are as if memory ran out, as these would take more of it than
+/// Returns a number of messages. More than it can count are as if memory ran out, as these would take more of it than
 /// is there.
 fn count_of(messages: u64) -> Result<u32, Fault>
     ensures same { IfOk result (λ count. count ≡ messages) }

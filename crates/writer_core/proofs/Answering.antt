@@ -9,7 +9,7 @@ pub judged : {T : Type 0} (fault : Fault) (defined : Result T Fault) → Err fau
 judged fault (Ok step) h = cc
 judged fault (Err other) h = cc
 
--- a refusal that is no want of memory is the answer of the call
+-- a refusal other than NoMemory is the answer of the call
 pub refused : {R S T : Type 0} (late : Fault → Bool) (step : R → S → T) (fault : Fault) (defined : Result T Fault) (state : S) → fault ≢ NoMemory → defined ≡ Err fault → AnswersAfterGrowth late step defined state (Err fault) state
 refused late step NoMemory defined state own h = absurd (own refl)
 refused late step fault defined state own h = (h, refl)

@@ -23,7 +23,7 @@ group-entered groups g q lsn last within is =
       | inr e ↦ (let t : nat_eq g q ≡ false = grind (arith, nat_tests) in let apart : q ≢ g = λ h. e (sym h) in rw t (get_or-set_other groups g q lsn 0 apart ∙ is))
     ]
 
--- the order tells two blocks apart by both numbers
+-- the order distinguishes two blocks by both numbers
 block-same : (a b c d : ℕ) → is_eq (block_cmp (b, a) (d, c)) ≡ (nat_eq a c && nat_eq b d)
 block-same a b c d = grind (arith, nat_tests)
 

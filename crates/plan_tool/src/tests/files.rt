@@ -20,7 +20,7 @@ enum File<'a> {
     Spaces,
     /// There is none.
     Missing,
-    /// It isn't opened for want of memory.
+    /// It isn't opened if memory runs out.
     NoMemory,
 }
 

@@ -42,7 +42,7 @@ fn answered(script: &mut String, group: u32, line: u32) -> Result<(), AllocError
     Ok(())
 }
 
-/// What is told of the lines of a group.
+/// The result of the lines of a group.
 const TOLD: &str = ",0,0,1,1,1,1,1,1,0,0,0,0,0,1,1,1,1,1,0,0,0,0,0";
 
 #[test]

@@ -46,7 +46,7 @@ fn written(alloc: Global, then: &str) -> Result<String, AllocError> {
     Ok(script)
 }
 
-/// What is told of the lines of the first test.
+/// The result of the lines of the first test.
 fn written_told(alloc: Global) -> Result<String, AllocError> {
     let issued = "30,".repeat(alloc, 20)?;
     let delivered = "1,".repeat(alloc, 1200)?;
@@ -64,7 +64,7 @@ assign\ntake 2 1245.1\ndeliver 0 1 1246.1\ndeliver 0 3 1246.1\ntake 2 1247.1\nta
 deliver 0 0 1251.1\ndeliver 0 0 1251.2\ndeliver 0 0 1251.3\ndeliver 0 1 1251.3\nrestart 0 1\ndeliver 0 1 1251.1\n\
 deliver 0 1 1251.2\ntake 2 1254.1\nopen 2\ndeliver 0 1 1251.3\ntake 2 1261.1\nopen 2\n";
 
-/// What is told of these lines.
+/// The result of these lines.
 const COPIED_AND_INSTALLED_TOLD: &str =
     ",1,0,0,1,3,3,0,0,0,0,0,0,0,refused 57 NotEnough,3,0,0,0,refused 57 NotEnough,refused 80 NoMessage,0,0\
 ,1,1,1,1,0,0,3,0,0,1,0,0,0,0,0,refused 74 NotReady,1,0,0";

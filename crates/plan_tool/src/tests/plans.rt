@@ -23,7 +23,7 @@ fn matched(alloc: Global, each: &str, count: usize, last: &str) -> Result<String
     )
 }
 
-/// A certificate of depth 5: a root of 10 branches, each of 9, each of 10, each of 110 leaves, but for the very last, which has so many and
+/// A certificate of depth 5: a root of 10 branches, each of 9, each of 10, each of 110 leaves, except the very last, which has so many and
 /// one more.
 fn broad(alloc: Global, leaves: usize) -> Result<String, AllocError> {
     let mut each = matched(alloc, CLASH, 109, CLASH)?;

@@ -1,4 +1,4 @@
--- What a closed fleet leaves is told of its journal.
+-- What a closed fleet leaves follows from its journal.
 use Rattle.std.proofs.Common.{rules, ◌≡◌, ◌+◌, ◌==◌, ◌&&◌, ℕ, not, is_err, length, map, vec_len, refl, sym, ap, subst, ◌∙◌}
 use Rattle.std.proofs.lemmas.List.{length-map}
 use Rattle.std.specs.List.{list_any}

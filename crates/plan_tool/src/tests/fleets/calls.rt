@@ -87,7 +87,7 @@ impl Call {
     }
 }
 
-/// What is told of a call.
+/// The result of a call.
 fn told_of(made: &Result<Receipt, Fault>) -> Told {
     match made {
         Ok(receipt) => Ok((receipt.made, receipt.durable)),

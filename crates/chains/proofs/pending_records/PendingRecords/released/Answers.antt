@@ -19,7 +19,7 @@ added c =
     ∙ ap (λ zs. with_numbers (recent_waiters c.args.self.now.recent.items x) zs) (c.in_ok-add_all.ensures.added ∙ ap (λ ms. with_numbers ms ys) c.of.ensures)
     ∙ sym (with_numbers-append (earlier_waiters c.args.self.now.earlier x) (recent_waiters c.args.self.now.recent.items x) ys)
 
--- they are woken, and stand behind the number
+-- they are released, and stand behind the number
 more : (c : goal.In_ok-add_waiters) → AreSome (IsPendingIn c.args.self.now) c.args.number c.add_waiters.new.numbers.items × AreMore c.loop-next.released.items c.add_waiters.new.numbers.items c.loop-next.next
 more c =
     let W = IsPendingIn c.args.self.now in

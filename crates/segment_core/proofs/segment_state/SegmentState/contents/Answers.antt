@@ -14,7 +14,7 @@ use Rattle.segment_core.specs.SegmentState.{state_contents}
 use Rattle.segment_core.specs.Reported.{IsReported}
 use Rattle.segment_core.proofs.segment_state.SegmentState.contents.Goals as goal
 
--- what shares that which was told last is what is held
+-- what shares that which was reported last is what is held
 reported_again : (P : AllocError → Type 0) (r : Result (Arc Contents Global) AllocError) (last : Arc Contents Global) (reported : Option (Arc Contents Global)) (held : model.Contents) → reported ≡ Some last → ∥ IsReported (option_map arc_value reported) held ∥₁
     → MatchResult r (λ copy. arc_value copy ≡ arc_value last) P → IfOk r (λ copy. contents_of (arc_value copy) ≡ held)
 reported_again P (Ok copy) last reported held is is_report same = ap contents_of same ∙ ∥∥₁_elim is_report (hlevel props) (λ t. subst (λ o. IsReported (option_map arc_value o) held) is t)
