@@ -1,4 +1,5 @@
--- A view of a table or of a channel stands for seats: for so many that aren't dealt yet, and for the steps of each seat that it has.
+-- A view of a table or of a channel stands for seats: for so many that aren't dealt yet, and for the steps of each seat
+-- that it has.
 use Rattle.std.specs.Prelude.{ℕ, ◌+◌, List, [], ◌∷◌, ◌++◌, length}
 
 -- how many seats aren't dealt, and the steps of each seat that is there, oldest first

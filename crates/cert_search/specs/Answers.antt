@@ -20,7 +20,8 @@ pub record IsAnswer (budget : ℕ) (claim : State) (rule : Option Rule) : Type 0
 
 -- each answer is one to the claim at its place
 abbrev pub EachAnswers : ℕ → List PlacedClaim → List (Option Rule) → Type 0
-EachAnswers budget claims rules = (i : ℕ) (c : PlacedClaim) (rule : Option Rule) → slice_get claims i ≡ Some c → slice_get rules i ≡ Some rule → IsAnswer budget c.claim rule
+EachAnswers budget claims rules = (i : ℕ) (c : PlacedClaim) (rule : Option Rule) → slice_get claims i ≡ Some c
+    → slice_get rules i ≡ Some rule → IsAnswer budget c.claim rule
 
 -- the answers to claims, in their order
 pub record AreAnswers (budget : ℕ) (claims : List PlacedClaim) (rules : List (Option Rule)) : Type 0 where

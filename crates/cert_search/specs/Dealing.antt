@@ -21,14 +21,16 @@ open_deque workers n d = (d, had (Owner 0) true (claims_of workers d n) [] 0 fal
 abbrev pub IsFilledTo : ℕ → ℕ → List Own → Type 0
 IsFilledTo workers n owns = map own_view owns ≡ map (open_deque workers n) (range_with_len 0 workers)
 
--- the number of a deque, what it was dealt, what has been had of it, which deque it is, and how many marks of the end it was dealt
+-- the number of a deque, what it was dealt, what has been had of it, which deque it is, and how many marks of the end
+-- it was dealt
 abbrev pub Plain : Type 0
 Plain = ℕ × List ℕ × List ℕ × Option Name × ℕ
 
 abbrev pub plain_of : Sight → Plain
 plain_of s = (s.0, s.1.dealt, s.1.got, Some s.2, s.1.marks)
 
--- of the deques with these names, the deque d has been dealt its claims and a mark of the end for each worker, and none has been had
+-- of the deques with these names, the deque d has been dealt its claims and a mark of the end for each worker, and none
+-- has been had
 abbrev pub fresh : List Name → ℕ → ℕ → ℕ → Plain
 fresh names claims workers d = (d, claims_of workers d claims, [], slice_get names d, workers)
 
@@ -63,7 +65,8 @@ AreOut workers n owns = (d : ℕ) → d < workers → slice_get (outs owns) d �
 
 -- one more view of each deque but one is out
 pub record LendsOthers (workers which : ℕ) (old new : List Own) : Type 0 where
-  pub lent : (d n : ℕ) → d < workers → d ≢ which → slice_get (outs old) d ≡ Some n → slice_get (outs new) d ≡ Some (suc n)
+  pub lent : (d n : ℕ) → d < workers → d ≢ which → slice_get (outs old) d ≡ Some n → slice_get (outs new) d
+      ≡ Some (suc n)
   pub kept : slice_get (outs new) which ≡ slice_get (outs old) which
 
 -- which deque a worker's is
@@ -76,7 +79,8 @@ names_in owns = map own_name owns
 
 -- each deque has been dealt its claims and a mark of the end for each worker, and none has been had
 abbrev pub IsFilled : ℕ → ℕ → List Own → Type 0
-IsFilled claims workers owns = map own_plain owns ≡ map (fresh (names_in owns) claims workers) (range_with_len 0 workers)
+IsFilled claims workers owns = map own_plain owns ≡ map (fresh (names_in owns) claims workers)
+    (range_with_len 0 workers)
 
 -- what a worker's views of other deques say of them
 abbrev pub row_plain : List Reach → List Plain
@@ -84,7 +88,8 @@ row_plain rs = map (λ r. plain_of (reach_sight r)) rs
 
 -- the deques of n workers from the right neighbour of `which` on
 abbrev pub fresh_part : List Name → ℕ → ℕ → ℕ → ℕ → List Plain
-fresh_part names claims workers which n = map (λ k. fresh names claims workers ((which + k) % workers)) (range_with_len 1 n)
+fresh_part names claims workers which n = map (λ k. fresh names claims workers ((which + k) % workers))
+    (range_with_len 1 n)
 
 -- the deques of all others, from the right neighbour of `which` round
 abbrev pub fresh_row : List Name → ℕ → ℕ → ℕ → List Plain
@@ -96,11 +101,13 @@ AreRows names claims workers n rows = rows ≡ map (fresh_row names claims worke
 
 -- whatever claims the deques have been dealt, the views are of all others, from the right neighbour of `which` round
 abbrev pub IsRow : ℕ → List Own → ℕ → List Reach → Type 0
-IsRow workers owns which row = (claims : ℕ) → IsFilled claims workers owns → row_plain row ≡ fresh_row (names_in owns) claims workers which
+IsRow workers owns which row = (claims : ℕ) → IsFilled claims workers owns → row_plain row ≡ fresh_row (names_in owns)
+    claims workers which
 
 -- the same of each worker
 abbrev pub EachRow : ℕ → List Own → List (Vec Reach Global) → Type 0
-EachRow workers owns rows = (claims : ℕ) → IsFilled claims workers owns → AreRows (names_in owns) claims workers workers (map (λ row. row_plain row.items) rows)
+EachRow workers owns rows = (claims : ℕ) → IsFilled claims workers owns → AreRows (names_in owns) claims workers workers
+    (map (λ row. row_plain row.items) rows)
 
 -- the deques are plainly the same
 abbrev pub SameDeques : List Own → List Own → Type 0

@@ -10,10 +10,18 @@ use Rattle.cert_search.specs.declared.deque.Task.{Task}
 use Rattle.cert_search.specs.declared.deque.Task.TheVariants.{Claim, End}
 use Rattle.cert_search.specs.Views.{At}
 
--- What a holder knows: who it is, whether it may still deal, what was dealt, what it has had, how many marks of the end were dealt, and
--- whether it has had one.
+-- What a holder knows: who it is, whether it may still deal, what was dealt, what it has had, how many marks of the end
+-- were dealt, and whether it has had one.
 abbrev pub had : Holder → Bool → List ℕ → List ℕ → ℕ → Bool → Had
-had holder deals dealt got marks ended = record { holder = holder; deals = deals; dealt = dealt; got = got; marks = marks; ended = ended }
+had holder deals dealt got marks ended = record {
+  holder = holder;
+  deals = deals;
+  dealt = dealt;
+  got = got;
+  marks =
+      marks;
+  ended = ended;
+}
 
 -- the worker of an empty deque, with no other view out
 abbrev pub first_view : Had
@@ -142,15 +150,18 @@ marks_had (v ∷ vs) = mark_of v + marks_had vs
 
 -- no mark of the end is lost: each that was dealt, as a holder knows, stands in the deque, or a view may have had it
 abbrev pub AreMarked : ℕ → List Had → Type 0
-AreMarked marks views = (p : ℕ) (v : Had) → get_elem? views p ≡ some v → weight v ≡ 1 → v.marks ≤ marks + marks_had views
+AreMarked marks views = (p : ℕ) (v : Had) → get_elem? views p ≡ some v → weight v ≡ 1 → v.marks ≤ marks + marks_had
+    views
 
 -- the rule, whatever is gone and however many marks are left
 abbrev pub IsDeque : List Task → List Had → Type 0
-IsDeque tasks views = (gone : List ℕ) × (left : List ℕ) × (marks : ℕ) × (tasks ≡ tasks_of left marks) × NoMark marks views × Keeps gone left views × AreMarked marks views
+IsDeque tasks views = (gone : List ℕ) × (left : List ℕ) × (marks : ℕ) × (tasks ≡ tasks_of left marks) × NoMark marks
+    views × Keeps gone left views × AreMarked marks views
 
 -- the claim was dealt here, is above all that this holder has had of this deque, and has been had now
 abbrev pub GetsClaim : Had → ℕ → Had → Type 0
-GetsClaim v claim w = (w ≡ got_more v claim) × ((k : ℕ) × (get_elem? v.dealt k ≡ some claim)) × ((i x : ℕ) → get_elem? v.got i ≡ some x → x < claim)
+GetsClaim v claim w = (w ≡ got_more v claim) × ((k : ℕ) × (get_elem? v.dealt k ≡ some claim))
+    × ((i x : ℕ) → get_elem? v.got i ≡ some x → x < claim)
 
 -- the one claim or mark that left the deque has been had
 abbrev pub Took : Had → List Task → Had → Type 0
@@ -177,4 +188,5 @@ pub record Settles (v : Had) : Type 0 where
   -- each claim was dealt here
   pub dealt : (i claim : ℕ) → get_elem? v.got i ≡ some claim → (k : ℕ) × (get_elem? v.dealt k ≡ some claim)
   -- where no other view is out, and somebody has had a mark of the end, each claim that was dealt here stands in it
-  pub all_had : v.holder ≡ Owner 0 → v.ended ≡ true → (k claim : ℕ) → get_elem? v.dealt k ≡ some claim → (i : ℕ) × (get_elem? v.got i ≡ some claim)
+  pub all_had : v.holder ≡ Owner 0 → v.ended ≡ true → (k claim : ℕ) → get_elem? v.dealt k ≡ some claim → (i : ℕ)
+      × (get_elem? v.got i ≡ some claim)

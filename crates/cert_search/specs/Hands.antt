@@ -52,7 +52,8 @@ deque_at h d = name_at d (names_of h)
 
 -- the hand reaches the deque d once
 abbrev pub ReachesOnce : Hand → ℕ → Type 0
-ReachesOnce h d = (k : ℕ) × (slice_get (deques_of h) k ≡ Some d) × ((j : ℕ) → slice_get (deques_of h) j ≡ Some d → j ≡ k)
+ReachesOnce h d = (k : ℕ) × (slice_get (deques_of h) k ≡ Some d) × ((j : ℕ) → slice_get (deques_of h) j ≡ Some d → j
+    ≡ k)
 
 -- the hand of the worker i, as it is dealt
 pub record IsDealt (claims workers i : ℕ) (h : Hand) : Type 0 where
@@ -80,15 +81,17 @@ pub record SharesDeque (d : ℕ) (h g : Hand) : Type 0 where
 
 -- any two hands share each deque
 abbrev pub ShareDeques : ℕ → List Hand → Type 0
-ShareDeques workers hands = (i j d : ℕ) (h g : Hand) → slice_get hands i ≡ Some h → slice_get hands j ≡ Some g → d < workers → SharesDeque d h g
+ShareDeques workers hands = (i j d : ℕ) (h g : Hand) → slice_get hands i ≡ Some h → slice_get hands j ≡ Some g → d
+    < workers → SharesDeque d h g
 
--- The hand is of a deal of so many claims to so many workers: it reaches each deque, each deque was dealt its claims, and each other
--- worker has a view of the hand's own deque.
+-- The hand is of a deal of so many claims to so many workers: it reaches each deque, each deque was dealt its claims,
+-- and each other worker has a view of the hand's own deque.
 pub record IsOfDeal (claims workers : ℕ) (h : Hand) : Type 0 where
   pub round : IsRound claims workers (own_deque h) (sights_of h)
   pub lent : own_out h.own ≡ workers - 1
 
--- of a deal of so many claims to so many workers, the hand has had the claim, which was dealt and comes from the deque of its remainder
+-- of a deal of so many claims to so many workers, the hand has had the claim, which was dealt and comes from the deque
+-- of its remainder
 pub record HasTaken (claims workers : ℕ) (old : Hand) (claim : ℕ) (new : Hand) : Type 0 where
   pub dealt : claim < claims
   -- it is above all that this hand has had from that deque
@@ -109,7 +112,8 @@ pub record IsThrough (old new : Hand) : Type 0 where
 
 -- a claim of another's deque comes only where the hand has had a mark of the end of its own
 abbrev pub ComesAfterOwn : Hand → ℕ → Hand → Type 0
-ComesAfterOwn old claim new = (claims workers : ℕ) → IsOfDeal claims workers old → claim % workers ≢ own_deque old → is_at_end new (own_deque old) ≡ true
+ComesAfterOwn old claim new = (claims workers : ℕ) → IsOfDeal claims workers old → claim % workers ≢ own_deque old
+    → is_at_end new (own_deque old) ≡ true
 
 -- the hand is of each deal that it was of, and reaches the same deques
 pub record SameDeal (old new : Hand) : Type 0 where
@@ -138,4 +142,5 @@ fresh_hand names claims workers i = (workers - 1, fresh names claims workers i �
 
 -- the hands of all workers, in order
 abbrev pub AreHands : List Name → ℕ → ℕ → List Hand → Type 0
-AreHands names claims workers hands = map hand_plain hands ≡ map (fresh_hand names claims workers) (range_with_len 0 workers)
+AreHands names claims workers hands = map hand_plain hands ≡ map (fresh_hand names claims workers)
+    (range_with_len 0 workers)

@@ -3,8 +3,8 @@ use Rattle.std.specs.Prelude.{◌≡◌, ℕ, ◌+◌, ◌==◌, nat_lt, nat_le,
 use Rattle.refutation.specs.Rule.{Rule}
 use Rattle.cert_search.specs.Lengths.{length_in}
 
--- whether a certificate of this length at the place k isn't behind one of that length at the place i: the shorter come first, and of those that are
--- equally long the first
+-- whether a certificate of this length at the place k isn't behind one of that length at the place i: the shorter come
+-- first, and of those that are equally long the first
 abbrev pub comes_first : ℕ → ℕ → ℕ → ℕ → Bool
 comes_first long k other i = nat_lt long other || (long == other && nat_le k i)
 
@@ -12,7 +12,8 @@ comes_first long k other i = nat_lt long other || (long == other && nat_le k i)
 abbrev pub length_before : ℕ → ℕ → ℕ → ℕ → ℕ
 length_before long k other i = if comes_first long k other i then long else 0
 
--- how long those together are that aren't behind one of this length at the place i, of certificates at the places from k on
+-- how long those together are that aren't behind one of this length at the place i, of certificates at the places from
+-- k on
 abbrev pub length_up_to : ℕ → ℕ → ℕ → List ℕ → ℕ
 length_up_to other i k [] = 0
 length_up_to other i k (long ∷ rest) = length_before long k other i + length_up_to other i (k + 1) rest
@@ -24,4 +25,5 @@ kept_at room lengths i rule = if nat_le (length_up_to (length_in rule) i 0 lengt
 -- the shortest of what was found are kept, as many as have room together
 pub record AreKept (room : ℕ) (found kept : List (Option Rule)) : Type 0 where
   pub as_many : length kept ≡ length found
-  pub each : (i : ℕ) (rule left : Option Rule) → slice_get found i ≡ Some rule → slice_get kept i ≡ Some left → left ≡ kept_at room (map length_in found) i rule
+  pub each : (i : ℕ) (rule left : Option Rule) → slice_get found i ≡ Some rule → slice_get kept i ≡ Some left → left
+      ≡ kept_at room (map length_in found) i rule

@@ -6,7 +6,8 @@ use Rattle.refutation.specs.Rule.{Rule, Branches, dead, clash, open_all, pick, p
 
 -- how many digits a number below 100,000 has
 abbrev pub digits : ℕ → ℕ
-digits n = if nat_lt n 10 then 1 else if nat_lt n 100 then 2 else if nat_lt n 1000 then 3 else if nat_lt n 10000 then 4 else 5
+digits n = if nat_lt n 10 then 1 else if nat_lt n 100 then 2 else if nat_lt n 1000 then 3 else if nat_lt n 10000 then 4
+    else 5
 
 -- how long the name of a side is
 abbrev pub name_length : Side → ℕ

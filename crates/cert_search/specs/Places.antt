@@ -11,7 +11,8 @@ use Rattle.cert_search.specs.declared.working.Worked.{Worked}
 
 -- the answer is one to the claim of its number
 abbrev pub IsFound : ℕ → List PlacedClaim → Found → Type 0
-IsFound budget claims found = (c : PlacedClaim) → slice_get claims found.claim ≡ Some c → IsAnswer budget c.claim (rule_in found.answer)
+IsFound budget claims found = (c : PlacedClaim) → slice_get claims found.claim ≡ Some c → IsAnswer budget c.claim
+    (rule_in found.answer)
 
 -- what a worker found
 pub record IsWork (budget : ℕ) (claims : List PlacedClaim) (founds : Vec Found Global) : Type 0 where
@@ -25,9 +26,12 @@ pub record IsWorked (budget : ℕ) (claims : List PlacedClaim) (first : Hand) (w
 -- the same of all workers
 pub record AreWorked (budget : ℕ) (claims : List PlacedClaim) (hands : List Hand) (works : List Worked) : Type 0 where
   pub as_many : length works ≡ length hands
-  pub each : (i : ℕ) (h : Hand) (w : Worked) → slice_get hands i ≡ Some h → slice_get works i ≡ Some w → IsWorked budget claims h w
+  pub each : (i : ℕ) (h : Hand) (w : Worked) → slice_get hands i ≡ Some h → slice_get works i ≡ Some w → IsWorked budget
+      claims h w
 
 -- a place for each claim, which is empty or has an answer to it
-pub record ArePlaces (budget : ℕ) (claims : List PlacedClaim) (places : List (Option (Option (Certificate Global)))) : Type 0 where
+pub record ArePlaces (budget : ℕ) (claims : List PlacedClaim) (places : List (Option (Option (Certificate Global)))) :
+    Type 0 where
   pub as_many : length places ≡ length claims
-  pub each : (i : ℕ) (c : PlacedClaim) (answer : Option (Certificate Global)) → slice_get claims i ≡ Some c → slice_get places i ≡ Some (Some answer) → IsAnswer budget c.claim (rule_in answer)
+  pub each : (i : ℕ) (c : PlacedClaim) (answer : Option (Certificate Global)) → slice_get claims i ≡ Some c
+      → slice_get places i ≡ Some (Some answer) → IsAnswer budget c.claim (rule_in answer)

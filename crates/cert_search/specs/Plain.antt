@@ -42,6 +42,7 @@ plain_rule left right = let pairs = equal_pairs 0 (children_of left) (children_o
 abbrev pub first_item : List Formula → Formula
 first_item items = slice_index_or items 0 (member 0)
 
--- A claim is plain where the pairs of equal members refute it by their number: two thresholds over members, of which enough are the same.
+-- A claim is plain where the pairs of equal members refute it by their number: two thresholds over members, of which
+-- enough are the same.
 abbrev pub IsPlain : State → Type 0
 IsPlain st = Refutes (plain_rule (first_item st.left) (first_item st.right)) st

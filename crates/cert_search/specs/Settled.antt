@@ -20,22 +20,28 @@ AreOfOneDeal hands = (claims : ℕ) × AreOfDeal claims hands
 
 -- the claim stands at the place k of what the hand i has had from the deque d
 abbrev pub Stands : List Hand → ℕ → ℕ → ℕ → ℕ → Type 0
-Stands hands i d k claim = (h : Hand) × (slice_get hands i ≡ Some h) × (d < length hands) × (get_elem? (had_from h d) k ≡ some claim)
+Stands hands i d k claim = (h : Hand) × (slice_get hands i ≡ Some h) × (d < length hands)
+    × (get_elem? (had_from h d) k ≡ some claim)
 
 -- no claim has been had by two hands, or twice by one
 abbrev pub HadOnce : List Hand → Type 0
-HadOnce hands = (i d k j e l claim : ℕ) → Stands hands i d k claim → Stands hands j e l claim → (i ≡ j) × (d ≡ e) × (k ≡ l)
+HadOnce hands = (i d k j e l claim : ℕ) → Stands hands i d k claim → Stands hands j e l claim → (i ≡ j) × (d ≡ e)
+    × (k ≡ l)
 
--- where a hand has had a mark of the end of a deque, each claim of that deque has been had, whichever deal the hands are of
+-- where a hand has had a mark of the end of a deque, each claim of that deque has been had, whichever deal the hands
+-- are of
 abbrev pub EachHad : List Hand → Type 0
-EachHad hands = (claims i d claim : ℕ) (h : Hand) → AreOfDeal claims hands → slice_get hands i ≡ Some h → d < length hands → is_at_end h d ≡ true → claim < claims → claim % length hands ≡ d → (j : ℕ) × (k : ℕ) × Stands hands j d k claim
+EachHad hands = (claims i d claim : ℕ) (h : Hand) → AreOfDeal claims hands → slice_get hands i ≡ Some h → d
+    < length hands → is_at_end h d ≡ true → claim < claims → claim % length hands ≡ d → (j : ℕ) × (k : ℕ) × Stands hands
+    j d k claim
 
 -- all claims of a deal have been had, each once, by hands that were these before
 pub record AllHad (first : List Hand) : Type 0 where
   pub ended : List Hand
   pub deal : (claims : ℕ) → AreOfDeal claims first → AreOfDeal claims ended
   pub once : HadOnce ended
-  pub all : (claims claim : ℕ) → AreOfDeal claims first → 0 < length first → claim < claims → (j : ℕ) × (d : ℕ) × (k : ℕ) × Stands ended j d k claim
+  pub all : (claims claim : ℕ) → AreOfDeal claims first → 0 < length first → claim < claims → (j : ℕ) × (d : ℕ)
+      × (k : ℕ) × Stands ended j d k claim
 
 -- what a worker knows of its own deque, of each worker
 abbrev pub own_views : List Own → List Had
@@ -64,7 +70,8 @@ AreTied names ss = (k : ℕ) (s : Sight) → slice_get ss k ≡ Some s → slice
 
 -- the views have been taken back, each by the worker whose deque it is of
 abbrev pub EachTaken : List Own → List Sight → List Own → Type 0
-EachTaken olds ss news = (d : ℕ) (v : Had) → slice_get (own_views olds) d ≡ Some v → slice_get (own_views news) d ≡ Some (taken_back d v ss)
+EachTaken olds ss news = (d : ℕ) (v : Had) → slice_get (own_views olds) d ≡ Some v → slice_get (own_views news) d
+    ≡ Some (taken_back d v ss)
 
 -- each worker has learned what stands in its view
 abbrev pub EachSettles : List Own → Type 0

@@ -49,7 +49,8 @@ reach_calm r = calm (reach_sight r)
 
 -- the claim has been had of one of the deques, and what is known of the others is as it was
 abbrev pub GetsOne : List Sight → ℕ → List Sight → Type 0
-GetsOne ss claim ts = (k : ℕ) × (s : Sight) × (t : Sight) × (slice_get ss k ≡ Some s) × (ts ≡ slice_set ss k t) × Gets s claim t
+GetsOne ss claim ts = (k : ℕ) × (s : Sight) × (t : Sight) × (slice_get ss k ≡ Some s) × (ts ≡ slice_set ss k t)
+    × Gets s claim t
 
 -- what is known of the deque d, and nothing where it isn't reached
 abbrev pub look : ℕ → List Sight → Had

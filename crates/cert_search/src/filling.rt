@@ -29,7 +29,8 @@ pub fn empty_places(
 
 /// Puts an answer into its place.
 fn fill(found: Found, places: &mut Vec<Option<Answer>>)
-    ensures { (budget : ℕ) (claims : List PlacedClaim) → IsFound budget claims found → ArePlaces budget claims places.old.items → ArePlaces budget claims places.new.items }
+    ensures { (budget : ℕ) (claims : List PlacedClaim) → IsFound budget claims found → ArePlaces budget claims
+        places.old.items → ArePlaces budget claims places.new.items }
 {
     if found.claim < places.len() {
         places[found.claim] = Some(found.answer);
@@ -38,7 +39,8 @@ fn fill(found: Found, places: &mut Vec<Option<Answer>>)
 
 /// Puts a worker's answers into their places.
 fn fill_each(mut founds: Vec<Found>, places: &mut Vec<Option<Answer>>)
-    ensures { (budget : ℕ) (claims : List PlacedClaim) → IsWork budget claims founds → ArePlaces budget claims places.old.items → ArePlaces budget claims places.new.items }
+    ensures { (budget : ℕ) (claims : List PlacedClaim) → IsWork budget claims founds → ArePlaces budget claims
+        places.old.items → ArePlaces budget claims places.new.items }
 {
     while let Some(found) = founds.pop() {
         fill(found, places);
@@ -47,7 +49,8 @@ fn fill_each(mut founds: Vec<Found>, places: &mut Vec<Option<Answer>>)
 
 /// Puts all workers' answers into their places.
 pub fn fill_all(mut found: Vec<Vec<Found>>, places: &mut Vec<Option<Answer>>)
-    ensures { (budget : ℕ) (claims : List PlacedClaim) → All (IsWork budget claims) found.items → ArePlaces budget claims places.old.items → ArePlaces budget claims places.new.items }
+    ensures { (budget : ℕ) (claims : List PlacedClaim) → All (IsWork budget claims) found.items → ArePlaces budget
+        claims places.old.items → ArePlaces budget claims places.new.items }
 {
     while let Some(founds) = found.pop() {
         fill_each(founds, places);
@@ -57,8 +60,10 @@ pub fn fill_all(mut found: Vec<Vec<Found>>, places: &mut Vec<Option<Answer>>)
 /// Takes the answer out of a place.
 pub fn take_out(places: &mut Vec<Option<Answer>>, at: usize) -> Option<Answer>
     requires at { at < length places.old.items }
-    ensures places { (budget : ℕ) (claims : List PlacedClaim) → ArePlaces budget claims places.old.items → ArePlaces budget claims places.new.items }
-    ensures answer { (budget : ℕ) (claims : List PlacedClaim) → ArePlaces budget claims places.old.items → IfSome result (λ answer. IsFound budget claims (record { claim = at; answer = answer })) }
+    ensures places { (budget : ℕ) (claims : List PlacedClaim) → ArePlaces budget claims places.old.items
+        → ArePlaces budget claims places.new.items }
+    ensures answer { (budget : ℕ) (claims : List PlacedClaim) → ArePlaces budget claims places.old.items → IfSome result
+        (λ answer. IsFound budget claims (record { claim = at; answer = answer })) }
 {
     places[at].take()
 }

@@ -65,7 +65,8 @@ fn lengths_of(
 /// Drops the certificate at a place, where it doesn't stay.
 fn keep_if(certificates: &mut Vec<Option<Certificate<Global>>>, at: usize, stays: bool)
     requires { at < length certificates.old.items }
-    ensures { certificates.new.items ≡ (if stays then certificates.old.items else slice_set certificates.old.items at None) }
+    ensures { certificates.new.items ≡ (if stays then certificates.old.items else slice_set certificates.old.items at
+        None) }
 {
     if !stays {
         certificates[at] = None;
@@ -81,7 +82,8 @@ pub fn keep_shortest(
     certificates: &mut Vec<Option<Certificate<Global>>>,
     room: u32,
 ) -> Result<(), Fault>
-    ensures kept { IfOk result (λ _. AreKept room (map rule_in certificates.old.items) (map rule_in certificates.new.items)) }
+    ensures kept { IfOk result (λ _. AreKept room (map rule_in certificates.old.items)
+        (map rule_in certificates.new.items)) }
     ensures memory { IfErr result (λ e. e ≡ NoMemory) }
 {
     let lengths = lengths_of(alloc, certificates)?;

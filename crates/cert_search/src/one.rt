@@ -37,8 +37,10 @@ fn judged<A: Allocator>(
     claim: &Claim<A>,
     certificate: Certificate<Global>,
 ) -> Result<Option<Certificate<Global>>, Fault>
-    ensures refutes { IfOk result (λ answer. IfSome answer (λ c. Refutes (certificate_rule c) (first_state claim.now))) }
-    ensures found { Refutes (certificate_rule certificate) (first_state claim.now) → IfOk result (λ answer. IsSome answer) }
+    ensures refutes { IfOk result
+        (λ answer. IfSome answer (λ c. Refutes (certificate_rule c) (first_state claim.now))) }
+    ensures found { Refutes (certificate_rule certificate) (first_state claim.now) → IfOk result
+        (λ answer. IsSome answer) }
     ensures memory { IfErr result (λ e. e ≡ NoMemory) }
 {
     match check(alloc, claim, &certificate) {
@@ -54,8 +56,10 @@ pub fn certified<A: Allocator>(
     claim: &Claim<A>,
     tree: Refutation<Global>,
 ) -> Result<Option<Certificate<Global>>, Fault>
-    ensures refutes { IfOk result (λ answer. IfSome answer (λ c. Refutes (certificate_rule c) (first_state claim.now))) }
-    ensures found { is_certificate (rule_of tree) ≡ true → Refutes (rule_of tree) (first_state claim.now) → IfOk result (λ answer. IsSome answer) }
+    ensures refutes { IfOk result
+        (λ answer. IfSome answer (λ c. Refutes (certificate_rule c) (first_state claim.now))) }
+    ensures found { is_certificate (rule_of tree) ≡ true → Refutes (rule_of tree) (first_state claim.now) → IfOk result
+        (λ answer. IsSome answer) }
     ensures memory { IfErr result (λ e. e ≡ NoMemory) }
 {
     let Ok(certificate) = Certificate::new(tree) else {
@@ -70,7 +74,8 @@ pub fn copy_certified<A: Allocator, B: Allocator>(
     claim: &Claim<A>,
     tree: Refutation<B>,
 ) -> Result<Option<Certificate<Global>>, Fault>
-    ensures refutes { IfOk result (λ answer. IfSome answer (λ c. Refutes (certificate_rule c) (first_state claim.now))) }
+    ensures refutes { IfOk result
+        (λ answer. IfSome answer (λ c. Refutes (certificate_rule c) (first_state claim.now))) }
     ensures memory { IfErr result (λ e. e ≡ NoMemory) }
 {
     let Ok(certificate) = Certificate::new(tree) else {
@@ -93,7 +98,8 @@ fn plain<A: Allocator>(
     alloc: Global,
     claim: &Claim<A>,
 ) -> Result<Option<Certificate<Global>>, Fault>
-    ensures refutes { IfOk result (λ answer. IfSome answer (λ c. Refutes (certificate_rule c) (first_state claim.now))) }
+    ensures refutes { IfOk result
+        (λ answer. IfSome answer (λ c. Refutes (certificate_rule c) (first_state claim.now))) }
     ensures found { IsPlain (first_state claim.now) → IfOk result (λ answer. IsSome answer) }
     ensures memory { IfErr result (λ e. e ≡ NoMemory) }
 {
@@ -109,7 +115,8 @@ fn unplain<A: Allocator, B: Allocator + Clone>(
     claim: &Claim<A>,
     budget: u64,
 ) -> Result<Option<Certificate<Global>>, Fault>
-    ensures refutes { IfOk result (λ answer. IfSome answer (λ c. Refutes (certificate_rule c) (first_state claim.now))) }
+    ensures refutes { IfOk result
+        (λ answer. IfSome answer (λ c. Refutes (certificate_rule c) (first_state claim.now))) }
     ensures memory { IfErr result (λ e. e ≡ NoMemory) }
 {
     match find_tree(alloc, arena, claim, budget)? {

@@ -64,7 +64,8 @@ impl Own {
 
     // Takes the first claim, or else a mark of the end.
     pub(crate) fn take<R: Wait>(&mut self, rt: &R) -> Option<usize>
-        ensures { MatchOption result (Ends (own_sight self.old) (own_sight self.new)) (λ c. Gets (own_sight self.old) c (own_sight self.new)) }
+        ensures { MatchOption result (Ends (own_sight self.old) (own_sight self.new))
+            (λ c. Gets (own_sight self.old) c (own_sight self.new)) }
     {
         if self.ended {
             return None;
@@ -86,7 +87,8 @@ impl Own {
     pub(crate) fn reach(&mut self) -> Result<Reach, AllocError>
         ensures plain { own_plain self.new ≡ own_plain self.old }
         ensures lent { IfOk result (λ _. own_out self.new ≡ suc (own_out self.old)) }
-        ensures reach { IfOk result (λ r. SameDeque (own_sight self.old) (reach_sight r) × ((reach_sight r).1 ≡ guest_view (own_sight self.old).1.dealt (own_sight self.old).1.marks)) }
+        ensures reach { IfOk result (λ r. SameDeque (own_sight self.old) (reach_sight r)
+            × ((reach_sight r).1 ≡ guest_view (own_sight self.old).1.dealt (own_sight self.old).1.marks)) }
     {
         let stealer = self.deque.stealer()?;
         let pass = self.deque.another::<Thieves>();

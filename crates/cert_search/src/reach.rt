@@ -26,7 +26,8 @@ impl Reach {
 
     // Steals a claim, or else takes a mark of the end.
     pub(crate) fn steal<R: Wait>(&mut self, rt: &R) -> Option<usize>
-        ensures { MatchOption result (Ends (reach_sight self.old) (reach_sight self.new)) (λ c. Gets (reach_sight self.old) c (reach_sight self.new)) }
+        ensures { MatchOption result (Ends (reach_sight self.old) (reach_sight self.new))
+            (λ c. Gets (reach_sight self.old) c (reach_sight self.new)) }
     {
         if self.ended {
             return None;

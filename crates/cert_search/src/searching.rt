@@ -38,7 +38,8 @@ fn answer(
     requires at { at < length claims.now }
     requires places { ArePlaces budget (all_lent claims.now) places.old.items }
     ensures places { ArePlaces budget (all_lent claims.now) places.new.items }
-    ensures answer { IfOk result (λ answer. IsFound budget (all_lent claims.now) (record { claim = at; answer = answer })) }
+    ensures answer { IfOk result (λ answer. IsFound budget (all_lent claims.now)
+        (record { claim = at; answer = answer })) }
     ensures memory { IfErr result (λ e. e ≡ NoMemory) }
 {
     match take_out(places, at) {
@@ -87,7 +88,8 @@ fn worked_by<R: Threads + Wait + Sync, G: Gate + Sync>(
 
 /// Splits the workers' results into their answers and their hands.
 fn parts_of(alloc: Global, works: Vec<Worked>) -> Result<(Vec<Vec<Found>>, Vec<Hand>), AllocError>
-    ensures { IfOk result (λ p. (p.0.items ≡ map (λ w. w.founds) works.items) × (p.1.items ≡ map (λ w. w.hand) works.items)) }
+    ensures { IfOk result (λ p. (p.0.items ≡ map (λ w. w.founds) works.items)
+        × (p.1.items ≡ map (λ w. w.hand) works.items)) }
 {
     let mut found = Vec::new(alloc);
     let mut hands = Vec::new(alloc);
@@ -154,7 +156,8 @@ pub fn search_all<R: Threads + Wait + Sync, G: Gate + Sync>(
 ) -> Result<Vec<Option<Certificate<Global>>>, Fault>
     requires workers { (0 < workers) × (workers ≤ 16) }
     ensures answers { IfOk result (λ v. AreAnswersOf budget (claims_in (plan_data plan.now)) (map rule_in v.items)) }
-    ensures fault { IfErr result (λ e. e ≢ NoMemory → (fault : PlanFault) × (claims_in (plan_data plan.now) ≡ Err fault) × (e ≡ kind_of fault)) }
+    ensures fault { IfErr result (λ e. e ≢ NoMemory → (fault : PlanFault) × (claims_in (plan_data plan.now) ≡ Err fault)
+        × (e ≡ kind_of fault)) }
     ensures memory { IfErr result (λ e. e ≡ NoMemory → IsOk (claims_in (plan_data plan.now))) }
 {
     let claims = match lent_claims(alloc, plan) {

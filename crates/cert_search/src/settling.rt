@@ -31,7 +31,8 @@ pub fn settle(alloc: Global, hands: Vec<Hand>) -> Result<(), Fault>
 
 // The hands' own deques in order, and their views of others' deques.
 fn parts_of(alloc: Global, hands: Vec<Hand>) -> Result<(Vec<Own>, Vec<Reach>), AllocError>
-    ensures { IfOk result (λ p. (map own_sight p.0.items ≡ map hand_own hands.items) × (map reach_sight p.1.items ≡ all_others hands.items)) }
+    ensures { IfOk result (λ p. (map own_sight p.0.items ≡ map hand_own hands.items)
+        × (map reach_sight p.1.items ≡ all_others hands.items)) }
 {
     let mut owns = Vec::new(alloc);
     let mut reaches = Vec::new(alloc);
@@ -45,7 +46,8 @@ fn parts_of(alloc: Global, hands: Vec<Hand>) -> Result<(Vec<Own>, Vec<Reach>), A
 
 // The views of one more hand.
 fn push_all(reaches: &mut Vec<Reach>, others: Vec<Reach>) -> Result<(), AllocError>
-    ensures { IfOk result (λ _. map reach_sight reaches.new.items ≡ map reach_sight reaches.old.items ++ map reach_sight others.items) }
+    ensures { IfOk result (λ _. map reach_sight reaches.new.items ≡ map reach_sight reaches.old.items ++ map reach_sight
+        others.items) }
 {
     for reach in others {
         reaches.push(reach)?;

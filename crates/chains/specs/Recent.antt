@@ -5,4 +5,5 @@ use Rattle.chains.specs.declared.pending_record.PendingRecord.{PendingRecord}
 -- who waits for the number, in the order in which they came
 abbrev pub recent_waiters : List PendingRecord → ℕ → List ℕ
 recent_waiters [] k = []
-recent_waiters (entry ∷ rest) k = if entry.before == k then entry.number ∷ recent_waiters rest k else recent_waiters rest k
+recent_waiters (entry ∷ rest) k = if entry.before == k then entry.number ∷ recent_waiters rest k else recent_waiters
+    rest k

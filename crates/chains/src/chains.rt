@@ -34,7 +34,8 @@ impl Chains {
 
     /// Makes the chains of records that are one chain, `last` its last LSN, 0 if there is no record.
     pub fn of_one_chain(alloc: Global, last: u64) -> Chains
-        ensures { (records : List Redo) → GroupLinksFall records → IsOneChain 0 records last → AreChainsOf records result }
+        ensures { (records : List Redo) → GroupLinksFall records → IsOneChain 0 records last → AreChainsOf records
+            result }
     {
         Chains {
             pending: PendingRecords::new(alloc),
@@ -51,7 +52,8 @@ impl Chains {
 
     /// Returns whether a record is pending under this LSN.
     pub fn has_pending(&self, number: u64) -> bool
-        ensures { (records : List Redo) → AreChainsOf records self.now → MatchBool result ((m : ℕ) × IsPending records number m) ((m : ℕ) → IsPending records number m → ⊥) }
+        ensures { (records : List Redo) → AreChainsOf records self.now → MatchBool result
+            ((m : ℕ) × IsPending records number m) ((m : ℕ) → IsPending records number m → ⊥) }
     {
         self.pending.has_pending(number)
     }
@@ -71,7 +73,9 @@ impl Chains {
     pub fn add_pending(&mut self, before: u64, number: u64)
         requires room { HasRoomFor before self.old.pending }
         requires above { before < number }
-        ensures { (r : Redo) (records : List Redo) → r.prev_group ≡ before → r.lsn ≡ number → (IsReached records before → ⊥) → GroupLinksFall (with_record r records) → AreChainsOf records self.old → AreChainsOf (with_record r records) self.new }
+        ensures { (r : Redo) (records : List Redo) → r.prev_group ≡ before → r.lsn ≡ number
+            → (IsReached records before → ⊥) → GroupLinksFall (with_record r records) → AreChainsOf records self.old
+            → AreChainsOf (with_record r records) self.new }
     {
         self.pending.add_pending(before, number);
     }
@@ -89,7 +93,9 @@ impl Chains {
 
     /// Returns the complete point after a record arrives whose chain is complete and which releases these.
     pub fn point_with(&self, released: &[u64]) -> u64
-        ensures { (r : Redo) (records : List Redo) → IsReached records r.prev_group → GroupLinksFall (with_record r records) → AreReleased (IsPendingIn self.now.pending) r.lsn released.now → AreChainsOf records self.now → result ≡ scl (with_record r records) }
+        ensures { (r : Redo) (records : List Redo) → IsReached records r.prev_group → GroupLinksFall
+            (with_record r records) → AreReleased (IsPendingIn self.now.pending) r.lsn released.now → AreChainsOf
+            records self.now → result ≡ scl (with_record r records) }
     {
         match released.last() {
             Some(last) => self.point.max(*last),
@@ -99,7 +105,9 @@ impl Chains {
 
     /// Adds a record whose chain is complete, and releases the records pending under it.
     pub fn land(&mut self, released: &[u64])
-        ensures { (r : Redo) (records : List Redo) → IsReached records r.prev_group → GroupLinksFall (with_record r records) → AreReleased (IsPendingIn self.old.pending) r.lsn released.now → AreChainsOf records self.old → AreChainsOf (with_record r records) self.new }
+        ensures { (r : Redo) (records : List Redo) → IsReached records r.prev_group → GroupLinksFall
+            (with_record r records) → AreReleased (IsPendingIn self.old.pending) r.lsn released.now → AreChainsOf
+            records self.old → AreChainsOf (with_record r records) self.new }
     {
         self.point = self.point_with(released);
         self.pending.release(released);

@@ -67,7 +67,8 @@ impl Earlier {
     /// Adds a record that is pending under an LSN.
     pub fn add_pending(&mut self, number: u64, waiter: u64)
         requires room { IsRoomyFor number self.old }
-        ensures { (k : ℕ) → earlier_waiters self.new k ≡ (if k == number then earlier_waiters self.old k ++ waiter ∷ [] else earlier_waiters self.old k) }
+        ensures { (k : ℕ) → earlier_waiters self.new k ≡ (if k == number then earlier_waiters self.old k ++ waiter ∷ []
+            else earlier_waiters self.old k) }
     {
         if let Some(waiters) = self.waiting.get_mut(&number) {
             waiters.push(waiter);
@@ -77,7 +78,8 @@ impl Earlier {
     /// Removes the records pending under these LSNs.
     #[inline(always)]
     pub fn release(&mut self, released: &[u64])
-        ensures { (k : ℕ) → earlier_waiters self.new k ≡ (if any (λ n. n == k) released.now then [] else earlier_waiters self.old k) }
+        ensures { (k : ℕ) → earlier_waiters self.new k ≡ (if any (λ n. n == k) released.now then [] else earlier_waiters
+            self.old k) }
     {
         if !self.waiting.is_empty() {
             self.take_out(released);
@@ -87,7 +89,8 @@ impl Earlier {
     /// Removes the records pending under these LSNs. Out of line, since mostly nothing is pending here.
     #[inline(never)]
     fn take_out(&mut self, released: &[u64])
-        ensures { (k : ℕ) → earlier_waiters self.new k ≡ (if any (λ n. n == k) released.now then [] else earlier_waiters self.old k) }
+        ensures { (k : ℕ) → earlier_waiters self.new k ≡ (if any (λ n. n == k) released.now then [] else earlier_waiters
+            self.old k) }
     {
         for number in released {
             self.waiting.remove(number);

@@ -45,7 +45,8 @@ impl PendingRecords {
     /// Returns whether a record is pending under an LSN.
     #[inline(always)]
     pub fn has_pending(&self, number: u64) -> bool
-        ensures { MatchBool result ((m : ℕ) × IsPendingIn self.now number m) ((m : ℕ) → IsPendingIn self.now number m → ⊥) }
+        ensures { MatchBool result ((m : ℕ) × IsPendingIn self.now number m) ((m : ℕ) → IsPendingIn self.now number m
+            → ⊥) }
     {
         has_pending(self.recent.as_slice(), number) || !self.earlier.of(number).is_empty()
     }
@@ -89,7 +90,8 @@ impl PendingRecords {
     pub fn add_pending(&mut self, number: u64, waiter: u64)
         requires room { HasRoomFor number self.old }
         requires above { number < waiter }
-        ensures { (k : ℕ) → waiters self.new k ≡ (if k == number then waiters self.old k ++ waiter ∷ [] else waiters self.old k) }
+        ensures { (k : ℕ) → waiters self.new k ≡ (if k == number then waiters self.old k ++ waiter ∷ [] else waiters
+            self.old k) }
     {
         self.recent.push_reserved(PendingRecord {
             before: number,

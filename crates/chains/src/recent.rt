@@ -29,7 +29,8 @@ pub fn add_waiters(
     numbers: &mut Vec<u64>,
 ) -> Result<(), AllocError>
     requires growing { AreGrowing numbers.old.items }
-    ensures added { OnOk result (numbers.new.items ≡ with_numbers (recent_waiters pending.now before) numbers.old.items) }
+    ensures added { OnOk result (numbers.new.items ≡ with_numbers (recent_waiters pending.now before)
+        numbers.old.items) }
 {
     for entry in pending {
         if entry.before == before {
@@ -42,7 +43,8 @@ pub fn add_waiters(
 /// Removes the records pending under these LSNs.
 #[inline(always)]
 pub fn release(pending: &mut Vec<PendingRecord>, released: &[u64])
-    ensures { (k : ℕ) → recent_waiters pending.new.items k ≡ (if any (λ n. n == k) released.now then [] else recent_waiters pending.old.items k) }
+    ensures { (k : ℕ) → recent_waiters pending.new.items k ≡ (if any (λ n. n == k) released.now then [] else
+        recent_waiters pending.old.items k) }
 {
     pending.retain(|entry| !released.contains(&entry.before));
 }

@@ -10,11 +10,12 @@ use Rattle.drivers.specs.declared.driving.Driven.{Driven}
 
 -- whether the run of these events refuses none of them, and there are so many
 abbrev pub replays : Plan → List Event → ℕ → Bool
-replays plan events steps = not (list_any (λ event_result. is_err event_result) (results plan (opening plan) events)) && (length events == steps)
+replays plan events steps = not (list_any (λ event_result. is_err event_result) (results plan (opening plan) events)) &&
+    (length events == steps)
 
--- The threads left a journal, a run of the model over the plan, of which every promise of the volume holds. Each event of the
--- script was made or refused. The result is how that journal's run ends, and whether it refuses nothing and has as many
--- steps as were made.
+-- The threads left a journal, a run of the model over the plan, of which every promise of the volume holds. Each event
+-- of the script was made or refused. The result is how that journal's run ends, and whether it refuses nothing and has
+-- as many steps as were made.
 pub record IsDriven (plan : Plan) (orders : ℕ) (driven : Driven) : Type 0 where
   pub entries : List Entry
   pub runs : IsRun plan entries

@@ -15,7 +15,8 @@ fn refuses(results: &[Result<u32, Fault>]) -> bool
 
 /// Returns whether a run refused nothing and had `steps` events.
 pub fn agrees(outcome: &Outcome, events: &Vec<Event>, steps: usize) -> bool
-    ensures { result ≡ (not (list_any (λ completion. is_err completion) outcome.now.results.items) && (vec_len events.now == steps)) }
+    ensures { result ≡ (not (list_any (λ completion. is_err completion) outcome.now.results.items) &&
+        (vec_len events.now == steps)) }
 {
     !refuses(outcome.results.as_slice()) && events.len() == steps
 }

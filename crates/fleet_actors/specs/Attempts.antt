@@ -6,8 +6,8 @@ use Rattle.volume_model.specs.Answer.{refusal_of}
 use Rattle.volume_model.specs.Message.{Message}
 use Rattle.volume_model.specs.World.{Authority, AuthorityStep}
 
--- What a refusal shows of what is defined: that it is refused so. But that the slots are spent means this, no cell is left
--- where nothing else is refused, and running out of memory says nothing.
+-- What a refusal shows of what is defined: that it is refused so. But that the slots are spent means this, no cell is
+-- left where nothing else is refused, and running out of memory says nothing.
 abbrev pub Judged : {T : Type 0} → Type 0 → Bool → Result T Fault → Fault → Type 0
 Judged spent full defined NoMemory = Unit {0}
 Judged spent full defined NoMessage = ⊥

@@ -12,8 +12,10 @@ use Rattle.fleet_actors.specs.declared.halt.Halt.{Halt}
 use Rattle.fleet_actors.specs.declared.halt.Halt.TheVariants.{StaleCursor, Refused}
 use Rattle.volume_model.specs.declared.fault.Fault.TheVariants.{NoMemory}
 
--- The actor stands in the journal as at its cursor, the pass has seen the whole journal, and there is room for a step and a note.
-pub record IsReadyToStep {X : Type 0} {s : SiteGhosts X} {l : LedgerGhosts X} (cursor : ActorCursor X s l) (log : Log X s l) (pass : Pass X s) : Type 0 where
+-- The actor stands in the journal as at its cursor, the pass has seen the whole journal, and there is room for a step
+-- and a note.
+pub record IsReadyToStep {X : Type 0} {s : SiteGhosts X} {l : LedgerGhosts X} (cursor : ActorCursor X s l)
+    (log : Log X s l) (pass : Pass X s) : Type 0 where
   pub agree : Agree (marked cursor) (world_at s.plan (seen_at cursor)) (world_of log)
   pub last : cursor_number cursor ≡ last_of (marked cursor) (journal_of log)
   pub place : HasPlace log (marked cursor)

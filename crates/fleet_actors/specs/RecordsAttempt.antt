@@ -22,11 +22,13 @@ pub record AddsNote (event : Event) (fault : Fault) (steps : List Made) (before 
 abbrev pub RecordsAttempt : Event → Result Receipt Halt → List Made → List Made → List Refusal → List Refusal → Type 0
 RecordsAttempt event (Ok r) steps steps' notes notes' = AddsStep event r steps steps' × (notes' ≡ notes)
 RecordsAttempt event (Err StaleCursor) steps steps' notes notes' = (steps' ≡ steps) × (notes' ≡ notes)
-RecordsAttempt event (Err (Refused fault)) steps steps' notes notes' = (steps' ≡ steps) × AddsNote event fault steps notes notes'
+RecordsAttempt event (Err (Refused fault)) steps steps' notes notes' = (steps' ≡ steps) × AddsNote event fault steps
+    notes notes'
 
 -- the same of the pass itself, before and after
 abbrev pub PassRecords : {X : Type 0} {s : SiteGhosts X} → Event → Result Receipt Halt → Pass X s → Pass X s → Type 0
-PassRecords event result old new = RecordsAttempt event result (steps_of old) (steps_of new) (notes_of old) (notes_of new)
+PassRecords event result old new = RecordsAttempt event result (steps_of old) (steps_of new) (notes_of old)
+    (notes_of new)
 
 -- the refusal is the one of the model
 abbrev pub IsExact : Plan → ℕ → ℕ → List Entry → Event → Result Receipt Halt → Type 0

@@ -43,7 +43,8 @@ impl NodeAction {
 
     /// Returns the segment's action.
     fn act<'a>(self) -> NodeAct<'a>
-        ensures { (plan : Plan) (group member : ℕ) (now : Node) → acted result plan group member now ≡ done_by plan group member now self }
+        ensures { (plan : Plan) (group member : ℕ) (now : Node) → acted result plan group member now ≡ done_by plan
+            group member now self }
     {
         match self {
             NodeAction::Hydrate => NodeAct::Hydrate,
@@ -77,14 +78,18 @@ impl<L: Site> NodeActor<L> {
         pass: &mut Pass<'a, L>,
         action: NodeAction,
     ) -> Result<Receipt, Halt>
-        ensures recorded { PassRecords (event_by (actor_group self.old) (actor_member self.old) action) result pass.old pass.new }
-        ensures exact { IsExact L.plan L.slots (length L.cells) (journal_of log.old) (event_by (actor_group self.old) (actor_member self.old) action) result }
-        ensures entered { Enters (event_by (actor_group self.old) (actor_member self.old) action) (journal_of log.old) (journal_of log.new) result }
+        ensures recorded { PassRecords (event_by (actor_group self.old) (actor_member self.old) action) result pass.old
+            pass.new }
+        ensures exact { IsExact L.plan L.slots (length L.cells) (journal_of log.old)
+            (event_by (actor_group self.old) (actor_member self.old) action) result }
+        ensures entered { Enters (event_by (actor_group self.old) (actor_member self.old) action) (journal_of log.old)
+            (journal_of log.new) result }
         ensures stale { result ≡ Err StaleCursor → IsStale self.old.cursor log.old }
         ensures seat { seat_of pass.new ≡ seat_of pass.old }
         ensures found { IfErr result (λ halt. halt ≢ Refused NoMessage) }
         ensures same { (actor_group self.new ≡ actor_group self.old) × (actor_member self.new ≡ actor_member self.old) }
-        ensures moved { OnOk result (actor_node self.new ≡ (world_of log.new).nodes (actor_group self.old) (actor_member self.old)) }
+        ensures moved { OnOk result (actor_node self.new ≡ (world_of log.new).nodes (actor_group self.old)
+            (actor_member self.old)) }
         ensures still { OnErr result (actor_node self.new ≡ actor_node self.old) }
     {
         let NodeActor {

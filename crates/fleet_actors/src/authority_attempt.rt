@@ -36,7 +36,8 @@ pub(crate) fn event(act: AuthorityAct) -> Event
 
 /// Returns whether the action assigns a volume epoch beyond the last slot's.
 fn is_spent(authority: &Authority, act: AuthorityAct, slots: u32) -> bool
-    ensures { MatchBool result (IsSpent act (authority_of authority.now) slots) (IsLeft act (authority_of authority.now) slots) }
+    ensures { MatchBool result (IsSpent act (authority_of authority.now) slots) (IsLeft act (authority_of authority.now)
+        slots) }
 {
     match act {
         AuthorityAct::Assign => authority.last_volume() == slots,
@@ -57,10 +58,13 @@ pub(crate) fn try_step(
     act: AuthorityAct,
     slots: u32,
 ) -> Result<Messages, Fault>
-    ensures done { IfOk result (λ made. IsDone (authority_acted (authority_plan authority.old) (authority_of authority.old) act) (messages_of (listed made)) (authority_of authority.new)) }
+    ensures done { IfOk result
+        (λ made. IsDone (authority_acted (authority_plan authority.old) (authority_of authority.old) act)
+        (messages_of (listed made)) (authority_of authority.new)) }
     ensures room { OnOk result (full ≡ false) }
     ensures left { OnOk result (IsLeft act (authority_of authority.old) slots) }
-    ensures refused { IfErr result (λ fault. Judged (IsSpent act (authority_of authority.old) slots) full (authority_acted (authority_plan authority.old) (authority_of authority.old) act) fault) }
+    ensures refused { IfErr result (λ fault. Judged (IsSpent act (authority_of authority.old) slots) full
+        (authority_acted (authority_plan authority.old) (authority_of authority.old) act) fault) }
     ensures full { IfErr result (λ fault. fault ≡ JournalFull → IsLeft act (authority_of authority.old) slots) }
     ensures still { OnErr result (authority_of authority.new ≡ authority_of authority.old) }
     ensures plan { authority_plan authority.new ≡ authority_plan authority.old }

@@ -73,13 +73,16 @@ impl<L: Site> ClientActor<L> {
         requires settled { SeesAll pass.old log.old }
         requires found { IsFound (world_of log.old).messages action (option_map message_of (option_copied found)) }
         ensures recorded { PassRecords (event_by (client_volume self.old.client) action) result pass.old pass.new }
-        ensures exact { IsExact L.plan L.slots (length L.cells) (journal_of log.old) (event_by (client_volume self.old.client) action) result }
-        ensures entered { Enters (event_by (client_volume self.old.client) action) (journal_of log.old) (journal_of log.new) result }
+        ensures exact { IsExact L.plan L.slots (length L.cells) (journal_of log.old)
+            (event_by (client_volume self.old.client) action) result }
+        ensures entered { Enters (event_by (client_volume self.old.client) action) (journal_of log.old)
+            (journal_of log.new) result }
         ensures stale { result ≡ Err StaleCursor → IsStale self.old.cursor log.old }
         ensures seat { seat_of pass.new ≡ seat_of pass.old }
         ensures found { result ≢ Err (Refused NoMessage) }
         ensures same { client_volume self.new.client ≡ client_volume self.old.client }
-        ensures moved { OnOk result (actor_client self.new ≡ (world_of log.new).clients (client_volume self.old.client)) }
+        ensures moved { OnOk result (actor_client self.new ≡ (world_of log.new).clients
+            (client_volume self.old.client)) }
         ensures still { OnErr result (actor_client self.new ≡ actor_client self.old) }
     {
         let ClientActor { cursor, client } = self;
@@ -106,8 +109,10 @@ impl<L: Site> ClientActor<L> {
         message: u64,
     ) -> Result<Receipt, Halt>
         ensures recorded { PassRecords (Take (actor_volume self.old) message) result pass.old pass.new }
-        ensures exact { IsExact L.plan L.slots (length L.cells) (journal_of log.old) (Take (actor_volume self.old) message) result }
-        ensures entered { Enters (Take (actor_volume self.old) message) (journal_of log.old) (journal_of log.new) result }
+        ensures exact { IsExact L.plan L.slots (length L.cells) (journal_of log.old)
+            (Take (actor_volume self.old) message) result }
+        ensures entered { Enters (Take (actor_volume self.old) message) (journal_of log.old) (journal_of log.new)
+            result }
         ensures stale { result ≡ Err StaleCursor → IsStale self.old.cursor log.old }
         ensures seat { seat_of pass.new ≡ seat_of pass.old }
         ensures unmade { IsUnmade (ClientAction.Take message) (steps_of pass.old) result }
@@ -149,8 +154,10 @@ impl<L: Site> ClientActor<L> {
         action: ClientAction,
     ) -> Result<Receipt, Halt>
         ensures recorded { PassRecords (event_by (actor_volume self.old) action) result pass.old pass.new }
-        ensures exact { IsExact L.plan L.slots (length L.cells) (journal_of log.old) (event_by (actor_volume self.old) action) result }
-        ensures entered { Enters (event_by (actor_volume self.old) action) (journal_of log.old) (journal_of log.new) result }
+        ensures exact { IsExact L.plan L.slots (length L.cells) (journal_of log.old) (event_by (actor_volume self.old)
+            action) result }
+        ensures entered { Enters (event_by (actor_volume self.old) action) (journal_of log.old) (journal_of log.new)
+            result }
         ensures stale { result ≡ Err StaleCursor → IsStale self.old.cursor log.old }
         ensures seat { seat_of pass.new ≡ seat_of pass.old }
         ensures unmade { IsUnmade action (steps_of pass.old) result }

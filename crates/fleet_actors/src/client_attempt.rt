@@ -25,7 +25,9 @@ fn admits(
     action: &ClientAction,
     found: Option<&Message>,
 ) -> Result<(), Fault>
-    ensures { AnswersAfterGrowth (action_after_growth action.now) admitted (refusal_of (action_acted (option_map message_of (option_copied found.entry)) action.now (client_plan client.now) (client_volume client.now) (seen_client client.now))) tt result tt }
+    ensures { AnswersAfterGrowth (action_after_growth action.now) admitted
+        (refusal_of (action_acted (option_map message_of (option_copied found.entry)) action.now
+        (client_plan client.now) (client_volume client.now) (seen_client client.now))) tt result tt }
 {
     match action {
         ClientAction::Issue(changes) => client.admits(alloc, ClientAct::Issue(changes.as_slice())),
@@ -54,7 +56,9 @@ fn act(
     action: &ClientAction,
     found: Option<&Message>,
 ) -> Result<Messages, Fault>
-    ensures answers { AnswersAfterGrowth (action_after_growth action.now) answered (action_acted (option_map message_of (option_copied found.entry)) action.now (client_plan client.old) (client_volume client.old) (seen_client client.old)) (seen_client client.old) result (seen_client client.new) }
+    ensures answers { AnswersAfterGrowth (action_after_growth action.now) answered
+        (action_acted (option_map message_of (option_copied found.entry)) action.now (client_plan client.old)
+        (client_volume client.old) (seen_client client.old)) (seen_client client.old) result (seen_client client.new) }
     ensures same { IsSameClient client.old client.new }
 {
     match action {
@@ -92,9 +96,13 @@ pub fn try_step(
     found: Option<&Message>,
 ) -> Result<Messages, Fault>
     requires found { HasFound action.now (option_map message_of (option_copied found)) }
-    ensures done { IfOk result (λ made. action_acted (option_map message_of (option_copied found.entry)) action.now (client_plan client.old) (client_volume client.old) (seen_client client.old) ≡ Ok (answered made (seen_client client.new))) }
+    ensures done { IfOk result (λ made. action_acted (option_map message_of (option_copied found.entry)) action.now
+        (client_plan client.old) (client_volume client.old) (seen_client client.old)
+        ≡ Ok (answered made (seen_client client.new))) }
     ensures room { OnOk result (full ≡ false) }
-    ensures refused { IfErr result (λ fault. JudgedOf full (action_acted (option_map message_of (option_copied found.entry)) action.now (client_plan client.old) (client_volume client.old) (seen_client client.old)) fault) }
+    ensures refused { IfErr result
+        (λ fault. JudgedOf full (action_acted (option_map message_of (option_copied found.entry)) action.now
+        (client_plan client.old) (client_volume client.old) (seen_client client.old)) fault) }
     ensures still { OnErr result (seen_client client.new ≡ seen_client client.old) }
     ensures same { IsSameClient client.old client.new }
 {
@@ -115,9 +123,11 @@ pub(crate) fn try_take(
     is_full: bool,
     message: &Message,
 ) -> Result<Messages, Fault>
-    ensures done { IfOk result (λ made. take (client_plan client.old) (client_volume client.old) (seen_client client.old) (Some (message_of message.now)) ≡ Ok (answered made (seen_client client.new))) }
+    ensures done { IfOk result (λ made. take (client_plan client.old) (client_volume client.old)
+        (seen_client client.old) (Some (message_of message.now)) ≡ Ok (answered made (seen_client client.new))) }
     ensures room { OnOk result (is_full ≡ false) }
-    ensures refused { IfErr result (λ fault. JudgedOf is_full (take (client_plan client.old) (client_volume client.old) (seen_client client.old) (Some (message_of message.now))) fault) }
+    ensures refused { IfErr result (λ fault. JudgedOf is_full (take (client_plan client.old) (client_volume client.old)
+        (seen_client client.old) (Some (message_of message.now))) fault) }
     ensures still { OnErr result (seen_client client.new ≡ seen_client client.old) }
     ensures same { IsSameClient client.old client.new }
 {

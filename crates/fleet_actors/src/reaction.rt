@@ -36,9 +36,12 @@ impl<L: Site> NodeActor<L> {
         message_ref: &MessageRef<'a, L>,
     ) -> Result<Prepared, Fault>
         ensures ready { IfOk result (λ prepared. IsReady self.new.segment prepared) }
-        ensures step { IfOk result (λ prepared. delivery_of self.new (message_ref_message message_ref.now) ≡ Ok (step_of prepared (node_of self.new.segment))) }
-        ensures fails { IfErr result (λ fault. Fails fault (delivery_of self.new (message_ref_message message_ref.now))) }
-        ensures same { (self.new.group ≡ self.old.group) × (self.new.member ≡ self.old.member) × (actor_node self.new ≡ actor_node self.old) }
+        ensures step { IfOk result (λ prepared. delivery_of self.new (message_ref_message message_ref.now)
+            ≡ Ok (step_of prepared (node_of self.new.segment))) }
+        ensures fails { IfErr result
+            (λ fault. Fails fault (delivery_of self.new (message_ref_message message_ref.now))) }
+        ensures same { (self.new.group ≡ self.old.group) × (self.new.member ≡ self.old.member)
+            × (actor_node self.new ≡ actor_node self.old) }
     {
         self.segment.prepare(alloc, message_ref.message())
     }
@@ -54,10 +57,14 @@ impl<L: Site> NodeActor<L> {
         prepared: Prepared,
     ) -> Result<Receipt, Halt>
         requires ready { IsReady self.old.segment prepared }
-        requires step { delivery_of self.old (message_ref_message message_ref.old) ≡ Ok (step_of prepared (node_of self.old.segment)) }
-        ensures recorded { PassRecords (Deliver self.old.group self.old.member (message_ref_number message_ref.old)) result pass.old pass.new }
-        ensures exact { IsExact L.plan L.slots (length L.cells) (journal_of log.old) (Deliver self.old.group self.old.member (message_ref_number message_ref.old)) result }
-        ensures entered { Enters (Deliver self.old.group self.old.member (message_ref_number message_ref.old)) (journal_of log.old) (journal_of log.new) result }
+        requires step { delivery_of self.old (message_ref_message message_ref.old)
+            ≡ Ok (step_of prepared (node_of self.old.segment)) }
+        ensures recorded { PassRecords (Deliver self.old.group self.old.member (message_ref_number message_ref.old))
+            result pass.old pass.new }
+        ensures exact { IsExact L.plan L.slots (length L.cells) (journal_of log.old)
+            (Deliver self.old.group self.old.member (message_ref_number message_ref.old)) result }
+        ensures entered { Enters (Deliver self.old.group self.old.member (message_ref_number message_ref.old))
+            (journal_of log.old) (journal_of log.new) result }
         ensures seat { seat_of pass.new ≡ seat_of pass.old }
         ensures found { IfErr result (λ halt. halt ≢ Refused NoMessage) }
         ensures same { (self.new.group ≡ self.old.group) × (self.new.member ≡ self.old.member) }
@@ -95,9 +102,12 @@ impl<L: Site> NodeActor<L> {
         fault: Fault,
     ) -> Result<Receipt, Halt>
         requires fails { Fails fault (delivery_of self.old (message_ref_message message_ref.old)) }
-        ensures recorded { PassRecords (Deliver self.old.group self.old.member (message_ref_number message_ref.old)) result pass.old pass.new }
-        ensures exact { IsExact L.plan L.slots (length L.cells) (journal_of log.old) (Deliver self.old.group self.old.member (message_ref_number message_ref.old)) result }
-        ensures entered { Enters (Deliver self.old.group self.old.member (message_ref_number message_ref.old)) (journal_of log.old) (journal_of log.new) result }
+        ensures recorded { PassRecords (Deliver self.old.group self.old.member (message_ref_number message_ref.old))
+            result pass.old pass.new }
+        ensures exact { IsExact L.plan L.slots (length L.cells) (journal_of log.old)
+            (Deliver self.old.group self.old.member (message_ref_number message_ref.old)) result }
+        ensures entered { Enters (Deliver self.old.group self.old.member (message_ref_number message_ref.old))
+            (journal_of log.old) (journal_of log.new) result }
         ensures seat { seat_of pass.new ≡ seat_of pass.old }
         ensures found { IfErr result (λ halt. halt ≢ Refused NoMessage) }
         ensures same { (self.new.group ≡ self.old.group) × (self.new.member ≡ self.old.member) }
@@ -128,8 +138,10 @@ impl<L: Site> NodeActor<L> {
         prepared: Prepared,
     ) -> Result<Receipt, Halt>
         requires ready { IsReady self.old.segment prepared }
-        requires step { delivery_of self.old (message_ref_message message_ref.old) ≡ Ok (step_of prepared (node_of self.old.segment)) }
-        ensures recorded { PassRecords (Deliver (actor_group self.old) (actor_member self.old) (message_ref_number message_ref.old)) result pass.old pass.new }
+        requires step { delivery_of self.old (message_ref_message message_ref.old)
+            ≡ Ok (step_of prepared (node_of self.old.segment)) }
+        ensures recorded { PassRecords (Deliver (actor_group self.old) (actor_member self.old)
+            (message_ref_number message_ref.old)) result pass.old pass.new }
         ensures seat { seat_of pass.new ≡ seat_of pass.old }
         ensures found { IfErr result (λ halt. halt ≢ Refused NoMessage) }
         ensures same { (actor_group self.new ≡ actor_group self.old) × (actor_member self.new ≡ actor_member self.old) }
@@ -151,7 +163,8 @@ impl<L: Site> NodeActor<L> {
         fault: Fault,
     ) -> Result<Receipt, Halt>
         requires fails { Fails fault (delivery_of self.old (message_ref_message message_ref.old)) }
-        ensures recorded { PassRecords (Deliver (actor_group self.old) (actor_member self.old) (message_ref_number message_ref.old)) result pass.old pass.new }
+        ensures recorded { PassRecords (Deliver (actor_group self.old) (actor_member self.old)
+            (message_ref_number message_ref.old)) result pass.old pass.new }
         ensures seat { seat_of pass.new ≡ seat_of pass.old }
         ensures found { IfErr result (λ halt. halt ≢ Refused NoMessage) }
         ensures same { (actor_group self.new ≡ actor_group self.old) × (actor_member self.new ≡ actor_member self.old) }
@@ -172,7 +185,8 @@ impl<L: Site> NodeActor<L> {
         message_ref: &mut MessageRef<'a, L>,
         gate: &G,
     ) -> Result<Receipt, Halt>
-        ensures recorded { PassRecords (Deliver (actor_group self.old) (actor_member self.old) (message_ref_number message_ref.old)) result pass.old pass.new }
+        ensures recorded { PassRecords (Deliver (actor_group self.old) (actor_member self.old)
+            (message_ref_number message_ref.old)) result pass.old pass.new }
         ensures seat { seat_of pass.new ≡ seat_of pass.old }
         ensures found { IfErr result (λ halt. halt ≢ Refused NoMessage) }
         ensures same { (actor_group self.new ≡ actor_group self.old) × (actor_member self.new ≡ actor_member self.old) }
@@ -195,7 +209,8 @@ impl<L: Site> NodeActor<L> {
         message_ref: &mut MessageRef<'a, L>,
         gate: &G,
     ) -> Result<Receipt, Halt>
-        ensures recorded { PassRecords (Deliver (actor_group self.old) (actor_member self.old) (message_ref_number message_ref.old)) result pass.old pass.new }
+        ensures recorded { PassRecords (Deliver (actor_group self.old) (actor_member self.old)
+            (message_ref_number message_ref.old)) result pass.old pass.new }
         ensures seat { seat_of pass.new ≡ seat_of pass.old }
         ensures found { IfErr result (λ halt. halt ≢ Refused NoMessage) }
         ensures same { (actor_group self.new ≡ actor_group self.old) × (actor_member self.new ≡ actor_member self.old) }
@@ -226,7 +241,8 @@ impl<L: Site> NodeActor<L> {
         message_ref: &mut MessageRef<'a, L>,
         gate: &G,
     ) -> Result<Receipt, Halt>
-        ensures recorded { PassRecords (Deliver (actor_group self.old) (actor_member self.old) (message_ref_number message_ref.old)) result pass.old pass.new }
+        ensures recorded { PassRecords (Deliver (actor_group self.old) (actor_member self.old)
+            (message_ref_number message_ref.old)) result pass.old pass.new }
         ensures seat { seat_of pass.new ≡ seat_of pass.old }
         ensures found { IfErr result (λ halt. halt ≢ Refused NoMessage) }
         ensures same { (actor_group self.new ≡ actor_group self.old) × (actor_member self.new ≡ actor_member self.old) }

@@ -35,9 +35,11 @@ pub(crate) fn reserve_step<'a, L: Site>(
     ensures steps { steps_of pass.new ≡ steps_of pass.old }
     ensures notes { notes_of pass.new ≡ notes_of pass.old }
     ensures seat { seat_of pass.new ≡ seat_of pass.old }
-    ensures cursor { (marked cursor.new ≡ marked cursor.old) × (cursor_number cursor.new ≡ cursor_number cursor.old) × (seen_at cursor.new ≡ seen_at cursor.old) }
+    ensures cursor { (marked cursor.new ≡ marked cursor.old) × (cursor_number cursor.new ≡ cursor_number cursor.old)
+        × (seen_at cursor.new ≡ seen_at cursor.old) }
     ensures ready { IfOk result (λ _. IsReadyToStep cursor.new log.new pass.new) }
-    ensures agree { IfOk result (λ _. Agree (marked cursor.old) (world_at L.plan (seen_at cursor.old)) (world_of log.new)) }
+    ensures agree { IfOk result (λ _. Agree (marked cursor.old) (world_at L.plan (seen_at cursor.old))
+        (world_of log.new)) }
     ensures early { IfErr result (λ halt. IsEarly halt) }
     ensures stale { result ≡ Err StaleCursor → IsStale cursor.old log.old }
 {
@@ -59,9 +61,11 @@ pub(crate) fn catch_up_and_reserve<'a, L: Site>(
     ensures steps { steps_of pass.new ≡ steps_of pass.old }
     ensures notes { notes_of pass.new ≡ notes_of pass.old }
     ensures seat { seat_of pass.new ≡ seat_of pass.old }
-    ensures cursor { (marked cursor.new ≡ marked cursor.old) × (cursor_number cursor.new ≡ cursor_number cursor.old) × (seen_at cursor.new ≡ seen_at cursor.old) }
+    ensures cursor { (marked cursor.new ≡ marked cursor.old) × (cursor_number cursor.new ≡ cursor_number cursor.old)
+        × (seen_at cursor.new ≡ seen_at cursor.old) }
     ensures ready { IfOk result (λ _. IsReadyToStep cursor.new log.new pass.new) }
-    ensures agree { IfOk result (λ _. Agree (marked cursor.old) (world_at L.plan (seen_at cursor.old)) (world_of log.new)) }
+    ensures agree { IfOk result (λ _. Agree (marked cursor.old) (world_at L.plan (seen_at cursor.old))
+        (world_of log.new)) }
     ensures early { IfErr result (λ halt. IsEarly halt) }
     ensures stale { result ≡ Err StaleCursor → IsStale cursor.old log.old }
 {
@@ -105,16 +109,20 @@ pub(crate) fn commit_or_note<'a, L: Site, R: Wait>(
 ) -> Result<Receipt, Halt>
     requires who { actor_of (event_of event) ≡ marked cursor.old }
     requires ready { IsReadyToStep cursor.old log.old pass.old }
-    requires goes { IfOk attempt (λ made. makes (step L.plan (world_of log.old) (event_of event)) ≡ Some (messages_of (listed made))) }
-    requires durable { OnOk attempt (durable ≡ durable_in (after L.plan (world_of log.old) (event_of event)) (event_of event)) }
+    requires goes { IfOk attempt (λ made. makes (step L.plan (world_of log.old) (event_of event))
+        ≡ Some (messages_of (listed made))) }
+    requires durable { OnOk attempt (durable ≡ durable_in (after L.plan (world_of log.old) (event_of event))
+        (event_of event)) }
     requires cell { OnOk attempt (length (journal_of log.old) < length L.cells) }
-    requires exact { IfErr attempt (λ fault. Exact L.plan L.slots (length L.cells) (journal_of log.old) (event_of event) fault) }
+    requires exact { IfErr attempt (λ fault. Exact L.plan L.slots (length L.cells) (journal_of log.old) (event_of event)
+        fault) }
     ensures recorded { PassRecords (event_of event) result pass.old pass.new }
     ensures exact { IsExact L.plan L.slots (length L.cells) (journal_of log.old) (event_of event) result }
     ensures entered { Enters (event_of event) (journal_of log.old) (journal_of log.new) result }
     ensures seat { seat_of pass.new ≡ seat_of pass.old }
     ensures cursor { marked cursor.new ≡ marked cursor.old }
-    ensures seen { MatchResult attempt (λ _. world_at L.plan (seen_at cursor.new) ≡ after L.plan (world_of log.old) (event_of event)) (λ _. seen_at cursor.new ≡ seen_at cursor.old) }
+    ensures seen { MatchResult attempt (λ _. world_at L.plan (seen_at cursor.new) ≡ after L.plan (world_of log.old)
+        (event_of event)) (λ _. seen_at cursor.new ≡ seen_at cursor.old) }
     ensures moved { OnOk result (seen_at cursor.new ≡ journal_of log.new) }
     ensures halt { MatchResult attempt (λ _. is_err result ≡ false) (λ fault. result ≡ Err (Refused fault)) }
 {

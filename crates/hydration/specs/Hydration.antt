@@ -25,15 +25,19 @@ state_of s = record { volume = s.volume; contents = contents_of s.contents }
 
 -- it can't be a piece beside those that are kept of its sender
 abbrev pub is_bad : CopyReport → List Copy → Bool
-is_bad report copies = is_bad_piece (pieces_from copies report.from) report.part.value.series (piece_in report.piece report.of) (contents_of report.part.value.contents)
+is_bad report copies = is_bad_piece (pieces_from copies report.from) report.part.value.series
+    (piece_in report.piece report.of) (contents_of report.part.value.contents)
 
 -- the copies with a member's piece more
 abbrev pub with_report : CopyReport → List Copy → List Copy
-with_report report copies = with_copy report.from report.part.value.series (piece_in report.piece report.of) (contents_of report.part.value.contents) copies
+with_report report copies = with_copy report.from report.part.value.series (piece_in report.piece report.of)
+    (contents_of report.part.value.contents) copies
 
--- What is kept after a piece that a member reports. A sender that is no member is refused, and then what can't be a piece.
+-- What is kept after a piece that a member reports. A sender that is no member is refused, and then what can't be a
+-- piece.
 abbrev pub kept_after : CopyReport → List Copy → Result (List Copy) Fault
-kept_after report copies = refuse_if (nat_le 64 report.from) NotAddressed (refuse_if (is_bad report copies) BadPiece (Ok (with_report report copies)))
+kept_after report copies = refuse_if (nat_le 64 report.from) NotAddressed (refuse_if (is_bad report copies) BadPiece
+    (Ok (with_report report copies)))
 
 -- the place of a sender's copy
 abbrev pub place_of : List Copy → ℕ → Option ℕ
@@ -53,7 +57,11 @@ kept_by (At place change) copies = changed_at place change copies
 
 -- it is the copy of a member of which no other piece is kept
 abbrev pub first_kept : CopyReport → Collected → Type 0
-first_kept report collected = collected_of collected ≡ record { sender = report.from; pieces = first_piece report.part.value.series (piece_in report.piece report.of) (contents_of report.part.value.contents) }
+first_kept report collected = collected_of collected ≡ record {
+  sender = report.from;
+  pieces = first_piece
+      report.part.value.series (piece_in report.piece report.of) (contents_of report.part.value.contents);
+}
 
 -- by this change of the copy at a place the piece is kept
 abbrev pub kept_at : ℕ → CopyReport → List Copy → Change → Type 0

@@ -90,7 +90,8 @@ pub(crate) fn copied_in(
     lineage: &Lineage,
     copies: &[Collected],
 ) -> Result<RecordSet, AllocError>
-    ensures { IfOk result (λ set. records_of set ≡ found_in (lineage_of lineage.now) (map (united_copy (lineage_of lineage.now)) (all_collected copies.now))) }
+    ensures { IfOk result (λ set. records_of set ≡ found_in (lineage_of lineage.now)
+        (map (united_copy (lineage_of lineage.now)) (all_collected copies.now))) }
 {
     match copies {
         [] => Ok(RecordSet::new(alloc)),

@@ -45,7 +45,8 @@ pub fn with_found(
     copies: &[Copied],
     kept: RecordSet,
 ) -> Result<RecordSet, AllocError>
-    ensures { IfOk result (λ set. records_of set ≡ with_found (lineage_of lineage.now) (contents_of (copies_in copies.now)) (records_of kept)) }
+    ensures { IfOk result (λ set. records_of set ≡ with_found (lineage_of lineage.now)
+        (contents_of (copies_in copies.now)) (records_of kept)) }
 {
     match copies {
         [] => Ok(kept),

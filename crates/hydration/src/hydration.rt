@@ -112,7 +112,8 @@ impl Hydration {
     /// `NotAddressed` if the sender is no member; `BadPiece` if it can't be a piece beside those that are kept of the
     /// member; `NoMemory` if neither applies and memory ran out.
     pub fn prepare(&mut self, report: &CopyReport) -> Result<Keeping, Fault>
-        ensures copy { Answers kept_by (kept_after report.now (copies_of self.old)) (copies_of self.old) result (copies_of self.old) }
+        ensures copy { Answers kept_by (kept_after report.now (copies_of self.old)) (copies_of self.old) result
+            (copies_of self.old) }
         ensures ready { IfOk result (CanKeep self.new) }
         ensures same { copies_of self.new ≡ copies_of self.old }
     {
@@ -151,7 +152,8 @@ impl Hydration {
     /// # Errors
     /// Those of [`Hydration::prepare`]; what is kept is unchanged.
     pub fn take(&mut self, report: &CopyReport) -> Result<(), Fault>
-        ensures { Answers just (kept_after report.now (copies_of self.old)) (copies_of self.old) result (copies_of self.new) }
+        ensures { Answers just (kept_after report.now (copies_of self.old)) (copies_of self.old) result
+            (copies_of self.new) }
     {
         let keeping = self.prepare(report)?;
         self.keep(keeping);

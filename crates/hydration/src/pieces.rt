@@ -42,7 +42,8 @@ impl Pieces {
         contents: &Contents,
     ) -> Result<Pieces, AllocError>
         requires { piece < of }
-        ensures { IfOk result (λ pieces. seen_pieces pieces ≡ first_piece series (piece_in piece of) (contents_of contents.now)) }
+        ensures { IfOk result (λ pieces. seen_pieces pieces ≡ first_piece series (piece_in piece of)
+            (contents_of contents.now)) }
     {
         let mut marks = vec![in alloc; false; usize::from(of)]?;
         marks[usize::from(piece)] = true;
@@ -106,7 +107,8 @@ impl Pieces {
         of: u16,
         contents: &Contents,
     ) -> bool
-        ensures { result ≡ is_bad_piece (option_map (λ pieces. seen_pieces pieces.now) kept.entry) series (piece_in piece of) (contents_of contents.now) }
+        ensures { result ≡ is_bad_piece (option_map (λ pieces. seen_pieces pieces.now) kept.entry) series
+            (piece_in piece of) (contents_of contents.now) }
     {
         if !contents.is_piece(piece, of) {
             return true;
@@ -124,7 +126,8 @@ impl Pieces {
     /// `AllocError` if there is no memory.
     pub fn prepare(&mut self, piece: u16, contents: &Contents) -> Result<Change, AllocError>
         requires { piece < (seen_pieces self.old).of }
-        ensures change { IfOk result (λ change. changed change (seen_pieces self.old) ≡ with_piece (seen_pieces self.old) (piece_in piece (seen_pieces self.old).of) (contents_of contents.now)) }
+        ensures change { IfOk result (λ change. changed change (seen_pieces self.old)
+            ≡ with_piece (seen_pieces self.old) (piece_in piece (seen_pieces self.old).of) (contents_of contents.now)) }
         ensures ready { IfOk result (CanChange self.new) }
         ensures same { seen_pieces self.new ≡ seen_pieces self.old }
     {
@@ -151,8 +154,10 @@ impl Pieces {
         of: u16,
         contents: &Contents,
     ) -> Result<Change, AllocError>
-        requires { is_bad_piece (Some (seen_pieces self.old)) series (piece_in piece of) (contents_of contents.now) ≡ false }
-        ensures change { IfOk result (λ change. changed change (seen_pieces self.old) ≡ with_series (seen_pieces self.old) series (piece_in piece of) (contents_of contents.now)) }
+        requires { is_bad_piece (Some (seen_pieces self.old)) series (piece_in piece of) (contents_of contents.now)
+            ≡ false }
+        ensures change { IfOk result (λ change. changed change (seen_pieces self.old) ≡ with_series
+            (seen_pieces self.old) series (piece_in piece of) (contents_of contents.now)) }
         ensures ready { IfOk result (CanChange self.new) }
         ensures same { seen_pieces self.new ≡ seen_pieces self.old }
     {
@@ -212,7 +217,8 @@ impl Pieces {
     /// # Errors
     /// `AllocError` if there is no memory.
     pub fn join_with(&self, alloc: Global, change: &Change) -> Result<RecordSet, AllocError>
-        ensures { IfOk result (λ set. records_of set ≡ united (contents_in (changed change.now (seen_pieces self.now)))) }
+        ensures { IfOk result
+            (λ set. records_of set ≡ united (contents_in (changed change.now (seen_pieces self.now)))) }
     {
         match change {
             Change::Nothing => self.join(alloc),

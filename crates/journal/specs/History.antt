@@ -18,7 +18,8 @@ Fits all keeper p v = IsPrefix v.log all × IsPrefix v.claim all × (v.keeps ≡
 
 -- what seats know are beginnings of one history, which one of them keeps
 abbrev pub Stands : List Line → Type 0
-Stands views = (all : List Entry) × (keeper : ℕ) × ((p : ℕ) (v : Line) → get_elem? views p ≡ some v → Fits all keeper p v)
+Stands views = (all : List Entry) × (keeper : ℕ) × ((p : ℕ) (v : Line) → get_elem? views p ≡ some v → Fits all keeper p
+    v)
 
 -- an entry that nobody names
 abbrev pub no_entry : Entry

@@ -8,7 +8,8 @@ use Rattle.journal.specs.declared.last_entries.LastEntries.{LastEntries}
 abbrev pub last_in : LastEntries → Actor → Option ℕ
 last_in l Actor.TheAuthority = Some l.authority
 last_in l (Actor.Client volume) = slice_get l.clients.items volume
-last_in l (Actor.Node group member) = if nat_lt member members then slice_get l.nodes.items (slot_of group member) else None
+last_in l (Actor.Node group member) = if nat_lt member members then slice_get l.nodes.items (slot_of group member) else
+    None
 
 -- a number, 0 where there is none
 abbrev pub or_zero : Option ℕ → ℕ

@@ -16,5 +16,13 @@ no_plan =
       born = 0;
       groups = 0;
       configurations = λ group. 0;
-      configuration = λ group number. record { parent = 0; epoch = 0; members = []; full = []; read = member 0; write = member 0 };
+      configuration = λ group number. record {
+        parent = 0;
+        epoch = 0;
+        members = [];
+        full = [];
+        read = member 0;
+        write =
+            member 0;
+      };
     }

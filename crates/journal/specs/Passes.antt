@@ -95,7 +95,8 @@ module _ {X : Type 0} {s : SiteGhosts X} {l : LedgerGhosts X} where
 
   -- the message that is referred to
   abbrev pub message_ref_message : MessageRef X s l → Option Message
-  message_ref_message message_ref = option_map message_of (slice_get (listed message_ref.entry.now.made) message_ref.index)
+  message_ref_message message_ref = option_map message_of (slice_get (listed message_ref.entry.now.made)
+      message_ref.index)
 
 -- each of these steps has at most this number
 abbrev pub AtMost : ℕ → List Made → Type 0
@@ -104,10 +105,12 @@ AtMost number = All (λ s. s.at < number)
 -- the pass has one step more, as its receipt says, and its number is above all others
 abbrev pub AddsStep : Event → Receipt → List Made → List Made → Type 0
 AddsStep event r before after =
-    (s : Made) × (after ≡ before ++ s ∷ []) × (s.at + 1 ≡ r.number) × (s.entry.event ≡ event) × (length s.entry.made ≡ r.made) × (s.entry.first + 1 ≡ r.first_message) × (s.durable ≡ r.durable)
+    (s : Made) × (after ≡ before ++ s ∷ []) × (s.at + 1 ≡ r.number) × (s.entry.event ≡ event)
+    × (length s.entry.made ≡ r.made) × (s.entry.first + 1 ≡ r.first_message) × (s.durable ≡ r.durable)
     × All (λ t. t.at + 1 < r.number) before
 
 -- the pass has one note more, whose number is not below that of any of its own steps
 abbrev pub AddsRefusal : Event → Fault → List Made → List Refusal → List Refusal → Type 0
 AddsRefusal event fault steps before after =
-    (number : ℕ) × (after ≡ before ++ record { event = event; fault = fault; number = number } ∷ []) × AtMost number steps
+    (number : ℕ) × (after ≡ before ++ record { event = event; fault = fault; number = number } ∷ []) × AtMost number
+    steps

@@ -35,7 +35,8 @@ pub record Stands (plan : Plan) (es : List Entry) (s : Made) : Type 0 where
 
 -- a message that an entry names was made before it
 abbrev pub NamesEarlier : Plan → List Entry → Type 0
-NamesEarlier plan es = (k : ℕ) (e : Entry) (n : ℕ) → slice_get es k ≡ Some e → named_by e.event ≡ Some n → n ≤ before plan es k
+NamesEarlier plan es = (k : ℕ) (e : Entry) (n : ℕ) → slice_get es k ≡ Some e → named_by e.event ≡ Some n → n
+    ≤ before plan es k
 
 -- the message with this number is none of those that the step made
 abbrev pub IsElse : ℕ → Made → Type 0

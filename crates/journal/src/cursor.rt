@@ -41,7 +41,8 @@ impl<L: Site> ActorCursor<L> {
     // The actor has made a step, which ends the history.
     pub(crate) fn advance(&mut self, seen: LogPrefix, number: usize)
         requires { (front_book seen ≡ L.history) × (length (front_log seen) ≡ number) }
-        ensures { (self.new.who ≡ self.old.who) × (self.new.number ≡ number) × (front_log self.new.seen ≡ front_log seen) }
+        ensures { (self.new.who ≡ self.old.who) × (self.new.number ≡ number)
+            × (front_log self.new.seen ≡ front_log seen) }
     {
         self.number = number;
         self.seen = seen;

@@ -89,7 +89,8 @@ impl<N: Named> Play<(), Line> for Extend<N> {
     ghost use Rattle.std.specs.Prelude.{◌≡◌, ◌++◌, ◌∷◌, []};
     ghost use Rattle.journal.specs.History.{line};
 
-    ghost then = { λ step before found after. (after.0 ≡ line before.0.keeps (before.0.log ++ N.entry ∷ []) []) × (after.1 ≡ before.1) };
+    ghost then = { λ step before found after. (after.0 ≡ line before.0.keeps (before.0.log ++ N.entry ∷ []) [])
+        × (after.1 ≡ before.1) };
 }
 
 /// The keeper finds that the prefix which it compares is one of its history.
@@ -99,7 +100,8 @@ impl Play<(), Line> for Compare {
     ghost use Rattle.std.specs.Prelude.{◌≡◌};
     ghost use mathlib.Core.List.{IsPrefix};
 
-    ghost then = { λ step before found after. IsPrefix before.0.claim before.0.log × (after.0 ≡ before.0) × (after.1 ≡ before.1) };
+    ghost then = { λ step before found after. IsPrefix before.0.claim before.0.log × (after.0 ≡ before.0)
+        × (after.1 ≡ before.1) };
 }
 
 /// A prefix of the history.

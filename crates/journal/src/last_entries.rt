@@ -49,7 +49,8 @@ impl LastEntries {
     /// Makes a table for clients of volume epochs up to `slots` and for the nodes of `groups` groups, all numbers 0.
     pub(crate) fn new(alloc: Global, slots: u32, groups: u8) -> Result<LastEntries, AllocError>
         ensures clients { IfOk result (λ l. (volume : ℕ) → volume ≤ slots → last_in l (Client volume) ≡ Some 0) }
-        ensures nodes { IfOk result (λ l. (group member : ℕ) → group < groups → member < members → last_in l (Node group member) ≡ Some 0) }
+        ensures nodes { IfOk result (λ l. (group member : ℕ) → group < groups → member < members
+            → last_in l (Node group member) ≡ Some 0) }
         ensures none { IfOk result (λ l. (actor : Actor) → last_known l actor ≡ 0) }
     {
         Ok(LastEntries {
@@ -78,7 +79,8 @@ impl LastEntries {
     /// Sets an actor's number.
     pub(crate) fn set(&mut self, who: ActorName, number: usize)
         requires { IsSome (last_in self.old (seen_who who)) }
-        ensures { (other : Actor) → MatchBool (same_actor (seen_who who) other) (last_in self.new other ≡ Some number) (last_in self.new other ≡ last_in self.old other) }
+        ensures { (other : Actor) → MatchBool (same_actor (seen_who who) other) (last_in self.new other ≡ Some number)
+            (last_in self.new other ≡ last_in self.old other) }
     {
         match who {
             ActorName::TheAuthority => self.authority = number,

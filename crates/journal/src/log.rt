@@ -148,7 +148,8 @@ impl<'a, L: Site> Log<'a, L> {
         requires born { born ≡ L.plan.born }
         ensures empty { IfOk result (λ log. journal_of log ≡ []) }
         ensures clients { IfOk result (λ log. (volume : ℕ) → volume ≤ slots → HasPlace log (Client volume)) }
-        ensures nodes { IfOk result (λ log. (group member : ℕ) → group < groups → member < members → HasPlace log (Node group member)) }
+        ensures nodes { IfOk result (λ log. (group member : ℕ) → group < groups → member < members → HasPlace log
+            (Node group member)) }
     {
         let lasts = LastEntries::new(alloc, slots, groups)?;
         Ok(Log {
@@ -167,11 +168,17 @@ impl<'a, L: Site> Log<'a, L> {
     /// run gives it. Of an actor that the journal has a place for it always is.
     #[inline(always)]
     pub fn compare(&mut self, cursor: &mut ActorCursor<L>) -> bool
-        ensures log { (self.new.entries ≡ self.old.entries) × (self.new.firsts ≡ self.old.firsts) × (self.new.lasts ≡ self.old.lasts) }
-        ensures cursor { (marked cursor.new ≡ marked cursor.old) × (cursor_number cursor.new ≡ cursor_number cursor.old) × (seen_at cursor.new ≡ seen_at cursor.old) }
-        ensures agree { MatchBool result (Agree (marked cursor.old) (world_at L.plan (seen_at cursor.old)) (world_of self.old)) (Unit {0}) }
-        ensures last { MatchBool result ((cursor_number cursor.old ≡ last_of (marked cursor.old) (journal_of self.old)) × HasPlace self.old (marked cursor.old)) (HasPlace self.old (marked cursor.old) → cursor_number cursor.old ≡ last_of (marked cursor.old) (journal_of self.old) → ⊥) }
-        ensures seen { MatchBool result (take (cursor_number cursor.old) (journal_of self.old) ≡ seen_at cursor.old) (Unit {0}) }
+        ensures log { (self.new.entries ≡ self.old.entries) × (self.new.firsts ≡ self.old.firsts)
+            × (self.new.lasts ≡ self.old.lasts) }
+        ensures cursor { (marked cursor.new ≡ marked cursor.old) × (cursor_number cursor.new ≡ cursor_number cursor.old)
+            × (seen_at cursor.new ≡ seen_at cursor.old) }
+        ensures agree { MatchBool result (Agree (marked cursor.old) (world_at L.plan (seen_at cursor.old))
+            (world_of self.old)) (Unit {0}) }
+        ensures last { MatchBool result ((cursor_number cursor.old ≡ last_of (marked cursor.old) (journal_of self.old))
+            × HasPlace self.old (marked cursor.old)) (HasPlace self.old (marked cursor.old) → cursor_number cursor.old
+            ≡ last_of (marked cursor.old) (journal_of self.old) → ⊥) }
+        ensures seen { MatchBool result (take (cursor_number cursor.old) (journal_of self.old) ≡ seen_at cursor.old)
+            (Unit {0}) }
     {
         if self.lasts.get(cursor.who) != Some(cursor.number) {
             return false;
@@ -183,7 +190,8 @@ impl<'a, L: Site> Log<'a, L> {
 
     /// Returns whether the journal keeps the actor's last number. If it doesn't, the actor has made no step.
     pub fn has_place(&self, who: ActorName) -> bool
-        ensures { MatchBool result (HasPlace self.now (seen_who who)) (Agree (seen_who who) (opening L.plan) (world_of self.now)) }
+        ensures { MatchBool result (HasPlace self.now (seen_who who)) (Agree (seen_who who) (opening L.plan)
+            (world_of self.now)) }
     {
         self.lasts.get(who).is_some()
     }
@@ -191,9 +199,11 @@ impl<'a, L: Site> Log<'a, L> {
     /// Brings the pass up to the whole journal.
     #[inline(always)]
     pub fn catch_up(&mut self, pass: &mut Pass<'a, L>)
-        ensures log { (self.new.entries ≡ self.old.entries) × (self.new.firsts ≡ self.old.firsts) × (self.new.lasts ≡ self.old.lasts) }
+        ensures log { (self.new.entries ≡ self.old.entries) × (self.new.firsts ≡ self.old.firsts)
+            × (self.new.lasts ≡ self.old.lasts) }
         ensures seen { SeesAll pass.new self.new }
-        ensures pass { (pass.new.steps ≡ pass.old.steps) × (pass.new.notes ≡ pass.old.notes) × (seat_of pass.new ≡ seat_of pass.old) }
+        ensures pass { (pass.new.steps ≡ pass.old.steps) × (pass.new.notes ≡ pass.old.notes)
+            × (seat_of pass.new ≡ seat_of pass.old) }
     {
         let Log { history, .. } = self;
         history.opened.meet(&mut pass.seen);
@@ -201,7 +211,8 @@ impl<'a, L: Site> Log<'a, L> {
 
     /// Returns whether every cell of the row is written.
     pub fn is_full(&self) -> bool
-        ensures { MatchBool result (length (journal_of self.now) ≡ length L.cells) (length (journal_of self.now) < length L.cells) }
+        ensures { MatchBool result (length (journal_of self.now) ≡ length L.cells) (length (journal_of self.now)
+            < length L.cells) }
     {
         self.rest.is_empty()
     }
@@ -226,14 +237,17 @@ impl<'a, L: Site> Log<'a, L> {
         requires cell { 0 < length self.old.rest.now }
         requires settled { SeesAll pass.old self.old }
         requires who { IsSome (last_in self.old.lasts (actor_of (event_of entry.event))) }
-        requires goes { makes (step L.plan (world_of self.old) (event_of entry.event)) ≡ Some (messages_of (listed entry.made)) }
+        requires goes { makes (step L.plan (world_of self.old) (event_of entry.event))
+            ≡ Some (messages_of (listed entry.made)) }
         requires first { entry.first ≡ self.old.messages }
         requires place { entry.cell ≡ vec_len self.old.entries }
-        requires durable { entry.durable ≡ durable_in (after L.plan (world_of self.old) (event_of entry.event)) (event_of entry.event) }
+        requires durable { entry.durable ≡ durable_in (after L.plan (world_of self.old) (event_of entry.event))
+            (event_of entry.event) }
         requires room { HasStepRoom pass.old }
         ensures entries { kept_in self.new ≡ kept_in self.old ++ entry ∷ [] }
         ensures seen { SeesAll pass.new self.new }
-        ensures steps { steps_of pass.new ≡ steps_of pass.old ++ made (length (kept_in self.old)) (entry_of entry) entry.durable ∷ [] }
+        ensures steps { steps_of pass.new ≡ steps_of pass.old ++ made (length (kept_in self.old)) (entry_of entry)
+            entry.durable ∷ [] }
         ensures notes { (notes_of pass.new ≡ notes_of pass.old) × (seat_of pass.new ≡ seat_of pass.old) }
         ensures front { (front_log result ≡ kept_in self.new) × (front_book result ≡ L.history) }
     {
@@ -297,7 +311,12 @@ impl<'a, L: Site> Log<'a, L> {
         ensures step { AddsStep (event_of event) result (steps_of pass.old) (steps_of pass.new) }
         ensures notes { (notes_of pass.new ≡ notes_of pass.old) × (seat_of pass.new ≡ seat_of pass.old) }
         ensures receipt { (result.number ≡ length (journal_of self.new)) × (result.durable ≡ durable) }
-        ensures entry { journal_of self.new ≡ journal_of self.old ++ record { event = event_of event; made = messages_of (listed made); first = length (world_of self.old).messages } ∷ [] }
+        ensures entry { journal_of self.new ≡ journal_of self.old ++ record {
+          event = event_of event;
+          made = messages_of
+              (listed made);
+          first = length (world_of self.old).messages;
+        } ∷ [] }
         ensures world { world_of self.new ≡ after L.plan (world_of self.old) (event_of event) }
         ensures cursor { (marked cursor.new ≡ marked cursor.old) × (seen_at cursor.new ≡ journal_of self.new) }
         ensures seen { SeesAll pass.new self.new }
@@ -348,8 +367,10 @@ impl<'a, L: Site> Log<'a, L> {
     // steps that double.
     fn between(&self, first: usize, end: usize, ahead: bool, number: u64) -> usize
         requires within { (first < end) × (end ≤ vec_len self.now.entries) }
-        requires made { (before L.plan (journal_of self.now) first < number) × (number ≤ before L.plan (journal_of self.now) end) }
-        ensures { (result < vec_len self.now.entries) × (before L.plan (journal_of self.now) result < number) × (number ≤ before L.plan (journal_of self.now) (result + 1)) }
+        requires made { (before L.plan (journal_of self.now) first < number)
+            × (number ≤ before L.plan (journal_of self.now) end) }
+        ensures { (result < vec_len self.now.entries) × (before L.plan (journal_of self.now) result < number)
+            × (number ≤ before L.plan (journal_of self.now) (result + 1)) }
     {
         let mut low = first;
         let mut high = end;
@@ -372,9 +393,11 @@ impl<'a, L: Site> Log<'a, L> {
     #[inline(always)]
     fn behind(&self, near: usize, end: usize, number: u64) -> (usize, usize)
         requires within { (near < end) × (end ≤ vec_len self.now.entries) }
-        requires made { (before L.plan (journal_of self.now) near < number) × (number ≤ before L.plan (journal_of self.now) end) }
+        requires made { (before L.plan (journal_of self.now) near < number)
+            × (number ≤ before L.plan (journal_of self.now) end) }
         ensures within { (result.0 < result.1) × (result.1 ≤ vec_len self.now.entries) }
-        ensures made { (before L.plan (journal_of self.now) result.0 < number) × (number ≤ before L.plan (journal_of self.now) result.1) }
+        ensures made { (before L.plan (journal_of self.now) result.0 < number)
+            × (number ≤ before L.plan (journal_of self.now) result.1) }
     {
         let next = near + 1;
         if next >= end {
@@ -390,7 +413,8 @@ impl<'a, L: Site> Log<'a, L> {
     #[inline(always)]
     fn maker(&self, near: usize, number: u64) -> usize
         requires { (0 < number) × (number ≤ self.now.messages) }
-        ensures { (result < vec_len self.now.entries) × (before L.plan (journal_of self.now) result < number) × (number ≤ before L.plan (journal_of self.now) (result + 1)) }
+        ensures { (result < vec_len self.now.entries) × (before L.plan (journal_of self.now) result < number)
+            × (number ≤ before L.plan (journal_of self.now) (result + 1)) }
     {
         let end = self.firsts.len();
         if near < end {
@@ -405,7 +429,8 @@ impl<'a, L: Site> Log<'a, L> {
     // Looks a message up by its number, beginning near this place. None where no step has made it.
     #[inline(always)]
     fn find_near(&mut self, near: usize, number: u64) -> Option<MessageRef<'a, L>>
-        ensures log { (self.new.entries ≡ self.old.entries) × (self.new.firsts ≡ self.old.firsts) × (self.new.lasts ≡ self.old.lasts) }
+        ensures log { (self.new.entries ≡ self.old.entries) × (self.new.firsts ≡ self.old.firsts)
+            × (self.new.lasts ≡ self.old.lasts) }
         ensures history { log_of self.new.history.opened ≡ log_of self.old.history.opened }
         ensures some { IfSome result (λ l. message_ref_number l ≡ number) }
         ensures is { IfSome result (λ l. numbered (world_of self.old).messages number ≡ message_ref_message l) }
@@ -432,8 +457,10 @@ impl<'a, L: Site> Log<'a, L> {
     #[inline(always)]
     pub fn has(&mut self, message_ref: &mut MessageRef<'a, L>)
         ensures log { journal_of self.new ≡ journal_of self.old }
-        ensures message_ref { (message_ref_number message_ref.new ≡ message_ref_number message_ref.old) × (message_ref_message message_ref.new ≡ message_ref_message message_ref.old) }
-        ensures is { numbered (world_of self.old).messages (message_ref_number message_ref.old) ≡ message_ref_message message_ref.old }
+        ensures message_ref { (message_ref_number message_ref.new ≡ message_ref_number message_ref.old)
+            × (message_ref_message message_ref.new ≡ message_ref_message message_ref.old) }
+        ensures is { numbered (world_of self.old).messages (message_ref_number message_ref.old) ≡ message_ref_message
+            message_ref.old }
     {
         let Log { history, .. } = self;
         history.opened.compare(&mut message_ref.seen);
@@ -443,9 +470,11 @@ impl<'a, L: Site> Log<'a, L> {
     /// made it.
     #[inline(always)]
     pub fn seek(&mut self, pass: &mut Pass<'a, L>, number: u64) -> Option<MessageRef<'a, L>>
-        ensures log { (self.new.entries ≡ self.old.entries) × (self.new.firsts ≡ self.old.firsts) × (self.new.lasts ≡ self.old.lasts) }
+        ensures log { (self.new.entries ≡ self.old.entries) × (self.new.firsts ≡ self.old.firsts)
+            × (self.new.lasts ≡ self.old.lasts) }
         ensures seen { SeesAll pass.new self.new }
-        ensures pass { (pass.new.steps ≡ pass.old.steps) × (pass.new.notes ≡ pass.old.notes) × (seat_of pass.new ≡ seat_of pass.old) }
+        ensures pass { (pass.new.steps ≡ pass.old.steps) × (pass.new.notes ≡ pass.old.notes)
+            × (seat_of pass.new ≡ seat_of pass.old) }
         ensures some { IfSome result (λ l. message_ref_number l ≡ number) }
         ensures is { IfSome result (λ l. numbered (world_of self.old).messages number ≡ message_ref_message l) }
         ensures none { IfNone result (numbered (world_of self.old).messages number ≡ None) }

@@ -41,8 +41,10 @@ pub struct Pass<'a, L: Site> {
     ghost no_slot: { seat.seat.me.1 ≡ [] },
     ghost history: { front_book seen ≡ L.history } by { Coded-set table_id_coded (front_book seen) L.history },
     ghost room: { length (front_log seen) ≤ length L.cells },
-    ghost stand: { All (λ h. Stands L.plan (entries_of (front_log seen)) (made h.entry.now.cell (entry_of h.entry.now) h.entry.now.durable)) steps.items } by { Prim.hlevel props },
-    ghost refused: { All (λ n. IsRefused L.plan L.slots (length L.cells) (entries_of (front_log seen)) (note_of n)) notes.items } by { Prim.hlevel props },
+    ghost stand: { All (λ h. Stands L.plan (entries_of (front_log seen)) (made h.entry.now.cell (entry_of h.entry.now)
+        h.entry.now.durable)) steps.items } by { Prim.hlevel props },
+    ghost refused: { All (λ n. IsRefused L.plan L.slots (length L.cells) (entries_of (front_log seen)) (note_of n))
+        notes.items } by { Prim.hlevel props },
     ghost part: { share.parts ≡ 1 },
     ghost counted: { share.amount ≡ vec_len steps },
 }
@@ -85,7 +87,8 @@ impl<'a, L: Site> Pass<'a, L> {
     /// `AllocError` if there is no memory; the pass is unchanged.
     #[inline(always)]
     pub fn reserve(&mut self) -> Result<(), AllocError>
-        ensures same { (steps_of self.new ≡ steps_of self.old) × (notes_of self.new ≡ notes_of self.old) × (seat_of self.new ≡ seat_of self.old) × (front_log self.new.seen ≡ front_log self.old.seen) }
+        ensures same { (steps_of self.new ≡ steps_of self.old) × (notes_of self.new ≡ notes_of self.old)
+            × (seat_of self.new ≡ seat_of self.old) × (front_log self.new.seen ≡ front_log self.old.seen) }
         ensures room { IfOk result (λ _. HasStepRoom self.new × HasNoteRoom self.new) }
     {
         if self.steps.len() < self.steps.capacity() && self.notes.len() < self.notes.capacity() {
@@ -97,7 +100,8 @@ impl<'a, L: Site> Pass<'a, L> {
     // Makes room where one of the lists has none: apart, since mostly both have.
     #[inline(never)]
     fn grow(&mut self) -> Result<(), AllocError>
-        ensures same { (steps_of self.new ≡ steps_of self.old) × (notes_of self.new ≡ notes_of self.old) × (seat_of self.new ≡ seat_of self.old) × (front_log self.new.seen ≡ front_log self.old.seen) }
+        ensures same { (steps_of self.new ≡ steps_of self.old) × (notes_of self.new ≡ notes_of self.old)
+            × (seat_of self.new ≡ seat_of self.old) × (front_log self.new.seen ≡ front_log self.old.seen) }
         ensures room { IfOk result (λ _. HasStepRoom self.new × HasNoteRoom self.new) }
     {
         self.steps.reserve(1)?;
@@ -106,7 +110,8 @@ impl<'a, L: Site> Pass<'a, L> {
 
     // Keeps where the step stands that made the message which was found last.
     pub(crate) fn stay(&mut self, near: usize)
-        ensures did { (self.new.steps ≡ self.old.steps) × (self.new.notes ≡ self.old.notes) × (seat_of self.new ≡ seat_of self.old) }
+        ensures did { (self.new.steps ≡ self.old.steps) × (self.new.notes ≡ self.old.notes)
+            × (seat_of self.new ≡ seat_of self.old) }
         ensures seen { front_log self.new.seen ≡ front_log self.old.seen }
     {
         self.near = near;
@@ -115,9 +120,16 @@ impl<'a, L: Site> Pass<'a, L> {
     // Notes a refusal.
     pub(crate) fn note(&mut self, event: Event, fault: Fault, number: usize)
         requires room { HasNoteRoom self.old }
-        requires refused { IsRefused L.plan L.slots (length L.cells) (entries_of (front_log self.old.seen)) (record { event = event_of event; fault = fault; number = number }) }
-        ensures same { (steps_of self.new ≡ steps_of self.old) × (seat_of self.new ≡ seat_of self.old) × (front_log self.new.seen ≡ front_log self.old.seen) }
-        ensures note { notes_of self.new ≡ notes_of self.old ++ record { event = event_of event; fault = fault; number = number } ∷ [] }
+        requires refused { IsRefused L.plan L.slots (length L.cells) (entries_of (front_log self.old.seen))
+            (record { event = event_of event; fault = fault; number = number }) }
+        ensures same { (steps_of self.new ≡ steps_of self.old) × (seat_of self.new ≡ seat_of self.old)
+            × (front_log self.new.seen ≡ front_log self.old.seen) }
+        ensures note { notes_of self.new ≡ notes_of self.old ++ record {
+          event = event_of event;
+          fault = fault;
+          number =
+              number;
+        } ∷ [] }
     {
         self.notes.push_reserved(Note {
             event,

@@ -9,8 +9,10 @@ use crate::lineage::Lineage;
 pub fn newest(lineages: &[Lineage]) -> usize
     requires { 0 < length lineages.now }
     ensures there { result < length lineages.now }
-    ensures greatest { (k : ℕ) → k < length lineages.now → slice_index (last_epochs lineages.now) k ≤ slice_index (last_epochs lineages.now) result }
-    ensures first { (k : ℕ) → k < result → slice_index (last_epochs lineages.now) k < slice_index (last_epochs lineages.now) result }
+    ensures greatest { (k : ℕ) → k < length lineages.now → slice_index (last_epochs lineages.now) k ≤ slice_index
+        (last_epochs lineages.now) result }
+    ensures first { (k : ℕ) → k < result → slice_index (last_epochs lineages.now) k < slice_index
+        (last_epochs lineages.now) result }
 {
     let mut newest = 0;
     for place in 1..lineages.len() {

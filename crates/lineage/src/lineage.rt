@@ -148,7 +148,8 @@ impl Lineage {
     /// `BadField` if the entry can't come after the last: its volume epoch or its start isn't greater, or its cut is above its start;
     /// `NoMemory` if a growth was refused.
     pub fn added(&self, entry: Entry) -> Result<Lineage, Fault>
-        ensures { AnswersNew lineage_of (refuse_if (not (is_lineage (entry_of entry ∷ lineage_of self.now))) BadField (Ok (entry_of entry ∷ lineage_of self.now))) result }
+        ensures { AnswersNew lineage_of (refuse_if (not (is_lineage (entry_of entry ∷ lineage_of self.now))) BadField
+            (Ok (entry_of entry ∷ lineage_of self.now))) result }
     {
         let later = match &self.last {
             Some(last) => last.volume_epoch < entry.volume_epoch && last.start < entry.start,

@@ -22,7 +22,9 @@ pub struct Past {
 
 /// Returns whether a record is live, where these entries tell.
 fn judge(entries: &[Entry], volume_epoch: u32, lsn: u64) -> Option<bool>
-    ensures { MatchOption result ((older : model.Lineage) → is_live (entries_of entries.now ++ older) volume_epoch lsn ≡ is_live older volume_epoch lsn) (λ live. (older : model.Lineage) → is_live (entries_of entries.now ++ older) volume_epoch lsn ≡ live) }
+    ensures { MatchOption result ((older : model.Lineage) → is_live (entries_of entries.now ++ older) volume_epoch lsn
+        ≡ is_live older volume_epoch lsn) (λ live. (older : model.Lineage) → is_live (entries_of entries.now ++ older)
+        volume_epoch lsn ≡ live) }
 {
     for entry in entries.iter().rev() {
         if entry.volume_epoch == volume_epoch {

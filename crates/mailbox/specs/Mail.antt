@@ -11,13 +11,17 @@ use Rattle.board.specs.Shares.{View, first_of, seats_in, share_of, shares}
 pub record Keeps (got items : List (Option ℕ)) (views : List (List MailStep)) : Type 0 where
   -- one place has one letter
   pub posted : (p i place : ℕ) (x : Option ℕ) → At views p i (Posted place x) → get_elem? (got ++ items) place ≡ some x
-  pub posted_once : (p i q j place : ℕ) (x y : Option ℕ) → At views p i (Posted place x) → At views q j (Posted place y) → (p ≡ q) × (i ≡ j)
-  pub each_posted : (place : ℕ) (x : Option ℕ) → get_elem? (got ++ items) place ≡ some x → (p : ℕ) × (i : ℕ) × At views p i (Posted place x)
+  pub posted_once : (p i q j place : ℕ) (x y : Option ℕ) → At views p i (Posted place x) → At views q j (Posted place y)
+      → (p ≡ q) × (i ≡ j)
+  pub each_posted : (place : ℕ) (x : Option ℕ) → get_elem? (got ++ items) place ≡ some x → (p : ℕ) × (i : ℕ)
+      × At views p i (Posted place x)
   -- a place is collected at most once
   pub collected : (p i place : ℕ) (x : Option ℕ) → At views p i (Collected place x) → get_elem? got place ≡ some x
-  pub collected_once : (p i q j place : ℕ) (x y : Option ℕ) → At views p i (Collected place x) → At views q j (Collected place y) → (p ≡ q) × (i ≡ j)
+  pub collected_once : (p i q j place : ℕ) (x y : Option ℕ) → At views p i (Collected place x) → At views q j
+      (Collected place y) → (p ≡ q) × (i ≡ j)
   -- in the order of places
-  pub in_order : (p i j k l : ℕ) (x y : Option ℕ) → i < j → At views p i (Collected k x) → At views p j (Collected l y) → k < l
+  pub in_order : (p i j k l : ℕ) (x y : Option ℕ) → i < j → At views p i (Collected k x) → At views p j (Collected l y)
+      → k < l
 
 -- how many seats there are, and a view of some of them
 abbrev pub Knows : Type 0 → Type 0
@@ -32,7 +36,8 @@ KnowAll {A} seats views = (p : ℕ) (v : Knows A) → get_elem? views p ≡ some
 
 -- the views know for how many seats they stand together, and the steps of these keep the rule
 abbrev pub IsMailbox : List (Option ℕ) → List (Knows MailStep) → Type 0
-IsMailbox items views = KnowAll (shares (views_in views)) views × ((got : List (Option ℕ)) × Keeps got items (seats_in (views_in views)))
+IsMailbox items views = KnowAll (shares (views_in views)) views
+    × ((got : List (Option ℕ)) × Keeps got items (seats_in (views_in views)))
 
 -- the steps of exactly these seats keep the rule of a mailbox: some letters were collected, and some wait
 abbrev pub AreKept : List (List MailStep) → Type 0

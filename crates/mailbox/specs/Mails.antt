@@ -51,7 +51,8 @@ HasNoSteps seats = (slot : ℕ) → steps_at seats slot ≡ []
 
 -- the node of this member of this group has a mailbox
 abbrev pub has_mailbox : Mailboxes → ℕ → ℕ → Bool
-has_mailbox mailboxes group member = nat_lt member members && is_some (in_slot (slice_get mailboxes.boxes.items (slot_of group member)))
+has_mailbox mailboxes group member = nat_lt member members && is_some
+    (in_slot (slice_get mailboxes.boxes.items (slot_of group member)))
 
 -- the nodes that the plan names have a mailbox, and no others
 abbrev pub HasNodes : Plan → Mailboxes → Type 0
@@ -68,12 +69,14 @@ AreNew count mailboxes = All (IsNew count) mailboxes.boxes.items
 -- so many new seats of a mailbox, and none where there is no mailbox
 abbrev pub AreNewSeats : ℕ → Option Mailbox → List MailSeat → Type 0
 AreNewSeats count None seats = seats ≡ []
-AreNewSeats count (Some mailbox) seats = (length seats ≡ count) × All (λ s. IsSeatIn (id_of mailbox) s × (steps_of s ≡ [])) seats
+AreNewSeats count (Some mailbox) seats = (length seats ≡ count) × All
+    (λ s. IsSeatIn (id_of mailbox) s × (steps_of s ≡ [])) seats
 
 -- the steps at the node in this slot became others, so related to them, and at all other nodes they are what they were
-pub record ChangesAt (slot : ℕ) (Adds : List MailStep → List MailStep → Type 0) (before after : MailSeats) : Type 0 where
-  pub here : Adds (steps_at before slot) (steps_at after slot)
-  pub others : (other : ℕ) → other ≢ slot → steps_at after other ≡ steps_at before other
+pub record ChangesAt (slot : ℕ) (Adds : List MailStep → List MailStep → Type 0) (before after : MailSeats) : Type 0
+  where
+    pub here : Adds (steps_at before slot) (steps_at after slot)
+    pub others : (other : ℕ) → other ≢ slot → steps_at after other ≡ steps_at before other
 
 -- a mailbox stands in this slot
 abbrev pub Has : Mailboxes → ℕ → Mailbox → Type 0
@@ -90,14 +93,16 @@ back_at all slot = lists_of (slice_get all.seats.items slot)
 
 -- at each mailbox there is a seat
 abbrev pub HaveSeats : List (Option Mailbox) → List (Option MailSeat) → Type 0
-HaveSeats boxes seats = (slot : ℕ) (m : Mailbox) → slice_get boxes slot ≡ Some (Some m) → (s : MailSeat) × (slice_get seats slot ≡ Some (Some s)) × AreSeatsAt (id_of m) s
+HaveSeats boxes seats = (slot : ℕ) (m : Mailbox) → slice_get boxes slot ≡ Some (Some m) → (s : MailSeat)
+    × (slice_get seats slot ≡ Some (Some s)) × AreSeatsAt (id_of m) s
 
 abbrev pub AreBack : Mailboxes → MailSeats → Type 0
 AreBack mailboxes all = HaveSeats mailboxes.boxes.items all.seats.items
 
 -- at each mailbox these seats were taken back
 abbrev pub TakesBack : Mailboxes → MailSeats → MailSeats → MailSeats → Type 0
-TakesBack mailboxes seats before after = (slot : ℕ) (m : Mailbox) → Has mailboxes slot m → back_at after slot ≡ steps_at seats slot ∷ back_at before slot
+TakesBack mailboxes seats before after = (slot : ℕ) (m : Mailbox) → Has mailboxes slot m → back_at after slot
+    ≡ steps_at seats slot ∷ back_at before slot
 
 -- at each mailbox all seats were taken back
 abbrev pub AreWhole : Mailboxes → MailSeats → Type 0

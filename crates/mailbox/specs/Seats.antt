@@ -17,7 +17,12 @@ pub record MailboxId : Type 0 where
   pub seats : ℕ
 
 abbrev pub id_of : Mailbox → MailboxId
-id_of m = record { table = (sends_on m.to).stamps.shared.table_id; key = (sends_on m.to).stamps.shared.key; seats = m.seats }
+id_of m = record {
+  table = (sends_on m.to).stamps.shared.table_id;
+  key = (sends_on m.to).stamps.shared.key;
+  seats =
+      m.seats;
+}
 
 -- how many seats the mailbox has
 abbrev pub seats_of : Mailbox → ℕ
@@ -37,7 +42,8 @@ steps_of seat = first_of (returned seat)
 
 -- one or more seats of the mailbox with this identity
 abbrev pub AreSeatsIn : MailboxId → MailSeat → Type 0
-AreSeatsIn id seat = (seat.pass.table_id ≡ id.table) × (seat.pass.me.0.of ≡ id.key) × (seat.pass.me.1 ≡ []) × ((view seat.pass).0 ≡ id.seats)
+AreSeatsIn id seat = (seat.pass.table_id ≡ id.table) × (seat.pass.me.0.of ≡ id.key) × (seat.pass.me.1 ≡ [])
+    × ((view seat.pass).0 ≡ id.seats)
 
 -- one or more seats of this mailbox
 abbrev pub AreSeatsOf : Mailbox → MailSeat → Type 0

@@ -129,7 +129,8 @@ impl Mailboxes {
         requires node { has_mailbox self.now group member ≡ true }
         requires seats { AreSeatsOf self.now seats.old }
         ensures same { AreSeatsOf self.now seats.new }
-        ensures step { ChangesAt (slot_of group member) (λ before after. AddsPosted before (Some message) after) seats.old seats.new }
+        ensures step { ChangesAt (slot_of group member) (λ before after. AddsPosted before (Some message) after)
+            seats.old seats.new }
     {
         let slot = slot(group, member);
         let Some(mailbox) = &self.boxes[slot] else {
@@ -146,7 +147,8 @@ impl Mailboxes {
         requires node { has_mailbox self.now group member ≡ true }
         requires seats { AreSeatsOf self.now seats.old }
         ensures same { AreSeatsOf self.now seats.new }
-        ensures step { ChangesAt (slot_of group member) (λ before after. AddsPosted before None after) seats.old seats.new }
+        ensures step { ChangesAt (slot_of group member) (λ before after. AddsPosted before None after) seats.old
+            seats.new }
     {
         let slot = slot(group, member);
         let Some(mailbox) = &self.boxes[slot] else {
@@ -164,7 +166,8 @@ impl Mailboxes {
         requires node { has_mailbox self.now group member ≡ true }
         requires seats { AreSeatsOf self.now seats.old }
         ensures same { AreSeatsOf self.now seats.new }
-        ensures step { ChangesAt (slot_of group member) (λ before after. AddsCollected before result after) seats.old seats.new }
+        ensures step { ChangesAt (slot_of group member) (λ before after. AddsCollected before result after) seats.old
+            seats.new }
     {
         let slot = slot(group, member);
         let Some(mailbox) = &self.boxes[slot] else {
@@ -182,7 +185,8 @@ impl Mailboxes {
         requires back { AreBack self.now all.old }
         ensures back { AreBack self.now all.new }
         ensures others { (k : ℕ) → k ≢ slot → back_at all.new k ≡ back_at all.old k }
-        ensures here { (m : Mailbox) → Has self.now slot m → back_at all.new slot ≡ seat_steps (Some seat) ∷ back_at all.old slot }
+        ensures here { (m : Mailbox) → Has self.now slot m → back_at all.new slot ≡ seat_steps (Some seat) ∷ back_at
+            all.old slot }
     {
         let Some(mailbox) = &self.boxes[slot] else {
             return;

@@ -12,7 +12,8 @@ byte_at (first ∷ rest) = Ok (first, rest)
 
 -- a number, high byte first, and what follows it
 abbrev pub number_at : Width → List ℕ → Result (ℕ × List ℕ) Fault
-number_at w bytes = refuse_if (nat_lt (length bytes) (byte_len w)) Short (Ok (from_be_bytes w (take (byte_len w) bytes), drop (byte_len w) bytes))
+number_at w bytes = refuse_if (nat_lt (length bytes) (byte_len w)) Short
+    (Ok (from_be_bytes w (take (byte_len w) bytes), drop (byte_len w) bytes))
 
 -- the bytes of a page, and what follows them
 abbrev pub image_at : List ℕ → Result (List ℕ × List ℕ) Fault

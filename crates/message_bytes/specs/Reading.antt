@@ -156,7 +156,8 @@ version_at bytes = do
 abbrev pub ended : {A : Type 0} → A × List ℕ → Result A Fault
 ended x = refuse_if (nat_lt 0 (length x.1)) Trailing (Ok x.0)
 
--- the message that the bytes spell, all of them, or the first fault: the version, the kind, the fields from left to right, and nothing after them
+-- the message that the bytes spell, all of them, or the first fault: the version, the kind, the fields from left to
+-- right, and nothing after them
 unfoldable pub message_in : List ℕ → Result Message Fault
 message_in bytes = do
   version ← version_at bytes

@@ -76,9 +76,12 @@ body_spelled (Write group label r) = labelled_spelled group label ++ spelled r
 body_spelled (Gossip group label r) = labelled_spelled group label ++ spelled r
 body_spelled (Ack group label from scl) = labelled_spelled group label ++ (from ∷ to_be_bytes w64 scl)
 body_spelled (CopyAsk group epoch) = group ∷ to_be_bytes w32 epoch
-body_spelled (CopyReport group epoch from series piece c) = (group ∷ to_be_bytes w32 epoch) ++ ((from ∷ to_be_bytes w64 series) ++ (piece_spelled piece ++ contents_spelled c))
-body_spelled (PageAsk group label block point) = labelled_spelled group label ++ (to_be_bytes w32 block ++ to_be_bytes w64 point)
-body_spelled (Page group label from block point image) = labelled_spelled group label ++ ((from ∷ to_be_bytes w32 block) ++ (to_be_bytes w64 point ++ image))
+body_spelled (CopyReport group epoch from series piece c) = (group ∷ to_be_bytes w32 epoch)
+    ++ ((from ∷ to_be_bytes w64 series) ++ (piece_spelled piece ++ contents_spelled c))
+body_spelled (PageAsk group label block point) = labelled_spelled group label
+    ++ (to_be_bytes w32 block ++ to_be_bytes w64 point)
+body_spelled (Page group label from block point image) = labelled_spelled group label ++ ((from ∷ to_be_bytes w32 block)
+    ++ (to_be_bytes w64 point ++ image))
 
 -- a message's kind and its fields
 abbrev pub tagged_spelled : Message → List ℕ

@@ -93,7 +93,8 @@ pub fn put_fence(out: &mut Vec<u8>, fence: &Fence) -> Result<(), AllocError>
 }
 
 pub fn put_report(alloc: Global, out: &mut Vec<u8>, report: &Report) -> Result<(), Fault>
-    ensures text { OnOk result (out.new.items ≡ out.old.items ++ body_spelled (message_of (Message.Report report.now))) }
+    ensures text { OnOk result (out.new.items ≡ out.old.items ++ body_spelled
+        (message_of (Message.Report report.now))) }
     ensures reads { OnOk result (IsReadBack (message_of (Message.Report report.now))) }
 {
     put_labelled(out, report.group, report.label)?;
@@ -103,7 +104,8 @@ pub fn put_report(alloc: Global, out: &mut Vec<u8>, report: &Report) -> Result<(
 }
 
 pub fn put_install(alloc: Global, out: &mut Vec<u8>, install: &Install) -> Result<(), Fault>
-    ensures text { OnOk result (out.new.items ≡ out.old.items ++ body_spelled (message_of (Message.Install install.now))) }
+    ensures text { OnOk result (out.new.items ≡ out.old.items ++ body_spelled
+        (message_of (Message.Install install.now))) }
     ensures reads { OnOk result (IsReadBack (message_of (Message.Install install.now))) }
 {
     put_labelled(out, install.group, install.label)?;
@@ -122,7 +124,8 @@ pub fn put_write(out: &mut Vec<u8>, write: &Write) -> Result<(), AllocError>
 }
 
 pub fn put_gossip(out: &mut Vec<u8>, gossip: &Gossip) -> Result<(), AllocError>
-    ensures text { OnOk result (out.new.items ≡ out.old.items ++ body_spelled (message_of (Message.Gossip gossip.now))) }
+    ensures text { OnOk result (out.new.items ≡ out.old.items ++ body_spelled
+        (message_of (Message.Gossip gossip.now))) }
     ensures reads { OnOk result (IsReadBack (message_of (Message.Gossip gossip.now))) }
 {
     put_labelled(out, gossip.group, gossip.label)?;
@@ -150,7 +153,8 @@ pub fn put_copy_ask(out: &mut Vec<u8>, ask: &CopyAsk) -> Result<(), AllocError>
 }
 
 pub fn put_copy_report(alloc: Global, out: &mut Vec<u8>, report: &CopyReport) -> Result<(), Fault>
-    ensures text { OnOk result (out.new.items ≡ out.old.items ++ body_spelled (message_of (Message.CopyReport report.now))) }
+    ensures text { OnOk result (out.new.items ≡ out.old.items ++ body_spelled
+        (message_of (Message.CopyReport report.now))) }
     ensures reads { OnOk result (IsReadBack (message_of (Message.CopyReport report.now))) }
 {
     out.push(report.group)?;

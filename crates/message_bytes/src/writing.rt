@@ -88,7 +88,8 @@ fn put_records(out: &mut Vec<u8>, packets: &[SharedRecord]) -> Result<(), AllocE
 
 fn put_lineage(alloc: Global, out: &mut Vec<u8>, lineage: &Lineage) -> Result<(), Fault>
     ensures text { OnOk result (out.new.items ≡ out.old.items ++ lineage_spelled (lineage_of lineage.now)) }
-    ensures reads { OnOk result ((rest : List ℕ) → lineage_at (lineage_spelled (lineage_of lineage.now) ++ rest) ≡ Ok (lineage_of lineage.now, rest)) }
+    ensures reads { OnOk result ((rest : List ℕ) → lineage_at (lineage_spelled (lineage_of lineage.now) ++ rest)
+        ≡ Ok (lineage_of lineage.now, rest)) }
 {
     let entries = lineage.entries(alloc)?;
     let count = count_of(entries.len())?;
@@ -99,7 +100,8 @@ fn put_lineage(alloc: Global, out: &mut Vec<u8>, lineage: &Lineage) -> Result<()
 
 fn put_set(out: &mut Vec<u8>, set: &RecordSet) -> Result<(), Fault>
     ensures text { OnOk result (out.new.items ≡ out.old.items ++ set_spelled (sets.records_of set.now)) }
-    ensures reads { OnOk result ((rest : List ℕ) → set_at (set_spelled (sets.records_of set.now) ++ rest) ≡ Ok (sets.records_of set.now, rest)) }
+    ensures reads { OnOk result ((rest : List ℕ) → set_at (set_spelled (sets.records_of set.now) ++ rest)
+        ≡ Ok (sets.records_of set.now, rest)) }
 {
     let packets = set.as_slice();
     let count = count_of(packets.len())?;
@@ -114,7 +116,8 @@ fn put_set(out: &mut Vec<u8>, set: &RecordSet) -> Result<(), Fault>
 /// `Full` if there are more entries or records than four bytes can count, `NoMemory`; the text may have grown then.
 pub fn put_contents(alloc: Global, out: &mut Vec<u8>, contents: &Contents) -> Result<(), Fault>
     ensures text { OnOk result (out.new.items ≡ out.old.items ++ contents_spelled (contents_of contents.now)) }
-    ensures reads { OnOk result ((rest : List ℕ) → contents_at (contents_spelled (contents_of contents.now) ++ rest) ≡ Ok (contents_of contents.now, rest)) }
+    ensures reads { OnOk result ((rest : List ℕ) → contents_at (contents_spelled (contents_of contents.now) ++ rest)
+        ≡ Ok (contents_of contents.now, rest)) }
 {
     put_lineage(alloc, out, &contents.lineage)?;
     put_set(out, &contents.records)?;

@@ -23,8 +23,10 @@ pub record HasMail (plan : Plan) (base : Base) : Type 0 where
   pub seats : All (λ s. AreSeatsOf base.mail s × HasNoSteps s) base.callers.items
   pub count : vec_len base.callers ≡ passes_of base
 
--- the board of the base has this table, its mailboxes are these, and its history and the ledger of its steps have these names
-pub record IsBaseOf (plan : Plan) (board history : TableId) (mail : List (Option MailboxId)) (name parts : ℕ) (base : Base) : Type 0 where
+-- the board of the base has this table, its mailboxes are these, and its history and the ledger of its steps have these
+-- names
+pub record IsBaseOf (plan : Plan) (board history : TableId) (mail : List (Option MailboxId)) (name parts : ℕ)
+    (base : Base) : Type 0 where
   pub board_is : board_table base.board ≡ board
   pub history_is : book_of base.opened ≡ history
   pub mail_is : mail_in base ≡ mail

@@ -24,8 +24,10 @@ RecordsCall event (Ok r) steps steps' notes notes' = AddsStep event r steps step
 RecordsCall event (Err fault) steps steps' notes notes' = (steps' ≡ steps) × AddsNote event fault steps notes notes'
 
 -- the same of the pass itself, before and after
-abbrev pub PassRecordsCall : {X : Type 0} {s : SiteGhosts X} → Event → Result Receipt Fault → Pass X s → Pass X s → Type 0
-PassRecordsCall event result old new = RecordsCall event result (steps_of old) (steps_of new) (notes_of old) (notes_of new)
+abbrev pub PassRecordsCall : {X : Type 0} {s : SiteGhosts X} → Event → Result Receipt Fault → Pass X s → Pass X s
+    → Type 0
+PassRecordsCall event result old new = RecordsCall event result (steps_of old) (steps_of new) (notes_of old)
+    (notes_of new)
 
 -- a message that is said not to be there was made by none of these steps
 abbrev pub Unmade : ℕ → List Made → Fault → Type 0

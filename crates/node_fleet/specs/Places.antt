@@ -5,4 +5,5 @@ use Rattle.world.specs.Slots.{members, slot_of, in_slot}
 
 -- something stands in the slot of each node that the plan names, and in no other
 abbrev pub HasEach : {A : Type 0} → Plan → List (Option A) → Type 0
-HasEach plan slots = (group member : ℕ) → (nat_lt member members && is_some (in_slot (slice_get slots (slot_of group member)))) ≡ is_named plan group member
+HasEach plan slots = (group member : ℕ)
+    → (nat_lt member members && is_some (in_slot (slice_get slots (slot_of group member)))) ≡ is_named plan group member

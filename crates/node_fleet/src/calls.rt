@@ -64,10 +64,12 @@ impl<'a, L: FleetSite> Fleet<'a, L> {
         action: ClientAction,
     ) -> Result<Receipt, Fault>
         ensures recorded { PassRecordsCall (actions.event_by volume action) result pass.old pass.new }
-        ensures raised { IfOk result (λ r. RaisesBy (actions.event_by volume action) r.durable (seat_of pass.old) (seat_of pass.new)) }
+        ensures raised { IfOk result (λ r. RaisesBy (actions.event_by volume action) r.durable (seat_of pass.old)
+            (seat_of pass.new)) }
         ensures still { OnErr result (seat_of pass.new ≡ seat_of pass.old) }
         ensures mail { IsMailSame pass.old pass.new }
-        ensures unmade { IfErr result (λ fault. fault ≡ NoMessage → NamesElse (actions.event_by volume action) (steps_of pass.old)) }
+        ensures unmade { IfErr result (λ fault. fault ≡ NoMessage → NamesElse (actions.event_by volume action)
+            (steps_of pass.old)) }
     {
         self.enter_client(rt, &mut pass.entered, volume, action)
     }
@@ -84,10 +86,12 @@ impl<'a, L: FleetSite> Fleet<'a, L> {
         action: &ClientAction,
     ) -> Result<Receipt, Fault>
         ensures recorded { PassRecordsCall (actions.event_by volume action.now) result pass.old pass.new }
-        ensures raised { IfOk result (λ r. RaisesBy (actions.event_by volume action.now) r.durable (seat_of pass.old) (seat_of pass.new)) }
+        ensures raised { IfOk result (λ r. RaisesBy (actions.event_by volume action.now) r.durable (seat_of pass.old)
+            (seat_of pass.new)) }
         ensures still { OnErr result (seat_of pass.new ≡ seat_of pass.old) }
         ensures mail { IsMailSame pass.old pass.new }
-        ensures unmade { IfErr result (λ fault. fault ≡ NoMessage → NamesElse (actions.event_by volume action.now) (steps_of pass.old)) }
+        ensures unmade { IfErr result (λ fault. fault ≡ NoMessage → NamesElse (actions.event_by volume action.now)
+            (steps_of pass.old)) }
     {
         self.enter_client_copy(rt, &mut pass.entered, volume, action)
     }
@@ -161,7 +165,8 @@ impl<'a, L: FleetSite> Fleet<'a, L> {
     pub fn post<R: Wait>(&self, rt: &R, pass: &mut Pass<'a, L>, group: u8, member: u8, message: u64)
         requires { is_named L.plan group member ≡ true }
         ensures same { IsEntrySame pass.old pass.new }
-        ensures step { ChangesAt (slot_of group member) (λ before after. AddsPosted before (Some message) after) pass.old.mail pass.new.mail }
+        ensures step { ChangesAt (slot_of group member) (λ before after. AddsPosted before (Some message) after)
+            pass.old.mail pass.new.mail }
     {
         self.mail.post(rt, &mut pass.mail, group, member, message);
     }
@@ -171,7 +176,8 @@ impl<'a, L: FleetSite> Fleet<'a, L> {
     pub fn collect<R: Wait>(&self, rt: &R, pass: &mut Pass<'a, L>, group: u8, member: u8) -> Letter
         requires { is_named L.plan group member ≡ true }
         ensures same { IsEntrySame pass.old pass.new }
-        ensures step { ChangesAt (slot_of group member) (λ before after. AddsCollected before result after) pass.old.mail pass.new.mail }
+        ensures step { ChangesAt (slot_of group member) (λ before after. AddsCollected before result after)
+            pass.old.mail pass.new.mail }
     {
         self.mail.collect(rt, &mut pass.mail, group, member)
     }
@@ -180,7 +186,8 @@ impl<'a, L: FleetSite> Fleet<'a, L> {
     pub fn close_mailbox<R: Wait>(&self, rt: &R, pass: &mut Pass<'a, L>, group: u8, member: u8)
         requires { is_named L.plan group member ≡ true }
         ensures same { IsEntrySame pass.old pass.new }
-        ensures step { ChangesAt (slot_of group member) (λ before after. AddsPosted before None after) pass.old.mail pass.new.mail }
+        ensures step { ChangesAt (slot_of group member) (λ before after. AddsPosted before None after) pass.old.mail
+            pass.new.mail }
     {
         self.mail.close_mailbox(rt, &mut pass.mail, group, member);
     }

@@ -144,9 +144,11 @@ impl<'a, L: FleetSite> Fleet<'a, L> {
         action: ClientAction,
     ) -> Result<Receipt, Fault>
         ensures recorded { PassRecordsCall (event_by volume action) result pass.old pass.new }
-        ensures raised { IfOk result (λ r. RaisesBy (event_by volume action) r.durable (seat_of pass.old) (seat_of pass.new)) }
+        ensures raised { IfOk result (λ r. RaisesBy (event_by volume action) r.durable (seat_of pass.old)
+            (seat_of pass.new)) }
         ensures still { OnErr result (seat_of pass.new ≡ seat_of pass.old) }
-        ensures unmade { IfErr result (λ fault. fault ≡ NoMessage → NamesElse (event_by volume action) (steps_of pass.old)) }
+        ensures unmade { IfErr result (λ fault. fault ≡ NoMessage → NamesElse (event_by volume action)
+            (steps_of pass.old)) }
     {
         match self.try_client(rt, pass, volume, action) {
             Ok(receipt) => Ok(receipt),
@@ -164,7 +166,8 @@ impl<'a, L: FleetSite> Fleet<'a, L> {
         message: u64,
     ) -> Result<Receipt, Halt>
         ensures recorded { PassRecords (Take volume message) result pass.old pass.new }
-        ensures raised { IfOk result (λ r. Raises (ClientAction.Take message) r.durable (seat_of pass.old) (seat_of pass.new)) }
+        ensures raised { IfOk result (λ r. Raises (ClientAction.Take message) r.durable (seat_of pass.old)
+            (seat_of pass.new)) }
         ensures still { OnErr result (seat_of pass.new ≡ seat_of pass.old) }
         ensures unmade { IsUnmade (ClientAction.Take message) (steps_of pass.old) result }
     {
@@ -194,9 +197,11 @@ impl<'a, L: FleetSite> Fleet<'a, L> {
         message: u64,
     ) -> Result<Receipt, Fault>
         ensures recorded { PassRecordsCall (Take volume message) result pass.old pass.new }
-        ensures raised { IfOk result (λ r. RaisesBy (Take volume message) r.durable (seat_of pass.old) (seat_of pass.new)) }
+        ensures raised { IfOk result (λ r. RaisesBy (Take volume message) r.durable (seat_of pass.old)
+            (seat_of pass.new)) }
         ensures still { OnErr result (seat_of pass.new ≡ seat_of pass.old) }
-        ensures unmade { IfErr result (λ fault. fault ≡ NoMessage → NamesElse (Take volume message) (steps_of pass.old)) }
+        ensures unmade { IfErr result (λ fault. fault ≡ NoMessage → NamesElse (Take volume message)
+            (steps_of pass.old)) }
     {
         match self.try_take(rt, pass, volume, message) {
             Ok(receipt) => Ok(receipt),
@@ -213,9 +218,11 @@ impl<'a, L: FleetSite> Fleet<'a, L> {
         action: ClientAction,
     ) -> Result<Receipt, Fault>
         ensures recorded { PassRecordsCall (event_by volume action) result pass.old pass.new }
-        ensures raised { IfOk result (λ r. RaisesBy (event_by volume action) r.durable (seat_of pass.old) (seat_of pass.new)) }
+        ensures raised { IfOk result (λ r. RaisesBy (event_by volume action) r.durable (seat_of pass.old)
+            (seat_of pass.new)) }
         ensures still { OnErr result (seat_of pass.new ≡ seat_of pass.old) }
-        ensures unmade { IfErr result (λ fault. fault ≡ NoMessage → NamesElse (event_by volume action) (steps_of pass.old)) }
+        ensures unmade { IfErr result (λ fault. fault ≡ NoMessage → NamesElse (event_by volume action)
+            (steps_of pass.old)) }
     {
         match action {
             ClientAction::Take { message } => self.take(rt, pass, volume, message),
@@ -233,9 +240,11 @@ impl<'a, L: FleetSite> Fleet<'a, L> {
         action: &ClientAction,
     ) -> Result<Receipt, Fault>
         ensures recorded { PassRecordsCall (event_by volume action.now) result pass.old pass.new }
-        ensures raised { IfOk result (λ r. RaisesBy (event_by volume action.now) r.durable (seat_of pass.old) (seat_of pass.new)) }
+        ensures raised { IfOk result (λ r. RaisesBy (event_by volume action.now) r.durable (seat_of pass.old)
+            (seat_of pass.new)) }
         ensures still { OnErr result (seat_of pass.new ≡ seat_of pass.old) }
-        ensures unmade { IfErr result (λ fault. fault ≡ NoMessage → NamesElse (event_by volume action.now) (steps_of pass.old)) }
+        ensures unmade { IfErr result (λ fault. fault ≡ NoMessage → NamesElse (event_by volume action.now)
+            (steps_of pass.old)) }
     {
         let asked = action.clone()?;
         self.enter_client(rt, pass, volume, asked)
@@ -250,9 +259,11 @@ impl<'a, L: FleetSite> Fleet<'a, L> {
         action: &ClientAction,
     ) -> Result<Receipt, Fault>
         ensures recorded { PassRecordsCall (event_by volume action.now) result pass.old pass.new }
-        ensures raised { IfOk result (λ r. RaisesBy (event_by volume action.now) r.durable (seat_of pass.old) (seat_of pass.new)) }
+        ensures raised { IfOk result (λ r. RaisesBy (event_by volume action.now) r.durable (seat_of pass.old)
+            (seat_of pass.new)) }
         ensures still { OnErr result (seat_of pass.new ≡ seat_of pass.old) }
-        ensures unmade { IfErr result (λ fault. fault ≡ NoMessage → NamesElse (event_by volume action.now) (steps_of pass.old)) }
+        ensures unmade { IfErr result (λ fault. fault ≡ NoMessage → NamesElse (event_by volume action.now)
+            (steps_of pass.old)) }
     {
         if let ClientAction::Take { message } = action {
             return self.take(rt, pass, volume, *message);

@@ -37,7 +37,8 @@ pub(crate) fn take_back<'a, L: FleetSite>(
     requires some { 0 < vec_len passes }
     ensures log { journal_of log.new ≡ journal_of log.old }
     ensures stands { All (λ p. All (Stands L.plan (journal_of log.old)) (steps_of p)) passes.entry.items }
-    ensures refused { All (λ p. All (IsRefused L.plan L.slots (length L.cells) (journal_of log.old)) (notes_of p)) passes.entry.items }
+    ensures refused { All (λ p. All (IsRefused L.plan L.slots (length L.cells) (journal_of log.old)) (notes_of p))
+        passes.entry.items }
     ensures parts { result.share.parts ≡ vec_len passes.entry }
     ensures count { result.share.amount ≡ sum_by (λ p. length (steps_of p)) passes.entry.items }
     ensures of_board { AreReturnedTo L.board result.seats }

@@ -72,7 +72,8 @@ impl<'a, L: FleetSite> Fleet<'a, L> {
         ensures promises { KeepsPromises L.plan (events (entries_in result)) }
         ensures before { NamesEarlier L.plan (entries_in result) }
         ensures stands { All (λ p. All (Stands L.plan (entries_in result)) (steps_of p)) passes.entry.items }
-        ensures refused { All (λ p. All (IsRefused L.plan L.slots (length L.cells) (entries_in result)) (notes_of p)) passes.entry.items }
+        ensures refused { All (λ p. All (IsRefused L.plan L.slots (length L.cells) (entries_in result)) (notes_of p))
+            passes.entry.items }
         ensures count { sum_by (λ p. length (steps_of p)) passes.entry.items ≡ length (entries_in result) }
         ensures board { (word : ℕ) × IsBoard word (map seat_of passes.entry.items) }
         ensures mail { MailIsKept L.plan passes.entry.items }

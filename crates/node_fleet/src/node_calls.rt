@@ -75,7 +75,8 @@ impl<'a, L: FleetSite> Fleet<'a, L> {
     ) -> Result<MessageRef<'a, L>, Fault>
         ensures steps { (steps_of pass.new ≡ steps_of pass.old) × (seat_of pass.new ≡ seat_of pass.old) }
         ensures notes { OnOk result (notes_of pass.new ≡ notes_of pass.old) }
-        ensures note { IfErr result (λ fault. AddsNote (Deliver group member message) fault (steps_of pass.old) (notes_of pass.old) (notes_of pass.new)) }
+        ensures note { IfErr result (λ fault. AddsNote (Deliver group member message) fault (steps_of pass.old)
+            (notes_of pass.old) (notes_of pass.new)) }
         ensures found { IfOk result (λ message_ref. message_ref_number message_ref ≡ message) }
         ensures own { IfErr result (λ fault. Unmade message (steps_of pass.old) fault) }
     {
@@ -105,7 +106,8 @@ impl<'a, L: FleetSite> Fleet<'a, L> {
         message_ref: &mut MessageRef<'a, L>,
         gate: &G,
     ) -> Result<Receipt, Halt>
-        ensures recorded { PassRecords (Deliver group member (message_ref_number message_ref.old)) result pass.old pass.new }
+        ensures recorded { PassRecords (Deliver group member (message_ref_number message_ref.old)) result pass.old
+            pass.new }
         ensures found { IfErr result (λ halt. halt ≢ Refused NoMessage) }
         ensures seat { seat_of pass.new ≡ seat_of pass.old }
     {

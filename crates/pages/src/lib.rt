@@ -41,7 +41,8 @@ fn write_packet(page: &mut [u8; BLOCK], packet: &SharedRecord)
 
 /// Applies a record that isn't past the point.
 fn write_packet_up_to(page: &mut [u8; BLOCK], packet: &SharedRecord, point: u64)
-    ensures { page.new ≡ (if nat_le (shared_redo packet.now).lsn point then written (shared_redo packet.now) page.old else page.old) }
+    ensures { page.new ≡ (if nat_le (shared_redo packet.now).lsn point then written (shared_redo packet.now) page.old
+        else page.old) }
 {
     if packet.lsn() <= point {
         write_packet(page, packet);

@@ -16,8 +16,9 @@ abbrev pub IsStepShown : Option ℕ → List ConfigurationData → ℕ → Type 
 IsStepShown None group c = Unit {0}
 IsStepShown (Some p) group c = IsShown (configuration_at group c).step (step_claim group c p)
 
--- Configuration 0 has no parent, and each other one has one that stands before it; no member of the configuration that the
--- parent lacks is one of a configuration above; its certificates refute the claims that its reads meet its writes, and that its step keeps what was read.
+-- Configuration 0 has no parent, and each other one has one that stands before it; no member of the configuration that
+-- the parent lacks is one of a configuration above; its certificates refute the claims that its reads meet its writes,
+-- and that its step keeps what was read.
 pub record IsCertifiedAt (group : List ConfigurationData) (c : ℕ) : Type 0 where
   pub parent : is_good_parent c (configuration_at group c).parent ≡ true
   pub unused : (x : ℕ) → IsReused group c x → ⊥
@@ -26,4 +27,5 @@ pub record IsCertifiedAt (group : List ConfigurationData) (c : ℕ) : Type 0 whe
 
 -- each configuration of each group is certified
 abbrev pub IsCertifiedPlan : PlanData → Type 0
-IsCertifiedPlan plan = (g c : ℕ) → g < length plan.groups → c < length (group_at plan g) → IsCertifiedAt (group_at plan g) c
+IsCertifiedPlan plan = (g c : ℕ) → g < length plan.groups → c < length (group_at plan g) → IsCertifiedAt
+    (group_at plan g) c

@@ -28,9 +28,11 @@ pub record Shows (x : Configuration) (y : model.Configuration) : Type 0 where
 -- the configuration of a group, or none where there is no such group or no such configuration
 abbrev pub ShowsConfiguration : Option (Bor Configuration) → model.Plan → ℕ → ℕ → Type 0
 ShowsConfiguration None plan g c = (g < plan.groups) → (c < plan.configurations g) → ⊥
-ShowsConfiguration (Some x) plan g c = (g < plan.groups) × (c < plan.configurations g) × Shows x.now (plan.configuration g c)
+ShowsConfiguration (Some x) plan g c = (g < plan.groups) × (c < plan.configurations g) × Shows x.now
+    (plan.configuration g c)
 
--- A check gives the checked plan exactly where there is no fault, and else the first one with the plan, unless memory runs out.
+-- A check gives the checked plan exactly where there is no fault, and else the first one with the plan, unless memory
+-- runs out.
 abbrev pub ChecksTo : Result CheckedPlan (PlanFault × Plan) → Plan → Type 0
 ChecksTo (Ok checked) plan = (checked.plan ≡ plan) × (plan_fault (plan_data plan) ≡ None)
 ChecksTo (Err (fault, back)) plan = (back ≡ plan) × (fault ≢ Text NoMemory → plan_fault (plan_data plan) ≡ Some fault)

@@ -32,7 +32,8 @@ pub record OwnValues : Type 0 where
   pub groups : List (List Fields)
 
 unfoldable pub own_values : Data → Result OwnValues Fault
-own_values d = header_of d >>= λ h. groups_own h.groups >>= λ gs. Ok (record { format = h.format; lal = h.lal; born = h.born; groups = gs })
+own_values d = header_of d >>= λ h. groups_own h.groups >>= λ gs. Ok
+    (record { format = h.format; lal = h.lal; born = h.born; groups = gs })
 
 -- The bytes spell the same values as the text, except certificates.
 abbrev pub KeepsValues : List ℕ → List ℕ → Type 0

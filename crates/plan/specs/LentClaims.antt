@@ -14,13 +14,20 @@ use Rattle.plan.specs.PlanClaims.{PlacedClaim}
 -- the claim of this configuration, or that of its step from a parent
 abbrev pub state_from : Configuration → Option (Bor Configuration) → State
 state_from this None = meets_claim (configuration_data this)
-state_from this (Some parent) = claim_state (formula_of this.read) (dual_of (formula_of parent.now.read)) (difference this.members parent.now.members)
+state_from this (Some parent) = claim_state (formula_of this.read) (dual_of (formula_of parent.now.read))
+    (difference this.members parent.now.members)
 
 abbrev pub lent_state : ClaimRef → State
 lent_state c = state_from c.this.now c.parent
 
 abbrev pub lent_placed : ClaimRef → PlacedClaim
-lent_placed c = record { group = c.group; configuration = c.configuration; step = is_some c.parent; claim = lent_state c }
+lent_placed c = record {
+  group = c.group;
+  configuration = c.configuration;
+  step = is_some c.parent;
+  claim = lent_state
+      c;
+}
 
 abbrev pub all_lent : List ClaimRef → List PlacedClaim
 all_lent = map lent_placed

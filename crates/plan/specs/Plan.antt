@@ -22,4 +22,10 @@ abbrev pub group_data : Group → List ConfigurationData
 group_data group = map configuration_data group.configurations.items
 
 abbrev pub plan_data : Plan → PlanData
-plan_data plan = record { format = plan.format; lal = plan.lal; born = plan.born; groups = map group_data plan.groups.items }
+plan_data plan = record {
+  format = plan.format;
+  lal = plan.lal;
+  born = plan.born;
+  groups = map group_data
+      plan.groups.items;
+}

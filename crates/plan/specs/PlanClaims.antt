@@ -17,7 +17,13 @@ pub record PlacedClaim : Type 0 where
 abbrev pub claims_at : ℕ → List ConfigurationData → ℕ → List PlacedClaim
 claims_at g group c =
     record { group = g; configuration = c; step = false; claim = meets_claim (configuration_at group c) }
-    ∷ by_parent (configuration_at group c).parent [] (λ p. record { group = g; configuration = c; step = true; claim = step_claim group c p } ∷ [])
+    ∷ by_parent (configuration_at group c).parent [] (λ p. record {
+      group = g;
+      configuration = c;
+      step = true;
+      claim =
+          step_claim group c p;
+    } ∷ [])
 
 -- these, where nothing keeps them from being claims
 abbrev pub unless : {A : Type 0} → Option PlanFault → A → Result A PlanFault

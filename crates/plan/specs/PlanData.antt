@@ -8,7 +8,8 @@ use Rattle.volume_model.specs.Plan as model
 use Rattle.refutation.specs.Rule.{Rule}
 use Rattle.plan.specs.declared.formats.Format.{Format}
 
--- A configuration: its parent's number, its members and those that are full, its expressions, and the certificates of its claims.
+-- A configuration: its parent's number, its members and those that are full, its expressions, and the certificates of
+-- its claims.
 pub record ConfigurationData : Type 0 where
   pub parent : Option ℕ
   pub members : FinSet nat_cmp
@@ -18,7 +19,8 @@ pub record ConfigurationData : Type 0 where
   pub meets : Option Rule
   pub step : Option Rule
 
--- The format, how far numbers may run ahead, how many groups are there when the volume is born, and the configurations of each group.
+-- The format, how far numbers may run ahead, how many groups are there when the volume is born, and the configurations
+-- of each group.
 pub record PlanData : Type 0 where
   pub format : Format
   pub lal : ℕ
@@ -27,7 +29,16 @@ pub record PlanData : Type 0 where
 
 -- what stands where there is no configuration
 abbrev pub no_configuration : ConfigurationData
-no_configuration = record { parent = None; members = empty; full = empty; read = member 0; write = member 0; meets = None; step = None }
+no_configuration = record {
+  parent = None;
+  members = empty;
+  full = empty;
+  read = member 0;
+  write = member 0;
+  meets =
+      None;
+  step = None;
+}
 
 -- the configurations of a group
 abbrev pub group_at : PlanData → ℕ → List ConfigurationData

@@ -37,12 +37,14 @@ parent_fault g group c = if is_good_parent c (configuration_at group c).parent t
 
 -- the fresh members of a configuration: those that its parent lacks
 abbrev pub fresh_at : List ConfigurationData → ℕ → FinSet nat_cmp
-fresh_at group c = by_parent (configuration_at group c).parent empty (λ p. difference (configuration_at group c).members (configuration_at group p).members)
+fresh_at group c = by_parent (configuration_at group c).parent empty (λ p. difference (configuration_at group c).members
+    (configuration_at group p).members)
 
 -- what is left of a set without the members of the configurations above, in at most so many steps up
 abbrev pub unused_within : ℕ → List ConfigurationData → ℕ → FinSet nat_cmp → FinSet nat_cmp
 unused_within zero group c s = s
-unused_within (suc steps) group c s = by_parent (parent_at group c) s (λ p. unused_within steps group p (difference s (configuration_at group p).members))
+unused_within (suc steps) group c s = by_parent (parent_at group c) s
+    (λ p. unused_within steps group p (difference s (configuration_at group p).members))
 
 -- the fresh members that an ancestor has
 abbrev pub reused_at : List ConfigurationData → ℕ → FinSet nat_cmp
@@ -74,13 +76,15 @@ meets_claim x = claim_state x.read x.write empty
 
 -- read sets without a fresh member meet what satisfies the dual of the parent's read expression
 abbrev pub step_claim : List ConfigurationData → ℕ → ℕ → State
-step_claim group c p = claim_state (configuration_at group c).read (dual_of (configuration_at group p).read) (fresh_at group c)
+step_claim group c p = claim_state (configuration_at group c).read (dual_of (configuration_at group p).read)
+    (fresh_at group c)
 
 abbrev pub meets_fault : ℕ → List ConfigurationData → ℕ → Option PlanFault
 meets_fault g group c = claim_fault g c false (configuration_at group c).meets (meets_claim (configuration_at group c))
 
 abbrev pub step_fault : ℕ → List ConfigurationData → ℕ → Option PlanFault
-step_fault g group c = by_parent (configuration_at group c).parent None (λ p. claim_fault g c true (configuration_at group c).step (step_claim group c p))
+step_fault g group c = by_parent (configuration_at group c).parent None
+    (λ p. claim_fault g c true (configuration_at group c).step (step_claim group c p))
 
 -- ---- the whole
 
@@ -98,7 +102,8 @@ group_fault g group = first_below (length group) (configuration_fault g group)
 abbrev pub groups_fault : List (List ConfigurationData) → Option PlanFault
 groups_fault groups = first_below (length groups) (λ g. group_fault g (slice_index_or groups g []))
 
--- The first fault of a plan: configuration by configuration its parent, its fresh members, its claim that reads meet writes, and that of its step.
+-- The first fault of a plan: configuration by configuration its parent, its fresh members, its claim that reads meet
+-- writes, and that of its step.
 unfoldable pub plan_fault : PlanData → Option PlanFault
 plan_fault plan = groups_fault plan.groups
 

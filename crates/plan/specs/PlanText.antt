@@ -56,8 +56,18 @@ pub record Fields : Type 0 where
 -- an object of these keys and no others
 unfoldable pub fields_of : Data → Result Fields Fault
 fields_of d =
-    has_keys 7 d >>= λ u. at_key (codes "parent") d >>= λ parent. at_key (codes "members") d >>= λ members. at_key (codes "full") d >>= λ full. at_key (codes "read") d >>= λ reads. at_key (codes "write") d >>= λ writes.
-    at_key (codes "meets") d >>= λ meets. at_key (codes "step") d >>= λ step. Ok (record { parent = parent; members = members; full = full; read = reads; write = writes; meets = meets; step = step })
+    has_keys 7 d >>= λ u. at_key (codes "parent") d >>= λ parent. at_key (codes "members") d >>= λ members. at_key
+    (codes "full") d >>= λ full. at_key (codes "read") d >>= λ reads. at_key (codes "write") d >>= λ writes.
+    at_key (codes "meets") d >>= λ meets. at_key (codes "step") d >>= λ step. Ok (record {
+      parent = parent;
+      members =
+          members;
+      full = full;
+      read = reads;
+      write = writes;
+      meets = meets;
+      step = step;
+    })
 
 -- null, or a whole number from 0
 abbrev pub parent_of : Data → Result (Option ℕ) Fault
@@ -71,7 +81,8 @@ parent_of (object ms) = Err Malformed
 -- more members, each below 64 and at least the least
 abbrev pub members_from : ℕ → FinSet nat_cmp → Items → Result (FinSet nat_cmp) Fault
 members_from least s no_items = Ok s
-members_from least s (item d ds) = number_to 63 d >>= λ n. if nat_le least n then members_from (n + 1) (insert s n) ds else Err Malformed
+members_from least s (item d ds) = number_to 63 d >>= λ n. if nat_le least n then members_from (n + 1) (insert s n) ds
+    else Err Malformed
 
 -- members in growing order
 unfoldable pub members_of : Data → Result (FinSet nat_cmp) Fault
@@ -83,7 +94,8 @@ some_members_of d = array_of d >>= λ ds. if nat_le 1 (items_len ds) then member
 
 -- the members and those that are full, which are members, and whether expressions may have weights
 unfoldable pub lists_of : Bool → Fields → Result Lists Fault
-lists_of w f = some_members_of f.members >>= λ members. members_of f.full >>= λ full. if is_subset full members then Ok (record { members = members; full = full; is_weighted = w }) else Err Malformed
+lists_of w f = some_members_of f.members >>= λ members. members_of f.full >>= λ full. if is_subset full members then Ok
+    (record { members = members; full = full; is_weighted = w }) else Err Malformed
 
 -- a fault of an expression stands at its place, where it isn't one of the text
 abbrev pub expression_error : ℕ → ℕ → Quorum → Fault → PlanFault
@@ -121,16 +133,27 @@ step_of c d = if c == 0 then (if is_null d then Ok None else Err Malformed) else
 unfoldable pub configuration_in : Bool → ℕ → ℕ → Data → Result ConfigurationData PlanFault
 configuration_in w g c d =
     in_text (fields_of d) >=> λ f. in_text (parent_of f.parent) >=> λ parent. in_text (lists_of w f) >=> λ lists.
-    in_quorum g c Read (expression_in lists f.read) >=> λ reads. in_quorum g c Write (expression_in lists f.write) >=> λ writes.
+    in_quorum g c Read (expression_in lists f.read) >=> λ reads. in_quorum g c Write (expression_in lists f.write) >=> λ
+    writes.
     in_text (certificate_or_null f.meets) >=> λ meets. in_text (step_of c f.step) >=> λ step.
-    Ok (record { parent = parent; members = lists.members; full = lists.full; read = reads; write = writes; meets = meets; step = step })
+    Ok (record {
+      parent = parent;
+      members = lists.members;
+      full = lists.full;
+      read = reads;
+      write = writes;
+      meets =
+          meets;
+      step = step;
+    })
 
 -- ---- groups
 
 -- the configurations that values spell, numbered from c, up to the first fault
 abbrev pub configurations_in : Bool → ℕ → ℕ → Items → Result (List ConfigurationData) PlanFault
 configurations_in w g c no_items = Ok []
-configurations_in w g c (item d ds) = configuration_in w g c d >=> λ x. configurations_in w g (c + 1) ds >=> λ xs. Ok (x ∷ xs)
+configurations_in w g c (item d ds) = configuration_in w g c d >=> λ x. configurations_in w g (c + 1) ds >=> λ xs. Ok
+    (x ∷ xs)
 
 -- from 1 to a limit
 abbrev pub is_from_1 : ℕ → ℕ → Bool
@@ -138,7 +161,8 @@ is_from_1 most n = nat_le 1 n && nat_le n most
 
 -- an object of the key configurations alone, with a list of 1 to 64 values
 unfoldable pub group_items : Data → Result Items Fault
-group_items d = has_keys 1 d >>= λ u. at_key (codes "configurations") d >>= λ cs. array_of cs >>= λ ds. if is_from_1 64 (items_len ds) then Ok ds else Err OverLimit
+group_items d = has_keys 1 d >>= λ u. at_key (codes "configurations") d >>= λ cs. array_of cs >>= λ ds. if is_from_1 64
+    (items_len ds) then Ok ds else Err OverLimit
 
 unfoldable pub group_in : Bool → ℕ → Data → Result (List ConfigurationData) PlanFault
 group_in w g d = in_text (group_items d) >=> configurations_in w g 0
@@ -174,7 +198,8 @@ lal_of d = whole_of d >>= λ n. if is_from_1 10000000 n then Ok n else Err OverL
 
 -- one of the numbers 1 to 3
 unfoldable pub format_of : Data → Result Format Fault
-format_of d = whole_of d >>= λ n. if n == 1 then Ok Plain else (if n == 2 then Ok Weighted else (if n == 3 then Ok Growing else Err Malformed))
+format_of d = whole_of d >>= λ n. if n == 1 then Ok Plain else
+    (if n == 2 then Ok Weighted else (if n == 3 then Ok Growing else Err Malformed))
 
 -- the value at the key born, in format 3
 abbrev pub born_field : Format → Data → Result (Option Data) Fault
@@ -185,7 +210,8 @@ born_field Growing d = at_key (codes "born") d >>= λ b. Ok (Some b)
 -- an object of the keys format, lal and groups alone, and in format 3 of these and born alone
 unfoldable pub top_fields_of : Data → Result TopFields Fault
 top_fields_of d =
-    at_key (codes "format") d >>= λ f. format_of f >>= λ format. has_keys (key_count format) d >>= λ u. at_key (codes "lal") d >>= λ lal. born_field format d >>= λ born. at_key (codes "groups") d >>= λ groups.
+    at_key (codes "format") d >>= λ f. format_of f >>= λ format. has_keys (key_count format) d >>= λ u. at_key
+    (codes "lal") d >>= λ lal. born_field format d >>= λ born. at_key (codes "groups") d >>= λ groups.
     Ok (record { format = format; lal = lal; born = born; groups = groups })
 
 -- how many of the groups are there at birth: all where nothing is said of it, or a whole number from 1 to that of all
@@ -196,7 +222,8 @@ born_of groups (Some d) = whole_of d >>= λ n. if is_from_1 groups n then Ok n e
 -- the head of a plan: its keys first, and then each field in order
 unfoldable pub header_of : Data → Result Header Fault
 header_of d =
-    top_fields_of d >>= λ top. lal_of top.lal >>= λ lal. group_list top.groups >>= λ groups. born_of (items_len groups) top.born >>= λ born.
+    top_fields_of d >>= λ top. lal_of top.lal >>= λ lal. group_list top.groups >>= λ groups. born_of (items_len groups)
+    top.born >>= λ born.
     Ok (record { format = top.format; lal = lal; born = born; groups = groups })
 
 -- the plan that a value spells

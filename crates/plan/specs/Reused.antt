@@ -14,7 +14,8 @@ IsAboveIn group a c = StandsAbove (λ p child. parent_at group child ≡ Some p)
 pub record IsReused (group : List ConfigurationData) (c x : ℕ) : Type 0 where
   pub member : x < 64
   pub has : contains (configuration_at group c).members x ≡ true
-  pub lacked : (p : ℕ) → (configuration_at group c).parent ≡ Some p → contains (configuration_at group p).members x ≡ false
+  pub lacked : (p : ℕ) → (configuration_at group c).parent ≡ Some p → contains (configuration_at group p).members x
+      ≡ false
   pub above : (a : ℕ) × IsAboveIn group a c × (contains (configuration_at group a).members x ≡ true)
 
 -- the least such member
@@ -24,5 +25,7 @@ pub record IsLeastReused (group : List ConfigurationData) (c x : ℕ) : Type 0 w
 
 -- The fault of a member that is used again comes exactly where there is one, and names the least.
 pub record ReuseIsFound : Type 0 where
-  pub none : (g c : ℕ) (group : List ConfigurationData) → (reuse_fault g group c ≡ None) ↔ ((x : ℕ) → IsReused group c x → ⊥)
-  pub some : (g c x : ℕ) (group : List ConfigurationData) → (reuse_fault g group c ≡ Some (MemberReused g c x)) ↔ IsLeastReused group c x
+  pub none : (g c : ℕ) (group : List ConfigurationData) → (reuse_fault g group c ≡ None) ↔ ((x : ℕ) → IsReused group c x
+      → ⊥)
+  pub some : (g c x : ℕ) (group : List ConfigurationData) → (reuse_fault g group c ≡ Some (MemberReused g c x)) ↔
+      IsLeastReused group c x

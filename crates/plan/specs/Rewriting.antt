@@ -18,8 +18,10 @@ value_or_null certificates i = slice_index_or certificates i null
 -- a configuration's values with other certificates
 abbrev pub fields_object : Fields → Data → Data → Data
 fields_object f meets step =
-    json.object (json.member (codes "full") f.full (json.member (codes "meets") meets (json.member (codes "members") f.members (json.member (codes "parent") f.parent
-    (json.member (codes "read") f.read (json.member (codes "step") step (json.member (codes "write") f.write no_members)))))))
+    json.object (json.member (codes "full") f.full (json.member (codes "meets") meets
+    (json.member (codes "members") f.members (json.member (codes "parent") f.parent
+    (json.member (codes "read") f.read (json.member (codes "step") step (json.member (codes "write") f.write
+    no_members)))))))
 
 -- A group's certificates stand in order of its claims: one for configuration 0, and two for each other.
 abbrev pub meets_value : ℕ → List Data → Data
@@ -29,7 +31,8 @@ abbrev pub step_value : ℕ → List Data → Data
 step_value c certificates = if c == 0 then null else value_or_null certificates (2 * c)
 
 unfoldable pub configuration_written : ℕ → Data → List Data → Result Data Fault
-configuration_written c d certificates = fields_of d >>= λ f. Ok (fields_object f (meets_value c certificates) (step_value c certificates))
+configuration_written c d certificates = fields_of d >>= λ f. Ok (fields_object f (meets_value c certificates)
+    (step_value c certificates))
 
 -- the configurations, numbered from c
 abbrev pub configurations_written : ℕ → Items → List Data → Result (List Data) Fault
@@ -47,19 +50,24 @@ group_written ds certificates = configurations_written 0 ds certificates >>= λ 
 abbrev pub groups_written : Items → List Data → Result (List Data) Fault
 groups_written no_items certificates = Ok []
 groups_written (item d ds) certificates =
-    group_items d >>= λ cs. group_written cs certificates >>= λ x. groups_written ds (drop (2 * items_len cs - 1) certificates) >>= λ xs. Ok (x ∷ xs)
+    group_items d >>= λ cs. group_written cs certificates >>= λ x. groups_written ds
+    (drop (2 * items_len cs - 1) certificates) >>= λ xs. Ok (x ∷ xs)
 
 -- the values that a plan has in each format
 abbrev pub plan_members : Format → ℕ → List Data → json.Members
 plan_members format lal xs =
-    json.member (codes "format") (json.number (unsigned (number_of format))) (json.member (codes "groups") (json.array (items_of xs)) (json.member (codes "lal") (json.number (unsigned lal)) no_members))
+    json.member (codes "format") (json.number (unsigned (number_of format)))
+    (json.member (codes "groups") (json.array (items_of xs)) (json.member (codes "lal") (json.number (unsigned lal))
+    no_members))
 
 -- A plan, of which format 3 alone says how many groups are there at birth.
 abbrev pub plan_object : Format → ℕ → ℕ → List Data → Data
 plan_object Plain lal born xs = json.object (plan_members Plain lal xs)
 plan_object Weighted lal born xs = json.object (plan_members Weighted lal xs)
-plan_object Growing lal born xs = json.object (json.member (codes "born") (json.number (unsigned born)) (plan_members Growing lal xs))
+plan_object Growing lal born xs = json.object (json.member (codes "born") (json.number (unsigned born))
+    (plan_members Growing lal xs))
 
 -- the whole
 unfoldable pub plan_written : Data → List Data → Result Data Fault
-plan_written d certificates = header_of d >>= λ h. groups_written h.groups certificates >>= λ xs. Ok (plan_object h.format h.lal h.born xs)
+plan_written d certificates = header_of d >>= λ h. groups_written h.groups certificates >>= λ xs. Ok
+    (plan_object h.format h.lal h.born xs)

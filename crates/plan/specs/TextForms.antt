@@ -19,7 +19,13 @@ fields_data means f = record {
 }
 
 abbrev pub top_fields_data : {N : Type 0} → (N → Data) → tops.TopFields N → TopFields
-top_fields_data means f = record { format = f.format; lal = means f.lal; born = option_map means f.born; groups = means f.groups }
+top_fields_data means f = record {
+  format = f.format;
+  lal = means f.lal;
+  born = option_map means f.born;
+  groups = means
+      f.groups;
+}
 
 abbrev pub header_data : {N : Type 0} → (N → Data) → headers.Header N → Header
 header_data means h = record { format = h.format; lal = h.lal; born = h.born; groups = items_in (means h.groups) }

@@ -26,12 +26,14 @@ configuration_with x certificates = record x {
 -- the configurations, each with the certificates that those before it leave
 abbrev pub configurations_with : List ConfigurationData → List (Option Rule) → List ConfigurationData
 configurations_with [] certificates = []
-configurations_with (x ∷ xs) certificates = configuration_with x certificates ∷ configurations_with xs (drop (claim_count x) certificates)
+configurations_with (x ∷ xs) certificates = configuration_with x certificates ∷ configurations_with xs
+    (drop (claim_count x) certificates)
 
 -- the same of groups
 abbrev pub groups_with : List (List ConfigurationData) → List (Option Rule) → List (List ConfigurationData)
 groups_with [] certificates = []
-groups_with (xs ∷ groups) certificates = configurations_with xs certificates ∷ groups_with groups (drop (claim_counts xs) certificates)
+groups_with (xs ∷ groups) certificates = configurations_with xs certificates ∷ groups_with groups
+    (drop (claim_counts xs) certificates)
 
 -- The plan whose claims, in their order, have these certificates; all else is the plan's.
 abbrev pub with_certificates : PlanData → List (Option Rule) → PlanData

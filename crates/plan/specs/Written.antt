@@ -18,11 +18,13 @@ spelt text = in_text (json_of text) >=> plan_in
 
 -- The plan of a text with these certificates for its claims: the first fault of the text, then that of its claims.
 unfoldable pub rewritten : List ℕ → List (Option Rule) → Result PlanData PlanFault
-rewritten text certificates = plan_of text >=> λ plan. claims_in plan >=> λ claims. Ok (with_certificates plan certificates)
+rewritten text certificates = plan_of text >=> λ plan. claims_in plan >=> λ claims. Ok
+    (with_certificates plan certificates)
 
 -- a place for each claim, where the text's plan has claims
 abbrev pub HasPlaces : List ℕ → ℕ → Type 0
-HasPlaces text places = (plan : PlanData) (claims : List PlacedClaim) → plan_of text ≡ Ok plan → claims_in plan ≡ Ok claims → places ≡ length claims
+HasPlaces text places = (plan : PlanData) (claims : List PlacedClaim) → plan_of text ≡ Ok plan → claims_in plan
+    ≡ Ok claims → places ≡ length claims
 
 -- The bytes spell the plan that is defined, or the answer is its fault, unless memory ran out.
 abbrev pub Writes : Result (Vec ℕ Global) PlanFault → Result PlanData PlanFault → Type 0

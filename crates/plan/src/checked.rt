@@ -32,7 +32,8 @@ impl CheckedPlan {
 
     /// Returns a group by its number.
     pub(crate) fn group(&self, number: u8) -> Option<&Group>
-        ensures { MatchOption result (group_at (plan_data self.now.plan) number ≡ []) (λ group. group_at (plan_data self.now.plan) number ≡ group_data group.now) }
+        ensures { MatchOption result (group_at (plan_data self.now.plan) number ≡ [])
+            (λ group. group_at (plan_data self.now.plan) number ≡ group_data group.now) }
     {
         self.plan.groups.get(usize::from(number))
     }
@@ -112,7 +113,8 @@ impl CheckedPlan {
 
     /// Returns whether the root of the group has the member.
     pub fn is_root_member(&self, group: u8, member: u8) -> bool
-        ensures { result ≡ (nat_lt group (checked_model self.now).groups && has_member ((checked_model self.now).configuration group 0) member) }
+        ensures { result ≡ (nat_lt group (checked_model self.now).groups && has_member
+            ((checked_model self.now).configuration group 0) member) }
     {
         match self.configuration(group, 0) {
             Some(root) => root.members.contains(member),

@@ -28,7 +28,8 @@ fn check_certificate(
     claim: &ClaimRef<'_>,
     certificate: &Certificate<Global>,
 ) -> Result<(), PlanFault>
-    ensures { Finds result (certificate_fault claim.now.group claim.now.configuration (is_some claim.now.parent) (first_fault (certificate_rule certificate.now) (lent_state claim.now))) }
+    ensures { Finds result (certificate_fault claim.now.group claim.now.configuration (is_some claim.now.parent)
+        (first_fault (certificate_rule certificate.now) (lent_state claim.now))) }
 {
     no_fault_refutes();
     match claim.check(alloc, certificate) {
@@ -52,7 +53,8 @@ fn check_meets(
     configuration: u8,
     this: &Configuration,
 ) -> Result<(), PlanFault>
-    ensures { Finds result (claim_fault group configuration false (option_map certificate_rule this.now.meets) (meets_claim (configuration_data this.now))) }
+    ensures { Finds result (claim_fault group configuration false (option_map certificate_rule this.now.meets)
+        (meets_claim (configuration_data this.now))) }
 {
     match &this.meets {
         None => Err(PlanFault::NoCertificate {

@@ -72,7 +72,8 @@ impl Group {
 
     /// Returns whether one of its configurations has the member.
     pub fn names(&self, member: u8) -> bool
-        ensures { result ≡ some_below (length (group_data self.now)) (λ c. nat_lt member 64 && contains (configuration_at (group_data self.now) c).members member) }
+        ensures { result ≡ some_below (length (group_data self.now))
+            (λ c. nat_lt member 64 && contains (configuration_at (group_data self.now) c).members member) }
     {
         for configuration in &self.configurations {
             if configuration.members.contains(member) {

@@ -24,8 +24,10 @@ pub fn no_fault_is_certified()
 /// Where each claim of a plan has a rule that refutes it, the plan is certified and has no fault, once it is written with
 /// these rules.
 pub fn shown_claims_certify()
-    ensures certified { (plan : PlanData) (claims : List PlacedClaim) (rules : List (Option Rule)) → claims_in plan ≡ Ok claims → AreShown claims rules → IsCertifiedPlan (with_certificates plan rules) }
-    ensures fault_free { (plan : PlanData) (claims : List PlacedClaim) (rules : List (Option Rule)) → claims_in plan ≡ Ok claims → AreShown claims rules → plan_fault (with_certificates plan rules) ≡ None }
+    ensures certified { (plan : PlanData) (claims : List PlacedClaim) (rules : List (Option Rule)) → claims_in plan
+        ≡ Ok claims → AreShown claims rules → IsCertifiedPlan (with_certificates plan rules) }
+    ensures fault_free { (plan : PlanData) (claims : List PlacedClaim) (rules : List (Option Rule)) → claims_in plan
+        ≡ Ok claims → AreShown claims rules → plan_fault (with_certificates plan rules) ≡ None }
 {
     no_fault_is_certified();
 }

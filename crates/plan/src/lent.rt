@@ -39,7 +39,9 @@ fn step_claim<B: Allocator + Clone>(
     child: &Configuration,
     parent: &Configuration,
 ) -> Result<Claim<B>, Fault>
-    ensures { Gives first_state result (Ok (claim_state (formula_of child.now.read) (dual_of (formula_of parent.now.read)) (difference child.now.members parent.now.members))) }
+    ensures { Gives first_state result
+        (Ok (claim_state (formula_of child.now.read) (dual_of (formula_of parent.now.read))
+        (difference child.now.members parent.now.members))) }
 {
     let left = copy_in(&child.read, alloc.clone()?)?;
     let right = dual_in(&parent.read, alloc)?;
@@ -95,7 +97,8 @@ impl ClaimRef<'_> {
         certificate: &Certificate<B>,
     ) -> Result<(), FaultAt>
         ensures refutes { OnOk result (Refutes (certificate_rule certificate.now) (lent_state self.now)) }
-        ensures fault { IfErr result (λ e. e.fault ≢ NoMemory → first_fault (certificate_rule certificate.now) (lent_state self.now) ≡ Some e) }
+        ensures fault { IfErr result (λ e. e.fault ≢ NoMemory → first_fault (certificate_rule certificate.now)
+            (lent_state self.now) ≡ Some e) }
     {
         let left = Item::plain(&self.this.read);
         match self.parent {

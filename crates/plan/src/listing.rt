@@ -25,7 +25,8 @@ fn of_configuration<'p>(
     configuration: u8,
 ) -> Result<Vec<ClaimRef<'p>>, PlanFault>
     requires { configuration < length configurations.now }
-    ensures { Reads (λ v. all_lent v.items) result (configuration_claims group (map configuration_data configurations.entry.now) configuration) }
+    ensures { Reads (λ v. all_lent v.items) result
+        (configuration_claims group (map configuration_data configurations.entry.now) configuration) }
 {
     check_shape(group, configurations, configuration)?;
     let this = &configurations[usize::from(configuration)];
@@ -55,7 +56,8 @@ fn of_group<'p>(
     configurations: &'p [Configuration],
 ) -> Result<Vec<ClaimRef<'p>>, PlanFault>
     requires { length configurations.now ≤ 64 }
-    ensures { Reads (λ v. all_lent v.items) result (group_claims group (map configuration_data configurations.entry.now)) }
+    ensures { Reads (λ v. all_lent v.items) result
+        (group_claims group (map configuration_data configurations.entry.now)) }
 {
     let mut list = Vec::new(alloc);
     for configuration in 0..configurations.len() as u8 {

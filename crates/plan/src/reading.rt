@@ -148,7 +148,8 @@ fn expression<N: Node>(
     lists: &Lists,
 ) -> Result<Expr<Global>, PlanFault>
     requires { is_subset lists.now.full lists.now.members ≡ true }
-    ensures read { Reads formula_of result (in_quorum group configuration quorum (expression_in lists.now (N.means value.now))) }
+    ensures read { Reads formula_of result (in_quorum group configuration quorum
+        (expression_in lists.now (N.means value.now))) }
     ensures valid { IfOk result (λ e. expression_fault (formula_of e) ≡ None) }
     ensures own { IfOk result (λ e. names_only (formula_of e) lists.now.members ≡ true) }
 {
@@ -223,7 +224,8 @@ fn configurations<N: Node>(
     list: &N,
 ) -> Result<Vec<Configuration>, PlanFault>
     requires { items_len (items_in (N.means list.now)) ≤ 64 }
-    ensures read { Reads (λ v. map configuration_data v.items) result (configurations_in is_weighted group 0 (items_in (N.means list.now))) }
+    ensures read { Reads (λ v. map configuration_data v.items) result (configurations_in is_weighted group 0
+        (items_in (N.means list.now))) }
     ensures counted { IfOk result (λ v. length v.items ≡ items_len (items_in (N.means list.now))) }
 {
     let mut configurations = Vec::new(alloc);

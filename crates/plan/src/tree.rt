@@ -51,7 +51,9 @@ impl CheckedPlan {
 
     /// Returns whether a configuration of a group is a child of the one with the number `parent`.
     pub fn is_child(&self, group: u8, configuration: u8, parent: u8) -> bool
-        ensures { result ≡ (nat_lt 0 configuration && (nat_lt configuration ((checked_model self.now).configurations group) && parent_of (checked_model self.now) group configuration == parent)) }
+        ensures { result ≡ (nat_lt 0 configuration &&
+            (nat_lt configuration ((checked_model self.now).configurations group) && parent_of (checked_model self.now)
+            group configuration == parent)) }
     {
         match self.configuration(group, configuration) {
             Some(child) if 0 < configuration => child.parent.unwrap_or(0) == u64::from(parent),

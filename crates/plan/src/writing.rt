@@ -30,7 +30,8 @@ fn certificate_value(
     alloc: Global,
     certificate: &Option<Certificate<Global>>,
 ) -> Result<Value, Fault>
-    ensures read { Gives (λ v. certificate_or_null (view v)) result (Ok (Ok (option_map certificate_rule certificate.now))) }
+    ensures read { Gives (λ v. certificate_or_null (view v)) result
+        (Ok (Ok (option_map certificate_rule certificate.now))) }
     ensures nests { IfOk result (λ v. depth (view v) ≤ 81) }
 {
     match certificate {
@@ -44,7 +45,8 @@ fn certificate_values(
     alloc: Global,
     certificates: &[Option<Certificate<Global>>],
 ) -> Result<Vec<Value>, Fault>
-    ensures read { Gives (λ v. map (λ x. certificate_or_null (view x)) v.items) result (Ok (map (λ c. Ok (option_map certificate_rule c)) certificates.now)) }
+    ensures read { Gives (λ v. map (λ x. certificate_or_null (view x)) v.items) result
+        (Ok (map (λ c. Ok (option_map certificate_rule c)) certificates.now)) }
     ensures nests { IfOk result (λ v. All (λ x. depth (view x) ≤ 81) v.items) }
 {
     let mut values = Vec::new(alloc);
@@ -93,7 +95,8 @@ fn with_copy(
     key: &str,
     value: &Value,
 ) -> Result<Map<String, Value>, AllocError>
-    ensures { IfOk result (λ m. members_view m.entries ≡ with_member key.now (view value.now) (members_view map.entries)) }
+    ensures { IfOk result (λ m. members_view m.entries ≡ with_member key.now (view value.now)
+        (members_view map.entries)) }
 {
     let copy = value.clone()?;
     with(alloc, map, key, copy)
@@ -101,7 +104,10 @@ fn with_copy(
 
 /// Returns what a configuration has beside its certificates.
 fn own_fields(alloc: Global, fields: &Fields<&Value>) -> Result<Map<String, Value>, AllocError>
-    ensures { IfOk result (λ m. members_view m.entries ≡ member (codes "full") (view fields.now.full.now) (member (codes "members") (view fields.now.members.now) (member (codes "parent") (view fields.now.parent.now) (member (codes "read") (view fields.now.read.now) (member (codes "write") (view fields.now.write.now) no_members))))) }
+    ensures { IfOk result (λ m. members_view m.entries ≡ member (codes "full") (view fields.now.full.now)
+        (member (codes "members") (view fields.now.members.now) (member (codes "parent") (view fields.now.parent.now)
+        (member (codes "read") (view fields.now.read.now) (member (codes "write") (view fields.now.write.now)
+        no_members))))) }
 {
     let map = with_copy(alloc, Map::new(alloc), "full", fields.full)?;
     let map = with_copy(alloc, map, "members", fields.members)?;
@@ -118,7 +124,8 @@ fn fields_json(
     meets: Value,
     step: Value,
 ) -> Result<Value, AllocError>
-    ensures { IfOk result (λ v. view v ≡ fields_object (fields_data (λ n. view n.now) fields.now) (view meets) (view step)) }
+    ensures { IfOk result (λ v. view v ≡ fields_object (fields_data (λ n. view n.now) fields.now) (view meets)
+        (view step)) }
 {
     let map = own_fields(alloc, fields)?;
     let map = with(alloc, map, "meets", meets)?;
@@ -159,7 +166,8 @@ fn configurations_json(
     certificates: &[Value],
 ) -> Result<Vec<Value>, Fault>
     requires { length values.now ≤ 64 }
-    ensures { Gives (λ v. map view v.items) result (configurations_written 0 (items_view values.now) (map view certificates.now)) }
+    ensures { Gives (λ v. map view v.items) result (configurations_written 0 (items_view values.now)
+        (map view certificates.now)) }
 {
     let mut list = Vec::new(alloc);
     for (number, value) in values.iter().enumerate() {
@@ -187,7 +195,8 @@ fn group_json(alloc: Global, values: &[Value], certificates: &[Value]) -> Result
 
 /// Returns the groups of values, in order, with a plan's certificates.
 fn groups_json(alloc: Global, values: &[Value], certificates: &[Value]) -> Result<Vec<Value>, Fault>
-    ensures { Gives (λ v. map view v.items) result (groups_written (items_view values.now) (map view certificates.now)) }
+    ensures { Gives (λ v. map view v.items) result (groups_written (items_view values.now)
+        (map view certificates.now)) }
 {
     let mut list = Vec::new(alloc);
     let mut rest = certificates;

@@ -55,7 +55,8 @@ abbrev pub pair_fault : Formula → Formula → List (ℕ × ℕ) → ℕ → Op
 pair_fault (member x) g pairs branches = Some BadPair
 pair_fault (at_least k of) (member y) pairs branches = Some BadPair
 pair_fault (at_least k of) (at_least l others) pairs branches =
-    (if good_places (length (formulas of)) (map (λ p. p.0) pairs) && good_places (length (formulas others)) (map (λ p. p.1) pairs)
+    (if good_places (length (formulas of)) (map (λ p. p.0) pairs) && good_places (length (formulas others))
+    (map (λ p. p.1) pairs)
     then (if nat_lt (total_weight of + total_weight others) (k + l + paired_weight of others pairs)
     then (if branches == length pairs then None else Some BranchCount)
     else Some CountTooSmall)
@@ -99,13 +100,16 @@ abbrev mutual
   first_fault (clash i j) st =
       at_item (slice_get st.left i) (λ f. at_item (slice_get st.right j) (λ g. or_else (clash_fault f g) None))
   first_fault (open_all side i rule) st =
-      at_item (slice_get (items_of side st) i) (λ f. or_else (open_fault f) (under 0 (first_fault rule (replaced side i (children_of f) st))))
+      at_item (slice_get (items_of side st) i)
+      (λ f. or_else (open_fault f) (under 0 (first_fault rule (replaced side i (children_of f) st))))
   first_fault (pick side i children branches) st =
       at_item (slice_get (items_of side st) i) (λ f.
-      or_else (pick_fault f children (branch_count branches)) (first_picked 0 branches side i (children_of f) children st))
+      or_else (pick_fault f children (branch_count branches)) (first_picked 0 branches side i (children_of f) children
+      st))
   first_fault (pair_up i j pairs branches) st =
       at_item (slice_get st.left i) (λ f. at_item (slice_get st.right j) (λ g.
-      or_else (pair_fault f g pairs (branch_count branches)) (first_paired 0 branches i j (children_of f) (children_of g) pairs st)))
+      or_else (pair_fault f g pairs (branch_count branches)) (first_paired 0 branches i j (children_of f)
+      (children_of g) pairs st)))
   first_fault (split x left right) st =
       first_of (under 0 (first_fault left (without Left x st))) (under 1 (first_fault right (without Right x st)))
 
@@ -114,10 +118,12 @@ abbrev mutual
   first_picked n no_branch side i of cs st = None
   first_picked n (branch rule rest) side i of [] st = None
   first_picked n (branch rule rest) side i of (c ∷ cs) st =
-      first_of (under n (first_fault rule (replaced side i (place of c ∷ []) st))) (first_picked (n + 1) rest side i of cs st)
+      first_of (under n (first_fault rule (replaced side i (place of c ∷ []) st))) (first_picked (n + 1) rest side i of
+      cs st)
 
   pub first_paired : ℕ → Branches → ℕ → ℕ → List Formula → List Formula → List (ℕ × ℕ) → State → Option FaultAt
   first_paired n no_branch i j of others ps st = None
   first_paired n (branch rule rest) i j of others [] st = None
   first_paired n (branch rule rest) i j of others (p ∷ ps) st =
-      first_of (under n (first_fault rule (paired i j (place of p.0) (place others p.1) st))) (first_paired (n + 1) rest i j of others ps st)
+      first_of (under n (first_fault rule (paired i j (place of p.0) (place others p.1) st)))
+      (first_paired (n + 1) rest i j of others ps st)

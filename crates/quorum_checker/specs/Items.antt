@@ -43,4 +43,5 @@ bare = weighed (λ x. member 0)
 
 -- the formula is this threshold, whose children are seen as they are or as their duals
 abbrev pub IsThreshold : {A : Type 0} → Bool → Formula → Threshold A → Type 0
-IsThreshold is_dual f t = (f ≡ at_least t.asked (weighed (shown_as is_dual) t.of.now)) × (t.total ≡ total_weight (bare t.of.now))
+IsThreshold is_dual f t = (f ≡ at_least t.asked (weighed (shown_as is_dual) t.of.now))
+    × (t.total ≡ total_weight (bare t.of.now))

@@ -102,7 +102,8 @@ abbrev mutual
   RefutesPaired no_branch i j of others (p ∷ ps) st = ⊥
   RefutesPaired (branch rule rest) i j of others [] st = ⊥
   RefutesPaired (branch rule rest) i j of others (p ∷ ps) st =
-      (f : Formula) × (g : Formula) × (slice_get (formulas of) p.0 ≡ Some f) × (slice_get (formulas others) p.1 ≡ Some g)
+      (f : Formula) × (g : Formula) × (slice_get (formulas of) p.0 ≡ Some f) × (slice_get (formulas others) p.1
+      ≡ Some g)
       × Refutes rule (paired i j f g st) × RefutesPaired rest i j of others ps st
 
 -- a claim: its two formulas, and the members that the left set is clear of

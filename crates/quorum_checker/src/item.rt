@@ -73,7 +73,8 @@ impl<'e, A: Allocator> Item<'e, A> {
 
     /// What it asks for of its children, and nothing of a member.
     pub(crate) fn threshold(self) -> Option<Threshold<'e, A>>
-        ensures meaning { MatchOption result (IsMember (shown self.entry)) (λ t. IsThreshold self.entry.is_dual (shown self.entry) t) }
+        ensures meaning { MatchOption result (IsMember (shown self.entry))
+            (λ t. IsThreshold self.entry.is_dual (shown self.entry) t) }
         ensures small { IfSome result (λ t. (t.total ≤ 2 ^ 72) × (t.asked ≤ 2 ^ 73)) }
     {
         match self.expr {

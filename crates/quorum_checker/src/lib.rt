@@ -47,8 +47,10 @@ pub fn check<A: Allocator, B: Allocator>(
 ) -> Result<(), FaultAt>
     // Ok exactly where the certificate refutes the claim, unless memory runs out.
     ensures refutes { OnOk result (Refutes (certificate_rule certificate.now) (first_state claim.now)) }
-    ensures accepted { IfErr result (λ e. e.fault ≢ Fault.NoMemory → ¬ (Refutes (certificate_rule certificate.now) (first_state claim.now))) }
-    ensures fault { IfErr result (λ e. e.fault ≢ Fault.NoMemory → first_fault (certificate_rule certificate.now) (first_state claim.now) ≡ Some e) }
+    ensures accepted { IfErr result
+        (λ e. e.fault ≢ Fault.NoMemory → ¬ (Refutes (certificate_rule certificate.now) (first_state claim.now))) }
+    ensures fault { IfErr result (λ e. e.fault ≢ Fault.NoMemory → first_fault (certificate_rule certificate.now)
+        (first_state claim.now) ≡ Some e) }
 
     // What an Ok means, for all sets.
     ensures meets { OnOk result (Meets (formula_of claim.now.left) (formula_of claim.now.right) claim.now.clear) }
@@ -71,9 +73,13 @@ pub fn check_lent<A: Allocator, B: Allocator>(
     certificate: &Certificate<B>,
 ) -> Result<(), FaultAt>
     // Ok exactly where the certificate refutes the claim, unless memory runs out.
-    ensures refutes { OnOk result (Refutes (certificate_rule certificate.now) (claim_state (shown left.entry) (shown right.entry) clear)) }
-    ensures accepted { IfErr result (λ e. e.fault ≢ Fault.NoMemory → ¬ (Refutes (certificate_rule certificate.now) (claim_state (shown left.entry) (shown right.entry) clear))) }
-    ensures fault { IfErr result (λ e. e.fault ≢ Fault.NoMemory → first_fault (certificate_rule certificate.now) (claim_state (shown left.entry) (shown right.entry) clear) ≡ Some e) }
+    ensures refutes { OnOk result (Refutes (certificate_rule certificate.now)
+        (claim_state (shown left.entry) (shown right.entry) clear)) }
+    ensures accepted { IfErr result
+        (λ e. e.fault ≢ Fault.NoMemory → ¬ (Refutes (certificate_rule certificate.now)
+        (claim_state (shown left.entry) (shown right.entry) clear))) }
+    ensures fault { IfErr result (λ e. e.fault ≢ Fault.NoMemory → first_fault (certificate_rule certificate.now)
+        (claim_state (shown left.entry) (shown right.entry) clear) ≡ Some e) }
 
     // What an Ok means, for all sets.
     ensures meets { OnOk result (Meets (shown left.entry) (shown right.entry) clear) }
@@ -85,7 +91,8 @@ pub fn check_lent<A: Allocator, B: Allocator>(
 /// Where a rule refutes a claim, each set that satisfies its left expression, and is clear of what it
 /// has to be clear of, meets each set that satisfies its right expression.
 pub fn refuted_claim_meets()
-    ensures { (rule : Rule) (left right : Formula) (clear : FinSet nat_cmp) → Refutes rule (claim_state left right clear) → Meets left right clear }
+    ensures { (rule : Rule) (left right : Formula) (clear : FinSet nat_cmp) → Refutes rule
+        (claim_state left right clear) → Meets left right clear }
 {}
 
 /// No fault is found exactly where the rule refutes.

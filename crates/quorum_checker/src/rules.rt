@@ -43,7 +43,8 @@ pub fn check_rule<A: Allocator, B: Allocator>(
 ) -> Result<(), FaultAt>
     requires depth { depth_of (rule_of rule.now) ≤ 40 }
     requires limits { HasLimits (rule_of rule.now) }
-    ensures answers { Answers result (first_fault (rule_of rule.now) (state_of items.old)) (depth_of (rule_of rule.now)) }
+    ensures answers { Answers result (first_fault (rule_of rule.now) (state_of items.old))
+        (depth_of (rule_of rule.now)) }
     ensures kept { OnOk result (state_of items.new ≡ state_of items.old) }
 {
     match rule {
@@ -87,7 +88,9 @@ fn check_case<A: Allocator, B: Allocator>(
     requires depth { 1 + depth_of (rule_of then.now) ≤ 40 }
     requires limits { HasLimits (rule_of then.now) }
     requires member { member < 64 }
-    ensures answers { Answers result (under branch (first_fault (rule_of then.now) (without side member (state_of items.old)))) (1 + depth_of (rule_of then.now)) }
+    ensures answers { Answers result
+        (under branch (first_fault (rule_of then.now) (without side member (state_of items.old))))
+        (1 + depth_of (rule_of then.now)) }
     ensures kept { OnOk result (state_of items.new ≡ state_of items.old) }
 {
     let absent = items.absent(side);
@@ -110,7 +113,8 @@ fn check_open<A: Allocator, B: Allocator>(
 ) -> Result<(), FaultAt>
     requires depth { 1 + depth_of (rule_of then.now) ≤ 40 }
     requires limits { HasLimits (rule_of then.now) }
-    ensures answers { Answers result (first_fault (open_all side item (rule_of then.now)) (state_of items.old)) (1 + depth_of (rule_of then.now)) }
+    ensures answers { Answers result (first_fault (open_all side item (rule_of then.now)) (state_of items.old))
+        (1 + depth_of (rule_of then.now)) }
     ensures kept { OnOk result (state_of items.new ≡ state_of items.old) }
 {
     let target = items.item(side, item)?;
@@ -138,7 +142,8 @@ fn check_pick<A: Allocator, B: Allocator>(
 ) -> Result<(), FaultAt>
     requires depth { depth_of (pick side item picked.now (branches_of (map rule_of then.now))) ≤ 40 }
     requires limits { HasLimits (pick side item picked.now (branches_of (map rule_of then.now))) }
-    ensures answers { Answers result (first_fault (pick side item picked.now (branches_of (map rule_of then.now))) (state_of items.old)) (depth_of (pick side item picked.now (branches_of (map rule_of then.now)))) }
+    ensures answers { Answers result (first_fault (pick side item picked.now (branches_of (map rule_of then.now)))
+        (state_of items.old)) (depth_of (pick side item picked.now (branches_of (map rule_of then.now)))) }
     ensures kept { OnOk result (state_of items.new ≡ state_of items.old) }
 {
     let target = items.item(side, item)?;
@@ -168,7 +173,8 @@ fn check_match<A: Allocator, B: Allocator>(
 ) -> Result<(), FaultAt>
     requires depth { depth_of (pair_up left right pairs.now (branches_of (map rule_of then.now))) ≤ 40 }
     requires limits { HasLimits (pair_up left right pairs.now (branches_of (map rule_of then.now))) }
-    ensures answers { Answers result (first_fault (pair_up left right pairs.now (branches_of (map rule_of then.now))) (state_of items.old)) (depth_of (pair_up left right pairs.now (branches_of (map rule_of then.now)))) }
+    ensures answers { Answers result (first_fault (pair_up left right pairs.now (branches_of (map rule_of then.now)))
+        (state_of items.old)) (depth_of (pair_up left right pairs.now (branches_of (map rule_of then.now)))) }
     ensures kept { OnOk result (state_of items.new ≡ state_of items.old) }
 {
     let one = items.item(Side::Left, left)?;

@@ -31,7 +31,8 @@ unfolding members_below
 contains-members_below zero n x = contains-empty nat_cmp x ∙ none_yet x _
 contains-members_below (suc k) n x =
     let bit : ℕ → Bool = λ y. nat_eq (bit_at n y) 1 in
-    elim (nat_eq (bit_at n k) 1) as (λ b. nat_eq (bit_at n k) 1 ≡ b → contains (if b then insert (members_below k n) k else members_below k n) x ≡ (nat_lt x (suc k) && nat_eq (bit_at n x) 1)) [
+    elim (nat_eq (bit_at n k) 1) as (λ b. nat_eq (bit_at n k) 1 ≡ b → contains (if b then insert (members_below k n) k
+    else members_below k n) x ≡ (nat_lt x (suc k) && nat_eq (bit_at n x) 1)) [
       | true ↦ λ e. contains-put (members_below k n) k x ∙ ap (λ b. nat_eq x k || b) (contains-members_below k n x) ∙ one_more x k bit e
       | false ↦ λ e. contains-members_below k n x ∙ not_more x k bit e
     ] refl
@@ -51,9 +52,11 @@ bits_below-members_of zero n h = omega arith
 bits_below-members_of (suc k) n h =
     let within : (nat_lt k 64 && nat_eq (bit_at n k) 1) ≡ nat_eq (bit_at n k) 1 = grind (arith, nat_tests) in
     let bit : (if contains (members_of n) k then 2 ^ k else 0) ≡ bit_at n k * 2 ^ k =
-    ap (λ (b : Bool). if b then 2 ^ k else 0) (contains-members_of n k ∙ within) ∙ bit_weight (bit_at n k) (2 ^ k) (bit_at-lt n k) in
+    ap (λ (b : Bool). if b then 2 ^ k else 0) (contains-members_of n k ∙ within) ∙ bit_weight (bit_at n k) (2 ^ k)
+    (bit_at-lt n k) in
     let low : bits_below k (members_of n) ≡ n % 2 ^ k = bits_below-members_of k n (omega arith) in
-    (λ i. bit i + low i) ∙ sym (mod-mul n {m = 2} {c = 2 ^ k} (omega arith) (pow_pos k)) ∙ ap (λ (m : ℕ). n % m) (mul_comm 2 (2 ^ k) ∙ sym (pow-suc 2 k))
+    (λ i. bit i + low i) ∙ sym (mod-mul n {m = 2} {c = 2 ^ k} (omega arith) (pow_pos k)) ∙ ap (λ (m : ℕ). n % m)
+    (mul_comm 2 (2 ^ k) ∙ sym (pow-suc 2 k))
 
 pub bits_of-members_of : (n : ℕ) → n < 2 ^ 64 → bits_of (members_of n) ≡ n
 unfolding bits_of

@@ -33,7 +33,8 @@ pub data Form : Type 0 where
 -- the names of lists
 abbrev pub list_name_of : List ℕ → Option ListName
 list_name_of text =
-    if bytes_eq text (codes "all") then Some All else (if bytes_eq text (codes "full") then Some Full else (if bytes_eq text (codes "tail") then Some Tail else None))
+    if bytes_eq text (codes "all") then Some All else (if bytes_eq text (codes "full") then Some Full else
+    (if bytes_eq text (codes "tail") then Some Tail else None))
 
 -- the members that a name stands for
 abbrev pub set_of : Lists → ListName → FinSet nat_cmp
@@ -98,7 +99,8 @@ one_each n ws = if length ws == n then Ok (Some ws) else Err Malformed
 
 -- the weights of so many children, at the key weights where there are more keys than k and of
 unfoldable pub weights_of : ℕ → ℕ → Data → Result Weights Fault
-weights_of keys n d = if keys == 2 then Ok None else (at_key (codes "weights") d >>= λ ws. whole_list_of ws >>= one_each n)
+weights_of keys n d = if keys == 2 then Ok None else (at_key (codes "weights") d >>= λ ws. whole_list_of ws >>= one_each
+    n)
 
 -- a threshold at the key k, its children at the key of, and their weights
 unfoldable pub choice_of : Lists → ℕ → Data → Result Form Fault
@@ -117,7 +119,8 @@ good_keys is_weighted n = n == 2 || (is_weighted && n == 3)
 -- a whole number, or an object of the keys k and of, and of the key weights where weights may be given
 unfoldable pub form_of : Lists → Data → Result Form Fault
 form_of lists (number n) = whole_of (number n) >>= λ m. Ok (single m)
-form_of lists (object ms) = if good_keys lists.is_weighted (members_len ms) then choice_of lists (members_len ms) (object ms) else Err Malformed
+form_of lists (object ms) = if good_keys lists.is_weighted (members_len ms) then choice_of lists (members_len ms)
+    (object ms) else Err Malformed
 form_of lists null = Err Malformed
 form_of lists (boolean b) = Err Malformed
 form_of lists (string s) = Err Malformed
@@ -163,11 +166,14 @@ children_at lists left read (named name) = members_at left (listed (set_of lists
 
 -- A number has to be a member, and a threshold a good one of its children's weights; the children have so many levels.
 abbrev pub formula_from : Lists → ℕ → (Data → Result Formula Fault) → Form → Result Formula Fault
-formula_from lists left read (single n) = if nat_lt n 64 && contains lists.members n then Ok (member n) else Err NotAMember
+formula_from lists left read (single n) = if nat_lt n 64 && contains lists.members n then Ok (member n) else Err
+    NotAMember
 formula_from lists left read (choice k list ws) =
-    if good_row k (child_count lists list) ws then (children_at lists left read list >>= λ fs. Ok (at_least k (weighing ws 0 fs))) else Err BadCount
+    if good_row k (child_count lists list) ws then (children_at lists left read list >>= λ fs. Ok
+    (at_least k (weighing ws 0 fs))) else Err BadCount
 
--- the formula that a value spells where so many levels are allowed: its own shape first, then its level, its threshold or number, and its children in order
+-- the formula that a value spells where so many levels are allowed: its own shape first, then its level, its threshold
+-- or number, and its children in order
 unfoldable pub formula_at : Lists → ℕ → Data → Result Formula Fault
 formula_at lists zero d = form_of lists d >>= λ form. Err TooDeep
 formula_at lists (suc left) d = form_of lists d >>= formula_from lists left (formula_at lists left)

@@ -25,7 +25,8 @@ good_choice k of = each_fits of && good_threshold k (total_weight of) (length (f
 -- the first fault of a formula that may have so many levels, outer ones before inner ones
 abbrev mutual
   pub shape_fault : Formula → ℕ → Option Fault
-  shape_fault (member x) levels = (if levels == 0 then Some TooDeep else (if nat_lt x 64 then None else Some NotAMember))
+  shape_fault (member x) levels = (if levels == 0 then Some TooDeep else (if nat_lt x 64 then None else Some
+      NotAMember))
   shape_fault (at_least k of) levels =
       (if levels == 0 then Some TooDeep else (if good_choice k of then row_fault of (levels - 1) else Some BadCount))
 
@@ -45,7 +46,7 @@ abbrev mutual
   row_nodes no_child = 0
   row_nodes (child w f fs) = nodes f + row_nodes fs
 
--- The first fault of a formula, if any: six levels, good thresholds over weights of 1 to 255 and members below 64 at each node, and when the
--- whole has been walked at most 4,096 nodes.
+-- The first fault of a formula, if any: six levels, good thresholds over weights of 1 to 255 and members below 64 at
+-- each node, and when the whole has been walked at most 4,096 nodes.
 abbrev pub expression_fault : Formula → Option Fault
 expression_fault f = or_then (shape_fault f 6) (if nat_le (nodes f) 4096 then None else Some OverLimit)

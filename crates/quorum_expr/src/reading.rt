@@ -125,7 +125,8 @@ fn weights<N: Node>(
     keys: usize,
     list: &Children<N>,
 ) -> Result<Weights, Fault>
-    ensures { Gives weights_data result (weights_of keys (child_count lists.now (child_list N.means list.now)) (N.means value.now)) }
+    ensures { Gives weights_data result (weights_of keys (child_count lists.now (child_list N.means list.now))
+        (N.means value.now)) }
 {
     if keys == 2 {
         return Ok(Weights::Once);
@@ -210,7 +211,8 @@ fn is_good_row(k: u64, count: usize, weights: &Weights) -> bool
 
 /// Returns whether a threshold is good for its children and their weights.
 fn is_good_threshold<N: Node>(lists: &Lists, k: u64, list: &Children<N>, weights: &Weights) -> bool
-    ensures good { result ≡ good_row k (child_count lists.now (child_list N.means list.now)) (weights_data weights.now) }
+    ensures good { result ≡ good_row k (child_count lists.now (child_list N.means list.now))
+        (weights_data weights.now) }
     ensures small { result ≡ true → k ≤ 16320 }
 {
     is_good_row(k, child_count(lists, list), weights)
@@ -264,7 +266,8 @@ fn tree_of_form<N: Node>(
     form: &Form<N>,
     room: &mut u32,
 ) -> Result<Expr<Global>, Fault>
-    ensures read { Gives formula_of result (formula_from lists.now left (formula_at lists.now left) (form_data N.means form.now)) }
+    ensures read { Gives formula_of result (formula_from lists.now left (formula_at lists.now left)
+        (form_data N.means form.now)) }
     ensures counted { IfOk result (λ e. room.new ≡ room.old - nodes (formula_of e)) }
 {
     match form {
@@ -295,7 +298,8 @@ fn child_trees<N: Node>(
     weights: &Weights,
     room: &mut u32,
 ) -> Result<Vec<(u8, Expr<Global>)>, Fault>
-    ensures read { Gives (λ v. formulas_of v.items) result (children_at lists.now left (formula_at lists.now left) (child_list N.means list.now)) }
+    ensures read { Gives (λ v. formulas_of v.items) result (children_at lists.now left (formula_at lists.now left)
+        (child_list N.means list.now)) }
     ensures weights { IfOk result (λ v. HaveWeights (weights_data weights.now) 0 v.items) }
     ensures counted { IfOk result (λ v. room.new ≡ room.old - row_nodes (each_once (formulas_of v.items))) }
 {

@@ -67,7 +67,8 @@ pub fn dual_in<A: Allocator, B: Allocator + Clone>(
 ) -> Result<Expr<B>, Fault>
     requires { expression_fault (formula_of expr.now) ≡ None }
     ensures dual { Gives formula_of result (Ok (dual_of (formula_of expr.now))) }
-    ensures law { IfOk result (λ dual. (s : Members) → sat (formula_of dual) s ≡ not (sat (formula_of expr.now) (λ x. not (s x)))) }
+    ensures law { IfOk result (λ dual. (s : Members) → sat (formula_of dual) s
+        ≡ not (sat (formula_of expr.now) (λ x. not (s x)))) }
     ensures valid { IfOk result (λ dual. expression_fault (formula_of dual) ≡ None) }
 {
     dual_formula(expr, alloc)

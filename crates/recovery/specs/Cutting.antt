@@ -13,7 +13,8 @@ use Rattle.recovery.specs.declared.cutting.Cutting.{Cutting}
 abbrev pub log_of_records : List Record → List Redo
 log_of_records records = added (map redo_of records) []
 
--- of a log whose numbers grow, each record coming after the one that it names: the numbers that lead down to 0, and the cut
+-- of a log whose numbers grow, each record coming after the one that it names: the numbers that lead down to 0, and the
+-- cut
 pub record IsCutOf (cutting : Cutting) (log : List Redo) : Type 0 where
   pub growing : is_growing log ≡ true
   pub back : (r : Redo) → IsIn r log → r.prev_volume < r.lsn

@@ -26,7 +26,8 @@ pub record IsSameFind (found other : Found) : Type 0 where
 abbrev pub live_records : List ClientGroup → List Redo
 live_records groups = found_in (newest (reports_in groups)) (reports_in groups)
 
--- that the recovery's own numbers would begin above the greatest may be said after a growth was refused, since the log must be found first
+-- that the recovery's own numbers would begin above the greatest may be said after a growth was refused, since the log
+-- must be found first
 abbrev pub is_spent : Fault → Bool
 is_spent LsnSpent = true
 is_spent fault = false

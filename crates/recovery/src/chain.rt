@@ -16,7 +16,8 @@ use std::alloc::{AllocError, Global};
 /// `AllocError` if there is no memory.
 pub fn firsts(alloc: Global, set: &RecordSet) -> Result<RecordSet, AllocError>
     ensures growing { IfOk result (λ firsts. is_growing (log_of_set firsts) ≡ true) }
-    ensures same { IfOk result (λ firsts. (n : ℕ) → record_at (log_of_set firsts) n ≡ record_at (records_of set.now) n) }
+    ensures same { IfOk result (λ firsts. (n : ℕ) → record_at (log_of_set firsts) n ≡ record_at (records_of set.now)
+        n) }
 {
     if are_growing(set.as_slice()) {
         return set.clone();

@@ -27,7 +27,9 @@ use writer_core::GroupStates;
 pub fn find(alloc: Global, volume: u32, group_states: &GroupStates) -> Result<Found, Fault>
     requires assigned { 1 ≤ volume }
     requires older { are_older volume (groups_in group_states.now) ≡ true }
-    ensures lineage { Gives (λ found. lineage_of found.lineage) result (extension (newest (reports_in (groups_in group_states.now))) volume (cut_of (live_records (groups_in group_states.now))) (group_states_plan group_states.now).lal) }
+    ensures lineage { Gives (λ found. lineage_of found.lineage) result
+        (extension (newest (reports_in (groups_in group_states.now))) volume
+        (cut_of (live_records (groups_in group_states.now))) (group_states_plan group_states.now).lal) }
     ensures log { IfOk result (λ found. log_of_set found.log ≡ log_found (live_records (groups_in group_states.now))) }
 {
     group_states.plan().certified();

@@ -44,7 +44,8 @@ impl Recovery {
     fn first_view<'a>(plan: &CheckedPlan, message: &'a Message) -> Result<&'a View, Fault>
         ensures refusal { refusal_of result ≡ refusal_of (birth_of (checked_model plan.now) (message_of message.now)) }
         ensures view { IfOk result (λ view. message.now ≡ Message.View view.now) }
-        ensures places { IfOk result (λ view. are_places (checked_model plan.now) (map place_of view.now.places.value.items) ≡ true) }
+        ensures places { IfOk result
+            (λ view. are_places (checked_model plan.now) (map place_of view.now.places.value.items) ≡ true) }
         ensures own { IfErr result (λ fault. fault ≢ NoMemory) }
     {
         let Message::View(view) = message else {
@@ -119,9 +120,11 @@ impl Recovery {
     /// `NotAddressed` if it is one of another volume epoch, and `NotInPlan` if its places aren't those of the plan's
     /// first groups, of all that are there at birth at least, each at one of its configurations.
     pub fn admits_view(&self, view: &View) -> Result<(), Fault>
-        ensures refusal { result ≡ refusal_of (taken (recovery_plan self.now) (recovery_volume self.now) (client_of self.now) (message_of (Message.View view.now))) }
+        ensures refusal { result ≡ refusal_of (taken (recovery_plan self.now) (recovery_volume self.now)
+            (client_of self.now) (message_of (Message.View view.now))) }
         ensures epoch { OnOk result (view.now.volume ≡ recovery_volume self.now) }
-        ensures places { OnOk result (are_places (recovery_plan self.now) (map place_of view.now.places.value.items) ≡ true) }
+        ensures places { OnOk result (are_places (recovery_plan self.now) (map place_of view.now.places.value.items)
+            ≡ true) }
         ensures own { IfErr result (λ fault. fault ≢ NoMemory) }
     {
         if view.volume != self.volume {
@@ -140,7 +143,8 @@ impl Recovery {
     /// # Errors
     /// As [`Recovery::admits_view`] says; `NoMemory`; the recovery is unchanged.
     pub fn view(&mut self, alloc: Global, view: &View) -> Result<Vec<Message>, Fault>
-        ensures answers { Answers acted (taken (recovery_plan self.old) (recovery_volume self.old) (client_of self.old) (message_of (Message.View view.now))) (client_of self.old) result (client_of self.new) }
+        ensures answers { Answers acted (taken (recovery_plan self.old) (recovery_volume self.old) (client_of self.old)
+            (message_of (Message.View view.now))) (client_of self.old) result (client_of self.new) }
         ensures plan { recovery_plan self.new ≡ recovery_plan self.old }
         ensures volume { recovery_volume self.new ≡ recovery_volume self.old }
     {
@@ -172,8 +176,10 @@ impl Recovery {
     /// `NotAddressed` if it isn't for this recovery, of a group of the volume with records of that group, from a
     /// member.
     pub fn admits_report(&self, report: &Report) -> Result<(), Fault>
-        ensures refusal { result ≡ refusal_of (taken (recovery_plan self.now) (recovery_volume self.now) (client_of self.now) (message_of (Message.Report report.now))) }
-        ensures can { OnOk result (is_for (recovery_volume self.now) (recovery_plan self.now).groups (message_of (Message.Report report.now)) ≡ true) }
+        ensures refusal { result ≡ refusal_of (taken (recovery_plan self.now) (recovery_volume self.now)
+            (client_of self.now) (message_of (Message.Report report.now))) }
+        ensures can { OnOk result (is_for (recovery_volume self.now) (recovery_plan self.now).groups
+            (message_of (Message.Report report.now)) ≡ true) }
         ensures own { IfErr result (λ fault. fault ≢ NoMemory) }
     {
         if !report.is_to(self.volume, self.groups()) {
@@ -188,7 +194,8 @@ impl Recovery {
     /// # Errors
     /// As [`Recovery::admits_report`] says; `NoMemory`; the recovery is unchanged.
     pub fn take_report(&mut self, report: &Report) -> Result<(), Fault>
-        ensures answers { Answers silent (taken (recovery_plan self.old) (recovery_volume self.old) (client_of self.old) (message_of (Message.Report report.now))) (client_of self.old) result (client_of self.new) }
+        ensures answers { Answers silent (taken (recovery_plan self.old) (recovery_volume self.old) (client_of self.old)
+            (message_of (Message.Report report.now))) (client_of self.old) result (client_of self.new) }
         ensures plan { recovery_plan self.new ≡ recovery_plan self.old }
         ensures volume { recovery_volume self.new ≡ recovery_volume self.old }
     {
@@ -208,8 +215,10 @@ impl Recovery {
     /// # Errors
     /// `NotAddressed` if it isn't one to this recovery, of a group of the volume and a member.
     pub fn admits_ack(&self, ack: &Ack) -> Result<(), Fault>
-        ensures refusal { result ≡ refusal_of (taken (recovery_plan self.now) (recovery_volume self.now) (client_of self.now) (message_of (Message.Ack ack.now))) }
-        ensures can { OnOk result (is_for (recovery_volume self.now) (recovery_plan self.now).groups (message_of (Message.Ack ack.now)) ≡ true) }
+        ensures refusal { result ≡ refusal_of (taken (recovery_plan self.now) (recovery_volume self.now)
+            (client_of self.now) (message_of (Message.Ack ack.now))) }
+        ensures can { OnOk result (is_for (recovery_volume self.now) (recovery_plan self.now).groups
+            (message_of (Message.Ack ack.now)) ≡ true) }
         ensures own { IfErr result (λ fault. fault ≢ NoMemory) }
     {
         if !ack.is_to(self.volume, self.groups()) {
@@ -224,7 +233,8 @@ impl Recovery {
     /// # Errors
     /// As [`Recovery::admits_ack`] says; `NoMemory`; the recovery is unchanged.
     pub fn take_ack(&mut self, ack: &Ack) -> Result<(), Fault>
-        ensures answers { Answers silent (taken (recovery_plan self.old) (recovery_volume self.old) (client_of self.old) (message_of (Message.Ack ack.now))) (client_of self.old) result (client_of self.new) }
+        ensures answers { Answers silent (taken (recovery_plan self.old) (recovery_volume self.old) (client_of self.old)
+            (message_of (Message.Ack ack.now))) (client_of self.old) result (client_of self.new) }
         ensures plan { recovery_plan self.new ≡ recovery_plan self.old }
         ensures volume { recovery_volume self.new ≡ recovery_volume self.old }
     {
@@ -238,7 +248,9 @@ impl Recovery {
 
     /// Finds the log that a cut would find, refused as [`Recovery::admits_cut`] says.
     fn find_cut(&self, alloc: Global) -> Result<Found, Fault>
-        ensures { AnswersAfterGrowth is_spent (found_step (recovery_volume self.now)) (cut_client (recovery_plan self.now) (recovery_volume self.now) (client_of self.now)) (recovery_groups self.now) result (recovery_groups self.now) }
+        ensures { AnswersAfterGrowth is_spent (found_step (recovery_volume self.now))
+            (cut_client (recovery_plan self.now) (recovery_volume self.now) (client_of self.now))
+            (recovery_groups self.now) result (recovery_groups self.now) }
     {
         if self.found.is_some() {
             return Err(Fault::AlreadyDone);
@@ -256,7 +268,9 @@ impl Recovery {
     /// `LsnSpent` if its own numbers would begin above the greatest; `NoMemory`, which may come before `LsnSpent`,
     /// since the log is found first, if there is no memory.
     pub fn admits_cut(&self, alloc: Global) -> Result<(), Fault>
-        ensures { AnswersAfterGrowth is_spent admitted (refusal_of (cut_client (recovery_plan self.now) (recovery_volume self.now) (client_of self.now))) tt result tt }
+        ensures { AnswersAfterGrowth is_spent admitted
+            (refusal_of (cut_client (recovery_plan self.now) (recovery_volume self.now) (client_of self.now))) tt result
+            tt }
     {
         match self.find_cut(alloc) {
             Ok(_) => Ok(()),
@@ -270,7 +284,8 @@ impl Recovery {
     /// # Errors
     /// As [`Recovery::admits_cut`] says; the recovery is unchanged.
     pub fn cut(&mut self, alloc: Global) -> Result<Vec<Message>, Fault>
-        ensures answers { AnswersAfterGrowth is_spent acted (cut_client (recovery_plan self.old) (recovery_volume self.old) (client_of self.old)) (client_of self.old) result (client_of self.new) }
+        ensures answers { AnswersAfterGrowth is_spent acted (cut_client (recovery_plan self.old)
+            (recovery_volume self.old) (client_of self.old)) (client_of self.old) result (client_of self.new) }
         ensures plan { recovery_plan self.new ≡ recovery_plan self.old }
         ensures volume { recovery_volume self.new ≡ recovery_volume self.old }
     {
@@ -303,7 +318,8 @@ impl Recovery {
 
     /// Returns what it has found, `None` before its cut.
     pub fn found(&self) -> Option<&Found>
-        ensures { MatchOption result (has_cut (client_of self.now).stage ≡ false) (λ found. (has_cut (client_of self.now).stage ≡ true) × IsFindOf (client_of self.now) found.now) }
+        ensures { MatchOption result (has_cut (client_of self.now).stage ≡ false)
+            (λ found. (has_cut (client_of self.now).stage ≡ true) × IsFindOf (client_of self.now) found.now) }
     {
         self.found.as_ref()
     }

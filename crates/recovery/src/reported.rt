@@ -46,7 +46,8 @@ pub fn found_in(
     lineage: &Lineage,
     group_states: &[GroupState],
 ) -> Result<RecordSet, AllocError>
-    ensures { IfOk result (λ set. records_of set ≡ found_in (lineage_of lineage.now) (reports_in (groups_of group_states.now))) }
+    ensures { IfOk result (λ set. records_of set ≡ found_in (lineage_of lineage.now)
+        (reports_in (groups_of group_states.now))) }
 {
     match group_states {
         [] => Ok(RecordSet::new(alloc)),

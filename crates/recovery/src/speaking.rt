@@ -25,7 +25,8 @@ pub fn fences(
     volume: u32,
     group_states: &GroupStates,
 ) -> Result<Vec<Message>, AllocError>
-    ensures { IfOk result (λ messages. messages_of messages.items ≡ fences (length (groups_in group_states.now)) volume (place_of (groups_in group_states.now)) (λ group. true)) }
+    ensures { IfOk result (λ messages. messages_of messages.items ≡ fences (length (groups_in group_states.now)) volume
+        (place_of (groups_in group_states.now)) (λ group. true)) }
 {
     let mut messages = Vec::new(alloc);
     for group in 0..group_states.groups() {
@@ -48,7 +49,9 @@ pub fn later_fences(
     places: &[Place],
 ) -> Result<Vec<Message>, AllocError>
     requires { length places.now ≤ 16 }
-    ensures { IfOk result (λ messages. messages_of messages.items ≡ fences (length places.now) volume (place_in (map wire.place_of places.now)) (later_in (place_of (groups_in group_states.now)) (place_in (map wire.place_of places.now)))) }
+    ensures { IfOk result (λ messages. messages_of messages.items ≡ fences (length places.now) volume
+        (place_in (map wire.place_of places.now)) (later_in (place_of (groups_in group_states.now))
+        (place_in (map wire.place_of places.now)))) }
 {
     let mut messages = Vec::new(alloc);
     for group in 0..places.len() as u8 {
@@ -73,7 +76,9 @@ pub fn installs(
     group_states: &GroupStates,
     found: &Found,
 ) -> Result<Vec<Message>, AllocError>
-    ensures { IfOk result (λ messages. messages_of messages.items ≡ installs (length (groups_in group_states.now)) volume (place_of (groups_in group_states.now)) (lineage_of found.now.lineage) (log_of_set found.now.log) (λ group. true)) }
+    ensures { IfOk result (λ messages. messages_of messages.items ≡ installs (length (groups_in group_states.now))
+        volume (place_of (groups_in group_states.now)) (lineage_of found.now.lineage) (log_of_set found.now.log)
+        (λ group. true)) }
 {
     let mut messages = Vec::new(alloc);
     for group in 0..group_states.groups() {
@@ -96,7 +101,9 @@ pub fn later_installs(
     places: &[Place],
 ) -> Result<Vec<Message>, AllocError>
     requires { length places.now ≤ 16 }
-    ensures { IfOk result (λ messages. messages_of messages.items ≡ installs (length places.now) volume (place_in (map wire.place_of places.now)) (lineage_of found.now.lineage) (log_of_set found.now.log) (later_in (place_of (groups_in group_states.now)) (place_in (map wire.place_of places.now)))) }
+    ensures { IfOk result (λ messages. messages_of messages.items ≡ installs (length places.now) volume
+        (place_in (map wire.place_of places.now)) (lineage_of found.now.lineage) (log_of_set found.now.log)
+        (later_in (place_of (groups_in group_states.now)) (place_in (map wire.place_of places.now)))) }
 {
     let mut messages = Vec::new(alloc);
     for group in 0..places.len() as u8 {

@@ -25,8 +25,10 @@ head_in bytes = record {
 -- a record may have these numbers
 abbrev pub is_allowed : Head → Bool
 is_allowed h =
-    nat_le 1 h.lsn && nat_le h.lsn (2 ^ 62) && nat_le 1 h.volume_epoch && nat_lt h.prev_volume h.lsn && nat_le h.prev_group h.prev_volume
-    && nat_le h.prev_block h.prev_group && nat_lt h.group 16 && nat_le (h.offset + h.length) 512 && nat_le h.point 1 && nat_le 1 h.length && nat_le h.length 64
+    nat_le 1 h.lsn && nat_le h.lsn (2 ^ 62) && nat_le 1 h.volume_epoch && nat_lt h.prev_volume h.lsn && nat_le
+    h.prev_group h.prev_volume
+    && nat_le h.prev_block h.prev_group && nat_lt h.group 16 && nat_le (h.offset + h.length) 512 && nat_le h.point 1 &&
+    nat_le 1 h.length && nat_le h.length 64
 
 -- the record of these numbers and bytes
 abbrev pub redo_from : Head → List ℕ → Redo

@@ -18,4 +18,5 @@ pub record IsPlaceFor (records : List Redo) (r : Redo) (place : ℕ) : Type 0 wh
 
 -- so many of the packets come before the record, and the later ones don't
 abbrev pub IsCountBefore : List SharedRecord → Redo → ℕ → Type 0
-IsCountBefore packets r count = IsPartitionPoint (λ p. numbers_before (spelling (shared_redo p)) (spelling r) ≡ true) (λ p. numbers_before (spelling (shared_redo p)) (spelling r) ≡ false) packets count
+IsCountBefore packets r count = IsPartitionPoint (λ p. numbers_before (spelling (shared_redo p)) (spelling r) ≡ true)
+    (λ p. numbers_before (spelling (shared_redo p)) (spelling r) ≡ false) packets count

@@ -7,14 +7,17 @@ use Rattle.volume_model.specs.declared.fault.Fault.{Fault}
 use Rattle.volume_model.specs.declared.fault.Fault.TheVariants.{Short, BadField, Trailing}
 use Rattle.redo_record.specs.Head.{head_in, is_allowed, redo_from}
 
--- the numbers of a record one after the other, each high byte first and in as many bytes as its type has, and then its bytes
+-- the numbers of a record one after the other, each high byte first and in as many bytes as its type has, and then its
+-- bytes
 unfoldable pub spelled : Redo → List ℕ
 spelled r =
-    to_be_bytes w64 r.lsn ++ (to_be_bytes w32 r.volume ++ (to_be_bytes w64 r.prev_volume ++ (to_be_bytes w64 r.prev_group ++ (to_be_bytes w64 r.prev_block
-    ++ (r.group ∷ (to_be_bytes w32 r.block ++ (to_be_bytes w16 r.offset ++ ((if r.point then 1 else 0) ∷ length r.bytes ∷ r.bytes))))))))
+    to_be_bytes w64 r.lsn ++ (to_be_bytes w32 r.volume ++ (to_be_bytes w64 r.prev_volume
+    ++ (to_be_bytes w64 r.prev_group ++ (to_be_bytes w64 r.prev_block
+    ++ (r.group ∷ (to_be_bytes w32 r.block
+    ++ (to_be_bytes w16 r.offset ++ ((if r.point then 1 else 0) ∷ length r.bytes ∷ r.bytes))))))))
 
--- the record that the bytes spell, or the first fault: too few bytes for the numbers, a number that isn't allowed, too few bytes
--- after them, too many
+-- the record that the bytes spell, or the first fault: too few bytes for the numbers, a number that isn't allowed, too
+-- few bytes after them, too many
 unfoldable pub decoded : List ℕ → Result Redo Fault
 decoded bytes =
     refuse_if (nat_lt (length bytes) 45) Short (

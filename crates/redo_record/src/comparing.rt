@@ -13,8 +13,10 @@ use std::cmp::Ordering;
 /// Returns which of two payloads comes first: the shorter one, and of two as long as one another that whose first
 /// other byte is less.
 fn compare_bytes(own: &Payload, others: &Payload) -> Ordering
-    ensures same { is_eq result ≡ same_numbers (length (payload_bytes own.now) ∷ payload_bytes own.now) (length (payload_bytes others.now) ∷ payload_bytes others.now) }
-    ensures before { is_lt result ≡ numbers_before (length (payload_bytes own.now) ∷ payload_bytes own.now) (length (payload_bytes others.now) ∷ payload_bytes others.now) }
+    ensures same { is_eq result ≡ same_numbers (length (payload_bytes own.now) ∷ payload_bytes own.now)
+        (length (payload_bytes others.now) ∷ payload_bytes others.now) }
+    ensures before { is_lt result ≡ numbers_before (length (payload_bytes own.now) ∷ payload_bytes own.now)
+        (length (payload_bytes others.now) ∷ payload_bytes others.now) }
 {
     let (own, others) = (own.as_slice(), others.as_slice());
     own.len().cmp(&others.len()).then(own.cmp(&others))

@@ -17,7 +17,8 @@ use volume_model::Fault;
 #[tactic(auto, unfolding(crate::specs::Spelling::decoded))]
 pub fn checked_head(bytes: &[u8]) -> Result<Head, Fault>
     ensures head { IfOk result (λ head. head ≡ head_in bytes.now) }
-    ensures exact { MatchResult result (λ head. decoded bytes.now ≡ Ok (redo_from head (drop 45 bytes.now))) (λ fault. decoded bytes.now ≡ Err fault) }
+    ensures exact { MatchResult result (λ head. decoded bytes.now ≡ Ok (redo_from head (drop 45 bytes.now)))
+        (λ fault. decoded bytes.now ≡ Err fault) }
 {
     if bytes.len() < HEAD_BYTES {
         return Err(Fault::Short);
@@ -64,7 +65,8 @@ pub fn record_from(head: &Head, written: &[u8]) -> Record
 /// # Errors
 /// `Short` if there are too few bytes, `BadField` if a field isn't allowed, `Trailing` if there are too many.
 pub fn decode(bytes: &[u8]) -> Result<Record, Fault>
-    ensures exact { MatchResult result (λ r. decoded bytes.now ≡ Ok (redo_of r)) (λ fault. decoded bytes.now ≡ Err fault) }
+    ensures exact { MatchResult result (λ r. decoded bytes.now ≡ Ok (redo_of r))
+        (λ fault. decoded bytes.now ≡ Err fault) }
     ensures found { IfOk result (λ r. bytes.now ≡ spelled (redo_of r)) }
 {
     let head = checked_head(bytes)?;

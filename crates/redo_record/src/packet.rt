@@ -41,7 +41,8 @@ impl Packet {
     /// # Errors
     /// `Short` if there are too few bytes, `BadField` if a field isn't allowed, `Trailing` if there are too many.
     pub fn from_bytes(bytes: &[u8]) -> Result<Packet, Fault>
-        ensures { MatchResult result (λ packet. decoded bytes.now ≡ Ok (packet_redo packet)) (λ fault. decoded bytes.now ≡ Err fault) }
+        ensures { MatchResult result (λ packet. decoded bytes.now ≡ Ok (packet_redo packet))
+            (λ fault. decoded bytes.now ≡ Err fault) }
     {
         let _head = checked_head(bytes)?;
         let mut text = Text::new();

@@ -26,7 +26,8 @@ fn count_before(packets: &[SharedRecord], packet: &SharedRecord) -> usize
 /// Where a record would stand among these, which are in order; `None` if its record is one of theirs.
 pub fn place_among(packets: &[SharedRecord], packet: &SharedRecord) -> Option<usize>
     requires { IsInOrder (map shared_redo packets.now) }
-    ensures { MatchOption result (IsHeldIn (map shared_redo packets.now) (shared_redo packet.now)) (λ place. IsPlaceFor (map shared_redo packets.now) (shared_redo packet.now) place) }
+    ensures { MatchOption result (IsHeldIn (map shared_redo packets.now) (shared_redo packet.now))
+        (λ place. IsPlaceFor (map shared_redo packets.now) (shared_redo packet.now) place) }
 {
     let place = count_before(packets, packet);
     if place == packets.len() {

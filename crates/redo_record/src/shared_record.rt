@@ -69,7 +69,8 @@ impl SharedRecord {
     /// Compares two records in the order of their bytes.
     pub(crate) fn compare(&self, other: &SharedRecord) -> Ordering
         ensures same { is_eq result ≡ is_same (shared_redo self.now) (shared_redo other.now) }
-        ensures before { is_lt result ≡ numbers_before (spelling (shared_redo self.now)) (spelling (shared_redo other.now)) }
+        ensures before { is_lt result ≡ numbers_before (spelling (shared_redo self.now))
+            (spelling (shared_redo other.now)) }
     {
         compare(self.record(), other.record())
     }

@@ -23,8 +23,10 @@ abbrev mutual
   keeps_lists (dead side i) = true
   keeps_lists (clash i j) = true
   keeps_lists (open_all side i rule) = keeps_lists rule
-  keeps_lists (pick side i children branches) = nat_le (length children) 255 && (nat_le (branch_count branches) 255 && each_keeps_lists branches)
-  keeps_lists (pair_up i j pairs branches) = nat_le (length pairs) 255 && (nat_le (branch_count branches) 255 && each_keeps_lists branches)
+  keeps_lists (pick side i children branches) = nat_le (length children) 255 && (nat_le (branch_count branches) 255 &&
+      each_keeps_lists branches)
+  keeps_lists (pair_up i j pairs branches) = nat_le (length pairs) 255 && (nat_le (branch_count branches) 255 &&
+      each_keeps_lists branches)
   keeps_lists (split x left right) = nat_lt x 64 && (keeps_lists left && keeps_lists right)
 
   -- each branch does

@@ -59,7 +59,8 @@ number_at key most d = at_key key d >>= number_to most
 
 -- the names of the sides
 abbrev pub side_in : List ℕ → Result Side Fault
-side_in s = if bytes_eq s (codes "left") then Ok Left else (if bytes_eq s (codes "right") then Ok Right else Err Malformed)
+side_in s = if bytes_eq s (codes "left") then Ok Left else (if bytes_eq s (codes "right") then Ok Right else Err
+    Malformed)
 
 -- the name of a side
 abbrev pub side_of : Data → Result Side Fault
@@ -77,7 +78,8 @@ numbers_of (item d ds) = number_to 255 d >>= λ n. numbers_of ds >>= λ ns. Ok (
 
 -- a list of two such numbers
 unfoldable pub pair_of : Data → Result (ℕ × ℕ) Fault
-pair_of d = array_of d >>= λ ds. if items_len ds == 2 then (entry_at 0 d >>= λ first. number_to 255 first >>= λ a. entry_at 1 d >>= λ second. number_to 255 second >>= λ b. Ok (a, b)) else Err Malformed
+pair_of d = array_of d >>= λ ds. if items_len ds == 2 then (entry_at 0 d >>= λ first. number_to 255 first >>= λ a.
+    entry_at 1 d >>= λ second. number_to 255 second >>= λ b. Ok (a, b)) else Err Malformed
 
 -- the pairs of a list
 abbrev pub pairs_of : Items → Result (List (ℕ × ℕ)) Fault
@@ -125,26 +127,31 @@ pub data Form : Type 0 where
   split_form : ℕ → Data → Data → Form
 
 unfoldable pub dead_in : Data → Result Form Fault
-dead_in d = at_key (codes "side") d >>= λ s. side_of s >>= λ side. number_at (codes "item") 65535 d >>= λ i. Ok (dead_form side i)
+dead_in d = at_key (codes "side") d >>= λ s. side_of s >>= λ side. number_at (codes "item") 65535 d >>= λ i. Ok
+    (dead_form side i)
 
 unfoldable pub clash_in : Data → Result Form Fault
 clash_in d = number_at (codes "left") 65535 d >>= λ i. number_at (codes "right") 65535 d >>= λ j. Ok (clash_form i j)
 
 unfoldable pub open_in : Data → Result Form Fault
-open_in d = at_key (codes "side") d >>= λ s. side_of s >>= λ side. number_at (codes "item") 65535 d >>= λ i. at_key (codes "then") d >>= λ rest. Ok (open_form side i rest)
+open_in d = at_key (codes "side") d >>= λ s. side_of s >>= λ side. number_at (codes "item") 65535 d >>= λ i. at_key
+    (codes "then") d >>= λ rest. Ok (open_form side i rest)
 
 unfoldable pub pick_in : Data → Result Form Fault
 pick_in d =
-    at_key (codes "side") d >>= λ s. side_of s >>= λ side. number_at (codes "item") 65535 d >>= λ i. at_key (codes "children") d >>= λ c. array_of c >>= λ cs. numbers_of cs >>= λ children.
+    at_key (codes "side") d >>= λ s. side_of s >>= λ side. number_at (codes "item") 65535 d >>= λ i. at_key
+    (codes "children") d >>= λ c. array_of c >>= λ cs. numbers_of cs >>= λ children.
     at_key (codes "then") d >>= λ t. array_of t >>= λ branches. Ok (pick_form side i children branches)
 
 unfoldable pub match_in : Data → Result Form Fault
 match_in d =
-    number_at (codes "left") 65535 d >>= λ i. number_at (codes "right") 65535 d >>= λ j. at_key (codes "pairs") d >>= λ p. array_of p >>= λ ps. pairs_of ps >>= λ pairs.
+    number_at (codes "left") 65535 d >>= λ i. number_at (codes "right") 65535 d >>= λ j. at_key (codes "pairs") d >>= λ
+    p. array_of p >>= λ ps. pairs_of ps >>= λ pairs.
     at_key (codes "then") d >>= λ t. array_of t >>= λ branches. Ok (match_form i j pairs branches)
 
 unfoldable pub split_in : Data → Result Form Fault
-split_in d = number_at (codes "member") 63 d >>= λ x. at_key (codes "left") d >>= λ left. at_key (codes "right") d >>= λ right. Ok (split_form x left right)
+split_in d = number_at (codes "member") 63 d >>= λ x. at_key (codes "left") d >>= λ left. at_key (codes "right") d >>= λ
+    right. Ok (split_form x left right)
 
 -- the rule of this name
 abbrev pub fields_of : RuleName → Data → Result Form Fault
@@ -157,7 +164,8 @@ fields_of names.Split d = split_in d
 
 -- an object with the name of a rule, its keys and no others
 unfoldable pub form_of : Data → Result Form Fault
-form_of d = at_key (codes "rule") d >>= λ r. rule_name_of r >>= λ name. has_keys (key_count name) d >>= λ u. fields_of name d
+form_of d = at_key (codes "rule") d >>= λ r. rule_name_of r >>= λ name. has_keys (key_count name) d >>= λ u. fields_of
+    name d
 
 -- at most 255 children, pairs and branches
 abbrev pub is_short : Form → Bool
@@ -180,14 +188,18 @@ abbrev pub rule_from : (Data → Result Rule Fault) → Form → Result Rule Fau
 rule_from read (dead_form side i) = Ok (dead side i)
 rule_from read (clash_form i j) = Ok (clash i j)
 rule_from read (open_form side i d) = read d >>= λ r. Ok (open_all side i r)
-rule_from read (pick_form side i children branches) = each_rule read branches >>= λ rs. Ok (pick side i children (branches_of rs))
-rule_from read (match_form i j pairs branches) = each_rule read branches >>= λ rs. Ok (pair_up i j pairs (branches_of rs))
+rule_from read (pick_form side i children branches) = each_rule read branches >>= λ rs. Ok
+    (pick side i children (branches_of rs))
+rule_from read (match_form i j pairs branches) = each_rule read branches >>= λ rs. Ok
+    (pair_up i j pairs (branches_of rs))
 rule_from read (split_form x left right) = read left >>= λ a. read right >>= λ b. Ok (split x a b)
 
--- The rule of a form where so many levels are allowed: the lengths of its lists and its level first, then its branches in order.
+-- The rule of a form where so many levels are allowed: the lengths of its lists and its level first, then its branches
+-- in order.
 unfoldable pub rule_level : ℕ → Form → Result Rule Fault
 rule_level zero form = Err OverLimit
-rule_level (suc left) form = if is_short form then rule_from (λ d. form_of d >>= rule_level left) form else Err OverLimit
+rule_level (suc left) form = if is_short form then rule_from (λ d. form_of d >>= rule_level left) form else Err
+    OverLimit
 
 -- the rule that a value spells where so many levels are allowed, its own shape and numbers first
 abbrev pub rule_at : ℕ → Data → Result Rule Fault

@@ -25,18 +25,25 @@ pairs_data [] = no_items
 pairs_data (p ∷ ps) = item (pair_data p) (pairs_data ps)
 
 abbrev pub dead_data : Side → ℕ → Data
-dead_data side i = json.object (json.member (codes "item") (number_data i) (json.member (codes "rule") (json.string (codes "dead")) (json.member (codes "side") (json.string (side_text side)) no_members)))
+dead_data side i = json.object (json.member (codes "item") (number_data i)
+    (json.member (codes "rule") (json.string (codes "dead")) (json.member (codes "side") (json.string (side_text side))
+    no_members)))
 
 abbrev pub clash_data : ℕ → ℕ → Data
-clash_data i j = json.object (json.member (codes "left") (number_data i) (json.member (codes "right") (number_data j) (json.member (codes "rule") (json.string (codes "clash")) no_members)))
+clash_data i j = json.object (json.member (codes "left") (number_data i) (json.member (codes "right") (number_data j)
+    (json.member (codes "rule") (json.string (codes "clash")) no_members)))
 
 abbrev pub open_data : Side → ℕ → Data → Data
 open_data side i d =
-    json.object (json.member (codes "item") (number_data i) (json.member (codes "rule") (json.string (codes "open")) (json.member (codes "side") (json.string (side_text side)) (json.member (codes "then") d no_members))))
+    json.object (json.member (codes "item") (number_data i) (json.member (codes "rule") (json.string (codes "open"))
+    (json.member (codes "side") (json.string (side_text side)) (json.member (codes "then") d no_members))))
 
 abbrev pub pick_data : Side → ℕ → Items → Items → Data
 pick_data side i children branches =
-    json.object (json.member (codes "children") (json.array children) (json.member (codes "item") (number_data i) (json.member (codes "rule") (json.string (codes "pick")) (json.member (codes "side") (json.string (side_text side)) (json.member (codes "then") (json.array branches) no_members)))))
+    json.object (json.member (codes "children") (json.array children) (json.member (codes "item") (number_data i)
+    (json.member (codes "rule") (json.string (codes "pick"))
+    (json.member (codes "side") (json.string (side_text side)) (json.member (codes "then") (json.array branches)
+    no_members)))))
 
 abbrev pub match_data : ℕ → ℕ → Items → Items → Data
 match_data i j pairs branches =
@@ -44,7 +51,8 @@ match_data i j pairs branches =
 
 abbrev pub split_data : ℕ → Data → Data → Data
 split_data x left right =
-    json.object (json.member (codes "left") left (json.member (codes "member") (number_data x) (json.member (codes "right") right (json.member (codes "rule") (json.string (codes "split")) no_members))))
+    json.object (json.member (codes "left") left (json.member (codes "member") (number_data x)
+    (json.member (codes "right") right (json.member (codes "rule") (json.string (codes "split")) no_members))))
 
 abbrev mutual
   -- the JSON of a rule

@@ -34,7 +34,8 @@ impl<A: Allocator> Certificate<A> {
     pub fn new(tree: Refutation<A>) -> Result<Certificate<A>, (Fault, Refutation<A>)>
         ensures made { IfOk result (λ c. certificate_rule c ≡ rule_of tree) }
         ensures within { OnOk result (is_certificate (rule_of tree) ≡ true) }
-        ensures over { IfErr result (λ e. (e.0 ≡ Fault.OverLimit) × (e.1 ≡ tree) × (is_certificate (rule_of tree) ≡ false)) }
+        ensures over { IfErr result (λ e. (e.0 ≡ Fault.OverLimit) × (e.1 ≡ tree)
+            × (is_certificate (rule_of tree) ≡ false)) }
     {
         // One more than the limit, so that nothing is left exactly where it is passed.
         if !is_shallow(&tree, MAX_DEPTH)

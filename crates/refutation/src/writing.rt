@@ -42,7 +42,9 @@ fn at_side(
     side: Side,
     item: u16,
 ) -> Result<Map<String, Value>, AllocError>
-    ensures written { IfOk result (λ m. members_view m.entries ≡ with_member (codes "item") (number_data item) (with_member (codes "side") (string (side_text side)) (with_member (codes "rule") (string name.now) no_members))) }
+    ensures written { IfOk result (λ m. members_view m.entries ≡ with_member (codes "item") (number_data item)
+        (with_member (codes "side") (string (side_text side)) (with_member (codes "rule") (string name.now)
+        no_members))) }
     ensures range { item ≤ 65535 }
 {
     let map = named(alloc, name)?;
@@ -58,7 +60,8 @@ fn at_both(
     left: u16,
     right: u16,
 ) -> Result<Map<String, Value>, AllocError>
-    ensures written { IfOk result (λ m. members_view m.entries ≡ with_member (codes "right") (number_data right) (with_member (codes "left") (number_data left) (with_member (codes "rule") (string name.now) no_members))) }
+    ensures written { IfOk result (λ m. members_view m.entries ≡ with_member (codes "right") (number_data right)
+        (with_member (codes "left") (number_data left) (with_member (codes "rule") (string name.now) no_members))) }
     ensures left_range { left ≤ 65535 }
     ensures right_range { right ≤ 65535 }
 {
@@ -97,7 +100,8 @@ fn pick_json(
     children: Vec<Value>,
     then: Vec<Value>,
 ) -> Result<Value, AllocError>
-    ensures written { IfOk result (λ v. view v ≡ pick_data side item (items_view children.items) (items_view then.items)) }
+    ensures written { IfOk result (λ v. view v ≡ pick_data side item (items_view children.items)
+        (items_view then.items)) }
     ensures range { item ≤ 65535 }
 {
     let map = at_side(alloc, "pick", side, item)?;
@@ -112,7 +116,8 @@ fn match_json(
     pairs: Vec<Value>,
     then: Vec<Value>,
 ) -> Result<Value, AllocError>
-    ensures written { IfOk result (λ v. view v ≡ match_data left right (items_view pairs.items) (items_view then.items)) }
+    ensures written { IfOk result (λ v. view v ≡ match_data left right (items_view pairs.items)
+        (items_view then.items)) }
     ensures left_range { left ≤ 65535 }
     ensures right_range { right ≤ 65535 }
 {

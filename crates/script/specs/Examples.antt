@@ -9,10 +9,11 @@ use Rattle.script.specs.Grammar.LineAction.{Nothing, Pauses, Makes, Delivers, Ta
 abbrev pub byte_at : ℕ → ℕ → Change
 byte_at offset byte = record { group = 0; block = 0; offset = offset; bytes = byte ∷ [] }
 
--- A script that issues three records, delivers the second to a segment, waits, and restarts the segment; lines of the other events;
--- and lines that are outside the grammar.
+-- A script that issues three records, delivers the second to a segment, waits, and restarts the segment; lines of the
+-- other events; and lines that are outside the grammar.
 pub record SayTheirLines : Type 0 where
-  pub issues : action_of 0 (codes "issue 1 0:0:0:61 0:0:1:62 0:0:2:63") ≡ Some (Makes (Event.Issue 1 (byte_at 0 97 ∷ byte_at 1 98 ∷ byte_at 2 99 ∷ [])))
+  pub issues : action_of 0 (codes "issue 1 0:0:0:61 0:0:1:62 0:0:2:63")
+      ≡ Some (Makes (Event.Issue 1 (byte_at 0 97 ∷ byte_at 1 98 ∷ byte_at 2 99 ∷ [])))
   pub delivers : action_of 1 (codes "deliver 0 3 1.2") ≡ Some (Delivers 0 3 1 2)
   pub waits : action_of 2 (codes "wait") ≡ Some Pauses
   pub restarts : action_of 3 (codes "restart 0 3") ≡ Some (Makes (Event.Restart 0 3))

@@ -29,8 +29,8 @@ EndsLine (b ∷ text) rest = (b ≡ 10) × (text ≡ rest)
 abbrev pub IsVisible : List ℕ → Type 0
 IsVisible word = All (λ b. (32 < b) × (b < 128)) word
 
--- A text's first line goes on with a last word that names the message at a place of a line whose event has this index; after the line
--- stands this.
+-- A text's first line goes on with a last word that names the message at a place of a line whose event has this index;
+-- after the line stands this.
 pub record HasName (text : List ℕ) (events : List (Option ℕ)) (event place : ℕ) (rest : List ℕ) : Type 0 where
   pub word : List ℕ
   pub tail : List ℕ
@@ -47,7 +47,8 @@ pub record IsFirstLine (text line after : List ℕ) : Type 0 where
   pub pieces_are : pieces text ≡ take (length text - length after) text ∷ pieces after
   pub shorter : length after < length text
 
--- a text's first line asks for this, where these are the indexes of the earlier lines' events; after the line stands this
+-- a text's first line asks for this, where these are the indexes of the earlier lines' events; after the line stands
+-- this
 pub record HasOrder (text : List ℕ) (events : List (Option ℕ)) (order : Order) (after : List ℕ) : Type 0 where
   pub line : List ℕ
   pub first : IsFirstLine text line after
@@ -59,4 +60,5 @@ pub record HasOrder (text : List ℕ) (events : List (Option ℕ)) (order : Orde
 -- the first line of a text was added to what is kept and this comes after it, or it isn't one that may stand there
 abbrev pub AddsFirst : List ℕ → Kept → Result (Bor (List ℕ)) Fault → Kept → Type 0
 AddsFirst text old (Ok after) new = (line : List ℕ) × IsFirstLine text line after.now × AddsLine line old (Ok tt) new
-AddsFirst text old (Err fault) new = (line : List ℕ) × (after : List ℕ) × IsFirstLine text line after × AddsLine line old (Err fault) new
+AddsFirst text old (Err fault) new = (line : List ℕ) × (after : List ℕ) × IsFirstLine text line after × AddsLine line
+    old (Err fault) new

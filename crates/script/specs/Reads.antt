@@ -3,8 +3,8 @@ use Rattle.std.specs.Prelude.{◌≡◌, Option, Some, None, Result, Ok, Err}
 use Rattle.volume_model.specs.declared.fault.Fault.{Fault}
 use Rattle.volume_model.specs.declared.fault.Fault.TheVariants.{Malformed, NoMemory}
 
--- What is read is what stands there, as a view sees it, and it is refused as malformed where nothing does. Where memory ran out
--- nothing is said.
+-- What is read is what stands there, as a view sees it, and it is refused as malformed where nothing does. Where memory
+-- ran out nothing is said.
 abbrev pub ReadsBy : {A B : Type 0} → (A → B) → Option B → Result A Fault → Type 0
 ReadsBy view there (Ok x) = there ≡ Some (view x)
 ReadsBy view there (Err NoMemory) = Unit {0}

@@ -31,8 +31,8 @@ seen lines.Empty = Seen.Silent
 seen lines.Wait = Seen.Pause
 seen (lines.Order order) = Seen.Asks (asked_by order)
 
--- The delivery of a message of the line whose event has this index; a line without an event has made no message, and number 0 is
--- that of none.
+-- The delivery of a message of the line whose event has this index; a line without an event has made no message, and
+-- number 0 is that of none.
 abbrev pub asked_from : ℕ → ℕ → ℕ → Option ℕ → Asked
 asked_from group member place (Some event) = Asked.From group member event place
 asked_from group member place None = Asked.Fixed (model.Event.Deliver group member 0)
@@ -47,5 +47,7 @@ abbrev pub seen_action : List (Option ℕ) → LineAction → Seen
 seen_action events Nothing = Seen.Silent
 seen_action events Pauses = Seen.Pause
 seen_action events (Makes event) = Seen.Asks (Asked.Fixed event)
-seen_action events (Delivers group member line place) = Seen.Asks (asked_from group member place (slice_index_or events (line - 1) None))
-seen_action events (Takes volume line place) = Seen.Asks (take_from volume place (slice_index_or events (line - 1) None))
+seen_action events (Delivers group member line place) = Seen.Asks
+    (asked_from group member place (slice_index_or events (line - 1) None))
+seen_action events (Takes volume line place) = Seen.Asks
+    (take_from volume place (slice_index_or events (line - 1) None))

@@ -21,7 +21,8 @@ is_numeral word = nat_le 1 (length word) && (nat_le (length word) 1 || not (slic
 
 -- the number that a word spells in decimal, where it is at most this
 abbrev pub number_in : ℕ → List ℕ → Option ℕ
-number_in most word = if is_numeral word && nat_le (digits_value 10 word) most then Some (digits_value 10 word) else None
+number_in most word = if is_numeral word && nat_le (digits_value 10 word) most then Some (digits_value 10 word) else
+    None
 
 -- the value of a hexadecimal digit in lower case
 abbrev pub digit_in : ℕ → Option ℕ
@@ -38,7 +39,8 @@ byte_in high low = option_and_then (λ h. option_map (λ l. h * 16 + l) (digit_i
 abbrev pub all_bytes_in : List ℕ → Option (List ℕ)
 all_bytes_in [] = Some []
 all_bytes_in (high ∷ []) = None
-all_bytes_in (high ∷ low ∷ more) = option_and_then (λ byte. option_map (λ bytes. byte ∷ bytes) (all_bytes_in more)) (byte_in high low)
+all_bytes_in (high ∷ low ∷ more) = option_and_then (λ byte. option_map (λ bytes. byte ∷ bytes) (all_bytes_in more))
+    (byte_in high low)
 
 -- 1 to 64 bytes by their digits
 abbrev pub bytes_in : List ℕ → Option (List ℕ)

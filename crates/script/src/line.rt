@@ -112,7 +112,8 @@ pub fn line_of(alloc: Global, text: &[u8], events: &[Option<u32>]) -> Result<Lin
 #[inline(always)]
 fn said_by(alloc: Global, verb: Verb, words: Parts, events: &[Option<u32>]) -> Result<Line, Fault>
     requires { words.separator ≡ 32 }
-    ensures { ReadsBy seen (option_map (seen_action events.now) (said_by (length events.now) verb (parts_left words.entry))) result }
+    ensures { ReadsBy seen (option_map (seen_action events.now) (said_by (length events.now) verb
+        (parts_left words.entry))) result }
 {
     match verb {
         Verb::Assign => Ok(line_by(alloc, assign(words)?)?),

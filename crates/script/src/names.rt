@@ -42,7 +42,8 @@ fn last_name(words: Parts, earlier: usize) -> Result<(u64, u64), Fault>
 #[inline(always)]
 pub fn deliver(alloc: Global, mut words: Parts, events: &[Option<u32>]) -> Result<Order, Fault>
     requires { words.separator ≡ 32 }
-    ensures { ReadsBy (λ order. Seen.Asks (asked_by order)) (option_map (seen_action events.now) (deliver_in (length events.now) (parts_left words.entry))) result }
+    ensures { ReadsBy (λ order. Seen.Asks (asked_by order)) (option_map (seen_action events.now)
+        (deliver_in (length events.now) (parts_left words.entry))) result }
 {
     let group = words.take_id()?;
     let member = words.take_id()?;
@@ -84,7 +85,8 @@ fn delivery(
 /// `take V L.K`, where L is an earlier line.
 pub fn take(alloc: Global, mut words: Parts, events: &[Option<u32>]) -> Result<Order, Fault>
     requires { words.separator ≡ 32 }
-    ensures { ReadsBy (λ order. Seen.Asks (asked_by order)) (option_map (seen_action events.now) (take_in (length events.now) (parts_left words.entry))) result }
+    ensures { ReadsBy (λ order. Seen.Asks (asked_by order)) (option_map (seen_action events.now)
+        (take_in (length events.now) (parts_left words.entry))) result }
 {
     let volume = words.take_block()?;
     let (line, place) = last_name(words, events.len())?;

@@ -13,7 +13,8 @@ const TAKES_ANY_DIGIT: u64 = 1_844_674_407_370_955_160;
 /// Returns whether there is a first digit, which is 0 only where it is alone.
 #[inline(always)]
 fn begins_numeral(digits: &[u8]) -> bool
-    ensures { result ≡ (nat_le 1 (length digits.now) && (nat_le (length digits.now) 1 || not (slice_index digits.now 0 == 48))) }
+    ensures { result ≡ (nat_le 1 (length digits.now) && (nat_le (length digits.now) 1 || not
+        (slice_index digits.now 0 == 48))) }
 {
     !digits.is_empty() && (digits.len() <= 1 || digits[0] != b'0')
 }
@@ -21,7 +22,8 @@ fn begins_numeral(digits: &[u8]) -> bool
 /// Returns whether digits of this value are a numeral, and it is at most `most`.
 #[inline(always)]
 fn is_number(digits: &[u8], value: u64, most: u64) -> bool
-    ensures { result ≡ (nat_le 1 (length digits.now) && (nat_le (length digits.now) 1 || not (slice_index digits.now 0 == 48)) && nat_le value most) }
+    ensures { result ≡ (nat_le 1 (length digits.now) && (nat_le (length digits.now) 1 || not
+        (slice_index digits.now 0 == 48)) && nat_le value most) }
 {
     begins_numeral(digits) && value <= most
 }
@@ -42,7 +44,8 @@ fn with_digit(value: u64, digit: u8) -> Option<u64>
 /// and the text behind the separator after it, if there is one.
 #[inline(always)]
 pub fn split_number(text: &[u8], separator: u8, most: u64) -> Result<(u64, Option<&[u8]>), Fault>
-    ensures { ReadsBy (λ found. (found.0, left_of separator found.1)) (first_number most (slice_split (λ b. b == separator) text.now)) result }
+    ensures { ReadsBy (λ found. (found.0, left_of separator found.1))
+        (first_number most (slice_split (λ b. b == separator) text.now)) result }
 {
     let mut value = 0;
     for (at, byte) in text.iter().enumerate() {

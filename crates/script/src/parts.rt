@@ -63,7 +63,8 @@ impl<'a> Parts<'a> {
     /// Takes the first that is left.
     #[inline(always)]
     pub fn take_first(&mut self) -> Option<&'a [u8]>
-        ensures part { MatchOption result (parts_left self.old ≡ []) (λ part. parts_left self.old ≡ part.now ∷ parts_left self.new) }
+        ensures part { MatchOption result (parts_left self.old ≡ [])
+            (λ part. parts_left self.old ≡ part.now ∷ parts_left self.new) }
         ensures between { self.new.separator ≡ self.old.separator }
     {
         let (first, left) = split_first(self.left?, self.separator);
@@ -74,7 +75,8 @@ impl<'a> Parts<'a> {
     /// Takes the first that is left, a number of at most `most`.
     #[inline(always)]
     pub fn take_number(&mut self, most: u64) -> Result<u64, Fault>
-        ensures number { ReadsBy (λ number. (number, parts_left self.new)) (first_number most (parts_left self.old)) result }
+        ensures number { ReadsBy (λ number. (number, parts_left self.new)) (first_number most (parts_left self.old))
+            result }
         ensures between { self.new.separator ≡ self.old.separator }
     {
         let Some(text) = self.left else {
@@ -88,7 +90,8 @@ impl<'a> Parts<'a> {
     /// Takes the first that is left, the number of a group or a member, at most 255.
     #[inline(always)]
     pub fn take_id(&mut self) -> Result<u8, Fault>
-        ensures number { ReadsBy (λ number. (number, parts_left self.new)) (first_number 255 (parts_left self.old)) result }
+        ensures number { ReadsBy (λ number. (number, parts_left self.new)) (first_number 255 (parts_left self.old))
+            result }
         ensures between { self.new.separator ≡ self.old.separator }
     {
         Ok(self.take_number(u64::from(u8::MAX))? as u8)
@@ -97,7 +100,8 @@ impl<'a> Parts<'a> {
     /// Takes the first that is left, the number of a volume epoch, a configuration or a block, below 2^32.
     #[inline(always)]
     pub fn take_block(&mut self) -> Result<u32, Fault>
-        ensures number { ReadsBy (λ number. (number, parts_left self.new)) (first_number 4294967295 (parts_left self.old)) result }
+        ensures number { ReadsBy (λ number. (number, parts_left self.new))
+            (first_number 4294967295 (parts_left self.old)) result }
         ensures between { self.new.separator ≡ self.old.separator }
     {
         Ok(self.take_number(u64::from(u32::MAX))? as u32)
@@ -106,7 +110,8 @@ impl<'a> Parts<'a> {
     /// Takes the first that is left, an offset in a block, below 2^16.
     #[inline(always)]
     pub fn take_offset(&mut self) -> Result<u16, Fault>
-        ensures number { ReadsBy (λ number. (number, parts_left self.new)) (first_number 65535 (parts_left self.old)) result }
+        ensures number { ReadsBy (λ number. (number, parts_left self.new)) (first_number 65535 (parts_left self.old))
+            result }
         ensures between { self.new.separator ≡ self.old.separator }
     {
         Ok(self.take_number(u64::from(u16::MAX))? as u16)
@@ -115,7 +120,8 @@ impl<'a> Parts<'a> {
     /// Takes the first that is left, an LSN, below 2^64.
     #[inline(always)]
     pub fn take_lsn(&mut self) -> Result<u64, Fault>
-        ensures { ReadsBy (λ number. (number, parts_left self.new)) (first_number 18446744073709551615 (parts_left self.old)) result }
+        ensures { ReadsBy (λ number. (number, parts_left self.new)) (first_number 18446744073709551615
+            (parts_left self.old)) result }
     {
         self.take_number(u64::MAX)
     }

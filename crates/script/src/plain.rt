@@ -57,7 +57,8 @@ pub fn plain_changes(
     text: &[u8],
     room: usize,
 ) -> Result<Option<Vec<Change>>, AllocError>
-    ensures { IfOk result (λ found. IfSome found (λ changes. changes_in (words_in text.now) ≡ Some (changes_of changes.items))) }
+    ensures { IfOk result
+        (λ found. IfSome found (λ changes. changes_in (words_in text.now) ≡ Some (changes_of changes.items))) }
 {
     let mut changes = Vec::with_capacity(alloc, room)?;
     let mut bytes = [0; MOST_BYTES];

@@ -78,7 +78,8 @@ fn keep_order(
     order: Order,
 ) -> Result<(), AllocError>
     requires { vec_len events.old < SCRIPT_LINES }
-    ensures { OnOk result (kept_in script.new events.new.items ≡ with_line (kept_in script.old events.old.items) (Seen.Asks (asked_by order))) }
+    ensures { OnOk result (kept_in script.new events.new.items ≡ with_line (kept_in script.old events.old.items)
+        (Seen.Asks (asked_by order))) }
 {
     let line = events.len() as u32 + 1;
     events.push(Some(index_of(script.orders.len())?))?;
@@ -93,7 +94,8 @@ fn keep_order(
 /// Adds a line. `events` has the index of each earlier line's event.
 fn keep(script: &mut Script, events: &mut Vec<Option<u32>>, line: Line) -> Result<(), AllocError>
     requires { vec_len events.old < SCRIPT_LINES }
-    ensures { OnOk result (kept_in script.new events.new.items ≡ with_line (kept_in script.old events.old.items) (seen line)) }
+    ensures { OnOk result (kept_in script.new events.new.items ≡ with_line (kept_in script.old events.old.items)
+        (seen line)) }
 {
     match line {
         Line::Empty => events.push(None)?,

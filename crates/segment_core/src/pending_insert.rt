@@ -43,7 +43,9 @@ impl Link {
 
     /// Returns the complete point with the record.
     pub fn point(&self, chains: &Chains, packet: &SharedRecord) -> u64
-        ensures { (records : List Redo) → GroupLinksFall (with_record (shared_redo packet.now) records) → IsLinkOf records chains.now (shared_redo packet.now) self.now → AreChainsOf records chains.now → result ≡ scl (with_record (shared_redo packet.now) records) }
+        ensures { (records : List Redo) → GroupLinksFall (with_record (shared_redo packet.now) records)
+            → IsLinkOf records chains.now (shared_redo packet.now) self.now → AreChainsOf records chains.now → result
+            ≡ scl (with_record (shared_redo packet.now) records) }
     {
         match self {
             Link::Ends => chains.point_with(&[packet.lsn()]),
@@ -56,7 +58,9 @@ impl Link {
     #[inline(always)]
     pub fn tie(&self, chains: &mut Chains, packet: &SharedRecord)
         requires { CanTie self.now chains.old (shared_redo packet.now) }
-        ensures { (records : List Redo) → GroupLinksFall (with_record (shared_redo packet.now) records) → IsLinkOf records chains.old (shared_redo packet.now) self.now → AreChainsOf records chains.old → AreChainsOf (with_record (shared_redo packet.now) records) chains.new }
+        ensures { (records : List Redo) → GroupLinksFall (with_record (shared_redo packet.now) records)
+            → IsLinkOf records chains.old (shared_redo packet.now) self.now → AreChainsOf records chains.old
+            → AreChainsOf (with_record (shared_redo packet.now) records) chains.new }
     {
         match self {
             Link::Ends => chains.land(&[packet.lsn()]),

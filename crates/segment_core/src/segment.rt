@@ -69,7 +69,7 @@ impl Segment {
     ghost use Rattle.wire.specs.Message.{label_of, message_of, messages_of};
     ghost use Rattle.segment_core.specs.Acts.{act_after_growth};
     ghost use Rattle.segment_core.specs.Prepared.{answers_of, effected, step_of};
-    ghost use Rattle.segment_core.specs.Segment.{node_of, segment_plan, segment_group, segment_member, act_of, answered, born, offered_step, reaction_of, replaced, CanTake, IsSegmentOf, IsSameActor, IsReady};
+    ghost use Rattle.segment_core.specs.Segment.{node_of, segment_group, segment_member, act_of, answered, born, offered_step, reaction_of, replaced, CanTake, IsSegmentOf, IsSameActor, IsReady, Prepares};
 
     /// Makes the segment of a member of a group, as it is at the volume's birth.
     ///
@@ -138,7 +138,9 @@ impl Segment {
     /// Returns the tests of a message's label.
     fn check_label(&self, label: Label) -> Result<(), Fault>
         ensures own { IfErr result (λ fault. fault ≢ NoMemory) }
-        ensures checks { MatchResult result (λ _. (rest : NodeAnswer) → label_checks (node_of self.now) (label_of label) rest ≡ rest) (λ fault. (rest : NodeAnswer) → label_checks (node_of self.now) (label_of label) rest ≡ Err fault) }
+        ensures checks { MatchResult result (λ _. (rest : NodeAnswer) → label_checks (node_of self.now) (label_of label)
+            rest ≡ rest) (λ fault. (rest : NodeAnswer) → label_checks (node_of self.now) (label_of label) rest
+            ≡ Err fault) }
     {
         if label.member < self.epoch {
             return Err(Fault::StaleMember);
@@ -158,7 +160,8 @@ impl Segment {
     /// Returns the step that acknowledges what is held after it.
     #[inline(always)]
     fn acknowledged(&self, label: Label, scl: u64, effect: Effect) -> Prepared
-        ensures made { messages_of (answers_of result) ≡ model.Message.Ack (segment_group self.now) (label_of label) (segment_member self.now) scl ∷ [] }
+        ensures made { messages_of (answers_of result) ≡ model.Message.Ack (segment_group self.now) (label_of label)
+            (segment_member self.now) scl ∷ [] }
         ensures effect { result.effect ≡ effect }
     {
         let from = self.member;
@@ -177,7 +180,7 @@ impl Segment {
     /// Prepares the reaction to a `Fence`.
     #[inline(always)]
     fn fenced(&mut self, alloc: Global, fence: &Fence) -> Result<Prepared, Fault>
-        ensures step { Answers step_of (reaction_of self.old (message_of (Message.Fence fence.now))) (node_of self.old) result (node_of self.old) }
+        ensures step { Prepares (message_of (Message.Fence fence.now)) self.old result }
         ensures ready { IfOk result (λ prepared. CanTake self.new prepared.effect) }
         ensures node { node_of self.new ≡ node_of self.old }
         ensures actor { IsSameActor self.old self.new }
@@ -205,7 +208,9 @@ impl Segment {
         install: &Install,
         found: &RecordSet,
     ) -> Result<Prepared, AllocError>
-        ensures step { IfOk result (λ prepared. step_of prepared (node_of self.now) ≡ replaced (segment_group self.now) (segment_member self.now) (node_of self.now) (label_of install.now.label) (contents_of install.now.contents.value).lineage (set_records found.now)) }
+        ensures step { IfOk result (λ prepared. step_of prepared (node_of self.now) ≡ replaced (segment_group self.now)
+            (segment_member self.now) (node_of self.now) (label_of install.now.label)
+            (contents_of install.now.contents.value).lineage (set_records found.now)) }
         ensures ready { IfOk result (λ prepared. CanTake self.now prepared.effect) }
     {
         let lineage = install.contents.lineage.clone()?;
@@ -222,8 +227,11 @@ impl Segment {
     /// Prepares for a piece of an install that isn't refused: keeps it, or holds what was found where it was the last
     /// that was missing.
     fn prepare_piece(&mut self, alloc: Global, install: &Install) -> Result<Prepared, AllocError>
-        requires { is_bad_piece (node_of self.old).install install.now.label.volume (piece_in install.now.piece install.now.of) (contents_of install.now.contents.value) ≡ false }
-        ensures step { IfOk result (λ prepared. step_of prepared (node_of self.old) ≡ installed (segment_group self.old) (segment_member self.old) (node_of self.old) (label_of install.now.label) (piece_in install.now.piece install.now.of) (contents_of install.now.contents.value)) }
+        requires { is_bad_piece (node_of self.old).install install.now.label.volume
+            (piece_in install.now.piece install.now.of) (contents_of install.now.contents.value) ≡ false }
+        ensures step { IfOk result (λ prepared. step_of prepared (node_of self.old) ≡ installed (segment_group self.old)
+            (segment_member self.old) (node_of self.old) (label_of install.now.label)
+            (piece_in install.now.piece install.now.of) (contents_of install.now.contents.value)) }
         ensures ready { IfOk result (λ prepared. CanTake self.new prepared.effect) }
         ensures node { node_of self.new ≡ node_of self.old }
         ensures actor { IsSameActor self.old self.new }
@@ -253,7 +261,7 @@ impl Segment {
     /// Prepares to hold what a recovery found, of which this is a piece.
     #[inline(always)]
     fn installed(&mut self, alloc: Global, install: &Install) -> Result<Prepared, Fault>
-        ensures step { Answers step_of (reaction_of self.old (message_of (Message.Install install.now))) (node_of self.old) result (node_of self.old) }
+        ensures step { Prepares (message_of (Message.Install install.now)) self.old result }
         ensures ready { IfOk result (λ prepared. CanTake self.new prepared.effect) }
         ensures node { node_of self.new ≡ node_of self.old }
         ensures actor { IsSameActor self.old self.new }
@@ -279,7 +287,8 @@ impl Segment {
         label: Label,
         packet: &SharedRecord,
     ) -> Result<Prepared, Fault>
-        ensures step { Answers step_of (take_record (segment_group self.old) (segment_member self.old) (node_of self.old) (label_of label) (shared_redo packet.now)) (node_of self.old) result (node_of self.old) }
+        ensures step { Answers step_of (take_record (segment_group self.old) (segment_member self.old)
+            (node_of self.old) (label_of label) (shared_redo packet.now)) (node_of self.old) result (node_of self.old) }
         ensures ready { IfOk result (λ prepared. CanTake self.new prepared.effect) }
         ensures node { node_of self.new ≡ node_of self.old }
         ensures actor { IsSameActor self.old self.new }
@@ -302,7 +311,7 @@ impl Segment {
 
     /// Prepares to take a membership step.
     fn prepare_step(&self, step: &StepTo) -> Result<Prepared, Fault>
-        ensures step { Answers step_of (reaction_of self.now (message_of (Message.StepTo step.now))) (node_of self.now) result (node_of self.now) }
+        ensures step { Prepares (message_of (Message.StepTo step.now)) self.now result }
         ensures ready { IfOk result (λ prepared. CanTake self.now prepared.effect) }
     {
         if step.group != self.group {
@@ -335,7 +344,10 @@ impl Segment {
     /// A record that it holds, for the other nodes of its group.
     fn gossip(&self, lsn: u64) -> Result<Carried<'_>, Fault>
         ensures own { IfErr result (λ fault. fault ≢ NoMemory) }
-        ensures answers { AnswersAlways offered_step (refuse_if (not ((node_of self.now).volume == lineage_epoch (node_of self.now))) NotInstalled (gossip_of (segment_group self.now) (node_of self.now) (record_at (node_of self.now).contents.records lsn))) (node_of self.now) result (node_of self.now) }
+        ensures answers { AnswersAlways offered_step
+            (refuse_if (not ((node_of self.now).volume == lineage_epoch (node_of self.now))) NotInstalled
+            (gossip_of (segment_group self.now) (node_of self.now) (record_at (node_of self.now).contents.records lsn)))
+            (node_of self.now) result (node_of self.now) }
     {
         if self.volume != self.held.lineage.last_epoch() {
             return Err(Fault::NotInstalled);
@@ -362,7 +374,8 @@ impl Segment {
     /// has promised, `NoRecord` if it holds no such record.
     pub fn offer(&self, lsn: u64) -> Result<Carried<'_>, Fault>
         ensures own { IfErr result (λ fault. fault ≢ NoMemory) }
-        ensures answers { AnswersAlways offered_step (offered (segment_group self.now) (node_of self.now) lsn) (node_of self.now) result (node_of self.now) }
+        ensures answers { AnswersAlways offered_step (offered (segment_group self.now) (node_of self.now) lsn)
+            (node_of self.now) result (node_of self.now) }
     {
         if self.whole {
             self.gossip(lsn)
@@ -374,7 +387,7 @@ impl Segment {
     /// Prepares for a record that a client writes.
     #[inline(always)]
     fn written(&mut self, alloc: Global, write: &Write) -> Result<Prepared, Fault>
-        ensures step { Answers step_of (reaction_of self.old (message_of (Message.Write write.now))) (node_of self.old) result (node_of self.old) }
+        ensures step { Prepares (message_of (Message.Write write.now)) self.old result }
         ensures ready { IfOk result (λ prepared. CanTake self.new prepared.effect) }
         ensures node { node_of self.new ≡ node_of self.old }
         ensures actor { IsSameActor self.old self.new }
@@ -388,7 +401,7 @@ impl Segment {
     /// The general case of [`Segment::prepare`], out of line so that the write path keeps a small stack frame.
     #[inline(never)]
     fn prepare_any(&mut self, alloc: Global, message: &Message) -> Result<Prepared, Fault>
-        ensures step { Answers step_of (reaction_of self.old (message_of message.now)) (node_of self.old) result (node_of self.old) }
+        ensures step { Prepares (message_of message.now) self.old result }
         ensures ready { IfOk result (λ prepared. CanTake self.new prepared.effect) }
         ensures node { node_of self.new ≡ node_of self.old }
         ensures actor { IsSameActor self.old self.new }
@@ -417,7 +430,7 @@ impl Segment {
     /// applies and memory ran out.
     #[inline(always)]
     pub fn prepare(&mut self, alloc: Global, message: &Message) -> Result<Prepared, Fault>
-        ensures step { Answers step_of (reaction_of self.old (message_of message.now)) (node_of self.old) result (node_of self.old) }
+        ensures step { Prepares (message_of message.now) self.old result }
         ensures ready { IfOk result (λ prepared. IsReady self.new prepared) }
         ensures node { node_of self.new ≡ node_of self.old }
         ensures actor { IsSameActor self.old self.new }
@@ -431,7 +444,8 @@ impl Segment {
 
     /// Prepares to offer a record, as [`Segment::offer`] does.
     fn prepare_offer(&self, alloc: Global, lsn: u64) -> Result<Prepared, Fault>
-        ensures step { Answers step_of (offered (segment_group self.now) (node_of self.now) lsn) (node_of self.now) result (node_of self.now) }
+        ensures step { Answers step_of (offered (segment_group self.now) (node_of self.now) lsn) (node_of self.now)
+            result (node_of self.now) }
         ensures ready { IfOk result (λ prepared. CanTake self.now prepared.effect) }
     {
         let carried = self.offer(lsn)?;
@@ -449,7 +463,8 @@ impl Segment {
     /// [`Segment::offer`] for [`NodeAct::Offer`]; `NoMemory` if none applies and memory ran out.
     #[inline(always)]
     pub fn prepare_act(&mut self, alloc: Global, act: NodeAct<'_>) -> Result<Prepared, Fault>
-        ensures step { AnswersAfterGrowth (act_after_growth act.entry) step_of (act_of self.old act.entry) (node_of self.old) result (node_of self.old) }
+        ensures step { AnswersAfterGrowth (act_after_growth act.entry) step_of (act_of self.old act.entry)
+            (node_of self.old) result (node_of self.old) }
         ensures ready { IfOk result (λ prepared. IsReady self.new prepared) }
         ensures node { node_of self.new ≡ node_of self.old }
         ensures actor { IsSameActor self.old self.new }
@@ -528,7 +543,8 @@ impl Segment {
     /// # Errors
     /// Those of [`Segment::prepare`]; then the segment is unchanged.
     pub fn deliver(&mut self, alloc: Global, message: &Message) -> Result<Messages, Fault>
-        ensures answers { Answers answered (reaction_of self.old (message_of message.now)) (node_of self.old) result (node_of self.new) }
+        ensures answers { Answers answered (reaction_of self.old (message_of message.now)) (node_of self.old) result
+            (node_of self.new) }
         ensures actor { IsSameActor self.old self.new }
     {
         let prepared = self.prepare(alloc, message)?;

@@ -81,21 +81,27 @@ node_acted group member (Err fault) = Err fault
 node_acted group member (Ok s) = Ok (record { made = s.made; state = s.node })
 
 -- what the actor of an event does, where so many groups have joined, and these messages were made, newest first
-abbrev pub acted : Plan → ℕ → List Message → (event : Event) → State (actor_of event) → Result (Acted (actor_of event)) Fault
+abbrev pub acted : Plan → ℕ → List Message → (event : Event) → State (actor_of event) → Result (Acted (actor_of event))
+    Fault
 acted plan joined messages Assign now = authority_acted (assigned plan now)
 acted plan joined messages (Advance group configuration) now = authority_acted (advanced plan now group configuration)
 acted plan joined messages (Refresh volume) now = authority_acted (refreshed plan now volume)
 acted plan joined messages Grow now = authority_acted (grown plan now)
 acted plan joined messages (Issue volume changes) now = client_acted volume (issued plan volume now changes)
-acted plan joined messages (Take volume number) now = client_acted volume (take plan volume now (numbered messages number))
+acted plan joined messages (Take volume number) now = client_acted volume
+    (take plan volume now (numbered messages number))
 acted plan joined messages (Cut volume) now = client_acted volume (cut_client plan volume now)
 acted plan joined messages (Open volume) now = client_acted volume (opened plan now)
 acted plan joined messages (Resend volume lsn) now = client_acted volume (resent volume now lsn)
 acted plan joined messages (Read volume group block) now = client_acted volume (page_asked volume now group block)
-acted plan joined messages (Deliver group member number) now = node_acted group member (if_there plan joined group member (deliver plan group member now (numbered messages number)))
-acted plan joined messages (Hydrate group member) now = node_acted group member (if_there plan joined group member (hydrated plan group member now))
-acted plan joined messages (Restart group member) now = node_acted group member (if_there plan joined group member (Ok (record { made = []; node = restarted now })))
-acted plan joined messages (Offer group member lsn) now = node_acted group member (if_there plan joined group member (offered group now lsn))
+acted plan joined messages (Deliver group member number) now = node_acted group member
+    (if_there plan joined group member (deliver plan group member now (numbered messages number)))
+acted plan joined messages (Hydrate group member) now = node_acted group member (if_there plan joined group member
+    (hydrated plan group member now))
+acted plan joined messages (Restart group member) now = node_acted group member (if_there plan joined group member
+    (Ok (record { made = []; node = restarted now })))
+acted plan joined messages (Offer group member lsn) now = node_acted group member (if_there plan joined group member
+    (offered group now lsn))
 
 -- a world in which one actor is this
 abbrev pub with_state : World → (actor : Actor) → State actor → World
@@ -117,7 +123,8 @@ is_joined joined (Actor.Node group member) = nat_lt group joined
 
 -- the actor of an event is there in both worlds or in neither, as far as groups have joined
 abbrev pub JoinedAlike : Event → World → World → Type 0
-JoinedAlike e w v = is_joined (groups_joined w.authority) (actor_of e) ≡ is_joined (groups_joined v.authority) (actor_of e)
+JoinedAlike e w v = is_joined (groups_joined w.authority) (actor_of e) ≡ is_joined (groups_joined v.authority)
+    (actor_of e)
 
 -- both worlds have this actor in one state
 abbrev pub Agree : Actor → World → World → Type 0

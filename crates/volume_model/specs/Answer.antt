@@ -1,5 +1,5 @@
--- What a call answers beside what its definition gives. Running out of memory is answered only where a growth was refused, so no
--- definition speaks of it.
+-- What a call answers beside what its definition gives. Running out of memory is answered only where a growth was
+-- refused, so no definition speaks of it.
 use Rattle.std.specs.Prelude.{◌≡◌, Bool, true, false, Result, Ok, Err}
 use Rattle.volume_model.specs.declared.fault.Fault.{Fault}
 use Rattle.volume_model.specs.declared.fault.Fault.TheVariants.{NoMemory}
@@ -29,10 +29,11 @@ abbrev pub may_run_out_of_memory : {T : Type 0} → (Fault → Bool) → Result 
 may_run_out_of_memory late (Ok step) = true
 may_run_out_of_memory late (Err fault) = late fault
 
--- What a call of an actor answers, that was old and is new: the step that is defined, seen with the actor as it is then; or the refusal that is
--- defined, and the actor is what it was. Running out of memory leaves the actor as it was too, and is answered only where the definition refuses
--- nothing, except with a fault that may come after a growth.
-abbrev pub AnswersAfterGrowth : {R S T : Type 0} → (Fault → Bool) → (R → S → T) → Result T Fault → S → Result R Fault → S → Type 0
+-- What a call of an actor answers, that was old and is new: the step that is defined, seen with the actor as it is
+-- then; or the refusal that is defined, and the actor is what it was. Running out of memory leaves the actor as it was
+-- too, and is answered only where the definition refuses nothing, except with a fault that may come after a growth.
+abbrev pub AnswersAfterGrowth : {R S T : Type 0} → (Fault → Bool) → (R → S → T) → Result T Fault → S → Result R Fault
+    → S → Type 0
 AnswersAfterGrowth late step defined old (Ok made) new = defined ≡ Ok (step made new)
 AnswersAfterGrowth late step defined old (Err NoMemory) new = (may_run_out_of_memory late defined ≡ true) × (new ≡ old)
 AnswersAfterGrowth late step defined old (Err fault) new = (defined ≡ Err fault) × (new ≡ old)
@@ -43,7 +44,8 @@ Answers step defined old result new = AnswersAfterGrowth never_after_growth step
 
 -- The same of a call that makes something new and changes nothing: what it made, seen by view, is what is defined.
 abbrev pub AnswersNewAfterGrowth : {R T : Type 0} → (Fault → Bool) → (R → T) → Result T Fault → Result R Fault → Type 0
-AnswersNewAfterGrowth late view defined result = AnswersAfterGrowth {S = Unit {0}} late (λ made u. view made) defined tt result tt
+AnswersNewAfterGrowth late view defined result = AnswersAfterGrowth {S = Unit {0}} late (λ made u. view made) defined tt
+    result tt
 
 -- The same of such a call that finds every refusal before it makes any growth.
 abbrev pub AnswersNew : {R T : Type 0} → (R → T) → Result T Fault → Result R Fault → Type 0

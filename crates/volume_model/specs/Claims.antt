@@ -14,12 +14,14 @@ pub record KeepsClaim (configuration : Configuration) : Type 0 where
   pub write_own : SpeaksOf configuration.write (has_member configuration)
   pub meets : Meets configuration.read configuration.write (empty {R = nat_cmp})
 
--- A child, whose read sets that are clear of fresh members meet what satisfies the dual of the parent's read expression.
+-- A child, whose read sets that are clear of fresh members meet what satisfies the dual of the parent's read
+-- expression.
 pub record KeepsStepClaim (plan : Plan) (group c : ℕ) : Type 0 where
   pub child : IsChild plan group c
   pub fresh : FinSet nat_cmp
   pub fresh_is : (x : ℕ) → contains fresh x ≡ is_fresh plan group c x
-  pub meets : Meets (plan.configuration group c).read (dual_of (plan.configuration group (parent_of plan group c)).read) fresh
+  pub meets : Meets (plan.configuration group c).read (dual_of (plan.configuration group (parent_of plan group c)).read)
+      fresh
 
 -- A plan whose claims are all met.
 abbrev pub KeepsClaims : Plan → Type 0

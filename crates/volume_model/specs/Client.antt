@@ -42,8 +42,8 @@ pub record Count : Type 0 where
   pub sender : ℕ
   pub reached : ℕ
 
--- what a client keeps of a group: where it stands, the reports kept, the acknowledgements counted, the group point, and whether the group has
--- joined the open writer
+-- what a client keeps of a group: where it stands, the reports kept, the acknowledgements counted, the group point, and
+-- whether the group has joined the open writer
 pub record ClientGroup : Type 0 where
   pub place : Place
   pub reports : List From
@@ -97,7 +97,14 @@ born_group = record (newly_at at_root) { joined = true }
 
 -- the writer of volume epoch 1, with no record, over the groups that are there at birth
 abbrev pub first_writer : Plan → Client
-first_writer plan = record { stage = Writing; groups = replicate plan.born born_group; lineage = birth; found = []; log = [] }
+first_writer plan = record {
+  stage = Writing;
+  groups = replicate plan.born born_group;
+  lineage = birth;
+  found = [];
+  log
+      = [];
+}
 
 -- a client that no View has reached
 abbrev pub unborn : Client

@@ -32,13 +32,15 @@ later_group group place = if is_later group.place place then record group { plac
 abbrev pub reread_group : ClientGroup → Place → ClientGroup
 reread_group group place = if is_later group.place place then record group { place = place; reports = [] } else group
 
--- each group at its place in a View, by what becomes of one. A group that is new to the client counts as one of a later epoch
+-- each group at its place in a View, by what becomes of one. A group that is new to the client counts as one of a later
+-- epoch
 abbrev pub with_places : (ClientGroup → Place → ClientGroup) → List ClientGroup → List Place → List ClientGroup
 with_places move groups [] = groups
 with_places move [] (place ∷ places) = move no_group place ∷ with_places move [] places
 with_places move (group ∷ groups) (place ∷ places) = move group place ∷ with_places move groups places
 
--- A View. Groups of a later membership epoch are fenced before the cut, and installed after it; of an open writer those alone that haven't joined, with no records
+-- A View. Groups of a later membership epoch are fenced before the cut, and installed after it; of an open writer those
+-- alone that haven't joined, with no records
 abbrev pub viewed : Plan → ℕ → Client → List Place → Stage → ClientStep
 viewed plan volume client places Unborn = born_client volume places
 viewed plan volume client places Reading =
@@ -50,13 +52,15 @@ viewed plan volume client places Reading =
 viewed plan volume client places Installing =
     let now = with_places later_group client.groups places in
     record {
-      made = installs (length places) volume (place_of now) client.lineage client.found (later_in (place_of client.groups) (place_in places));
+      made = installs (length places) volume (place_of now) client.lineage client.found
+          (later_in (place_of client.groups) (place_in places));
       client = record client { groups = now };
     }
 viewed plan volume client places Writing =
     let now = with_places later_group client.groups places in
     record {
-      made = installs (length places) volume (place_of now) client.lineage [] (later_unjoined client.groups (place_in places));
+      made = installs (length places) volume (place_of now) client.lineage []
+          (later_unjoined client.groups (place_in places));
       client = record client { groups = raised plan now };
     }
 
@@ -65,21 +69,30 @@ abbrev pub ack_taken : Plan → Client → ℕ → Label → ℕ → ℕ → Cli
 ack_taken plan client group label sender reached =
     let now = group_of client.groups group in
     if has_cut client.stage && nat_le label.member now.place.epoch
-    then record client { groups = groups_now plan client.stage (slice_set client.groups group (record now { counts = with_count sender reached now.counts })) }
+    then record client {
+      groups = groups_now plan client.stage
+          (slice_set client.groups group (record now { counts = with_count sender reached now.counts }));
+    }
     else client
 
--- each group that is there at birth has a place, no other than the plan's groups, and each place is one of a configuration of the plan
+-- each group that is there at birth has a place, no other than the plan's groups, and each place is one of a
+-- configuration of the plan
 abbrev pub are_places : Plan → List Place → Bool
 are_places plan places =
-    nat_le plan.born (length places) && (nat_le (length places) plan.groups && every_below (length places) (λ group. is_configuration plan group (place_in places group).configuration (place_in places group).epoch))
+    nat_le plan.born (length places) && (nat_le (length places) plan.groups && every_below (length places)
+    (λ group. is_configuration plan group (place_in places group).configuration (place_in places group).epoch))
 
--- The message is for the client of this volume epoch, over so many groups: it is a View of the volume epoch, or a report, an acknowledgement or
--- a page of one of the groups, from a member, and a report's records are those of the group.
+-- The message is for the client of this volume epoch, over so many groups: it is a View of the volume epoch, or a
+-- report, an acknowledgement or a page of one of the groups, from a member, and a report's records are those of the
+-- group.
 abbrev pub is_for : ℕ → ℕ → Message → Bool
 is_for volume groups (View of places) = of == volume
-is_for volume groups (Report group label sender contents) = label.volume == volume && (nat_lt group groups && (in_group group contents && nat_lt sender 64))
-is_for volume groups (Ack group label sender reached) = label.volume == volume && (nat_lt group groups && nat_lt sender 64)
-is_for volume groups (Page group label sender block point bytes) = label.volume == volume && (nat_lt group groups && nat_lt sender 64)
+is_for volume groups (Report group label sender contents) = label.volume == volume &&
+    (nat_lt group groups && (in_group group contents && nat_lt sender 64))
+is_for volume groups (Ack group label sender reached) = label.volume == volume && (nat_lt group groups && nat_lt sender
+    64)
+is_for volume groups (Page group label sender block point bytes) = label.volume == volume &&
+    (nat_lt group groups && nat_lt sender 64)
 is_for volume groups (StepTo group place) = false
 is_for volume groups (Fence group label) = false
 is_for volume groups (Install group label piece contents) = false

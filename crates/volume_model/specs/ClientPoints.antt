@@ -28,7 +28,8 @@ with_count sender reached (count ∷ rest) =
     then record { sender = sender; reached = max count.reached reached } ∷ rest
     else count ∷ with_count sender reached rest
 
--- a group, its point raised to what its counts satisfy now. It has joined where they satisfy the write expression now, or did at a moment before
+-- a group, its point raised to what its counts satisfy now. It has joined where they satisfy the write expression now,
+-- or did at a moment before
 abbrev pub raised_group : Plan → ℕ → ClientGroup → ClientGroup
 raised_group plan number group =
     let write = (place_configuration plan number group.place).write in
@@ -51,7 +52,8 @@ groups_now plan stage groups = if is_open stage then raised plan groups else gro
 abbrev pub complete_of : (ℕ → ℕ) → List Redo → ℕ
 complete_of points [] = 0
 complete_of points (r ∷ older) =
-    if complete_of points older == last_lsn older && nat_le r.lsn (points r.group) then r.lsn else complete_of points older
+    if complete_of points older == last_lsn older && nat_le r.lsn (points r.group) then r.lsn else complete_of points
+    older
 
 -- the greatest consistency point that is not above n, else 0
 abbrev pub consistency_point_below : ℕ → List Redo → ℕ

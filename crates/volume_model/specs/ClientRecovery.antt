@@ -27,7 +27,8 @@ to_install lineage found group = record { lineage = lineage; records = of_group 
 -- the pieces of the Installs of each chosen group of so many, in order of group, then piece
 abbrev pub installs : ℕ → ℕ → (ℕ → Place) → Lineage → List Redo → (ℕ → Bool) → List Message
 installs groups volume places lineage found chosen =
-    joined (each_below groups chosen (λ group. in_pieces (to_install lineage found group) (Install group (label_of volume places group))))
+    joined (each_below groups chosen (λ group. in_pieces (to_install lineage found group)
+    (Install group (label_of volume places group))))
 
 -- birth, by the first View of its epoch that it takes
 abbrev pub born_client : ℕ → List Place → ClientStep
@@ -41,8 +42,12 @@ born_client volume places =
 abbrev pub report_taken : ℕ → Client → ℕ → Label → From → Client
 report_taken volume client group label report =
     let now = group_of client.groups group in
-    if (not (has_cut client.stage)) && (label.member == now.place.epoch && nat_lt (last_epoch report.contents.lineage) volume)
-    then record client { groups = slice_set client.groups group (record now { reports = with_first report now.reports }) }
+    if (not (has_cut client.stage)) && (label.member == now.place.epoch && nat_lt (last_epoch report.contents.lineage)
+    volume)
+    then record client {
+      groups = slice_set client.groups group
+          (record now { reports = with_first report now.reports });
+    }
     else client
 
 -- the reports of so many groups
@@ -52,11 +57,15 @@ all_reports reports (suc group) = all_reports reports group ++ contents_of (repo
 
 -- in each group of its view the senders of the kept reports are a read set
 abbrev pub has_read : Plan → Client → Bool
-has_read plan client = every_below (length client.groups) (λ group. sat (place_configuration plan group (place_of client.groups group)).read (senders (reports_of client.groups group)))
+has_read plan client = every_below (length client.groups)
+    (λ group. sat (place_configuration plan group (place_of client.groups group)).read
+    (senders (reports_of client.groups group)))
 
 -- in each group of its view the members with a counted acknowledgement are a write set
 abbrev pub has_installed : Plan → Client → Bool
-has_installed plan client = every_below (length client.groups) (λ group. sat (place_configuration plan group (place_of client.groups group)).write (counted_by (counts_of client.groups group)))
+has_installed plan client = every_below (length client.groups)
+    (λ group. sat (place_configuration plan group (place_of client.groups group)).write
+    (counted_by (counts_of client.groups group)))
 
 -- the step of a cut that finds this log, under this lineage
 abbrev pub cut_step : ℕ → Client → List Redo → Lineage → ClientStep
@@ -86,7 +95,8 @@ cut_client plan volume client =
     refuse_if (not (is_born client.stage)) NoActor (
     refuse_if (has_cut client.stage) AlreadyDone (
     refuse_if (not (has_read plan client)) NotReady (
-    extension parent volume (cut_of records) plan.lal >>= λ lineage. Ok (cut_step volume client (log_found records) lineage))))
+    extension parent volume (cut_of records) plan.lal >>= λ lineage. Ok (cut_step volume client (log_found records)
+    lineage))))
 
 -- the writer that a recovery becomes
 abbrev pub writing : Plan → Client → Client

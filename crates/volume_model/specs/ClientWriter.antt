@@ -42,7 +42,8 @@ is_last (change ∷ more) = false
 -- the log with the records of these changes
 abbrev pub issued_log : ℕ → ℕ → List Change → List Redo → List Redo
 issued_log volume start [] log = log
-issued_log volume start (change ∷ more) log = issued_log volume start more (record_of volume start log change (is_last more) ∷ log)
+issued_log volume start (change ∷ more) log = issued_log volume start more (record_of volume start log change
+    (is_last more) ∷ log)
 
 -- the Writes of the new records, in their order
 abbrev pub issued_writes : ℕ → (ℕ → Place) → ℕ → List Change → List Redo → List Message
@@ -53,11 +54,13 @@ issued_writes volume places start (change ∷ more) log =
 
 -- the change is one of a group below the number of groups, of 1 to 64 bytes within a page
 abbrev pub is_change : ℕ → Change → Bool
-is_change groups change = nat_lt change.group groups && (nat_le 1 (length change.bytes) && (nat_le (length change.bytes) 64 && nat_le (change.offset + length change.bytes) 512))
+is_change groups change = nat_lt change.group groups && (nat_le 1 (length change.bytes) &&
+    (nat_le (length change.bytes) 64 && nat_le (change.offset + length change.bytes) 512))
 
 -- one to 32 changes, each of them a good one
 abbrev pub is_transaction : ℕ → List Change → Bool
-is_transaction groups changes = nat_le 1 (length changes) && (nat_le (length changes) 32 && every (is_change groups) changes)
+is_transaction groups changes = nat_le 1 (length changes) && (nat_le (length changes) 32 && every (is_change groups)
+    changes)
 
 -- each group that is changed has joined
 abbrev pub have_joined : List ClientGroup → List Change → Bool
@@ -86,7 +89,11 @@ issued plan volume client changes =
 -- the Write of a record that was found
 abbrev pub write_of : ℕ → Client → Option Redo → ClientAnswer
 write_of volume client None = Err NoLogRecord
-write_of volume client (Some r) = Ok (record { made = Write r.group (label_of volume (place_of client.groups) r.group) r ∷ []; client = client })
+write_of volume client (Some r) = Ok (record {
+  made = Write r.group (label_of volume (place_of client.groups) r.group) r
+      ∷ [];
+  client = client;
+})
 
 -- what a writer does when it sends a record of its log again
 abbrev pub resent : ℕ → Client → ℕ → ClientAnswer
@@ -108,6 +115,7 @@ page_asked volume client group block =
     refuse_if (not (is_open client.stage)) NotOpen (
     refuse_if (not (nat_lt group (length client.groups))) NoGroup (
     Ok (record {
-      made = PageAsk group (label_of volume (place_of client.groups) group) block (last_of_group_below group (durable_point client) client.log) ∷ [];
+      made = PageAsk group (label_of volume (place_of client.groups) group) block
+          (last_of_group_below group (durable_point client) client.log) ∷ [];
       client = client;
     }))))

@@ -29,12 +29,17 @@ records_in (contents ∷ rest) = length contents.records + records_in rest
 abbrev pub records_said : Client → ℕ
 records_said client = records_in (reported client)
 
--- a transaction makes at most a message a change, a message that is taken or a cut as many as the pieces of the log found, and a record or
--- a question one. No more records are found than the reports hold, where the number before each in the volume is a smaller one
+-- a transaction makes at most a message a change, a message that is taken or a cut as many as the pieces of the log
+-- found, and a record or a question one. No more records are found than the reports hold, where the number before each
+-- in the volume is a smaller one
 pub record StepsAreFew : Type 0 where
-  pub issue : (plan : Plan) (volume : ℕ) (client : Client) (changes : List Change) → Few (length changes) (issued plan volume client changes)
-  pub take : (plan : Plan) (volume : ℕ) (client : Client) (message : Message) → Few (most_installs plan.groups client.found) (taken plan volume client message)
-  pub cut : (plan : Plan) (volume : ℕ) (client : Client) → Few (most_installs (length client.groups) (log_reported client)) (cut_client plan volume client)
-  pub found : (client : Client) → VolumeLinksFall (live_reported client) → length (log_reported client) ≤ records_said client
+  pub issue : (plan : Plan) (volume : ℕ) (client : Client) (changes : List Change) → Few (length changes)
+      (issued plan volume client changes)
+  pub take : (plan : Plan) (volume : ℕ) (client : Client) (message : Message)
+      → Few (most_installs plan.groups client.found) (taken plan volume client message)
+  pub cut : (plan : Plan) (volume : ℕ) (client : Client)
+      → Few (most_installs (length client.groups) (log_reported client)) (cut_client plan volume client)
+  pub found : (client : Client) → VolumeLinksFall (live_reported client) → length (log_reported client) ≤ records_said
+      client
   pub resend : (volume : ℕ) (client : Client) (lsn : ℕ) → Few 1 (resent volume client lsn)
   pub read : (volume : ℕ) (client : Client) (group block : ℕ) → Few 1 (page_asked volume client group block)

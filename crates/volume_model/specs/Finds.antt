@@ -15,22 +15,30 @@ pub record StaysFound (client later : Client) : Type 0 where
   pub lineage_on : later.lineage ≡ client.lineage
   pub found_on : later.found ≡ client.found
 
--- a client that has cut stays so, with the same lineage and the same log found, whatever events follow in whatever world
+-- a client that has cut stays so, with the same lineage and the same log found, whatever events follow in whatever
+-- world
 abbrev pub FindsLast : Type 0
-FindsLast = (plan : Plan) (world : World) (events : List Event) (volume : ℕ) → has_cut (world.clients volume).stage ≡ true → StaysFound (world.clients volume) ((run plan world events).clients volume)
+FindsLast = (plan : Plan) (world : World) (events : List Event) (volume : ℕ) → has_cut (world.clients volume).stage
+    ≡ true → StaysFound (world.clients volume) ((run plan world events).clients volume)
 
 -- A node or a client has the lineage, or a report, an install or a copy says it.
 pub data Carries (world : World) (lineage : Lineage) : Type 0 where
   by_node : (group member : ℕ) → (world.nodes group member).contents.lineage ≡ lineage → Carries world lineage
   by_client : (volume : ℕ) → (world.clients volume).lineage ≡ lineage → Carries world lineage
-  by_report : (group : ℕ) (label : Label) (sender : ℕ) (contents : Contents) → IsIn (Report group label sender contents) world.messages → contents.lineage ≡ lineage → Carries world lineage
-  by_install : (group : ℕ) (label : Label) (piece : Piece) (contents : Contents) → IsIn (Install group label piece contents) world.messages → contents.lineage ≡ lineage → Carries world lineage
-  by_copy : (group epoch sender series : ℕ) (piece : Piece) (contents : Contents) → IsIn (CopyReport group epoch sender series piece contents) world.messages → contents.lineage ≡ lineage → Carries world lineage
+  by_report : (group : ℕ) (label : Label) (sender : ℕ) (contents : Contents) → IsIn (Report group label sender contents)
+      world.messages → contents.lineage ≡ lineage → Carries world lineage
+  by_install : (group : ℕ) (label : Label) (piece : Piece) (contents : Contents)
+      → IsIn (Install group label piece contents) world.messages → contents.lineage ≡ lineage → Carries world lineage
+  by_copy : (group epoch sender series : ℕ) (piece : Piece) (contents : Contents)
+      → IsIn (CopyReport group epoch sender series piece contents) world.messages → contents.lineage ≡ lineage
+      → Carries world lineage
 
 -- two lineages of one world with the same last volume epoch are the same lineage
 abbrev pub HasOneLineageAnEpoch : World → Type 0
-HasOneLineageAnEpoch world = (lineage other : Lineage) → Carries world lineage → Carries world other → last_epoch lineage ≡ last_epoch other → lineage ≡ other
+HasOneLineageAnEpoch world = (lineage other : Lineage) → Carries world lineage → Carries world other
+    → last_epoch lineage ≡ last_epoch other → lineage ≡ other
 
 -- over every list of events, from the opening world of a certified plan
 abbrev pub OneLineageAnEpoch : Type 0
-OneLineageAnEpoch = (plan : Plan) → IsCertified plan → (events : List Event) → HasOneLineageAnEpoch (run plan (opening plan) events)
+OneLineageAnEpoch = (plan : Plan) → IsCertified plan → (events : List Event) → HasOneLineageAnEpoch
+    (run plan (opening plan) events)

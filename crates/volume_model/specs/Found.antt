@@ -13,7 +13,8 @@ pub record IsReportedLive (lineage : Lineage) (reports : List Contents) (r : Red
 
 -- what was found are exactly the live records of all reports
 abbrev pub FoundIsReported : Type 0
-FoundIsReported = (lineage : Lineage) (reports : List Contents) (r : Redo) → IsIn r (found_in lineage reports) ↔ IsReportedLive lineage reports r
+FoundIsReported = (lineage : Lineage) (reports : List Contents) (r : Redo) → IsIn r (found_in lineage reports) ↔
+    IsReportedLive lineage reports r
 
 -- the lineage is that of a report, and no report's last volume epoch is above its own
 pub record IsNewestOf (reports : List Contents) (lineage : Lineage) : Type 0 where
@@ -24,4 +25,5 @@ pub record IsNewestOf (reports : List Contents) (lineage : Lineage) : Type 0 whe
 
 -- where there is a report the newest lineage is the newest of them
 abbrev pub NewestIsNewest : Type 0
-NewestIsNewest = (reports : List Contents) (some_report : Contents) → IsIn some_report reports → IsNewestOf reports (newest reports)
+NewestIsNewest = (reports : List Contents) (some_report : Contents) → IsIn some_report reports → IsNewestOf reports
+    (newest reports)

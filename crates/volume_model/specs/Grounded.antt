@@ -4,10 +4,12 @@ use Rattle.volume_model.specs.Lists.{IsIn}
 use Rattle.volume_model.specs.Redo.{Redo, scl}
 use Rattle.volume_model.specs.Greatest.{IsGreatest}
 
--- A record is grounded where none stands before it in its group, or where the one that stands before it is there and grounded.
+-- A record is grounded where none stands before it in its group, or where the one that stands before it is there and
+-- grounded.
 pub data IsGrounded (records : List Redo) : Redo → Type 0 where
   from_none : (r : Redo) → IsIn r records → r.prev_group ≡ 0 → IsGrounded records r
-  from_one : (r before : Redo) → IsIn r records → IsGrounded records before → before.lsn ≡ r.prev_group → IsGrounded records r
+  from_one : (r before : Redo) → IsIn r records → IsGrounded records before → before.lsn ≡ r.prev_group
+      → IsGrounded records r
 
 -- the number is that of a grounded record
 abbrev pub IsGroundedNumber : List Redo → ℕ → Type 0
@@ -19,4 +21,5 @@ GroupLinksFall records = (r : Redo) → IsIn r records → r.prev_group < r.lsn
 
 -- the complete point of a set of records is the greatest number of a grounded record, else 0
 abbrev pub CompletePointIsGreatest : Type 0
-CompletePointIsGreatest = (records : List Redo) → GroupLinksFall records → IsGreatest (IsGroundedNumber records) (scl records)
+CompletePointIsGreatest = (records : List Redo) → GroupLinksFall records → IsGreatest (IsGroundedNumber records)
+    (scl records)

@@ -20,8 +20,9 @@ placed (Actor.Node g m) w v = record v { authority = w.authority; nodes = put_at
 abbrev pub judged : Plan → List Entry → ℕ → Event → World
 judged plan es number event = placed (actor_of event) (world_at plan (take number es)) (world_at plan es)
 
--- What a refusal says is that these two numbers are one: the last volume epoch and the number of slots, the length of the journal and the number
--- of cells, or the number of the refusal with which the event is refused and its own. Running out of memory, and a missing message, are not noted
+-- What a refusal says is that these two numbers are one: the last volume epoch and the number of slots, the length of
+-- the journal and the number of cells, or the number of the refusal with which the event is refused and its own.
+-- Running out of memory, and a missing message, are not noted
 abbrev pub found_in : Plan → List Entry → ℕ → Event → Fault → ℕ
 found_in plan es number event NoMemory = 0
 found_in plan es number event NoMessage = 0
@@ -45,12 +46,14 @@ pub record IsRefused (plan : Plan) (slots cells : ℕ) (es : List Entry) (n : Re
   pub within : n.number ≤ length es
   pub judged_so : found_in plan es n.number n.event n.fault ≡ wanted slots cells n.fault
 
--- The refusal is true after these entries. NoSlot is of Assign alone, where the model assigns and the last volume epoch is the number of slots; the
--- journal is full where the model refuses nothing and it has as many entries as there are cells; any other is the model's. Running out of memory says nothing
+-- The refusal is true after these entries. NoSlot is of Assign alone, where the model assigns and the last volume epoch
+-- is the number of slots; the journal is full where the model refuses nothing and it has as many entries as there are
+-- cells; any other is the model's. Running out of memory says nothing
 abbrev pub Exact : Plan → ℕ → ℕ → List Entry → Event → Fault → Type 0
 Exact plan slots cells es event NoMemory = Unit {0}
 Exact plan slots cells es event NoSlot =
-    (event ≡ Event.Assign) × (refusal (step plan (world_at plan es) event) ≡ 0) × ((world_at plan es).authority.last_volume ≡ slots)
+    (event ≡ Event.Assign) × (refusal (step plan (world_at plan es) event) ≡ 0)
+    × ((world_at plan es).authority.last_volume ≡ slots)
 Exact plan slots cells es event JournalFull = (refusal (step plan (world_at plan es) event) ≡ 0) × (length es ≡ cells)
 Exact plan slots cells es event fault = refusal (step plan (world_at plan es) event) ≡ number_of fault
 

@@ -15,7 +15,8 @@ pub record RecordAtIsFirst : Type 0 where
   pub is_first : (records : List Redo) (n : ℕ) (r : Redo) → record_at records n ≡ Some r → IsFirstAt records n r
   pub is_there : (records : List Redo) (s : Redo) → IsIn s records → (r : Redo) × (record_at records s.lsn ≡ Some r)
 
--- Number 0 leads down to 0, and so does a number where the record that counts for it has one before it in the volume that leads down.
+-- Number 0 leads down to 0, and so does a number where the record that counts for it has one before it in the volume
+-- that leads down.
 pub data LeadsDown (records : List Redo) : ℕ → Type 0 where
   at_zero : (n : ℕ) → n ≡ 0 → LeadsDown records n
   by_record : (n : ℕ) (r : Redo) → record_at records n ≡ Some r → LeadsDown records r.prev_volume → LeadsDown records n
@@ -32,11 +33,14 @@ VolumeLinksFall records = (r : Redo) → IsIn r records → r.prev_volume < r.ls
 abbrev pub CutIsGreatest : Type 0
 CutIsGreatest = (records : List Redo) → VolumeLinksFall records → IsGreatest (IsFoundPoint records) (cut_of records)
 
--- a list, newest first: the record that counts for the number, the one that counts for the number before it in the volume, and so on down to 0
+-- a list, newest first: the record that counts for the number, the one that counts for the number before it in the
+-- volume, and so on down to 0
 abbrev pub AreOnTheWay : List Redo → ℕ → List Redo → Type 0
 AreOnTheWay records n [] = n ≡ 0
-AreOnTheWay records n (r ∷ older) = (record_at records n ≡ Some r) × (r.lsn ≡ n) × AreOnTheWay records r.prev_volume older
+AreOnTheWay records n (r ∷ older) = (record_at records n ≡ Some r) × (r.lsn ≡ n) × AreOnTheWay records r.prev_volume
+    older
 
 -- the log found has the records on the way from the cut down to 0, and no other
 abbrev pub LogFoundLeadsDown : Type 0
-LogFoundLeadsDown = (records : List Redo) → VolumeLinksFall records → AreOnTheWay records (cut_of records) (log_found records)
+LogFoundLeadsDown = (records : List Redo) → VolumeLinksFall records → AreOnTheWay records (cut_of records)
+    (log_found records)

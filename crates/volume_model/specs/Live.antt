@@ -8,7 +8,8 @@ abbrev pub EpochsGrow : Lineage → Type 0
 EpochsGrow [] = Unit {0}
 EpochsGrow (e ∷ older) = ((f : Entry) → IsIn f older → f.volume < e.volume) × EpochsGrow older
 
--- the volume epoch has an entry, the number is above that entry's start, and the cut of each entry of a later volume epoch is at least the number
+-- the volume epoch has an entry, the number is above that entry's start, and the cut of each entry of a later volume
+-- epoch is at least the number
 pub record Lives (lineage : Lineage) (volume lsn : ℕ) : Type 0 where
   pub entry : Entry
   pub there : IsIn entry lineage
@@ -18,4 +19,5 @@ pub record Lives (lineage : Lineage) (volume lsn : ℕ) : Type 0 where
 
 -- in a lineage whose epochs grow a record of this volume epoch and number is live exactly where it lives
 abbrev pub RecordsLive : Type 0
-RecordsLive = (lineage : Lineage) → EpochsGrow lineage → (volume lsn : ℕ) → (is_live lineage volume lsn ≡ true) ↔ Lives lineage volume lsn
+RecordsLive = (lineage : Lineage) → EpochsGrow lineage → (volume lsn : ℕ) → (is_live lineage volume lsn ≡ true) ↔ Lives
+    lineage volume lsn

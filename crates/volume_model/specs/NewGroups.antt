@@ -9,15 +9,18 @@ use Rattle.volume_model.specs.Plan.{Plan, IsCertified}
 use Rattle.volume_model.specs.Client.{has_cut}
 use Rattle.volume_model.specs.World.{World, Event, run, opening}
 
--- what the client of this volume epoch has installed, in the later world, in groups that it lacked in the earlier one, has no records
+-- what the client of this volume epoch has installed, in the later world, in groups that it lacked in the earlier one,
+-- has no records
 abbrev pub InstallsNothingNew : World → World → ℕ → Type 0
 InstallsNothingNew world later volume =
-    (group : ℕ) (label : Label) (piece : Piece) (contents : Contents) → length (world.clients volume).groups ≤ group → label.volume ≡ volume
+    (group : ℕ) (label : Label) (piece : Piece) (contents : Contents) → length (world.clients volume).groups ≤ group
+    → label.volume ≡ volume
     → IsIn (Install group label piece contents) later.messages → contents.records ≡ []
 
--- over every two lists of events, the one after the other, from the opening world of a certified plan: so it is of each client that has cut
--- after the first
+-- over every two lists of events, the one after the other, from the opening world of a certified plan: so it is of each
+-- client that has cut after the first
 abbrev pub NewGroupsAreEmpty : Type 0
 NewGroupsAreEmpty =
-    (plan : Plan) → IsCertified plan → (events more : List Event) (volume : ℕ) → has_cut ((run plan (opening plan) events).clients volume).stage ≡ true
+    (plan : Plan) → IsCertified plan → (events more : List Event) (volume : ℕ)
+    → has_cut ((run plan (opening plan) events).clients volume).stage ≡ true
     → InstallsNothingNew (run plan (opening plan) events) (run plan (run plan (opening plan) events) more) volume

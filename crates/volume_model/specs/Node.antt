@@ -17,8 +17,8 @@ pub record From : Type 0 where
   pub sender : ℕ
   pub contents : Contents
 
--- a segment of a group: its volume epoch, where its group stands as far as it was informed, whether it is whole,
--- what it holds, the pieces kept of the copies that it has been sent and of an install, and how often it has made a copy
+-- a segment of a group: its volume epoch, where its group stands as far as it was informed, whether it is whole, what
+-- it holds, the pieces kept of the copies that it has been sent and of an install, and how often it has made a copy
 pub record Node : Type 0 where
   pub volume : ℕ
   pub place : Place
@@ -36,12 +36,31 @@ lineage_epoch node = last_epoch node.contents.lineage
 abbrev pub born_node : Plan → ℕ → ℕ → Node
 born_node plan group member =
     if has_member (plan.configuration group 0) member
-    then record { volume = 1; place = record { configuration = 0; epoch = 1 }; whole = true; contents = record { lineage = birth; records = [] }; copies = []; install = None; copied = 0 }
-    else record { volume = 0; place = record { configuration = 0; epoch = 0 }; whole = false; contents = record { lineage = []; records = [] }; copies = []; install = None; copied = 0 }
+    then record {
+      volume = 1;
+      place = record { configuration = 0; epoch = 1 };
+      whole = true;
+      contents = record
+          { lineage = birth; records = [] };
+      copies = [];
+      install = None;
+      copied = 0;
+    }
+    else record {
+      volume = 0;
+      place = record { configuration = 0; epoch = 0 };
+      whole = false;
+      contents = record
+          { lineage = []; records = [] };
+      copies = [];
+      install = None;
+      copied = 0;
+    }
 
 -- the member is one of the configuration that the node took last
 abbrev pub has_configuration : Plan → ℕ → ℕ → Node → Bool
-has_configuration plan group member node = nat_lt 0 node.place.epoch && has_member (plan.configuration group node.place.configuration) member
+has_configuration plan group member node = nat_lt 0 node.place.epoch && has_member
+    (plan.configuration group node.place.configuration) member
 
 -- what a step of a node leaves: the messages that it makes, and the node
 pub record NodeStep : Type 0 where
@@ -92,22 +111,35 @@ take_record group member node label r =
       node = record node { contents = record { lineage = node.contents.lineage; records = records } };
     }))))
 
--- what an install of these pieces amounts to: nothing is answered until all are kept; then lineage and records are replaced, and the
--- pieces dropped
+-- what an install of these pieces amounts to: nothing is answered until all are kept; then lineage and records are
+-- replaced, and the pieces dropped
 abbrev pub install_step : ℕ → ℕ → Node → Label → Lineage → Pieces → NodeStep
 install_step group member node label lineage pieces =
     if is_complete pieces
     then record {
       made = ack_of group member label (united (contents_in pieces)) ∷ [];
-      node = record node { volume = label.volume; contents = record { lineage = lineage; records = united (contents_in pieces) }; install = None };
+      node = record node {
+        volume = label.volume;
+        contents = record {
+          lineage = lineage;
+          records = united
+              (contents_in pieces);
+        };
+        install = None;
+      };
     }
     else record { made = []; node = record node { volume = label.volume; install = Some pieces } }
 
--- a piece of an install; where the lineage is that of its volume epoch already, what is held is acknowledged, and nothing kept
+-- a piece of an install; where the lineage is that of its volume epoch already, what is held is acknowledged, and
+-- nothing kept
 unfoldable pub installed : ℕ → ℕ → Node → Label → Piece → Contents → NodeStep
 installed group member node label piece contents =
     if lineage_epoch node == label.volume
-    then record { made = ack_of group member label node.contents.records ∷ []; node = record node { volume = label.volume } }
+    then record {
+      made = ack_of group member label node.contents.records ∷ [];
+      node = record node
+          { volume = label.volume };
+    }
     else install_step group member node label contents.lineage (with_install node.install label.volume piece contents)
 
 -- how many copies a node may make
@@ -131,7 +163,8 @@ page_of records block point = page_from (replicate 512 0) block point records
 -- the tests of a page, in order: the member keeps whole pages, and the segment is complete up to the point
 unfoldable pub page_checks : {A : Type 0} → Plan → ℕ → ℕ → Node → ℕ → Result A Fault → Result A Fault
 page_checks plan group member node point rest =
-    refuse_if (not (has_configuration plan group member node && is_full (plan.configuration group node.place.configuration) member)) TailSegment (
+    refuse_if (not (has_configuration plan group member node && is_full
+    (plan.configuration group node.place.configuration) member)) TailSegment (
     refuse_if (nat_lt (scl node.contents.records) point) PointAhead rest)
 
 -- what a node answers to a question for a page whose label is right
@@ -211,7 +244,14 @@ abbrev pub finished : Formula → List Copy → Option Hydrated
 finished read copies =
     let lineage = newest (brought copies) in
     if sat read (copied_by copies)
-    then Some (record { volume = last_epoch lineage; contents = record { lineage = lineage; records = found_in lineage (brought copies) } })
+    then Some (record {
+      volume = last_epoch lineage;
+      contents = record {
+        lineage = lineage;
+        records = found_in lineage
+            (brought copies);
+      };
+    })
     else None
 
 -- what copies amount to, refused where they are not enough
@@ -231,11 +271,13 @@ whole_node node h = record node { volume = max node.volume h.volume; whole = tru
 
 -- a node becomes what its copies make of it, unless these are more records than it may hold
 abbrev pub whole_from : Node → Hydrated → NodeAnswer
-whole_from node h = refuse_if (nat_lt most_records (length h.contents.records)) Full (Ok (record { made = []; node = whole_node node h }))
+whole_from node h = refuse_if (nat_lt most_records (length h.contents.records)) Full
+    (Ok (record { made = []; node = whole_node node h }))
 
 -- becoming whole, from copies of a read set of the node's own configuration
 abbrev pub hydrated : Plan → ℕ → ℕ → Node → NodeAnswer
-hydrated plan group member node = refuse_if node.whole AlreadyWhole (gathered plan group member node >>= whole_from node)
+hydrated plan group member node = refuse_if node.whole AlreadyWhole (gathered plan group member node >>= whole_from
+    node)
 
 -- what a restart leaves: all but the pieces
 abbrev pub restarted : Node → Node

@@ -13,4 +13,5 @@ IsAtItsCut client = durable_point client ≡ last_cut client.lineage
 
 -- in every run of a certified plan a client that opens opens with its cut as its durable point
 abbrev pub OpensAtItsCut : Type 0
-OpensAtItsCut = (plan : Plan) → IsCertified plan → (events : List Event) (volume : ℕ) (opened : Step) → step plan (run plan (opening plan) events) (Open volume) ≡ Ok opened → IsAtItsCut (opened.world.clients volume)
+OpensAtItsCut = (plan : Plan) → IsCertified plan → (events : List Event) (volume : ℕ) (opened : Step)
+    → step plan (run plan (opening plan) events) (Open volume) ≡ Ok opened → IsAtItsCut (opened.world.clients volume)

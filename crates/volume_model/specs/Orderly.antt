@@ -20,9 +20,13 @@ pub record LinksFall (r : Redo) : Type 0 where
 pub data Brings (world : World) (r : Redo) : Type 0 where
   in_node : (group member : ℕ) → IsIn r (world.nodes group member).contents.records → Brings world r
   in_log : (volume : ℕ) → IsIn r (world.clients volume).log → Brings world r
-  in_report : (group : ℕ) (label : Label) (sender : ℕ) (contents : Contents) → IsIn (Report group label sender contents) world.messages → IsIn r contents.records → Brings world r
-  in_install : (group : ℕ) (label : Label) (piece : Piece) (contents : Contents) → IsIn (Install group label piece contents) world.messages → IsIn r contents.records → Brings world r
-  in_copy : (group epoch sender series : ℕ) (piece : Piece) (contents : Contents) → IsIn (CopyReport group epoch sender series piece contents) world.messages → IsIn r contents.records → Brings world r
+  in_report : (group : ℕ) (label : Label) (sender : ℕ) (contents : Contents) → IsIn (Report group label sender contents)
+      world.messages → IsIn r contents.records → Brings world r
+  in_install : (group : ℕ) (label : Label) (piece : Piece) (contents : Contents)
+      → IsIn (Install group label piece contents) world.messages → IsIn r contents.records → Brings world r
+  in_copy : (group epoch sender series : ℕ) (piece : Piece) (contents : Contents)
+      → IsIn (CopyReport group epoch sender series piece contents) world.messages → IsIn r contents.records
+      → Brings world r
   in_write : (group : ℕ) (label : Label) → IsIn (Write group label r) world.messages → Brings world r
   in_gossip : (group : ℕ) (label : Label) → IsIn (Gossip group label r) world.messages → Brings world r
 

@@ -7,7 +7,8 @@ use Rattle.volume_model.specs.Client.{Client, is_open, has_cut}
 use Rattle.volume_model.specs.ClientPoints.{durable_point}
 use Rattle.volume_model.specs.World.{World}
 
--- an opened writer: its volume epoch, the number after which its own records begin, its log newest first, its durable point
+-- an opened writer: its volume epoch, the number after which its own records begin, its log newest first, its durable
+-- point
 pub record Opened : Type 0 where
   pub volume : ℕ
   pub start : ℕ
@@ -23,18 +24,32 @@ pub record Find : Type 0 where
 
 -- the result of the client of a volume epoch as a writer
 abbrev pub opened_client : ℕ → Client → Opened
-opened_client volume client = record { volume = volume; start = last_start client.lineage; log = client.log; durable = durable_point client }
+opened_client volume client = record {
+  volume = volume;
+  start = last_start client.lineage;
+  log = client.log;
+  durable =
+      durable_point client;
+}
 
 -- the result of it as a recovery that has cut
 abbrev pub found_client : ℕ → Client → Find
-found_client volume client = record { volume = volume; found = client.found; cut = last_cut client.lineage; lineage = client.lineage }
+found_client volume client = record {
+  volume = volume;
+  found = client.found;
+  cut = last_cut client.lineage;
+  lineage =
+      client.lineage;
+}
 
 -- the opened writers, in growing volume epoch
 abbrev pub writers_in : World → List Opened
 writers_in world =
-    each_below (suc world.authority.last_volume) (λ volume. is_open (world.clients volume).stage) (λ volume. opened_client volume (world.clients volume))
+    each_below (suc world.authority.last_volume) (λ volume. is_open (world.clients volume).stage)
+    (λ volume. opened_client volume (world.clients volume))
 
 -- the recoveries that have cut, in growing volume epoch. Writer 1 was born open and has found nothing
 abbrev pub finds_in : World → List Find
 finds_in world =
-    each_below (suc world.authority.last_volume) (λ volume. nat_lt 1 volume && has_cut (world.clients volume).stage) (λ volume. found_client volume (world.clients volume))
+    each_below (suc world.authority.last_volume) (λ volume. nat_lt 1 volume && has_cut (world.clients volume).stage)
+    (λ volume. found_client volume (world.clients volume))

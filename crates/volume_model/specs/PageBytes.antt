@@ -13,7 +13,8 @@ ComeInOrder (r ∷ rest) = ((s : Redo) → IsIn s rest → numbers_before (spell
 
 -- over every list of events, from the opening world of a certified plan: each node's records come in order
 abbrev pub NodesRecordsInOrder : Type 0
-NodesRecordsInOrder = (plan : Plan) → IsCertified plan → (events : List Event) (group member : ℕ) → ComeInOrder ((run plan (opening plan) events).nodes group member).contents.records
+NodesRecordsInOrder = (plan : Plan) → IsCertified plan → (events : List Event) (group member : ℕ) → ComeInOrder
+    ((run plan (opening plan) events).nodes group member).contents.records
 
 -- each record writes within the 512 bytes of its block
 abbrev pub LieWithin : List Redo → Type 0
@@ -30,7 +31,8 @@ pub record Writes (block point k : ℕ) (r : Redo) : Type 0 where
 pub record IsLastToWrite (records : List Redo) (block point k : ℕ) (r : Redo) : Type 0 where
   pub there : IsIn r records
   pub writes : Writes block point k r
-  pub others_before : (s : Redo) → IsIn s records → Writes block point k s → (s ≡ r) ⊎ (numbers_before (spelling s) (spelling r) ≡ true)
+  pub others_before : (s : Redo) → IsIn s records → Writes block point k s → (s ≡ r)
+      ⊎ (numbers_before (spelling s) (spelling r) ≡ true)
 
 -- none of the records writes byte k
 abbrev pub NoneWrites : List Redo → ℕ → ℕ → ℕ → Type 0
@@ -39,9 +41,11 @@ NoneWrites records block point k = (r : Redo) → IsIn r records → Writes bloc
 -- byte k is what the last record that writes it has there, and 0 where none writes it
 abbrev pub IsByteOfLast : List Redo → ℕ → ℕ → ℕ → ℕ → Type 0
 IsByteOfLast records block point k byte =
-    ((r : Redo) × IsLastToWrite records block point k r × (byte ≡ slice_index r.bytes (k - r.offset))) ⊎ (NoneWrites records block point k × (byte ≡ 0))
+    ((r : Redo) × IsLastToWrite records block point k r × (byte ≡ slice_index r.bytes (k - r.offset)))
+    ⊎ (NoneWrites records block point k × (byte ≡ 0))
 
 -- a page has 512 bytes, and each is that of the last record that writes it
 pub record PagesByteByByte : Type 0 where
   pub size : (records : List Redo) (block point : ℕ) → LieWithin records → length (page_of records block point) ≡ 512
-  pub bytes : (records : List Redo) (block point k : ℕ) → ComeInOrder records → LieWithin records → k < 512 → IsByteOfLast records block point k (slice_index (page_of records block point) k)
+  pub bytes : (records : List Redo) (block point k : ℕ) → ComeInOrder records → LieWithin records → k < 512
+      → IsByteOfLast records block point k (slice_index (page_of records block point) k)

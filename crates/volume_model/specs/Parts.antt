@@ -20,12 +20,18 @@ pub record IsOfGroupWithin (group limit : ℕ) (r : Redo) : Type 0 where
   pub its_group : r.group ≡ group
   pub within : r.lsn ≤ limit
 
--- A log up to a number has exactly the records that are not above it, and a group's part exactly the group's; the last number of the whole, of a
--- group, on a block, and of a group up to a limit is the greatest there. A set of records need not grow for a group's part of it.
+-- A log up to a number has exactly the records that are not above it, and a group's part exactly the group's; the last
+-- number of the whole, of a group, on a block, and of a group up to a limit is the greatest there. A set of records
+-- need not grow for a group's part of it.
 pub record PartsOfLogs : Type 0 where
-  pub up_to_number : (log : List Redo) → NumbersGrow log → (n : ℕ) (r : Redo) → IsIn r (up_to n log) ↔ (IsIn r log × (r.lsn ≤ n))
-  pub of_one_group : (log : List Redo) (group : ℕ) (r : Redo) → IsIn r (of_group group log) ↔ (IsIn r log × (r.group ≡ group))
+  pub up_to_number : (log : List Redo) → NumbersGrow log → (n : ℕ) (r : Redo) → IsIn r (up_to n log) ↔
+      (IsIn r log × (r.lsn ≤ n))
+  pub of_one_group : (log : List Redo) (group : ℕ) (r : Redo) → IsIn r (of_group group log) ↔
+      (IsIn r log × (r.group ≡ group))
   pub last : (log : List Redo) → NumbersGrow log → IsGreatest (IsNumberOf (λ r. Unit {0}) log) (last_lsn log)
-  pub last_in_group : (log : List Redo) → NumbersGrow log → (group : ℕ) → IsGreatest (IsNumberOf (λ r. r.group ≡ group) log) (last_of_group group log)
-  pub last_on_block : (log : List Redo) → NumbersGrow log → (group block : ℕ) → IsGreatest (IsNumberOf (IsOnBlock group block) log) (last_of_block group block log)
-  pub last_within : (log : List Redo) → NumbersGrow log → (group limit : ℕ) → IsGreatest (IsNumberOf (IsOfGroupWithin group limit) log) (last_of_group_below group limit log)
+  pub last_in_group : (log : List Redo) → NumbersGrow log → (group : ℕ) → IsGreatest (IsNumberOf (λ r. r.group ≡ group)
+      log) (last_of_group group log)
+  pub last_on_block : (log : List Redo) → NumbersGrow log → (group block : ℕ)
+      → IsGreatest (IsNumberOf (IsOnBlock group block) log) (last_of_block group block log)
+  pub last_within : (log : List Redo) → NumbersGrow log → (group limit : ℕ)
+      → IsGreatest (IsNumberOf (IsOfGroupWithin group limit) log) (last_of_group_below group limit log)

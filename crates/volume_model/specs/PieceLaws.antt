@@ -26,38 +26,50 @@ ArePiecesOf q pieces = (kept : KeptPiece) → IsIn kept pieces.kept → IsPieceO
 -- each kept piece has another number than those behind it, and one below the number of pieces
 abbrev pub AreOnce : ℕ → List KeptPiece → Type 0
 AreOnce of [] = Unit {0}
-AreOnce of (kept ∷ rest) = (kept.number < of) × (any (λ other. other.number == kept.number) rest ≡ false) × AreOnce of rest
+AreOnce of (kept ∷ rest) = (kept.number < of) × (any (λ other. other.number == kept.number) rest ≡ false)
+    × AreOnce of rest
 
--- Whether all pieces are kept follows from how many they are, where each is kept once; and so it stays where the first of each number is kept.
+-- Whether all pieces are kept follows from how many they are, where each is kept once; and so it stays where the first
+-- of each number is kept.
 pub record CountTells : Type 0 where
-  pub complete : (pieces : Pieces) → AreOnce pieces.of pieces.kept → is_complete pieces ≡ (length pieces.kept == pieces.of)
-  pub stays : (pieces : Pieces) (piece : Piece) (c : Contents) → AreOnce pieces.of pieces.kept → piece.number < pieces.of → AreOnce pieces.of (with_piece pieces piece c).kept
+  pub complete : (pieces : Pieces) → AreOnce pieces.of pieces.kept → is_complete pieces
+      ≡ (length pieces.kept == pieces.of)
+  pub stays : (pieces : Pieces) (piece : Piece) (c : Contents) → AreOnce pieces.of pieces.kept → piece.number
+      < pieces.of → AreOnce pieces.of (with_piece pieces piece c).kept
 
 -- what a complete copy brought, united, as if it were reported under this lineage
 abbrev pub united_copy : Lineage → Copy → Contents
 united_copy lineage copy = record { lineage = lineage; records = united (brought_by copy) }
 
--- No piece has more records than it may, all pieces one behind the other have the records that were cut, in their order; and once all pieces are
--- kept, in whatever order they came, their records are those that were cut.
+-- No piece has more records than it may, all pieces one behind the other have the records that were cut, in their
+-- order; and once all pieces are kept, in whatever order they came, their records are those that were cut.
 pub record PiecesMakeUp : Type 0 where
   pub number : (records : ℕ) → IsNumberOfPieces records (pieces_of records)
   pub small : (records : List Redo) (number : ℕ) → length (piece_records records number) ≤ most_in_piece
-  pub joined : (records : List Redo) → flat_map (piece_records records) (each_below (pieces_of (length records)) (λ number. true) (λ number. number)) ≡ records
-  pub kept : (q : Contents) (pieces : Pieces) → 0 < pieces.of → ArePiecesOf q pieces → is_complete pieces ≡ true → (r : Redo) → IsIn r (united (contents_in pieces)) ↔ IsIn r q.records
+  pub joined : (records : List Redo) → flat_map (piece_records records) (each_below (pieces_of (length records))
+      (λ number. true) (λ number. number)) ≡ records
+  pub kept : (q : Contents) (pieces : Pieces) → 0 < pieces.of → ArePiecesOf q pieces → is_complete pieces ≡ true
+      → (r : Redo) → IsIn r (united (contents_in pieces)) ↔ IsIn r q.records
   pub counted : CountTells
 
--- What pieces hold together rests on which pieces they are, and not on their order; and what is found in complete copies is found where the
--- pieces of each are united first.
+-- What pieces hold together rests on which pieces they are, and not on their order; and what is found in complete
+-- copies is found where the pieces of each are united first.
 pub record PiecesUnite : Type 0 where
-  pub any_order : (parts others : List Contents) → ((c : Contents) → IsIn c parts ↔ IsIn c others) → united parts ≡ united others
-  pub copies : (lineage : Lineage) (copies : List Copy) → found_in lineage (brought copies) ≡ found_in lineage (map (united_copy lineage) copies)
+  pub any_order : (parts others : List Contents) → ((c : Contents) → IsIn c parts ↔ IsIn c others) → united parts
+      ≡ united others
+  pub copies : (lineage : Lineage) (copies : List Copy) → found_in lineage (brought copies) ≡ found_in lineage
+      (map (united_copy lineage) copies)
 
--- What a node of the plan's groups keeps of a sender's copy are pieces of one whole, and what it keeps of an install are pieces of what the
--- client of that volume epoch installs in the group.
+-- What a node of the plan's groups keeps of a sender's copy are pieces of one whole, and what it keeps of an install
+-- are pieces of what the client of that volume epoch installs in the group.
 pub record KeepsPiecesOfOne (plan : Plan) (world : World) : Type 0 where
-  pub copies : (group member : ℕ) → group < plan.groups → (copy : Copy) → IsIn copy (world.nodes group member).copies → (q : Contents) × ArePiecesOf q copy.pieces
-  pub installs : (group member : ℕ) → group < plan.groups → (pieces : Pieces) → (world.nodes group member).install ≡ Some pieces → ArePiecesOf (to_install (world.clients pieces.series).lineage (world.clients pieces.series).found group) pieces
+  pub copies : (group member : ℕ) → group < plan.groups → (copy : Copy) → IsIn copy (world.nodes group member).copies
+      → (q : Contents) × ArePiecesOf q copy.pieces
+  pub installs : (group member : ℕ) → group < plan.groups → (pieces : Pieces) → (world.nodes group member).install
+      ≡ Some pieces → ArePiecesOf (to_install (world.clients pieces.series).lineage (world.clients pieces.series).found
+      group) pieces
 
 -- over every list of events, from the opening world of a certified plan
 abbrev pub PiecesAreOfOne : Type 0
-PiecesAreOfOne = (plan : Plan) → IsCertified plan → (events : List Event) → KeepsPiecesOfOne plan (run plan (opening plan) events)
+PiecesAreOfOne = (plan : Plan) → IsCertified plan → (events : List Event) → KeepsPiecesOfOne plan
+    (run plan (opening plan) events)

@@ -38,15 +38,16 @@ in_pieces contents say =
 
 -- the piece is one of 1 to 4,096, and has no more records than it may
 abbrev pub is_piece : Piece → Contents → Bool
-is_piece piece contents = nat_lt piece.number piece.of && (nat_le piece.of most_pieces && nat_le (length contents.records) most_in_piece)
+is_piece piece contents = nat_lt piece.number piece.of && (nat_le piece.of most_pieces && nat_le
+    (length contents.records) most_in_piece)
 
 -- a piece that is kept
 pub record KeptPiece : Type 0 where
   pub number : ℕ
   pub contents : Contents
 
--- the pieces that are kept of one series: the volume epoch of an install, or the number of a copy; of how many pieces it is; and
--- those that came, each number once
+-- the pieces that are kept of one series: the volume epoch of an install, or the number of a copy; of how many pieces
+-- it is; and those that came, each number once
 pub record Pieces : Type 0 where
   pub series : ℕ
   pub of : ℕ
@@ -66,7 +67,12 @@ is_complete pieces = every_below pieces.of (has_piece pieces)
 
 -- a piece of a series of which none was kept
 abbrev pub first_piece : ℕ → Piece → Contents → Pieces
-first_piece series piece contents = record { series = series; of = piece.of; kept = record { number = piece.number; contents = contents } ∷ [] }
+first_piece series piece contents = record {
+  series = series;
+  of = piece.of;
+  kept = record
+      { number = piece.number; contents = contents } ∷ [];
+}
 
 -- the first of each number is kept
 abbrev pub with_piece : Pieces → Piece → Contents → Pieces
@@ -99,13 +105,14 @@ with_install None volume piece contents = first_piece volume piece contents
 with_install (Some pieces) volume piece contents =
     if pieces.series == volume then with_piece pieces piece contents else first_piece volume piece contents
 
--- What is kept of a sender's copy with a piece more: once a series is complete nothing changes it; before that a greater series drops the
--- kept pieces, and a smaller one changes nothing.
+-- What is kept of a sender's copy with a piece more: once a series is complete nothing changes it; before that a
+-- greater series drops the kept pieces, and a smaller one changes nothing.
 abbrev pub with_series : Pieces → ℕ → Piece → Contents → Pieces
 with_series pieces series piece contents =
     if is_complete pieces
     then pieces
-    else (if pieces.series == series then with_piece pieces piece contents else (if nat_lt series pieces.series then pieces else first_piece series piece contents))
+    else (if pieces.series == series then with_piece pieces piece contents else (if nat_lt series pieces.series then
+    pieces else first_piece series piece contents))
 
 -- what is kept of the copy of a sender
 pub record Copy : Type 0 where

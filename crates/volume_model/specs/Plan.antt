@@ -11,8 +11,8 @@ pub record Configuration : Type 0 where
   pub read : Formula
   pub write : Formula
 
--- how far numbers may run ahead of the durable point, how many groups are there when the volume is born, how many there are in all (the others join
--- one by one, in order), and of each group the configurations, number 0 the root
+-- how far numbers may run ahead of the durable point, how many groups are there when the volume is born, how many there
+-- are in all (the others join one by one, in order), and of each group the configurations, number 0 the root
 pub record Plan : Type 0 where
   pub lal : ℕ
   pub born : ℕ
@@ -55,42 +55,52 @@ is_configuration plan group c epoch = nat_lt c (plan.configurations group) && ep
 
 -- a member that the parent lacks
 abbrev pub is_fresh : Plan → ℕ → ℕ → ℕ → Bool
-is_fresh plan group c x = has_member (plan.configuration group c) x && not (has_member (plan.configuration group (parent_of plan group c)) x)
+is_fresh plan group c x = has_member (plan.configuration group c) x && not
+    (has_member (plan.configuration group (parent_of plan group c)) x)
 
 -- one of its configurations has the member
 abbrev pub is_named : Plan → ℕ → ℕ → Bool
-is_named plan group x = nat_lt group plan.groups && some_below (plan.configurations group) (λ c. has_member (plan.configuration group c) x)
+is_named plan group x = nat_lt group plan.groups && some_below (plan.configurations group)
+    (λ c. has_member (plan.configuration group c) x)
 
--- a child: its parent stands before it and is of the epoch before its own, and no configuration above has a fresh member
+-- a child: its parent stands before it and is of the epoch before its own, and no configuration above has a fresh
+-- member
 pub record IsChild (plan : Plan) (group c : ℕ) : Type 0 where
   pub parent_below : parent_of plan group c < c
   pub epoch_next : epoch_of plan group c ≡ suc (epoch_of plan group (parent_of plan group c))
-  pub fresh_unused : (x a : ℕ) → is_fresh plan group c x ≡ true → IsAbove plan group a c → has_member (plan.configuration group a) x ≡ false
+  pub fresh_unused : (x a : ℕ) → is_fresh plan group c x ≡ true → IsAbove plan group a c
+      → has_member (plan.configuration group a) x ≡ false
 
 -- a child whose read sets, where they have no fresh member, are read sets of its parent
 pub record IsStep (plan : Plan) (group c : ℕ) : Type 0 where
   pub child : IsChild plan group c
-  pub reads_on : (readers : Members) → sat (plan.configuration group c).read readers ≡ true → ((x : ℕ) → readers x ≡ true → is_fresh plan group c x ≡ false) → sat (plan.configuration group (parent_of plan group c)).read readers ≡ true
+  pub reads_on : (readers : Members) → sat (plan.configuration group c).read readers ≡ true
+      → ((x : ℕ) → readers x ≡ true → is_fresh plan group c x ≡ false)
+      → sat (plan.configuration group (parent_of plan group c)).read readers ≡ true
 
 -- each set that satisfies the one expression has a member in common with each set that satisfies the other
 abbrev pub HaveCommonMember : Formula → Formula → Type 0
-HaveCommonMember read write = (readers writers : Members) → sat read readers ≡ true → sat write writers ≡ true → (x : ℕ) × (readers x ≡ true) × (writers x ≡ true)
+HaveCommonMember read write = (readers writers : Members) → sat read readers ≡ true → sat write writers ≡ true → (x : ℕ)
+    × (readers x ≡ true) × (writers x ≡ true)
 
 -- each read set has a member in common with each write set
 pub record HasQuorums (configuration : Configuration) : Type 0 where
   pub valid_read : HasCounts configuration.read
   pub meets : HaveCommonMember configuration.read configuration.write
 
--- Numbers may run ahead, there is a group at birth, none more than there are in all, each group has a root, of epoch 1, and each configuration has the one property and each but the root the other.
+-- Numbers may run ahead, there is a group at birth, none more than there are in all, each group has a root, of epoch 1,
+-- and each configuration has the one property and each but the root the other.
 pub record IsPlanOf (Quorums : Configuration → Type 0) (Step : Plan → ℕ → ℕ → Type 0) (plan : Plan) : Type 0 where
   pub lal_positive : 1 ≤ plan.lal
   pub born_there : 0 < plan.born
   pub born_within : plan.born ≤ plan.groups
   pub root_there : (group : ℕ) → group < plan.groups → 0 < plan.configurations group
   pub root_epoch : (group : ℕ) → group < plan.groups → epoch_of plan group 0 ≡ 1
-  pub quorums : (group c : ℕ) → group < plan.groups → c < plan.configurations group → Quorums (plan.configuration group c)
+  pub quorums : (group c : ℕ) → group < plan.groups → c < plan.configurations group
+      → Quorums (plan.configuration group c)
   pub step : (group c : ℕ) → group < plan.groups → c < plan.configurations group → 0 < c → Step plan group c
 
--- In each configuration each read set has a member in common with each write set, and each configuration but the root is a step from its parent.
+-- In each configuration each read set has a member in common with each write set, and each configuration but the root
+-- is a step from its parent.
 abbrev pub IsCertified : Plan → Type 0
 IsCertified plan = IsPlanOf HasQuorums IsStep plan

@@ -13,16 +13,20 @@ use Rattle.volume_model.specs.Greatest.{IsGreatest}
 abbrev pub IsWrittenTo : Formula → List Count → ℕ → Type 0
 IsWrittenTo write counts n = sat write (reaching counts n) ≡ true
 
--- once it is raised the group's point is the greatest number that is written, or what it was before where that is greater
+-- once it is raised the group's point is the greatest number that is written, or what it was before where that is
+-- greater
 pub record IsRaised (plan : Plan) (number : ℕ) (group : ClientGroup) : Type 0 where
   pub number_written : ℕ
-  pub greatest : IsGreatest (IsWrittenTo (place_configuration plan number group.place).write group.counts) number_written
+  pub greatest : IsGreatest (IsWrittenTo (place_configuration plan number group.place).write group.counts)
+      number_written
   pub point : (raised_group plan number group).group_point ≡ max group.group_point number_written
 
 -- so it is where the write expression is a good one, and at every configuration of a certified plan
 pub record GroupPointIsGreatest : Type 0 where
-  pub of_expressions : (plan : Plan) (number : ℕ) (group : ClientGroup) → HasCounts (place_configuration plan number group.place).write → IsRaised plan number group
-  pub of_plans : (plan : Plan) → IsCertified plan → (number : ℕ) (group : ClientGroup) → number < plan.groups → group.place.configuration < plan.configurations number → IsRaised plan number group
+  pub of_expressions : (plan : Plan) (number : ℕ) (group : ClientGroup)
+      → HasCounts (place_configuration plan number group.place).write → IsRaised plan number group
+  pub of_plans : (plan : Plan) → IsCertified plan → (number : ℕ) (group : ClientGroup) → number < plan.groups
+      → group.place.configuration < plan.configurations number → IsRaised plan number group
 
 -- each record, newest first, has a greater number than all older ones, and none has number 0
 abbrev pub NumbersGrow : List Redo → Type 0
@@ -41,16 +45,20 @@ pub record IsPointWithin (limit : ℕ) (log : List Redo) (n : ℕ) : Type 0 wher
 
 -- up to what number a log is covered, and the last consistency point up to a limit
 pub record PointsOfLogsAreGreatest : Type 0 where
-  pub complete : (points : ℕ → ℕ) (log : List Redo) → NumbersGrow log → IsGreatest (IsCovered points log) (complete_of points log)
-  pub durable : (limit : ℕ) (log : List Redo) → NumbersGrow log → IsGreatest (IsPointWithin limit log) (consistency_point_below limit log)
+  pub complete : (points : ℕ → ℕ) (log : List Redo) → NumbersGrow log → IsGreatest (IsCovered points log)
+      (complete_of points log)
+  pub durable : (limit : ℕ) (log : List Redo) → NumbersGrow log → IsGreatest (IsPointWithin limit log)
+      (consistency_point_below limit log)
 
 -- a client's complete point and its durable point, where the numbers of its log grow
 pub record HasGreatestPoints (client : Client) : Type 0 where
   pub complete : IsGreatest (IsCovered (group_point_of client.groups) client.log) (complete_point client)
   pub durable : IsGreatest (IsPointWithin (complete_point client) client.log) (durable_point client)
 
--- so it is of each log and each client whose numbers grow, and the numbers of each client's log grow in every run of a certified plan
+-- so it is of each log and each client whose numbers grow, and the numbers of each client's log grow in every run of a
+-- certified plan
 pub record CompleteAndDurablePointsAreGreatest : Type 0 where
   pub of_logs : PointsOfLogsAreGreatest
   pub of_clients : (client : Client) → NumbersGrow client.log → HasGreatestPoints client
-  pub in_runs : (plan : Plan) → IsCertified plan → (events : List Event) (volume : ℕ) → NumbersGrow ((run plan (opening plan) events).clients volume).log
+  pub in_runs : (plan : Plan) → IsCertified plan → (events : List Event) (volume : ℕ) → NumbersGrow
+      ((run plan (opening plan) events).clients volume).log

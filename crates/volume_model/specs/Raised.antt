@@ -7,4 +7,5 @@ use Rattle.volume_model.specs.ClientPoints.{raised, raised_group}
 -- raising goes over all groups and no others, each under its own number
 pub record EachGroupIsRaised : Type 0 where
   pub count : (plan : Plan) (groups : List ClientGroup) → length (raised plan groups) ≡ length groups
-  pub each : (plan : Plan) (groups : List ClientGroup) (k : ℕ) → k < length groups → group_of (raised plan groups) k ≡ raised_group plan k (group_of groups k)
+  pub each : (plan : Plan) (groups : List ClientGroup) (k : ℕ) → k < length groups → group_of (raised plan groups) k
+      ≡ raised_group plan k (group_of groups k)

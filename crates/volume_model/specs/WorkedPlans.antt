@@ -48,7 +48,14 @@ full_and_tail_root = record {
 
 -- one group with one configuration of full and tail segments
 abbrev pub full_and_tail : Plan
-full_and_tail = record { lal = 10; born = 1; groups = 1; configurations = λ group. 1; configuration = λ group c. full_and_tail_root }
+full_and_tail = record {
+  lal = 10;
+  born = 1;
+  groups = 1;
+  configurations = λ group. 1;
+  configuration = λ group c.
+      full_and_tail_root;
+}
 
 -- member 6 comes in beside member 5: what reads reads in either six, and what writes writes in both
 abbrev pub both_sixes : Configuration
@@ -63,7 +70,15 @@ both_sixes = record {
 
 -- and then member 5 goes
 abbrev pub with_other : Configuration
-with_other = record { parent = 1; epoch = 3; members = other_six; full = other_six; read = count_of 3 other_six; write = count_of 4 other_six }
+with_other = record {
+  parent = 1;
+  epoch = 3;
+  members = other_six;
+  full = other_six;
+  read = count_of 3 other_six;
+  write =
+      count_of 4 other_six;
+}
 
 -- or member 6 goes again
 abbrev pub with_first : Configuration
@@ -78,7 +93,14 @@ replacing (suc (suc (suc c))) = with_first
 
 -- one group in which a member may be replaced
 abbrev pub member_replaced : Plan
-member_replaced = record { lal = 10; born = 1; groups = 1; configurations = λ group. 4; configuration = λ group c. replacing c }
+member_replaced = record {
+  lal = 10;
+  born = 1;
+  groups = 1;
+  configurations = λ group. 4;
+  configuration = λ group c.
+      replacing c;
+}
 
 -- the plan of six copies is certified
 abbrev pub SixCopiesCertified : Type 0

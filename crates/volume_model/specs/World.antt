@@ -25,7 +25,8 @@ configuration_of authority group = slice_index_or authority.configurations group
 abbrev pub groups_joined : Authority → ℕ
 groups_joined authority = length authority.configurations
 
--- all actors, and all messages ever made, newest first. A node is named by group and member, a client by its volume epoch
+-- all actors, and all messages ever made, newest first. A node is named by group and member, a client by its volume
+-- epoch
 pub record World : Type 0 where
   pub authority : Authority
   pub nodes : ℕ → ℕ → Node
@@ -62,7 +63,11 @@ opening plan =
 -- where the authority has each group
 abbrev pub place_now : Plan → Authority → ℕ → Place
 place_now plan authority group =
-    record { configuration = configuration_of authority group; epoch = epoch_of plan group (configuration_of authority group) }
+    record {
+      configuration = configuration_of authority group;
+      epoch = epoch_of plan group
+          (configuration_of authority group);
+    }
 
 -- the places of all groups that have joined, by number
 abbrev pub places_now : Plan → Authority → List Place
@@ -92,7 +97,8 @@ advance_step plan authority group c =
 abbrev pub advanced : Plan → Authority → ℕ → ℕ → Result AuthorityStep Fault
 advanced plan authority group c =
     refuse_if (not (nat_lt group (groups_joined authority))) NoGroup (
-    refuse_if (not (nat_lt 0 c && (nat_lt c (plan.configurations group) && parent_of plan group c == configuration_of authority group))) NotInPlan (
+    refuse_if (not (nat_lt 0 c && (nat_lt c (plan.configurations group) && parent_of plan group c == configuration_of
+    authority group))) NotInPlan (
     Ok (advance_step plan authority group c)))
 
 -- what the authority does when a client asks for the places again
@@ -116,19 +122,40 @@ pub record Step : Type 0 where
 abbrev pub of_authority : World → Result AuthorityStep Fault → Result Step Fault
 of_authority world (Err number) = Err number
 of_authority world (Ok step) =
-    Ok (record { made = step.made; world = record world { authority = step.authority; messages = added step.made world.messages } })
+    Ok (record {
+      made = step.made;
+      world = record world {
+        authority = step.authority;
+        messages = added step.made
+            world.messages;
+      };
+    })
 
 -- a step of a client, in the world
 abbrev pub of_client : World → ℕ → ClientAnswer → Result Step Fault
 of_client world volume (Err number) = Err number
 of_client world volume (Ok step) =
-    Ok (record { made = step.made; world = record world { clients = put world.clients volume step.client; messages = added step.made world.messages } })
+    Ok (record {
+      made = step.made;
+      world = record world {
+        clients = put world.clients volume step.client;
+        messages =
+            added step.made world.messages;
+      };
+    })
 
 -- a step of a node, in the world
 abbrev pub of_node : World → ℕ → ℕ → NodeAnswer → Result Step Fault
 of_node world group member (Err number) = Err number
 of_node world group member (Ok step) =
-    Ok (record { made = step.made; world = record world { nodes = put_at world.nodes group member step.node; messages = added step.made world.messages } })
+    Ok (record {
+      made = step.made;
+      world = record world {
+        nodes = put_at world.nodes group member step.node;
+        messages =
+            added step.made world.messages;
+      };
+    })
 
 -- what a node does with a message that was found
 abbrev pub deliver : Plan → ℕ → ℕ → Node → Option Message → NodeAnswer
@@ -142,7 +169,8 @@ take plan volume client (Some message) = taken plan volume client message
 
 -- refused where the group isn't one of the first so many, which have joined, or no configuration of it has the member
 abbrev pub if_there : Plan → ℕ → ℕ → ℕ → NodeAnswer → NodeAnswer
-if_there plan joined group member rest = refuse_if (not (nat_lt group joined && is_named plan group member)) NoActor rest
+if_there plan joined group member rest = refuse_if (not (nat_lt group joined && is_named plan group member)) NoActor
+    rest
 
 -- one event: the number of its refusal, or the step
 abbrev pub step : Plan → World → Event → Result Step Fault
@@ -151,17 +179,26 @@ step plan world (Advance group c) = of_authority world (advanced plan world.auth
 step plan world (Refresh volume) = of_authority world (refreshed plan world.authority volume)
 step plan world Grow = of_authority world (grown plan world.authority)
 step plan world (Issue volume changes) = of_client world volume (issued plan volume (world.clients volume) changes)
-step plan world (Take volume number) = of_client world volume (take plan volume (world.clients volume) (numbered world.messages number))
+step plan world (Take volume number) = of_client world volume (take plan volume (world.clients volume)
+    (numbered world.messages number))
 step plan world (Cut volume) = of_client world volume (cut_client plan volume (world.clients volume))
 step plan world (Open volume) = of_client world volume (opened plan (world.clients volume))
 step plan world (Resend volume lsn) = of_client world volume (resent volume (world.clients volume) lsn)
-step plan world (Read volume group block) = of_client world volume (page_asked volume (world.clients volume) group block)
+step plan world (Read volume group block) = of_client world volume (page_asked volume (world.clients volume) group
+    block)
 step plan world (Deliver group member number) =
-    of_node world group member (if_there plan (groups_joined world.authority) group member (deliver plan group member (world.nodes group member) (numbered world.messages number)))
-step plan world (Hydrate group member) = of_node world group member (if_there plan (groups_joined world.authority) group member (hydrated plan group member (world.nodes group member)))
+    of_node world group member (if_there plan (groups_joined world.authority) group member
+    (deliver plan group member (world.nodes group member) (numbered world.messages number)))
+step plan world (Hydrate group member) = of_node world group member (if_there plan (groups_joined world.authority) group
+    member (hydrated plan group member (world.nodes group member)))
 step plan world (Restart group member) =
-    of_node world group member (if_there plan (groups_joined world.authority) group member (Ok (record { made = []; node = restarted (world.nodes group member) })))
-step plan world (Offer group member lsn) = of_node world group member (if_there plan (groups_joined world.authority) group member (offered group (world.nodes group member) lsn))
+    of_node world group member (if_there plan (groups_joined world.authority) group member (Ok (record {
+      made = [];
+      node
+          = restarted (world.nodes group member);
+    })))
+step plan world (Offer group member lsn) = of_node world group member (if_there plan (groups_joined world.authority)
+    group member (offered group (world.nodes group member) lsn))
 
 -- a refused event changes nothing
 abbrev pub after_step : World → Result Step Fault → World
@@ -185,4 +222,5 @@ event_result (Ok s) = Ok (length s.made)
 -- the result of each event
 abbrev pub results : Plan → World → List Event → List (Result ℕ Fault)
 results plan world [] = []
-results plan world (event ∷ events) = event_result (step plan world event) ∷ results plan (after plan world event) events
+results plan world (event ∷ events) = event_result (step plan world event) ∷ results plan (after plan world event)
+    events

@@ -22,14 +22,17 @@ message_of (View m) = model.Message.View m.volume (map place_of m.places.value.i
 message_of (StepTo m) = model.Message.StepTo m.group (place_of m.place)
 message_of (Fence m) = model.Message.Fence m.group (label_of m.label)
 message_of (Report m) = model.Message.Report m.group (label_of m.label) m.from (contents_of (arc_value m.contents))
-message_of (Install m) = model.Message.Install m.group (label_of m.label) (piece_in m.piece m.of) (contents_of m.contents.value)
+message_of (Install m) = model.Message.Install m.group (label_of m.label) (piece_in m.piece m.of)
+    (contents_of m.contents.value)
 message_of (Write m) = model.Message.Write m.group (label_of m.label) (shared_redo m.packet)
 message_of (Gossip m) = model.Message.Gossip m.group (label_of m.label) (shared_redo m.packet)
 message_of (Ack m) = model.Message.Ack m.group (label_of m.label) m.from m.scl
 message_of (CopyAsk m) = model.Message.CopyAsk m.group m.epoch
-message_of (CopyReport m) = model.Message.CopyReport m.group m.epoch m.from m.part.value.series (piece_in m.piece m.of) (contents_of m.part.value.contents)
+message_of (CopyReport m) = model.Message.CopyReport m.group m.epoch m.from m.part.value.series (piece_in m.piece m.of)
+    (contents_of m.part.value.contents)
 message_of (PageAsk m) = model.Message.PageAsk m.group (label_of m.label) m.block m.point
-message_of (Page m) = model.Message.Page m.group (label_of m.label) m.from m.image.value.block m.image.value.point m.image.value.bytes
+message_of (Page m) = model.Message.Page m.group (label_of m.label) m.from m.image.value.block m.image.value.point
+    m.image.value.bytes
 
 -- the messages of the model that these are, in their order
 abbrev pub messages_of : List Message → List model.Message

@@ -24,7 +24,8 @@ pub struct Carried<'a> {
 impl Carried<'_> {
     /// Returns the `Write` that carries the record. Fails only with `NoMemory`.
     pub fn write(&self) -> Result<Message, AllocError>
-        ensures { IfOk result (λ message. message_of message ≡ model.Message.Write self.now.group (label_of self.now.label) (shared_redo self.now.packet.now)) }
+        ensures { IfOk result (λ message. message_of message ≡ model.Message.Write self.now.group
+            (label_of self.now.label) (shared_redo self.now.packet.now)) }
     {
         Ok(Message::Write(Write {
             group: self.group,
@@ -35,7 +36,8 @@ impl Carried<'_> {
 
     /// Returns the `Gossip` that carries the record. Fails only with `NoMemory`.
     pub fn gossip(&self) -> Result<Message, AllocError>
-        ensures { IfOk result (λ message. message_of message ≡ model.Message.Gossip self.now.group (label_of self.now.label) (shared_redo self.now.packet.now)) }
+        ensures { IfOk result (λ message. message_of message ≡ model.Message.Gossip self.now.group
+            (label_of self.now.label) (shared_redo self.now.packet.now)) }
     {
         Ok(Message::Gossip(Gossip {
             group: self.group,

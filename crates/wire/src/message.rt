@@ -232,7 +232,8 @@ impl CopyReport {
     /// Returns whether it is for the nodes of the group: it speaks of the group, the records of the piece are those
     /// of the group, and its sender is a member.
     pub fn is_for(&self, group: u8) -> bool
-        ensures { result ≡ (self.now.group == group && in_group group (contents_of self.now.part.value.contents) && nat_lt self.now.from 64) }
+        ensures { result ≡ (self.now.group == group && in_group group (contents_of self.now.part.value.contents) &&
+            nat_lt self.now.from 64) }
     {
         self.group == group && self.part.contents.is_of(group) && self.from < 64
     }

@@ -29,7 +29,8 @@ messages_in a = added (messages_of a.messages.items) []
 
 -- the world that they are
 abbrev pub world_of : Actors → World
-world_of a = world_with (authority_of a.authority) (node_at (plan_of a) (nodes_of a.nodes.items)) (clients_of a.clients.items) (messages_in a)
+world_of a = world_with (authority_of a.authority) (node_at (plan_of a) (nodes_of a.nodes.items))
+    (clients_of a.clients.items) (messages_in a)
 
 -- The actors are those of their plan. No member has a number that isn't below 64.
 pub record AreActors (a : Actors) : Type 0 where
@@ -52,8 +53,9 @@ moved_of (Ok step) = Ok (record { count = length step.made; world = step.world }
 abbrev pub moved : ℕ → World → Moved
 moved count world = record { count = count; world = world }
 
--- The result of a step is the number of messages that the defined step makes, or its refusal, and the world is then what the
--- definition leaves. Running out of memory leaves the world as it was, and comes after all refusals except those that need a growth.
+-- The result of a step is the number of messages that the defined step makes, or its refusal, and the world is then
+-- what the definition leaves. Running out of memory leaves the world as it was, and comes after all refusals except
+-- those that need a growth.
 abbrev pub Steps : (Fault → Bool) → Result Step Fault → World → Result ℕ Fault → World → Type 0
 Steps late defined old result new = AnswersAfterGrowth late moved (moved_of defined) old result new
 

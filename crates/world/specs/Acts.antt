@@ -1,8 +1,8 @@
 -- What the model's actors do.
-use Rattle.std.specs.Prelude.{◌≡◌, ℕ, Bool, List, Option, None, Some, Err, Result}
+use Rattle.std.specs.Prelude.{◌≡◌, ℕ, Bool, List, [], Option, None, Some, Err, Result}
 use Rattle.volume_model.specs.declared.fault.Fault.{Fault}
 use Rattle.volume_model.specs.Answer.{never_after_growth}
-use Rattle.volume_model.specs.Lists.{numbered}
+use Rattle.volume_model.specs.Lists.{added, numbered}
 use Rattle.volume_model.specs.Plan.{Plan}
 use Rattle.volume_model.specs.Message as model
 use Rattle.volume_model.specs.Node.{Node, NodeAnswer}
@@ -11,15 +11,18 @@ use Rattle.volume_model.specs.Client.{Client, ClientAnswer}
 use Rattle.volume_model.specs.ClientWriter.{issued, page_asked, resent}
 use Rattle.volume_model.specs.ClientRecovery.{cut_client}
 use Rattle.volume_model.specs.ClientMessages.{taken}
-use Rattle.wire.specs.Message.{message_of}
+use Rattle.wire.specs.Message.{message_of, messages_of}
 use Rattle.volume_model.specs.World.{Authority, AuthorityStep, assigned, advanced, refreshed, grown, deliver, take}
 use Rattle.wire.specs.declared.message.Message.{Message}
 use Rattle.epochs.specs.Authority.{grew, announced}
 use Rattle.segment_core.specs.declared.act.NodeAct.{NodeAct}
 use Rattle.segment_core.specs.Acts.{act_after_growth, acted}
+use Rattle.segment_core.specs.declared.segment.Segment.{Segment}
+use Rattle.segment_core.specs.Segment.{node_of, segment_plan, segment_group, segment_member}
 use Rattle.recovery.specs.Finds.{is_spent}
 use Rattle.volume_model.specs.Few.{Few}
 use Rattle.writer_core.specs.Changes.{changes_of}
+use Rattle.world.specs.Moves.{NodeMoves}
 use Rattle.world.specs.declared.acts.AuthorityAct.{AuthorityAct}
 use Rattle.world.specs.declared.acts.AuthorityAct.TheVariants as authority
 use Rattle.world.specs.declared.acts.NodeOrder.{NodeOrder}
@@ -55,7 +58,8 @@ node_ordered made (node.Act act) plan group member now = acted act plan group me
 
 -- the order names a message that wasn't made
 abbrev pub IsRefusedNodeOrder : List model.Message → NodeOrder → Type 0
-IsRefusedNodeOrder made order = (plan : Plan) (group member : ℕ) (now : Node) → node_ordered made order plan group member now ≡ Err NoMessage
+IsRefusedNodeOrder made order = (plan : Plan) (group member : ℕ) (now : Node) → node_ordered made order plan group
+    member now ≡ Err NoMessage
 
 -- what the client of a volume epoch does, except becoming a writer
 abbrev pub client_acted : ClientAct → Plan → ℕ → Client → ClientAnswer
@@ -72,7 +76,8 @@ client_ordered made (order.Act act) plan volume now = client_acted act plan volu
 
 -- the order names a message that wasn't made
 abbrev pub IsRefusedOrder : List model.Message → ClientOrder → Type 0
-IsRefusedOrder made order = (plan : Plan) (volume : ℕ) (now : Client) → client_ordered made order plan volume now ≡ Err NoMessage
+IsRefusedOrder made order = (plan : Plan) (volume : ℕ) (now : Client) → client_ordered made order plan volume now
+    ≡ Err NoMessage
 
 -- an act of this client makes at most so many messages
 abbrev pub ActsFew : Plan → ℕ → Client → ClientAct → ℕ → Type 0
@@ -80,9 +85,11 @@ ActsFew plan volume now act most = Few most (client_acted act plan volume now)
 
 -- what an order asks of this client makes at most so many messages
 abbrev pub MakesAtMost : Plan → ℕ → Client → ClientOrder → ℕ → Type 0
-MakesAtMost plan volume now order most = (made : List model.Message) → Few most (client_ordered made order plan volume now)
+MakesAtMost plan volume now order most = (made : List model.Message) → Few most (client_ordered made order plan volume
+    now)
 
--- the refusals of a client that may come after a growth was refused: that no log sequence numbers are left, which is found with the log
+-- the refusals of a client that may come after a growth was refused: that no log sequence numbers are left, which is
+-- found with the log
 abbrev pub client_after_growth : ClientAct → Fault → Bool
 client_after_growth client.Cut = is_spent
 client_after_growth act = never_after_growth
@@ -99,7 +106,8 @@ ButForCut act P = P
 
 -- the order asks for this act, where these messages were made
 pub record IsOrderOf (made : List model.Message) (order : ClientOrder) (act : ClientAct) : Type 0 where
-  pub does : (plan : Plan) (volume : ℕ) (now : Client) → client_ordered made order plan volume now ≡ client_acted act plan volume now
+  pub does : (plan : Plan) (volume : ℕ) (now : Client) → client_ordered made order plan volume now ≡ client_acted act
+      plan volume now
   pub late : order_after_growth order ≡ client_after_growth act
 
 -- the refusals of a node that may come after a growth was refused
@@ -109,5 +117,15 @@ node_after_growth (node.Act act) = act_after_growth act
 
 -- the order asks a node for this act, where these messages were made
 pub record IsNodeOrderOf (made : List model.Message) (order : NodeOrder) (act : NodeAct) : Type 0 where
-  pub does : (plan : Plan) (group member : ℕ) (now : Node) → node_ordered made order plan group member now ≡ acted act plan group member now
+  pub does : (plan : Plan) (group member : ℕ) (now : Node) → node_ordered made order plan group member now
+      ≡ acted act plan group member now
   pub late : node_after_growth order ≡ act_after_growth act
+
+-- A segment does what an order asks for, among these messages, to which it adds its own; or it and they are as they
+-- were.
+abbrev pub SegmentMoves : NodeOrder → Segment → Segment → List Message → List Message → Result ℕ Fault → Type 0
+SegmentMoves order old new kept now result =
+    let made : List model.Message = added (messages_of kept) [] in
+    NodeMoves (node_after_growth order) (node_ordered made order (segment_plan old) (segment_group old)
+    (segment_member old) (node_of old)) (node_of old) made result
+    (node_of new) (added (messages_of now) [])

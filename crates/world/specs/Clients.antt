@@ -67,7 +67,8 @@ clients_of clients volume = client_or_unborn (client_in clients volume)
 
 -- each client is kept at the place of its volume epoch
 abbrev pub AreClients : Plan → List (Option (Box Client)) → Type 0
-AreClients plan clients = (volume : ℕ) (client : Box Client) → client_in clients volume ≡ Some client → IsClientOf plan volume client.value
+AreClients plan clients = (volume : ℕ) (client : Box Client) → client_in clients volume ≡ Some client → IsClientOf plan
+    volume client.value
 
 -- the one table has the clients of the other
 abbrev pub HasSameClients : List (Option (Box Client)) → List (Option (Box Client)) → Type 0
@@ -75,4 +76,5 @@ HasSameClients old new = (volume : ℕ) → client_in new volume ≡ client_in o
 
 -- the one table has the clients of the other, but this one at the place of this volume epoch
 abbrev pub IsPut : List (Option (Box Client)) → ℕ → Box Client → List (Option (Box Client)) → Type 0
-IsPut old volume client new = (other : ℕ) → client_in new other ≡ (if other == volume then Some client else client_in old other)
+IsPut old volume client new = (other : ℕ) → client_in new other ≡ (if other == volume then Some client else client_in
+    old other)

@@ -40,7 +40,8 @@ made_by (Err fault) = 0
 -- number on are those of these events; 0, which no message has, where it made fewer.
 abbrev pub number_from : ℕ → List (Result ℕ Fault) → ℕ → ℕ → ℕ
 number_from first [] index place = 0
-number_from first (result ∷ later) zero place = if nat_le 1 place && nat_le place (made_by result) then first + place else 0
+number_from first (result ∷ later) zero place = if nat_le 1 place && nat_le place (made_by result) then first + place
+    else 0
 number_from first (result ∷ later) (suc index) place = number_from (first + made_by result) later index place
 
 -- how many messages events have made
@@ -56,7 +57,8 @@ firsts_of first (result ∷ later) = first ∷ firsts_of (first + made_by result
 -- the event that an order is, after these results
 abbrev pub ordered : List (Result ℕ Fault) → Order → model.Event
 ordered results (orders.Event event) = event_of event.value
-ordered results (orders.DeliverFrom group member event place) = model.Event.Deliver group member (number_from 0 results event place)
+ordered results (orders.DeliverFrom group member event place) = model.Event.Deliver group member
+    (number_from 0 results event place)
 ordered results (orders.TakeFrom volume event place) = model.Event.Take volume (number_from 0 results event place)
 
 -- the events that orders are, from a world on, after these results

@@ -26,25 +26,37 @@ opened_of w = record { volume = w.volume; start = w.start; log = log_in w.log; d
 
 -- the recovery that this is
 abbrev pub find_of : RecoveryOutcome → model.Find
-find_of f = record { volume = f.volume; found = log_of_set f.found.log; cut = f.found.cut; lineage = lineage_of f.found.lineage }
+find_of f = record {
+  volume = f.volume;
+  found = log_of_set f.found.log;
+  cut = f.found.cut;
+  lineage = lineage_of
+      f.found.lineage;
+}
 
--- What was acknowledged after some of the events stays so to their end, with the same log before it, and no opened writer's durable
--- point has fallen.
+-- What was acknowledged after some of the events stays so to their end, with the same log before it, and no opened
+-- writer's durable point has fallen.
 abbrev pub KeepsAcknowledgements : Plan → List Event → Type 0
-KeepsAcknowledgements plan events = (earlier later : List Event) → earlier ++ later ≡ events → StaysSo (run plan (opening plan) earlier) (run plan (opening plan) events)
+KeepsAcknowledgements plan events = (earlier later : List Event) → earlier ++ later ≡ events
+    → StaysSo (run plan (opening plan) earlier) (run plan (opening plan) events)
 
 -- A client that has cut after some of the events stays so to their end, with the same lineage and the same log found.
 abbrev pub KeepsFinds : Plan → List Event → Type 0
 KeepsFinds plan events =
-    (earlier later : List Event) (volume : ℕ) → earlier ++ later ≡ events → has_cut ((run plan (opening plan) earlier).clients volume).stage ≡ true → StaysFound ((run plan (opening plan) earlier).clients volume) ((run plan (opening plan) events).clients volume)
+    (earlier later : List Event) (volume : ℕ) → earlier ++ later ≡ events
+    → has_cut ((run plan (opening plan) earlier).clients volume).stage ≡ true
+    → StaysFound ((run plan (opening plan) earlier).clients volume) ((run plan (opening plan) events).clients
+    volume)
 
 -- Each client that opens among the events, and isn't refused, has its cut as its durable point then.
 abbrev pub OpenAtTheirCuts : Plan → List Event → Type 0
 OpenAtTheirCuts plan events =
-    (earlier later : List Event) (volume : ℕ) (opened : Step) → earlier ++ Open volume ∷ later ≡ events → step plan (run plan (opening plan) earlier) (Open volume) ≡ Ok opened → IsAtItsCut (opened.world.clients volume)
+    (earlier later : List Event) (volume : ℕ) (opened : Step) → earlier ++ Open volume ∷ later ≡ events
+    → step plan (run plan (opening plan) earlier) (Open volume) ≡ Ok opened
+    → IsAtItsCut (opened.world.clients volume)
 
--- The outcome is exactly the model's run of these events: the result of each event, and of the world after them the opened
--- writers and the recoveries that have cut.
+-- The outcome is exactly the model's run of these events: the result of each event, and of the world after them the
+-- opened writers and the recoveries that have cut.
 pub record TellsRun (plan : Plan) (events : List Event) (outcome : Outcome) : Type 0 where
   pub results_are : outcome.results.items ≡ results plan (opening plan) events
   pub writers_are : map opened_of outcome.writers.items ≡ writers_in (run plan (opening plan) events)
@@ -52,8 +64,8 @@ pub record TellsRun (plan : Plan) (events : List Event) (outcome : Outcome) : Ty
 
 -- Of the run of these events every promise of the volume holds.
 pub record KeepsPromises (plan : Plan) (events : List Event) : Type 0 where
-  -- every commit that any writer acknowledges stands, with the whole log before it, in the log found by every recovery of a later
-  -- volume epoch, and no two records are acknowledged under one LSN
+  -- every commit that any writer acknowledges stands, with the whole log before it, in the log found by every recovery
+  -- of a later volume epoch, and no two records are acknowledged under one LSN
   pub commits : KeepsCommits (run plan (opening plan) events)
   -- every page that any node made is that of its writer's log at the point asked
   pub pages : SaysTruePages (run plan (opening plan) events)
@@ -72,7 +84,8 @@ pub record KeepsPromises (plan : Plan) (events : List Event) : Type 0 where
 abbrev pub PromisesRuns : Plan → Type 0
 PromisesRuns plan = (events : List Event) → KeepsPromises plan events
 
--- The writer has acknowledged the commit of this number: it is that of a consistency point of its log, and at most its durable point.
+-- The writer has acknowledged the commit of this number: it is that of a consistency point of its log, and at most its
+-- durable point.
 abbrev pub HasAcknowledged : WriterOutcome → ℕ → Type 0
 HasAcknowledged writer n = (is_consistency_point n (log_in writer.log) && nat_le n writer.durable) ≡ true
 
@@ -80,8 +93,13 @@ HasAcknowledged writer n = (is_consistency_point n (log_in writer.log) && nat_le
 abbrev pub covered_by : WriterOutcome → ℕ → List Redo
 covered_by writer n = up_to n (log_in writer.log)
 
--- The promise said of what was returned alone: each commit that a returned writer has acknowledged stands, with its whole log before it, in
--- the log of each returned find of a later volume epoch, and no two different records were acknowledged by returned writers under one LSN.
+-- The promise said of what was returned alone: each commit that a returned writer has acknowledged stands, with its
+-- whole log before it, in the log of each returned find of a later volume epoch, and no two different records were
+-- acknowledged by returned writers under one LSN.
 pub record KeepsReturned (outcome : Outcome) : Type 0 where
-  pub found_later : (writer : WriterOutcome) (find : RecoveryOutcome) (n : ℕ) → IsIn writer outcome.writers.items → IsIn find outcome.finds.items → writer.volume < find.volume → HasAcknowledged writer n → IsBeginningOf (covered_by writer n) (log_of_set find.found.log)
-  pub one_record : (writer other : WriterOutcome) (n m : ℕ) (r s : Redo) → IsIn writer outcome.writers.items → IsIn other outcome.writers.items → HasAcknowledged writer n → HasAcknowledged other m → IsIn r (covered_by writer n) → IsIn s (covered_by other m) → r.lsn ≡ s.lsn → r ≡ s
+  pub found_later : (writer : WriterOutcome) (find : RecoveryOutcome) (n : ℕ) → IsIn writer outcome.writers.items
+      → IsIn find outcome.finds.items → writer.volume < find.volume → HasAcknowledged writer n → IsBeginningOf
+      (covered_by writer n) (log_of_set find.found.log)
+  pub one_record : (writer other : WriterOutcome) (n m : ℕ) (r s : Redo) → IsIn writer outcome.writers.items
+      → IsIn other outcome.writers.items → HasAcknowledged writer n → HasAcknowledged other m
+      → IsIn r (covered_by writer n) → IsIn s (covered_by other m) → r.lsn ≡ s.lsn → r ≡ s

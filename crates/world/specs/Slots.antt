@@ -24,7 +24,8 @@ node_or born (Some node) = node
 -- the node of a member of a group; one that the plan doesn't name stays as it was born
 abbrev pub node_at : Plan → List (Option Node) → ℕ → ℕ → Node
 node_at plan slots group member =
-    if nat_lt member members then node_or (born_node plan group member) (in_slot (slice_get slots (slot_of group member))) else born_node plan group member
+    if nat_lt member members then node_or (born_node plan group member)
+    (in_slot (slice_get slots (slot_of group member))) else born_node plan group member
 
 -- the slot of a member of a group among so many, or none where there is none
 abbrev pub FindsSlot : Option ℕ → ℕ → ℕ → ℕ → Type 0

@@ -7,4 +7,10 @@ use Rattle.volume_model.specs.World.{Authority, World}
 
 -- the world of this authority, these nodes and clients, and these messages, newest first
 abbrev pub world_with : Authority → (ℕ → ℕ → Node) → (ℕ → Client) → List model.Message → World
-world_with authority nodes clients messages = record { authority = authority; nodes = nodes; clients = clients; messages = messages }
+world_with authority nodes clients messages = record {
+  authority = authority;
+  nodes = nodes;
+  clients = clients;
+  messages
+      = messages;
+}

@@ -66,7 +66,8 @@ impl Actors {
     /// The authority acts.
     fn authority_step(&mut self, alloc: Global, act: AuthorityAct) -> Result<u64, Fault>
         requires { AreActors self.old }
-        ensures steps { Steps never_after_growth (of_authority (world_of self.old) (authority_acted (plan_of self.old) (world_of self.old).authority act)) (world_of self.old) result (world_of self.new) }
+        ensures steps { Steps never_after_growth (of_authority (world_of self.old) (authority_acted (plan_of self.old)
+            (world_of self.old).authority act)) (world_of self.old) result (world_of self.new) }
         ensures good { AreActors self.new }
         ensures plan { plan_of self.new ≡ plan_of self.old }
     {
@@ -82,7 +83,10 @@ impl Actors {
         order: NodeOrder<'_>,
     ) -> Result<u64, Fault>
         requires { AreActors self.old }
-        ensures steps { Steps (node_after_growth order.entry) (of_node (world_of self.old) group member (if_there (plan_of self.old) (groups_joined (world_of self.old).authority) group member (node_ordered (messages_in self.old) order.entry (plan_of self.old) group member ((world_of self.old).nodes group member)))) (world_of self.old) result (world_of self.new) }
+        ensures steps { Steps (node_after_growth order.entry) (of_node (world_of self.old) group member
+            (if_there (plan_of self.old) (groups_joined (world_of self.old).authority) group member
+            (node_ordered (messages_in self.old) order.entry (plan_of self.old) group member
+            ((world_of self.old).nodes group member)))) (world_of self.old) result (world_of self.new) }
         ensures good { AreActors self.new }
         ensures plan { plan_of self.new ≡ plan_of self.old }
     {
@@ -106,7 +110,9 @@ impl Actors {
         order: ClientOrder<'_>,
     ) -> Result<u64, Fault>
         requires { AreActors self.old }
-        ensures steps { Steps (order_after_growth order.entry) (of_client (world_of self.old) volume (client_ordered (messages_in self.old) order.entry (plan_of self.old) volume ((world_of self.old).clients volume))) (world_of self.old) result (world_of self.new) }
+        ensures steps { Steps (order_after_growth order.entry) (of_client (world_of self.old) volume
+            (client_ordered (messages_in self.old) order.entry (plan_of self.old) volume
+            ((world_of self.old).clients volume))) (world_of self.old) result (world_of self.new) }
         ensures good { AreActors self.new }
         ensures plan { plan_of self.new ≡ plan_of self.old }
     {
@@ -129,7 +135,9 @@ impl Actors {
     ) -> Result<u64, Fault>
         requires actors { AreActors self.old }
         requires absent { client_in self.old.clients.items volume ≡ None }
-        ensures steps { Steps (order_after_growth order.entry) (of_client (world_of self.old) volume (client_ordered (messages_in self.old) order.entry (plan_of self.old) volume unborn)) (world_of self.old) result (world_of self.new) }
+        ensures steps { Steps (order_after_growth order.entry) (of_client (world_of self.old) volume
+            (client_ordered (messages_in self.old) order.entry (plan_of self.old) volume unborn)) (world_of self.old)
+            result (world_of self.new) }
         ensures good { AreActors self.new }
         ensures plan { plan_of self.new ≡ plan_of self.old }
     {
@@ -145,7 +153,9 @@ impl Actors {
     /// A client becomes a writer. `NoActor` if it isn't there.
     fn opening_step(&mut self, volume: u32) -> Result<u64, Fault>
         requires { AreActors self.old }
-        ensures steps { Steps never_after_growth (of_client (world_of self.old) volume (opened (plan_of self.old) ((world_of self.old).clients volume))) (world_of self.old) result (world_of self.new) }
+        ensures steps { Steps never_after_growth (of_client (world_of self.old) volume
+            (opened (plan_of self.old) ((world_of self.old).clients volume))) (world_of self.old) result
+            (world_of self.new) }
         ensures good { AreActors self.new }
         ensures plan { plan_of self.new ≡ plan_of self.old }
     {
@@ -172,7 +182,8 @@ impl Actors {
         message: u64,
     ) -> Result<u64, Fault>
         requires { AreActors self.old }
-        ensures steps { Steps never_after_growth (step (plan_of self.old) (world_of self.old) (model.Event.Deliver group member message)) (world_of self.old) result (world_of self.new) }
+        ensures steps { Steps never_after_growth (step (plan_of self.old) (world_of self.old)
+            (model.Event.Deliver group member message)) (world_of self.old) result (world_of self.new) }
         ensures good { AreActors self.new }
         ensures plan { plan_of self.new ≡ plan_of self.old }
     {
@@ -183,7 +194,8 @@ impl Actors {
     #[inline(always)]
     pub(crate) fn take(&mut self, alloc: Global, volume: u32, message: u64) -> Result<u64, Fault>
         requires { AreActors self.old }
-        ensures steps { Steps never_after_growth (step (plan_of self.old) (world_of self.old) (model.Event.Take volume message)) (world_of self.old) result (world_of self.new) }
+        ensures steps { Steps never_after_growth (step (plan_of self.old) (world_of self.old)
+            (model.Event.Take volume message)) (world_of self.old) result (world_of self.new) }
         ensures good { AreActors self.new }
         ensures plan { plan_of self.new ≡ plan_of self.old }
     {
@@ -193,7 +205,8 @@ impl Actors {
     /// Makes an event happen, and answers how many messages it made; or refuses it, and nothing has changed.
     pub fn step(&mut self, alloc: Global, event: &Event) -> Result<u64, Fault>
         requires { AreActors self.old }
-        ensures steps { Steps (event_after_growth (event_of event.now)) (step (plan_of self.old) (world_of self.old) (event_of event.now)) (world_of self.old) result (world_of self.new) }
+        ensures steps { Steps (event_after_growth (event_of event.now)) (step (plan_of self.old) (world_of self.old)
+            (event_of event.now)) (world_of self.old) result (world_of self.new) }
         ensures good { AreActors self.new }
         ensures plan { plan_of self.new ≡ plan_of self.old }
     {

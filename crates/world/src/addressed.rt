@@ -11,7 +11,8 @@ use wire::Message;
 /// Returns whether a message is for the client of a volume epoch, over this many groups: a View of its volume epoch,
 /// or a report, an acknowledgement or a page for it. `NotAddressed` if it is for another, or for none.
 pub fn addressed(volume: u32, groups: u8, message: &Message) -> Result<(), Fault>
-    ensures { MatchResult result (λ _. is_for volume groups (message_of message.now) ≡ true) (λ fault. (is_for volume groups (message_of message.now) ≡ false) × (fault ≡ NotAddressed)) }
+    ensures { MatchResult result (λ _. is_for volume groups (message_of message.now) ≡ true)
+        (λ fault. (is_for volume groups (message_of message.now) ≡ false) × (fault ≡ NotAddressed)) }
 {
     let is_for = match message {
         Message::View(view) => view.volume == volume,

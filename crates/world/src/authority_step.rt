@@ -23,7 +23,8 @@ impl AuthorityAct {
     /// the configuration isn't a child of the group's own; `Superseded` if the client's volume epoch isn't the last
     /// one assigned; `AllGrown` if every group has joined.
     pub fn admitted_by(self, authority: &Authority) -> Result<(), Fault>
-        ensures { result ≡ refusal_of (authority_acted (authority_plan authority.now) (authority_of authority.now) self) }
+        ensures { result ≡ refusal_of (authority_acted (authority_plan authority.now) (authority_of authority.now)
+            self) }
     {
         match self {
             AuthorityAct::Assign => authority.admits_assign(),
@@ -41,8 +42,10 @@ impl AuthorityAct {
     /// # Errors
     /// Those of [`AuthorityAct::admitted_by`]; `NoMemory`, except of an advance, which takes no memory.
     pub fn done_by(self, alloc: Global, authority: &mut Authority) -> Result<Option<Message>, Fault>
-        ensures answers { Answers spoken (authority_acted (authority_plan authority.old) (authority_of authority.old) self) (authority_of authority.old) result (authority_of authority.new) }
-        ensures always { OfAdvance self (AnswersAlways spoken (authority_acted (authority_plan authority.old) (authority_of authority.old) self) (authority_of authority.old) result (authority_of authority.new)) }
+        ensures answers { Answers spoken (authority_acted (authority_plan authority.old) (authority_of authority.old)
+            self) (authority_of authority.old) result (authority_of authority.new) }
+        ensures always { OfAdvance self (AnswersAlways spoken (authority_acted (authority_plan authority.old)
+            (authority_of authority.old) self) (authority_of authority.old) result (authority_of authority.new)) }
         ensures plan { authority_plan authority.new ≡ authority_plan authority.old }
     {
         match self {
@@ -68,7 +71,9 @@ pub fn act(
     messages: &mut Vec<Message>,
     act: AuthorityAct,
 ) -> Result<u64, Fault>
-    ensures moves { AuthorityMoves (authority_acted (authority_plan authority.old) (authority_of authority.old) act) (authority_of authority.old) (added (messages_of messages.old.items) []) result (authority_of authority.new) (added (messages_of messages.new.items) []) }
+    ensures moves { AuthorityMoves (authority_acted (authority_plan authority.old) (authority_of authority.old) act)
+        (authority_of authority.old) (added (messages_of messages.old.items) []) result (authority_of authority.new)
+        (added (messages_of messages.new.items) []) }
     ensures plan { authority_plan authority.new ≡ authority_plan authority.old }
 {
     if let Err(fault) = act.admitted_by(authority) {

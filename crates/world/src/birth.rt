@@ -36,8 +36,10 @@ fn admits_birth(plan: &CheckedPlan, volume: u32, message: &Message) -> Result<()
 
 /// Returns whether a client that no View has reached would act: by a View alone.
 pub fn admits(plan: &CheckedPlan, volume: u32, act: ClientAct<'_>) -> Result<(), Fault>
-    ensures answers { AnswersAfterGrowth (client_after_growth act.entry) admitted (refusal_of (client_acted act.entry (checked_model plan.now) volume unborn)) tt result tt }
-    ensures sure { ButForCut act.entry (result ≡ refusal_of (client_acted act.entry (checked_model plan.now) volume unborn)) }
+    ensures answers { AnswersAfterGrowth (client_after_growth act.entry) admitted
+        (refusal_of (client_acted act.entry (checked_model plan.now) volume unborn)) tt result tt }
+    ensures sure { ButForCut act.entry (result ≡ refusal_of (client_acted act.entry (checked_model plan.now) volume
+        unborn)) }
     ensures own { IfErr result (λ fault. fault ≢ NoMemory) }
 {
     match act {
@@ -68,7 +70,8 @@ fn begin(
     volume: u32,
     message: &Message,
 ) -> Result<(Recovery, Vec<Message>), Fault>
-    ensures step { AnswersNew begun (taken (checked_model (arc_value plan.now)) volume unborn (message_of message.now)) result }
+    ensures step { AnswersNew begun (taken (checked_model (arc_value plan.now)) volume unborn (message_of message.now))
+        result }
     ensures plan { IfOk result (λ r. recovery_plan r.0 ≡ checked_model (arc_value plan.now)) }
     ensures volume { IfOk result (λ r. recovery_volume r.0 ≡ volume) }
 {
@@ -86,7 +89,8 @@ pub fn act(
     volume: u32,
     act: ClientAct<'_>,
 ) -> Result<(Recovery, Vec<Message>), Fault>
-    ensures step { AnswersNewAfterGrowth (client_after_growth act.entry) begun (client_acted act.entry (checked_model (arc_value plan.now)) volume unborn) result }
+    ensures step { AnswersNewAfterGrowth (client_after_growth act.entry) begun
+        (client_acted act.entry (checked_model (arc_value plan.now)) volume unborn) result }
     ensures plan { IfOk result (λ r. recovery_plan r.0 ≡ checked_model (arc_value plan.now)) }
     ensures volume { IfOk result (λ r. recovery_volume r.0 ≡ volume) }
 {

@@ -108,7 +108,8 @@ impl Client {
     /// No more messages than this many are made by a message that it takes: one a group, and one for each 256 records of the log that it
     /// found.
     pub(crate) fn most_taken(&self) -> usize
-        ensures { (message : model.Message) → Few result (taken (client_plan self.now) (client_volume self.now) (seen_client self.now) message) }
+        ensures { (message : model.Message) → Few result (taken (client_plan self.now) (client_volume self.now)
+            (seen_client self.now) message) }
     {
         steps_are_few();
         match &self.state {
@@ -146,8 +147,11 @@ impl Client {
     /// reports are a read set of each group, or `LsnSpent`; of a writer `AlreadyDone` for a cut, and what [`Writer`]
     /// answers to an issue, a resend or a read.
     pub fn admits(&self, alloc: Global, act: ClientAct<'_>) -> Result<(), Fault>
-        ensures answers { AnswersAfterGrowth (client_after_growth act.entry) admitted (refusal_of (client_acted act.entry (client_plan self.now) (client_volume self.now) (seen_client self.now))) tt result tt }
-        ensures sure { ButForCut act.entry (result ≡ refusal_of (client_acted act.entry (client_plan self.now) (client_volume self.now) (seen_client self.now))) }
+        ensures answers { AnswersAfterGrowth (client_after_growth act.entry) admitted
+            (refusal_of (client_acted act.entry (client_plan self.now) (client_volume self.now) (seen_client self.now)))
+            tt result tt }
+        ensures sure { ButForCut act.entry (result ≡ refusal_of (client_acted act.entry (client_plan self.now)
+            (client_volume self.now) (seen_client self.now))) }
     {
         match &self.state {
             ClientState::Unborn => birth::admits(&self.plan, self.volume, act),
@@ -162,7 +166,9 @@ impl Client {
     /// Those of [`Client::admits`]; `NoMemory`.
     #[inline(always)]
     pub fn act(&mut self, alloc: Global, act: ClientAct<'_>) -> Result<Messages, Fault>
-        ensures answers { AnswersAfterGrowth (client_after_growth act.entry) answered (client_acted act.entry (client_plan self.old) (client_volume self.old) (seen_client self.old)) (seen_client self.old) result (seen_client self.new) }
+        ensures answers { AnswersAfterGrowth (client_after_growth act.entry) answered
+            (client_acted act.entry (client_plan self.old) (client_volume self.old) (seen_client self.old))
+            (seen_client self.old) result (seen_client self.new) }
         ensures same { IsSameClient self.old self.new }
     {
         if let ClientState::Writer(writer) = &mut self.state {
@@ -175,7 +181,9 @@ impl Client {
     /// than writers.
     #[inline(never)]
     fn act_early(&mut self, alloc: Global, act: ClientAct<'_>) -> Result<Messages, Fault>
-        ensures answers { AnswersAfterGrowth (client_after_growth act.entry) answered (client_acted act.entry (client_plan self.old) (client_volume self.old) (seen_client self.old)) (seen_client self.old) result (seen_client self.new) }
+        ensures answers { AnswersAfterGrowth (client_after_growth act.entry) answered
+            (client_acted act.entry (client_plan self.old) (client_volume self.old) (seen_client self.old))
+            (seen_client self.old) result (seen_client self.new) }
         ensures same { IsSameClient self.old self.new }
     {
         match &mut self.state {
@@ -210,7 +218,9 @@ impl Client {
     /// Opens: the recovery becomes a writer. Refused as [`Client::admits_open`] says; then the client is unchanged.
     /// Takes no memory.
     pub fn open(&mut self) -> Result<(), Fault>
-        ensures answers { AnswersAfterGrowth never_after_growth silent (opened (client_plan self.old) (seen_client self.old)) (seen_client self.old) result (seen_client self.new) }
+        ensures answers { AnswersAfterGrowth never_after_growth silent
+            (opened (client_plan self.old) (seen_client self.old)) (seen_client self.old) result
+            (seen_client self.new) }
         ensures refusal { result ≡ refusal_of (opened (client_plan self.old) (seen_client self.old)) }
         ensures same { IsSameClient self.old self.new }
     {

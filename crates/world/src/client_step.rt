@@ -17,7 +17,8 @@ use wire::Message;
 
 /// Returns what an order asks for, among these messages. `NoMessage` if it names none of them.
 pub fn act_of<'a>(order: ClientOrder<'a>, messages: &'a [Message]) -> Result<ClientAct<'a>, Fault>
-    ensures { MatchResult result (λ act. IsOrderOf (added (messages_of messages.entry.now) []) order.entry act) (λ fault. (fault ≡ NoMessage) × IsRefusedOrder (added (messages_of messages.entry.now) []) order.entry) }
+    ensures { MatchResult result (λ act. IsOrderOf (added (messages_of messages.entry.now) []) order.entry act)
+        (λ fault. (fault ≡ NoMessage) × IsRefusedOrder (added (messages_of messages.entry.now) []) order.entry) }
 {
     match order {
         ClientOrder::Act(act) => Ok(act),
@@ -41,7 +42,8 @@ fn most_acted(client: &Client, act: ClientAct<'_>) -> usize
 
 /// No more messages than this many are made by what an order asks of this client.
 fn most_made(client: &Client, order: ClientOrder<'_>) -> usize
-    ensures { MakesAtMost (client_plan client.now) (client_volume client.now) (seen_client client.now) order.entry result }
+    ensures { MakesAtMost (client_plan client.now) (client_volume client.now) (seen_client client.now) order.entry
+        result }
 {
     match order {
         ClientOrder::Take { .. } => client.most_taken(),
@@ -57,7 +59,11 @@ pub fn act(
     messages: &mut Vec<Message>,
     order: ClientOrder<'_>,
 ) -> Result<u64, Fault>
-    ensures moves { ClientMoves (order_after_growth order.entry) (client_ordered (added (messages_of messages.old.items) []) order.entry (client_plan client.old) (client_volume client.old) (seen_client client.old)) (seen_client client.old) (added (messages_of messages.old.items) []) result (seen_client client.new) (added (messages_of messages.new.items) []) }
+    ensures moves { ClientMoves (order_after_growth order.entry)
+        (client_ordered (added (messages_of messages.old.items) []) order.entry (client_plan client.old)
+        (client_volume client.old) (seen_client client.old)) (seen_client client.old)
+        (added (messages_of messages.old.items) []) result (seen_client client.new)
+        (added (messages_of messages.new.items) []) }
     ensures same { IsSameClient client.old client.new }
 {
     let room = messages.reserve(most_made(client, order));

@@ -9,7 +9,8 @@ use std::alloc::AllocError;
 
 /// Returns the client of a volume epoch, where it is there.
 pub fn client_at(clients: &[Option<Box<Client>>], volume: u32) -> Option<&Client>
-    ensures { MatchOption result (clients_of clients.now volume ≡ unborn) (λ client. clients_of clients.now volume ≡ seen_client client.now) }
+    ensures { MatchOption result (clients_of clients.now volume ≡ unborn) (λ client. clients_of clients.now volume
+        ≡ seen_client client.now) }
 {
     let place = volume as usize;
     if place >= clients.len() {

@@ -29,7 +29,8 @@ fn end_of(volume: u32, writer: &Writer) -> Result<WriterOutcome, AllocError>
 
 /// Returns the outcome of a client as a writer, if it is one.
 fn opened_by(volume: u32, client: &Client) -> Result<Option<WriterOutcome>, AllocError>
-    ensures { IfOk result (λ opened. option_map opened_of opened ≡ (if is_open (seen_client client.now).stage then Some (opened_client volume (seen_client client.now)) else None)) }
+    ensures { IfOk result (λ opened. option_map opened_of opened ≡ (if is_open (seen_client client.now).stage then Some
+        (opened_client volume (seen_client client.now)) else None)) }
 {
     match client.state() {
         ClientState::Writer(writer) => Ok(Some(end_of(volume, writer)?)),
@@ -39,7 +40,8 @@ fn opened_by(volume: u32, client: &Client) -> Result<Option<WriterOutcome>, Allo
 
 /// Returns the outcome of a client as a recovery, if it has cut.
 fn found_by(volume: u32, client: &Client) -> Result<Option<RecoveryOutcome>, AllocError>
-    ensures { IfOk result (λ found. option_map find_of found ≡ (if has_cut (seen_client client.now).stage then Some (found_client volume (seen_client client.now)) else None)) }
+    ensures { IfOk result (λ found. option_map find_of found ≡ (if has_cut (seen_client client.now).stage then Some
+        (found_client volume (seen_client client.now)) else None)) }
 {
     let found = match client.state() {
         ClientState::Unborn => return Ok(None),
@@ -59,7 +61,9 @@ impl Actors {
 
     /// Adds the outcome of the writer of a volume epoch, if there is one.
     fn add_writer(&self, volume: u32, ends: &mut Vec<WriterOutcome>) -> Result<(), AllocError>
-        ensures { IfOk result (λ _. map opened_of ends.new.items ≡ map opened_of ends.old.items ++ (if is_open (clients_of self.now.clients.items volume).stage then opened_client volume (clients_of self.now.clients.items volume) ∷ [] else [])) }
+        ensures { IfOk result (λ _. map opened_of ends.new.items ≡ map opened_of ends.old.items
+            ++ (if is_open (clients_of self.now.clients.items volume).stage then opened_client volume
+            (clients_of self.now.clients.items volume) ∷ [] else [])) }
     {
         let Some(client) = client_at(self.clients.as_slice(), volume) else {
             return Ok(());
@@ -85,7 +89,9 @@ impl Actors {
 
     /// Adds the outcome of the client of a volume epoch as a recovery, if it has cut. Writer 1 was no recovery.
     fn add_find(&self, volume: u32, ends: &mut Vec<RecoveryOutcome>) -> Result<(), AllocError>
-        ensures { IfOk result (λ _. map find_of ends.new.items ≡ map find_of ends.old.items ++ (if nat_lt 1 volume && has_cut (clients_of self.now.clients.items volume).stage then found_client volume (clients_of self.now.clients.items volume) ∷ [] else [])) }
+        ensures { IfOk result (λ _. map find_of ends.new.items ≡ map find_of ends.old.items
+            ++ (if nat_lt 1 volume && has_cut (clients_of self.now.clients.items volume).stage then found_client volume
+            (clients_of self.now.clients.items volume) ∷ [] else [])) }
     {
         if volume <= 1 {
             return Ok(());

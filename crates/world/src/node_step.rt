@@ -6,8 +6,8 @@ ghost use Rattle.volume_model.specs.declared.fault.Fault.{Fault as FaultName};
 ghost use Rattle.volume_model.specs.declared.fault.Fault.TheVariants.{NoMessage};
 ghost use Rattle.wire.specs.Message.{messages_of};
 ghost use Rattle.segment_core.specs.Prepared.{step_of};
-ghost use Rattle.segment_core.specs.Segment.{node_of, segment_plan, segment_group, segment_member, IsReady, IsSameActor};
-ghost use Rattle.world.specs.Acts.{node_after_growth, node_ordered, IsNodeOrderOf, IsRefusedNodeOrder};
+ghost use Rattle.segment_core.specs.Segment.{node_of, IsReady, IsSameActor};
+ghost use Rattle.world.specs.Acts.{IsNodeOrderOf, IsRefusedNodeOrder, SegmentMoves};
 ghost use Rattle.world.specs.Moves.{NodeMoves};
 
 use crate::acts::NodeOrder;
@@ -19,7 +19,8 @@ use wire::Message;
 
 /// Returns what an order asks for, among these messages. `NoMessage` if it names none of them.
 fn act_of<'a>(order: NodeOrder<'a>, messages: &'a [Message]) -> Result<NodeAct<'a>, Fault>
-    ensures { MatchResult result (λ act. IsNodeOrderOf (added (messages_of messages.entry.now) []) order.entry act) (λ fault. (fault ≡ NoMessage) × IsRefusedNodeOrder (added (messages_of messages.entry.now) []) order.entry) }
+    ensures { MatchResult result (λ act. IsNodeOrderOf (added (messages_of messages.entry.now) []) order.entry act)
+        (λ fault. (fault ≡ NoMessage) × IsRefusedNodeOrder (added (messages_of messages.entry.now) []) order.entry) }
 {
     match order {
         NodeOrder::Act(act) => Ok(act),
@@ -36,7 +37,9 @@ fn take(
     prepared: Prepared,
 ) -> Result<u64, Fault>
     requires { IsReady segment.old prepared }
-    ensures moves { (late : FaultName → Bool) → NodeMoves late (Ok (step_of prepared (node_of segment.old))) (node_of segment.old) (added (messages_of messages.old.items) []) result (node_of segment.new) (added (messages_of messages.new.items) []) }
+    ensures moves { (late : FaultName → Bool) → NodeMoves late (Ok (step_of prepared (node_of segment.old)))
+        (node_of segment.old) (added (messages_of messages.old.items) []) result (node_of segment.new)
+        (added (messages_of messages.new.items) []) }
     ensures actor { IsSameActor segment.old segment.new }
 {
     messages.reserve(prepared.answers().len())?;
@@ -52,7 +55,7 @@ fn act_as(
     messages: &mut Vec<Message>,
     order: NodeOrder<'_>,
 ) -> Result<u64, Fault>
-    ensures moves { NodeMoves (node_after_growth order.entry) (node_ordered (added (messages_of messages.old.items) []) order.entry (segment_plan segment.old) (segment_group segment.old) (segment_member segment.old) (node_of segment.old)) (node_of segment.old) (added (messages_of messages.old.items) []) result (node_of segment.new) (added (messages_of messages.new.items) []) }
+    ensures moves { SegmentMoves order.entry segment.old segment.new messages.old.items messages.new.items result }
     ensures actor { IsSameActor segment.old segment.new }
 {
     let act = act_of(order, messages.as_slice())?;
@@ -68,7 +71,7 @@ fn act_any(
     messages: &mut Vec<Message>,
     order: NodeOrder<'_>,
 ) -> Result<u64, Fault>
-    ensures moves { NodeMoves (node_after_growth order.entry) (node_ordered (added (messages_of messages.old.items) []) order.entry (segment_plan segment.old) (segment_group segment.old) (segment_member segment.old) (node_of segment.old)) (node_of segment.old) (added (messages_of messages.old.items) []) result (node_of segment.new) (added (messages_of messages.new.items) []) }
+    ensures moves { SegmentMoves order.entry segment.old segment.new messages.old.items messages.new.items result }
     ensures actor { IsSameActor segment.old segment.new }
 {
     act_as(alloc, segment, messages, order)
@@ -82,7 +85,7 @@ pub fn act(
     messages: &mut Vec<Message>,
     order: NodeOrder<'_>,
 ) -> Result<u64, Fault>
-    ensures moves { NodeMoves (node_after_growth order.entry) (node_ordered (added (messages_of messages.old.items) []) order.entry (segment_plan segment.old) (segment_group segment.old) (segment_member segment.old) (node_of segment.old)) (node_of segment.old) (added (messages_of messages.old.items) []) result (node_of segment.new) (added (messages_of messages.new.items) []) }
+    ensures moves { SegmentMoves order.entry segment.old segment.new messages.old.items messages.new.items result }
     ensures actor { IsSameActor segment.old segment.new }
 {
     // Most orders deliver a Write: compiled on their own, they take a tenth fewer instructions.

@@ -38,7 +38,8 @@ fn born(
     member: u8,
 ) -> Result<Option<Segment>, Fault>
     ensures place { IfOk result (IsPlace (checked_model (arc_value plan.now)) group member) }
-    ensures node { IfOk result (λ o. node_or (born_node (checked_model (arc_value plan.now)) group member) (option_map node_of o) ≡ born_node (checked_model (arc_value plan.now)) group member) }
+    ensures node { IfOk result (λ o. node_or (born_node (checked_model (arc_value plan.now)) group member)
+        (option_map node_of o) ≡ born_node (checked_model (arc_value plan.now)) group member) }
     ensures memory { IfErr result (λ e. e ≡ NoMemory) }
 {
     if !plan.names(group, member) {
@@ -50,7 +51,8 @@ fn born(
 /// Returns all nodes as they are born.
 pub fn all_born(alloc: Global, plan: &Arc<CheckedPlan>) -> Result<Vec<Option<Segment>>, Fault>
     ensures homes { IfOk result (λ slots. AreHomes (checked_model (arc_value plan.now)) slots.items) }
-    ensures nodes { IfOk result (λ slots. node_at (checked_model (arc_value plan.now)) (nodes_of slots.items) ≡ born_node (checked_model (arc_value plan.now))) }
+    ensures nodes { IfOk result (λ slots. node_at (checked_model (arc_value plan.now)) (nodes_of slots.items)
+        ≡ born_node (checked_model (arc_value plan.now))) }
     ensures memory { IfErr result (λ e. e ≡ NoMemory) }
 {
     let mut slots = Vec::new(alloc);

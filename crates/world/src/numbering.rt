@@ -24,7 +24,8 @@ fn message_at(messages: &[Message], number: u64) -> Option<&Message>
 /// # Errors
 /// `NoMessage` if none has that number.
 pub fn named(messages: &[Message], number: u64) -> Result<&Message, Fault>
-    ensures { MatchResult result (λ m. numbered (added (messages_of messages.now) []) number ≡ Some (message_of m.now)) (λ fault. (fault ≡ NoMessage) × (numbered (added (messages_of messages.now) []) number ≡ None)) }
+    ensures { MatchResult result (λ m. numbered (added (messages_of messages.now) []) number ≡ Some (message_of m.now))
+        (λ fault. (fault ≡ NoMessage) × (numbered (added (messages_of messages.now) []) number ≡ None)) }
 {
     match message_at(messages, number) {
         Some(message) => Ok(message),

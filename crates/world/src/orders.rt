@@ -46,7 +46,9 @@ pub fn follow(
 ) -> Result<u64, Fault>
     requires actors { AreActors actors.old }
     requires firsts { firsts.now ≡ firsts_of 0 results.now }
-    ensures steps { Steps (event_after_growth (ordered results.now order)) (step (plan_of actors.old) (world_of actors.old) (ordered results.now order)) (world_of actors.old) result (world_of actors.new) }
+    ensures steps { Steps (event_after_growth (ordered results.now order))
+        (step (plan_of actors.old) (world_of actors.old) (ordered results.now order)) (world_of actors.old) result
+        (world_of actors.new) }
     ensures good { AreActors actors.new }
     ensures plan { plan_of actors.new ≡ plan_of actors.old }
 {

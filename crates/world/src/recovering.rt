@@ -19,7 +19,8 @@ use wire::Message;
 /// Returns whether a recovery would take a message. `NotAddressed` if it isn't for it, `NotInPlan` for a View of
 /// other places.
 fn admits_message(recovery: &Recovery, message: &Message) -> Result<(), Fault>
-    ensures { result ≡ refusal_of (taken (recovery_plan recovery.now) (recovery_volume recovery.now) (client_of recovery.now) (message_of message.now)) }
+    ensures { result ≡ refusal_of (taken (recovery_plan recovery.now) (recovery_volume recovery.now)
+        (client_of recovery.now) (message_of message.now)) }
 {
     match message {
         Message::View(view) => recovery.admits_view(view),
@@ -36,8 +37,11 @@ fn not_open<T>() -> Result<T, Fault>
 
 /// Returns whether a recovery would act. `NotOpen` if a writer alone could.
 pub fn admits(alloc: Global, recovery: &Recovery, act: ClientAct<'_>) -> Result<(), Fault>
-    ensures answers { AnswersAfterGrowth (client_after_growth act.entry) admitted (refusal_of (client_acted act.entry (recovery_plan recovery.now) (recovery_volume recovery.now) (client_of recovery.now))) tt result tt }
-    ensures sure { ButForCut act.entry (result ≡ refusal_of (client_acted act.entry (recovery_plan recovery.now) (recovery_volume recovery.now) (client_of recovery.now))) }
+    ensures answers { AnswersAfterGrowth (client_after_growth act.entry) admitted
+        (refusal_of (client_acted act.entry (recovery_plan recovery.now) (recovery_volume recovery.now)
+        (client_of recovery.now))) tt result tt }
+    ensures sure { ButForCut act.entry (result ≡ refusal_of (client_acted act.entry (recovery_plan recovery.now)
+        (recovery_volume recovery.now) (client_of recovery.now))) }
 {
     match act {
         ClientAct::Take(message) => admits_message(recovery, message),
@@ -48,7 +52,8 @@ pub fn admits(alloc: Global, recovery: &Recovery, act: ClientAct<'_>) -> Result<
 
 /// A recovery takes a message, and answers those that it makes.
 fn take(alloc: Global, recovery: &mut Recovery, message: &Message) -> Result<Vec<Message>, Fault>
-    ensures answers { Answers acted (taken (recovery_plan recovery.old) (recovery_volume recovery.old) (client_of recovery.old) (message_of message.now)) (client_of recovery.old) result (client_of recovery.new) }
+    ensures answers { Answers acted (taken (recovery_plan recovery.old) (recovery_volume recovery.old)
+        (client_of recovery.old) (message_of message.now)) (client_of recovery.old) result (client_of recovery.new) }
     ensures plan { recovery_plan recovery.new ≡ recovery_plan recovery.old }
     ensures volume { recovery_volume recovery.new ≡ recovery_volume recovery.old }
 {
@@ -67,7 +72,9 @@ pub fn act(
     recovery: &mut Recovery,
     act: ClientAct<'_>,
 ) -> Result<Vec<Message>, Fault>
-    ensures answers { AnswersAfterGrowth (client_after_growth act.entry) acted (client_acted act.entry (recovery_plan recovery.old) (recovery_volume recovery.old) (client_of recovery.old)) (client_of recovery.old) result (client_of recovery.new) }
+    ensures answers { AnswersAfterGrowth (client_after_growth act.entry) acted
+        (client_acted act.entry (recovery_plan recovery.old) (recovery_volume recovery.old) (client_of recovery.old))
+        (client_of recovery.old) result (client_of recovery.new) }
     ensures plan { recovery_plan recovery.new ≡ recovery_plan recovery.old }
     ensures volume { recovery_volume recovery.new ≡ recovery_volume recovery.old }
 {

@@ -111,7 +111,8 @@ fn outcome_of_orders(
     plan: &Arc<CheckedPlan>,
     orders: Vec<Order>,
 ) -> Result<Outcome, Fault>
-    ensures tells { IfOk result (TellsRun (checked_model (arc_value plan.now)) (ordered_events (checked_model (arc_value plan.now)) orders.items)) }
+    ensures tells { IfOk result (TellsRun (checked_model (arc_value plan.now))
+        (ordered_events (checked_model (arc_value plan.now)) orders.items)) }
     ensures memory { IfErr result (λ e. e ≡ NoMemory) }
 {
     let mut actors = Actors::open(alloc, plan)?;
@@ -171,9 +172,11 @@ pub fn run_orders(
     plan: &Arc<CheckedPlan>,
     orders: Vec<Order>,
 ) -> Result<Outcome, Fault>
-    ensures tells { IfOk result (TellsRun (checked_model (arc_value plan.now)) (ordered_events (checked_model (arc_value plan.now)) orders.items)) }
+    ensures tells { IfOk result (TellsRun (checked_model (arc_value plan.now))
+        (ordered_events (checked_model (arc_value plan.now)) orders.items)) }
     ensures returned { IfOk result KeepsReturned }
-    ensures promises { KeepsPromises (checked_model (arc_value plan.now)) (ordered_events (checked_model (arc_value plan.now)) orders.items) }
+    ensures promises { KeepsPromises (checked_model (arc_value plan.now))
+        (ordered_events (checked_model (arc_value plan.now)) orders.items) }
     ensures memory { IfErr result (λ e. e ≡ NoMemory) }
 {
     promised(plan);

@@ -18,7 +18,8 @@ use writer_core::Writer;
 /// Returns whether a writer would take a message. `NotAddressed` if it isn't for it, `NotInPlan` for a View of other
 /// places.
 fn admits_message(writer: &Writer, message: &Message) -> Result<(), Fault>
-    ensures { result ≡ refusal_of (taken (writer_plan writer.now) (writer_volume writer.now) (client_of writer.now) (message_of message.now)) }
+    ensures { result ≡ refusal_of (taken (writer_plan writer.now) (writer_volume writer.now) (client_of writer.now)
+        (message_of message.now)) }
 {
     match message {
         Message::View(view) => writer.admits_view(view),
@@ -28,8 +29,11 @@ fn admits_message(writer: &Writer, message: &Message) -> Result<(), Fault>
 
 /// Returns whether a writer would act. `AlreadyDone` if it is to cut.
 pub fn admits(writer: &Writer, act: ClientAct<'_>) -> Result<(), Fault>
-    ensures answers { AnswersAfterGrowth (client_after_growth act.entry) admitted (refusal_of (client_acted act.entry (writer_plan writer.now) (writer_volume writer.now) (client_of writer.now))) tt result tt }
-    ensures sure { ButForCut act.entry (result ≡ refusal_of (client_acted act.entry (writer_plan writer.now) (writer_volume writer.now) (client_of writer.now))) }
+    ensures answers { AnswersAfterGrowth (client_after_growth act.entry) admitted
+        (refusal_of (client_acted act.entry (writer_plan writer.now) (writer_volume writer.now) (client_of writer.now)))
+        tt result tt }
+    ensures sure { ButForCut act.entry (result ≡ refusal_of (client_acted act.entry (writer_plan writer.now)
+        (writer_volume writer.now) (client_of writer.now))) }
 {
     match act {
         ClientAct::Issue(changes) => writer.admits(changes),
@@ -48,7 +52,8 @@ pub fn admits(writer: &Writer, act: ClientAct<'_>) -> Result<(), Fault>
 
 /// A writer takes a message, and answers those that it makes.
 fn take(alloc: Global, writer: &mut Writer, message: &Message) -> Result<Messages, Fault>
-    ensures answers { Answers answered (taken (writer_plan writer.old) (writer_volume writer.old) (client_of writer.old) (message_of message.now)) (client_of writer.old) result (client_of writer.new) }
+    ensures answers { Answers answered (taken (writer_plan writer.old) (writer_volume writer.old) (client_of writer.old)
+        (message_of message.now)) (client_of writer.old) result (client_of writer.new) }
     ensures plan { writer_plan writer.new ≡ writer_plan writer.old }
     ensures volume { writer_volume writer.new ≡ writer_volume writer.old }
 {
@@ -67,7 +72,9 @@ fn take(alloc: Global, writer: &mut Writer, message: &Message) -> Result<Message
 
 /// A writer acts. `AlreadyDone` if it is to cut.
 pub fn act(alloc: Global, writer: &mut Writer, act: ClientAct<'_>) -> Result<Messages, Fault>
-    ensures answers { AnswersAfterGrowth (client_after_growth act.entry) answered (client_acted act.entry (writer_plan writer.old) (writer_volume writer.old) (client_of writer.old)) (client_of writer.old) result (client_of writer.new) }
+    ensures answers { AnswersAfterGrowth (client_after_growth act.entry) answered
+        (client_acted act.entry (writer_plan writer.old) (writer_volume writer.old) (client_of writer.old))
+        (client_of writer.old) result (client_of writer.new) }
     ensures plan { writer_plan writer.new ≡ writer_plan writer.old }
     ensures volume { writer_volume writer.new ≡ writer_volume writer.old }
 {

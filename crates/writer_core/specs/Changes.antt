@@ -13,8 +13,20 @@ few_bytes few = take few.length few.place
 
 -- the change that has this form
 abbrev pub change_in : Form → model.Change
-change_in (Few group offset block bytes) = record { group = group; block = block; offset = offset; bytes = few_bytes bytes }
-change_in (Many group offset block bytes) = record { group = group; block = block; offset = offset; bytes = payload_bytes bytes.value }
+change_in (Few group offset block bytes) = record {
+  group = group;
+  block = block;
+  offset = offset;
+  bytes = few_bytes
+      bytes;
+}
+change_in (Many group offset block bytes) = record {
+  group = group;
+  block = block;
+  offset = offset;
+  bytes =
+      payload_bytes bytes.value;
+}
 
 -- the change that a program's change is
 abbrev pub change_of : Change → model.Change

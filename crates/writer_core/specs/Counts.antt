@@ -14,9 +14,12 @@ counts_of counts = map count_of counts
 
 -- none of the counts is this sender's, so that its first one goes to the end
 abbrev pub IsNew : ℕ → List Count → Type 0
-IsNew sender counts = (reached : ℕ) → with_count sender reached (counts_of counts) ≡ counts_of counts ++ record { sender = sender; reached = reached } ∷ []
+IsNew sender counts = (reached : ℕ) → with_count sender reached (counts_of counts) ≡ counts_of counts
+    ++ record { sender = sender; reached = reached } ∷ []
 
 -- the sender's count stands in this place, where the greater of two is kept
 pub record IsPlaceOf (sender : ℕ) (counts : List Count) (place : ℕ) : Type 0 where
   pub within : place < length counts
-  pub kept : (count : Count) → count ≡ slice_index_or counts place count → (reached : ℕ) → with_count sender reached (counts_of counts) ≡ slice_set (counts_of counts) place (record { sender = count.sender; reached = max count.reached reached })
+  pub kept : (count : Count) → count ≡ slice_index_or counts place count → (reached : ℕ) → with_count sender reached
+      (counts_of counts) ≡ slice_set (counts_of counts) place
+      (record { sender = count.sender; reached = max count.reached reached })

@@ -12,15 +12,18 @@ use Rattle.writer_core.specs.declared.durability.DurabilityTracker.{DurabilityTr
 abbrev pub is_covered : (ℕ → ℕ) → Redo → Bool
 is_covered points r = nat_le r.lsn (points r.group)
 
--- so many records from the first on are covered, and these are the numbers of the last of them and of its last consistency point, and by group
--- the last of them and the last one up to that point
+-- so many records from the first on are covered, and these are the numbers of the last of them and of its last
+-- consistency point, and by group the last of them and the last one up to that point
 pub record CoversPrefix (durability : DurabilityTracker) (points : ℕ → ℕ) (records : List SharedRecord) : Type 0 where
   pub within : durability.records ≤ length records
   pub all : every (is_covered points) (log_of (take durability.records records)) ≡ true
   pub complete : durability.complete ≡ last_lsn (log_of (take durability.records records))
-  pub durable : durability.durable ≡ consistency_point_below durability.complete (log_of (take durability.records records))
-  pub last_lsns : (group : ℕ) → group < 16 → slice_index durability.last_lsns group ≡ last_of_group group (log_of (take durability.records records))
-  pub durable_lasts : (group : ℕ) → group < 16 → slice_index durability.durable_lasts group ≡ last_of_group_below group durability.durable (log_of (take durability.records records))
+  pub durable : durability.durable ≡ consistency_point_below durability.complete
+      (log_of (take durability.records records))
+  pub last_lsns : (group : ℕ) → group < 16 → slice_index durability.last_lsns group ≡ last_of_group group
+      (log_of (take durability.records records))
+  pub durable_lasts : (group : ℕ) → group < 16 → slice_index durability.durable_lasts group ≡ last_of_group_below group
+      durability.durable (log_of (take durability.records records))
 
 -- no record is covered yet, of whatever log
 abbrev pub CoversNone : DurabilityTracker → Type 0
@@ -34,10 +37,11 @@ pub record Covers (old new : DurabilityTracker) (r : Redo) : Type 0 where
   pub last_lsns : new.last_lsns ≡ slice_set old.last_lsns r.group r.lsn
   pub durable_lasts : new.durable_lasts ≡ (if r.point then new.last_lsns else old.durable_lasts)
 
--- the records from the first on are covered as far as they go: their numbers are the log's complete point, its durable point, and by group the
--- last number up to that
+-- the records from the first on are covered as far as they go: their numbers are the log's complete point, its durable
+-- point, and by group the last number up to that
 pub record CoversLog (durability : DurabilityTracker) (points : ℕ → ℕ) (records : List SharedRecord) : Type 0 where
   pub front : CoversPrefix durability points records
   pub complete : durability.complete ≡ complete_of points (log_of records)
   pub durable : durability.durable ≡ consistency_point_below (complete_of points (log_of records)) (log_of records)
-  pub durable_lasts : (group : ℕ) → group < 16 → slice_index durability.durable_lasts group ≡ last_of_group_below group durability.durable (log_of records)
+  pub durable_lasts : (group : ℕ) → group < 16 → slice_index durability.durable_lasts group ≡ last_of_group_below group
+      durability.durable (log_of records)

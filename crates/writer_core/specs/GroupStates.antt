@@ -15,7 +15,13 @@ use Rattle.writer_core.specs.Counts.{counts_of}
 
 -- what a client keeps of a group
 abbrev pub group_at : GroupState → ClientGroup
-group_at s = record { place = place_of s.place; reports = copies_in s.copies.items; counts = counts_of s.counts.items; group_point = s.point; joined = s.joined }
+group_at s = record {
+  place = place_of s.place;
+  reports = copies_in s.copies.items;
+  counts = counts_of s.counts.items;
+  group_point = s.point;
+  joined = s.joined;
+}
 
 -- what a client keeps of its groups
 abbrev pub groups_of : List GroupState → List ClientGroup
@@ -23,7 +29,8 @@ groups_of group_states = map group_at group_states
 
 -- each group stands at one of its configurations
 abbrev pub ArePlaced : Plan → List ClientGroup → Type 0
-ArePlaced plan groups = (group : ℕ) → group < length groups → (model.place_of groups group).configuration < plan.configurations group
+ArePlaced plan groups = (group : ℕ) → group < length groups → (model.place_of groups group).configuration
+    < plan.configurations group
 
 -- a group with an acknowledgement counted
 abbrev pub counted_group : ClientGroup → ℕ → ℕ → ClientGroup

@@ -18,7 +18,8 @@ kept_in blocks group block = unwrap_or (get block_cmp blocks (block, group)) 0
 
 -- this number is kept of a block from now on, and of all others what was kept before
 abbrev pub PutsIn : Blocks → ℕ → ℕ → ℕ → Blocks → Type 0
-PutsIn old group block lsn new = (q b : ℕ) → kept_in new q b ≡ (if nat_eq group q && nat_eq block b then lsn else kept_in old q b)
+PutsIn old group block lsn new = (q b : ℕ) → kept_in new q b ≡ (if nat_eq group q && nat_eq block b then lsn else
+    kept_in old q b)
 
 -- of all blocks the same is kept
 abbrev pub AreSameIn : Blocks → Blocks → Type 0

@@ -33,7 +33,8 @@ pub record AreLastsOfAll (last_lsns : LastLsns) (records : List SharedRecord) : 
 -- one record more is entered, one of this number on a block of a group
 pub record Enters (old new : LastLsns) (group block lsn : ℕ) : Type 0 where
   pub counted : new.entered ≡ old.entered + 1
-  pub last_lsns : (r : Redo) → r.group ≡ group → r.block ≡ block → r.lsn ≡ lsn → (log : List Redo) → AreLasts old log → AreLasts new (r ∷ log)
+  pub last_lsns : (r : Redo) → r.group ≡ group → r.block ≡ block → r.lsn ≡ lsn → (log : List Redo) → AreLasts old log
+      → AreLasts new (r ∷ log)
 
 -- no record more is entered
 pub record EntersNone (old new : LastLsns) : Type 0 where
@@ -47,10 +48,12 @@ pub record IsLinked (r : Redo) (older : List Redo) : Type 0 where
 
 -- each record from this place on does
 abbrev pub AreLinkedFrom : ℕ → List SharedRecord → Type 0
-AreLinkedFrom place records = (k : ℕ) (d : SharedRecord) → place ≤ k → k < length records → IsLinked (shared_redo (slice_index_or records k d)) (log_of (take k records))
+AreLinkedFrom place records = (k : ℕ) (d : SharedRecord) → place ≤ k → k < length records
+    → IsLinked (shared_redo (slice_index_or records k d)) (log_of (take k records))
 
 -- the last record that was entered is taken out again, one on a block of a group that names these numbers before it
 pub record Leaves (old new : LastLsns) (group block prev_group prev_block : ℕ) : Type 0 where
   pub counted : new.entered + 1 ≡ old.entered
-  pub last_lsns : (r : Redo) → r.group ≡ group → r.block ≡ block → r.prev_group ≡ prev_group → r.prev_block ≡ prev_block → 1 ≤ r.lsn
+  pub last_lsns : (r : Redo) → r.group ≡ group → r.block ≡ block → r.prev_group ≡ prev_group → r.prev_block ≡ prev_block
+      → 1 ≤ r.lsn
       → (log : List Redo) → IsLinked r log → AreLasts old (r ∷ log) → AreLasts new log

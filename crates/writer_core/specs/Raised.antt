@@ -15,7 +15,9 @@ AreRaised plan groups = (group : ℕ) → counted_point plan group (group_of gro
 
 -- each group has joined whose counted acknowledgements satisfy its write expression
 abbrev pub HaveJoined : Plan → List ClientGroup → Type 0
-HaveJoined plan groups = (group : ℕ) → group < length groups → sat (place_configuration plan group (group_of groups group).place).write (counted_by (group_of groups group).counts) ≡ true → (group_of groups group).joined ≡ true
+HaveJoined plan groups = (group : ℕ) → group < length groups
+    → sat (place_configuration plan group (group_of groups group).place).write
+    (counted_by (group_of groups group).counts) ≡ true → (group_of groups group).joined ≡ true
 
 -- the groups, the point of one of them raised
 abbrev pub raised_in : Plan → List ClientGroup → ℕ → List ClientGroup

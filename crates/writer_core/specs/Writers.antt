@@ -30,11 +30,25 @@ writer_volume w = w.volume
 
 -- the client that it is
 abbrev pub client_of : Writer → Client
-client_of w = record { stage = Writing; groups = groups_in w.group_states; lineage = lineage_of w.lineage; found = log_of_set (found_of w.log); log = log_in w.log }
+client_of w = record {
+  stage = Writing;
+  groups = groups_in w.group_states;
+  lineage = lineage_of w.lineage;
+  found =
+      log_of_set (found_of w.log);
+  log = log_in w.log;
+}
 
 -- a recovery that has cut, with what it keeps of its groups, its lineage and the log that it found
 abbrev pub installing : List ClientGroup → Lineage → List Redo → Client
-installing groups lineage log = record { stage = Installing; groups = groups; lineage = lineage; found = log; log = log }
+installing groups lineage log = record {
+  stage = Installing;
+  groups = groups;
+  lineage = lineage;
+  found = log;
+  log =
+      log;
+}
 
 -- a transaction for which there are log sequence numbers
 pub record CanIssue (plan : Plan) (client : Client) (changes : List Change) : Type 0 where

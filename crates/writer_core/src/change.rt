@@ -45,7 +45,12 @@ impl Change {
         bytes: &[u8],
     ) -> Result<Change, AllocError>
         requires room { HasRoom (length bytes.now) }
-        ensures { IfOk result (λ change. change_of change ≡ record { group = group; block = block; offset = offset; bytes = bytes.now }) }
+        ensures { IfOk result (λ change. change_of change ≡ record {
+          group = group;
+          block = block;
+          offset = offset;
+          bytes = bytes.now;
+        }) }
     {
         if bytes.len() <= MOST_FEW {
             let bytes = FewBytes::new(bytes);

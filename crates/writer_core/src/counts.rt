@@ -58,7 +58,8 @@ fn place_of(counts: &[Count], sender: u8) -> Option<usize>
 /// Counts an acknowledgement: the greatest complete point of its sender is kept.
 pub fn add(counts: &mut Vec<Count>, sender: u8, reached: u64) -> Result<(), AllocFailed<Count>>
     requires { sender < 64 }
-    ensures counted { OnOk result (counts_of counts.new.items ≡ with_count sender reached (counts_of counts.old.items)) }
+    ensures counted { OnOk result (counts_of counts.new.items ≡ with_count sender reached
+        (counts_of counts.old.items)) }
     ensures same { OnErr result (counts.new.items ≡ counts.old.items) }
 {
     match place_of(counts.as_slice(), sender) {

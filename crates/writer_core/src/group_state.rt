@@ -137,7 +137,8 @@ impl GroupState {
     pub(crate) fn has_read(&self, plan: &CheckedPlan, group: u8) -> bool
         requires group { group < (checked_model plan.now).groups }
         requires configuration { self.now.place.configuration < (checked_model plan.now).configurations group }
-        ensures { result ≡ sat (place_configuration (checked_model plan.now) group (group_at self.now).place).read (senders (group_at self.now).reports) }
+        ensures { result ≡ sat (place_configuration (checked_model plan.now) group (group_at self.now).place).read
+            (senders (group_at self.now).reports) }
     {
         match plan.configuration(group, self.place.configuration) {
             Some(configuration) => { holds(&configuration.read, senders(self.copies.as_slice())) }
@@ -149,7 +150,8 @@ impl GroupState {
     pub(crate) fn has_installed(&self, plan: &CheckedPlan, group: u8) -> bool
         requires group { group < (checked_model plan.now).groups }
         requires configuration { self.now.place.configuration < (checked_model plan.now).configurations group }
-        ensures { result ≡ sat (place_configuration (checked_model plan.now) group (group_at self.now).place).write (counted_by (group_at self.now).counts) }
+        ensures { result ≡ sat (place_configuration (checked_model plan.now) group (group_at self.now).place).write
+            (counted_by (group_at self.now).counts) }
     {
         match plan.configuration(group, self.place.configuration) {
             Some(configuration) => {

@@ -100,7 +100,8 @@ impl GroupStates {
 
     /// What is kept of a group, and none where the view has no such group.
     pub fn get(&self, group: u8) -> Option<&GroupState>
-        ensures { MatchOption result (length (groups_in self.now) ≤ group) (λ s. (group < length (groups_in self.now)) × (group_of (groups_in self.now) group ≡ group_at s.now)) }
+        ensures { MatchOption result (length (groups_in self.now) ≤ group) (λ s. (group < length (groups_in self.now))
+            × (group_of (groups_in self.now) group ≡ group_at s.now)) }
     {
         self.list.get(usize::from(group))
     }
@@ -147,7 +148,8 @@ impl GroupStates {
     /// yet. One of a group outside the view changes nothing. On error nothing has changed.
     pub fn count(&mut self, ack: &Ack) -> Result<(), AllocFailed<Count>>
         requires sender { ack.now.from < 64 }
-        ensures counted { OnOk result (groups_in self.new ≡ counted_in (groups_in self.old) ack.now.group ack.now.from ack.now.scl) }
+        ensures counted { OnOk result (groups_in self.new ≡ counted_in (groups_in self.old) ack.now.group ack.now.from
+            ack.now.scl) }
         ensures same { OnErr result (groups_in self.new ≡ groups_in self.old) }
         ensures plan { group_states_plan self.new ≡ group_states_plan self.old }
     {
@@ -161,7 +163,8 @@ impl GroupStates {
     /// nothing. On error nothing has changed.
     pub fn keep(&mut self, report: &Report) -> Result<(), AllocError>
         requires sender { report.now.from < 64 }
-        ensures kept { OnOk result (groups_in self.new ≡ reported_in (groups_in self.old) report.now.group (report_of report.now)) }
+        ensures kept { OnOk result (groups_in self.new ≡ reported_in (groups_in self.old) report.now.group
+            (report_of report.now)) }
         ensures same { OnErr result (groups_in self.new ≡ groups_in self.old) }
         ensures plan { group_states_plan self.new ≡ group_states_plan self.old }
     {
@@ -201,7 +204,8 @@ impl GroupStates {
     /// nothing has changed.
     pub fn follow(&mut self, places: &[Place]) -> Result<(), AllocError>
         requires { are_places (group_states_plan self.old) (map place_of places.now) ≡ true }
-        ensures groups { OnOk result (groups_in self.new ≡ with_places later_group (groups_in self.old) (map place_of places.now)) }
+        ensures groups { OnOk result (groups_in self.new ≡ with_places later_group (groups_in self.old)
+            (map place_of places.now)) }
         ensures same { OnErr result (groups_in self.new ≡ groups_in self.old) }
         ensures plan { group_states_plan self.new ≡ group_states_plan self.old }
     {
@@ -214,7 +218,8 @@ impl GroupStates {
     /// up those that are new. On error nothing has changed.
     pub fn reread(&mut self, places: &[Place]) -> Result<(), AllocError>
         requires { are_places (group_states_plan self.old) (map place_of places.now) ≡ true }
-        ensures groups { OnOk result (groups_in self.new ≡ with_places reread_group (groups_in self.old) (map place_of places.now)) }
+        ensures groups { OnOk result (groups_in self.new ≡ with_places reread_group (groups_in self.old)
+            (map place_of places.now)) }
         ensures same { OnErr result (groups_in self.new ≡ groups_in self.old) }
         ensures plan { group_states_plan self.new ≡ group_states_plan self.old }
     {

@@ -65,7 +65,8 @@ pub fn group_installs(
     lineage: &Lineage,
     log: &RecordSet,
 ) -> Result<Vec<Message>, AllocError>
-    ensures { IfOk result (λ messages. messages_of messages.items ≡ in_pieces (to_install (lineage_of lineage.now) (log_of_set log.now) group) (model.Message.Install group (wire.label_of label))) }
+    ensures { IfOk result (λ messages. messages_of messages.items ≡ in_pieces (to_install (lineage_of lineage.now)
+        (log_of_set log.now) group) (model.Message.Install group (wire.label_of label))) }
 {
     let whole = Contents {
         lineage: lineage.clone()?,
@@ -95,7 +96,9 @@ pub(crate) fn unjoined_installs(
     places: &[Place],
 ) -> Result<Vec<Message>, AllocError>
     requires { length places.now ≤ 16 }
-    ensures { IfOk result (λ messages. messages_of messages.items ≡ installs (length places.now) volume (place_in (map wire.place_of places.now)) (lineage_of lineage.now) [] (later_unjoined (groups_in group_states.now) (place_in (map wire.place_of places.now)))) }
+    ensures { IfOk result (λ messages. messages_of messages.items ≡ installs (length places.now) volume
+        (place_in (map wire.place_of places.now)) (lineage_of lineage.now) []
+        (later_unjoined (groups_in group_states.now) (place_in (map wire.place_of places.now)))) }
 {
     let none = RecordSet::new(alloc);
     let mut messages = Vec::new(alloc);

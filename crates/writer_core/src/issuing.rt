@@ -50,7 +50,8 @@ fn next_packet(
     requires room { max (last_lsn (log_in log.now)) span.start < 2 ^ 62 }
     requires group { (change_of change.now).group < 16 }
     requires place { (change_of change.now).offset + length (change_of change.now).bytes ≤ 512 }
-    ensures made { IfOk result (λ packet. shared_redo packet ≡ record_of span.volume span.start (log_in log.now) (change_of change.now) point) }
+    ensures made { IfOk result (λ packet. shared_redo packet ≡ record_of span.volume span.start (log_in log.now)
+        (change_of change.now) point) }
     ensures entered { IfOk result (λ packet. AreLastsOfAll last_lsns.new (packets_in log.now ++ packet ∷ [])) }
     ensures err { OnErr result (AreLastsOfAll last_lsns.new (packets_in log.now)) }
 {
@@ -82,7 +83,9 @@ fn next_packet(
 
 /// Returns a record as a writer of this volume epoch carries it to the nodes of its group.
 pub fn carry<'a>(volume: u32, group_states: &GroupStates, packet: &'a SharedRecord) -> Carried<'a>
-    ensures { carried_write result ≡ model.Message.Write (shared_redo packet.now).group (label_of volume (place_of (groups_in group_states.now)) (shared_redo packet.now).group) (shared_redo packet.now) }
+    ensures { carried_write result ≡ model.Message.Write (shared_redo packet.now).group
+        (label_of volume (place_of (groups_in group_states.now)) (shared_redo packet.now).group)
+        (shared_redo packet.now) }
 {
     let group = packet.group();
     Carried {
@@ -136,8 +139,11 @@ pub fn append(
     requires room { max (last_lsn (log_in log.old)) span.start + length changes.now ≤ 2 ^ 62 }
     requires few { length (groups_in group_states.now) ≤ 16 }
     requires good { every (is_change (length (groups_in group_states.now))) (changes_of changes.now) ≡ true }
-    ensures logged { OnOk result (log_in log.new ≡ issued_log span.volume span.start (changes_of changes.now) (log_in log.old)) }
-    ensures written { OnOk result (messages_of (listed messages.new) ≡ messages_of (listed messages.old) ++ issued_writes span.volume (place_of (groups_in group_states.now)) span.start (changes_of changes.now) (log_in log.old)) }
+    ensures logged { OnOk result (log_in log.new ≡ issued_log span.volume span.start (changes_of changes.now)
+        (log_in log.old)) }
+    ensures written { OnOk result (messages_of (listed messages.new) ≡ messages_of (listed messages.old)
+        ++ issued_writes span.volume (place_of (groups_in group_states.now)) span.start (changes_of changes.now)
+        (log_in log.old)) }
     ensures last_lsns { AreLastLsnsOfPrefix last_lsns.new (packets_in log.new) }
     ensures memory { IfErr result (λ e. e ≡ NoMemory) }
     ensures front { take (length (packets_in log.old)) (packets_in log.new) ≡ packets_in log.old }

@@ -44,7 +44,8 @@ pub fn raise(plan: &CheckedPlan, group_states: &mut [GroupState])
 
 /// Takes up groups that stand nowhere yet, up to this many. On error nothing has changed.
 pub fn extend(group_states: &mut Vec<GroupState>, groups: usize) -> Result<(), AllocError>
-    ensures more { OnOk result (groups_of group_states.new.items ≡ groups_of group_states.old.items ++ replicate (groups - length group_states.old.items) no_group) }
+    ensures more { OnOk result (groups_of group_states.new.items ≡ groups_of group_states.old.items
+        ++ replicate (groups - length group_states.old.items) no_group) }
     ensures same { OnErr result (groups_of group_states.new.items ≡ groups_of group_states.old.items) }
 {
     let alloc = *group_states.allocator();
@@ -61,7 +62,8 @@ pub fn extend(group_states: &mut Vec<GroupState>, groups: usize) -> Result<(), A
 /// Moves each group that has a place to it, where that is one of a later epoch.
 pub fn follow(group_states: &mut [GroupState], places: &[Place])
     requires { length places.now ≤ length group_states.old }
-    ensures moved { groups_of group_states.new ≡ with_places later_group (groups_of group_states.old) (map place_of places.now) }
+    ensures moved { groups_of group_states.new ≡ with_places later_group (groups_of group_states.old)
+        (map place_of places.now) }
     ensures many { length group_states.new ≡ length group_states.old }
 {
     for group in 0..places.len() {
@@ -72,7 +74,8 @@ pub fn follow(group_states: &mut [GroupState], places: &[Place])
 /// Moves each group that has a place to it, where that is one of a later epoch, and then drops the group's reports.
 pub fn reread(group_states: &mut [GroupState], places: &[Place])
     requires { length places.now ≤ length group_states.old }
-    ensures moved { groups_of group_states.new ≡ with_places reread_group (groups_of group_states.old) (map place_of places.now) }
+    ensures moved { groups_of group_states.new ≡ with_places reread_group (groups_of group_states.old)
+        (map place_of places.now) }
     ensures many { length group_states.new ≡ length group_states.old }
 {
     for group in 0..places.len() {

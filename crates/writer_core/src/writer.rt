@@ -93,7 +93,8 @@ impl Writer {
         requires assigned { 1 ≤ volume }
         requires installed { has_installed (group_states_plan group_states) (keeping (groups_in group_states)) ≡ true }
         requires growing { is_growing (log_of_set found) ≡ true }
-        ensures client { client_of result ≡ writing (group_states_plan group_states) (installing (groups_in group_states) (lineage_of lineage) (log_of_set found)) }
+        ensures client { client_of result ≡ writing (group_states_plan group_states)
+            (installing (groups_in group_states) (lineage_of lineage) (log_of_set found)) }
         ensures plan { writer_plan result ≡ group_states_plan group_states }
         ensures volume { writer_volume result ≡ volume }
     {
@@ -174,8 +175,10 @@ impl Writer {
     /// Returns whether an acknowledgement can be taken: `NotAddressed` if it isn't one to this writer, of a group of
     /// the volume and a member. Takes no memory.
     pub fn admits_ack(&self, ack: &Ack) -> Result<(), Fault>
-        ensures refusal { result ≡ refusal_of (taken (writer_plan self.now) (writer_volume self.now) (client_of self.now) (message_of (Message.Ack ack.now))) }
-        ensures can { OnOk result (is_for (writer_volume self.now) (writer_plan self.now).groups (message_of (Message.Ack ack.now)) ≡ true) }
+        ensures refusal { result ≡ refusal_of (taken (writer_plan self.now) (writer_volume self.now)
+            (client_of self.now) (message_of (Message.Ack ack.now))) }
+        ensures can { OnOk result (is_for (writer_volume self.now) (writer_plan self.now).groups
+            (message_of (Message.Ack ack.now)) ≡ true) }
         ensures own { IfErr result (λ fault. fault ≢ NoMemory) }
     {
         if !ack.is_to(self.volume, self.groups()) {
@@ -190,7 +193,8 @@ impl Writer {
     /// # Errors
     /// As [`Writer::admits_ack`]; `NoMemory`.
     pub fn take_ack(&mut self, ack: &Ack) -> Result<(), Fault>
-        ensures answers { Answers silent (taken (writer_plan self.old) (writer_volume self.old) (client_of self.old) (message_of (Message.Ack ack.now))) (client_of self.old) result (client_of self.new) }
+        ensures answers { Answers silent (taken (writer_plan self.old) (writer_volume self.old) (client_of self.old)
+            (message_of (Message.Ack ack.now))) (client_of self.old) result (client_of self.new) }
         ensures plan { writer_plan self.new ≡ writer_plan self.old }
         ensures volume { writer_volume self.new ≡ writer_volume self.old }
     {
@@ -213,9 +217,11 @@ impl Writer {
     /// places aren't those of the plan's first groups, of all that are there at birth at least, each at one of its
     /// configurations. Takes no memory.
     pub fn admits_view(&self, view: &View) -> Result<(), Fault>
-        ensures refusal { result ≡ refusal_of (taken (writer_plan self.now) (writer_volume self.now) (client_of self.now) (message_of (Message.View view.now))) }
+        ensures refusal { result ≡ refusal_of (taken (writer_plan self.now) (writer_volume self.now)
+            (client_of self.now) (message_of (Message.View view.now))) }
         ensures epoch { OnOk result (view.now.volume ≡ writer_volume self.now) }
-        ensures places { OnOk result (are_places (writer_plan self.now) (map place_of view.now.places.value.items) ≡ true) }
+        ensures places { OnOk result (are_places (writer_plan self.now) (map place_of view.now.places.value.items)
+            ≡ true) }
         ensures own { IfErr result (λ fault. fault ≢ NoMemory) }
     {
         if view.volume != self.volume {
@@ -234,7 +240,8 @@ impl Writer {
     /// # Errors
     /// As [`Writer::admits_view`]; `NoMemory`.
     pub fn view(&mut self, alloc: Global, view: &View) -> Result<Vec<Message>, Fault>
-        ensures answers { Answers acted (taken (writer_plan self.old) (writer_volume self.old) (client_of self.old) (message_of (Message.View view.now))) (client_of self.old) result (client_of self.new) }
+        ensures answers { Answers acted (taken (writer_plan self.old) (writer_volume self.old) (client_of self.old)
+            (message_of (Message.View view.now))) (client_of self.old) result (client_of self.new) }
         ensures plan { writer_plan self.new ≡ writer_plan self.old }
         ensures volume { writer_volume self.new ≡ writer_volume self.old }
     {
@@ -256,7 +263,8 @@ impl Writer {
     /// Returns a record of the log, to be carried once more by a Write. `NoLogRecord` if the log has none with this
     /// LSN. Takes no memory.
     pub fn resend(&self, lsn: u64) -> Result<Carried<'_>, Fault>
-        ensures answers { AnswersAlways sent (resent (writer_volume self.now) (client_of self.now) lsn) (client_of self.now) result (client_of self.now) }
+        ensures answers { AnswersAlways sent (resent (writer_volume self.now) (client_of self.now) lsn)
+            (client_of self.now) result (client_of self.now) }
         ensures own { IfErr result (λ fault. fault ≢ NoMemory) }
     {
         match self.log.record_at(lsn) {
@@ -268,7 +276,8 @@ impl Writer {
     /// Returns a request for a block's page at the durable point. `NoGroup` if the view has no such group. Takes no
     /// memory.
     pub fn read(&self, group: u8, block: u32) -> Result<Message, Fault>
-        ensures answers { AnswersAlways asked (page_asked (writer_volume self.now) (client_of self.now) group block) (client_of self.now) result (client_of self.now) }
+        ensures answers { AnswersAlways asked (page_asked (writer_volume self.now) (client_of self.now) group block)
+            (client_of self.now) result (client_of self.now) }
         ensures own { IfErr result (λ fault. fault ≢ NoMemory) }
     {
         if group >= self.group_states.groups() {
@@ -285,7 +294,9 @@ impl Writer {
     /// Returns the LSN up to which a group is acknowledged: the greatest that a write set of its members has said at
     /// some moment. `NoGroup` if the view has no such group.
     pub fn group_point(&self, group: u8) -> Result<u64, Fault>
-        ensures { MatchResult result (λ point. (group < length (client_of self.now).groups) × (group_point_of (client_of self.now).groups group ≡ point)) (λ fault. (length (client_of self.now).groups ≤ group) × (fault ≡ NoGroup)) }
+        ensures { MatchResult result (λ point. (group < length (client_of self.now).groups)
+            × (group_point_of (client_of self.now).groups group ≡ point))
+            (λ fault. (length (client_of self.now).groups ≤ group) × (fault ≡ NoGroup)) }
     {
         match self.group_states.get(group) {
             Some(group_state) => Ok(group_state.point),
@@ -305,8 +316,11 @@ impl Writer {
     /// left for it, `LimitReached` if the last of its records would stand further above the durable point and the
     /// start than the plan allows. Takes no memory.
     pub fn admits(&self, changes: &[Change]) -> Result<(), Fault>
-        ensures refusal { result ≡ refusal_of (issued (writer_plan self.now) (writer_volume self.now) (client_of self.now) (changes_of changes.now)) }
-        ensures ok { OnOk result (issued (writer_plan self.now) (writer_volume self.now) (client_of self.now) (changes_of changes.now) ≡ Ok (issue_step (writer_volume self.now) (client_of self.now) (changes_of changes.now))) }
+        ensures refusal { result ≡ refusal_of (issued (writer_plan self.now) (writer_volume self.now)
+            (client_of self.now) (changes_of changes.now)) }
+        ensures ok { OnOk result (issued (writer_plan self.now) (writer_volume self.now) (client_of self.now)
+            (changes_of changes.now) ≡ Ok (issue_step (writer_volume self.now) (client_of self.now)
+            (changes_of changes.now))) }
         ensures can { OnOk result (CanIssue (writer_plan self.now) (client_of self.now) (changes_of changes.now)) }
         ensures own { IfErr result (λ fault. fault ≢ NoMemory) }
     {
@@ -338,7 +352,8 @@ impl Writer {
     /// Issues a transaction: appends a record for each change, all or none, and returns their Writes, in order. The
     /// last record is a consistency point. Refused as [`Writer::admits`] says; on error the writer is unchanged.
     pub fn issue(&mut self, alloc: Global, changes: &[Change]) -> Result<Messages, Fault>
-        ensures answers { Answers answered (issued (writer_plan self.old) (writer_volume self.old) (client_of self.old) (changes_of changes.now)) (client_of self.old) result (client_of self.new) }
+        ensures answers { Answers answered (issued (writer_plan self.old) (writer_volume self.old) (client_of self.old)
+            (changes_of changes.now)) (client_of self.old) result (client_of self.new) }
         ensures plan { writer_plan self.new ≡ writer_plan self.old }
         ensures volume { writer_volume self.new ≡ writer_volume self.old }
     {

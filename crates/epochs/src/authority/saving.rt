@@ -22,7 +22,8 @@ impl Authority {
     /// Out of memory.
     pub fn snapshot(&self, alloc: Global) -> Result<AuthoritySnapshot, AllocError>
         ensures kept { IfOk result (λ snapshot. authority_in snapshot ≡ authority_of self.now) }
-        ensures resumes { IfOk result (λ snapshot. resumed (authority_plan self.now) (authority_in snapshot) ≡ Ok (authority_of self.now)) }
+        ensures resumes { IfOk result (λ snapshot. resumed (authority_plan self.now) (authority_in snapshot)
+            ≡ Ok (authority_of self.now)) }
     {
         Ok(AuthoritySnapshot {
             last_volume: self.last_volume,
@@ -36,7 +37,8 @@ impl Authority {
     /// `BadField` if the snapshot's last volume epoch is 0; `NoGroup` if fewer groups have joined than the plan has at birth, or more
     /// than it has.
     pub fn resumed(plan: Arc<CheckedPlan>, snapshot: AuthoritySnapshot) -> Result<Authority, Fault>
-        ensures authority { AnswersNew authority_of (resumed (checked_model (arc_value plan)) (authority_in snapshot)) result }
+        ensures authority { AnswersNew authority_of (resumed (checked_model (arc_value plan)) (authority_in snapshot))
+            result }
         ensures plan { IfOk result (λ a. authority_plan a ≡ checked_model (arc_value plan)) }
     {
         if snapshot.last_volume == 0 {

@@ -28,7 +28,8 @@ impl Segment {
     /// Out of memory; the segment is unchanged.
     pub fn snapshot(&mut self, alloc: Global) -> Result<SegmentSnapshot, AllocError>
         ensures kept { IfOk result (λ snapshot. node_in snapshot ≡ restarted (node_of self.old)) }
-        ensures resumes { IfOk result (λ snapshot. resumed (segment_plan self.old) (segment_group self.old) (segment_member self.old) (node_in snapshot) ≡ Ok (restarted (node_of self.old))) }
+        ensures resumes { IfOk result (λ snapshot. resumed (segment_plan self.old) (segment_group self.old)
+            (segment_member self.old) (node_in snapshot) ≡ Ok (restarted (node_of self.old))) }
         ensures node { node_of self.new ≡ node_of self.old }
         ensures actor { IsSameActor self.old self.new }
     {
@@ -57,7 +58,8 @@ impl Segment {
         member: u8,
         snapshot: SegmentSnapshot,
     ) -> Result<Segment, Fault>
-        ensures node { AnswersNew node_of (resumed (checked_model (arc_value plan)) group member (node_in snapshot)) result }
+        ensures node { AnswersNew node_of (resumed (checked_model (arc_value plan)) group member (node_in snapshot))
+            result }
         ensures actor { IfOk result (λ segment. IsSegmentOf (checked_model (arc_value plan)) group member segment) }
     {
         if !plan.names(group, member) {
