@@ -20,7 +20,7 @@ pub struct Past {
     recent: Vec<Entry>,
 }
 
-/// Returns whether a record is live, where these entries tell.
+/// Returns whether a record is live, if these entries decide it.
 fn judge(entries: &[Entry], volume_epoch: u32, lsn: u64) -> Option<bool>
     ensures { MatchOption result ((older : model.Lineage) → is_live (entries_of entries.now ++ older) volume_epoch lsn
         ≡ is_live older volume_epoch lsn) (λ live. (older : model.Lineage) → is_live (entries_of entries.now ++ older)

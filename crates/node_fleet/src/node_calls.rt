@@ -33,8 +33,8 @@ impl<'a, L: FleetSite> Fleet<'a, L> {
         self.nodes[slot].as_ref()
     }
 
-    // Refuses the event of a node that isn't there: the plan doesn't name it, or its group hasn't joined. Running out of memory is
-    // told, and not noted.
+    /// Refuses the event of a node that isn't there: the plan doesn't name it, or its group hasn't joined. Returns
+    /// `NoMemory` if there is no room for the note, and then notes nothing.
     fn refuse_missing(&self, log: &mut Log<'a, L>, pass: &mut Pass<'a, L>, event: Event) -> Fault
         requires missing { refusal (step L.plan (world_of log.old) (event_of event)) ≡ 82 }
         ensures log { journal_of log.new ≡ journal_of log.old }

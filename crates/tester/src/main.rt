@@ -1,5 +1,5 @@
 //! Tries the program: `tester [BOOK..] [SEED [COUNT]]`. Each word that ends in `.book` is a book, whose cases are
-//! tried; then come the random plans and scripts of this many seeds, of which what is printed alone tells whether the
+//! tried; then come the random plans and scripts of this many seeds, of which only what is printed decides whether the
 //! volume's promises are kept.
 #![tactic(auto)]
 

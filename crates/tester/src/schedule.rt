@@ -26,7 +26,7 @@ pub struct Schedule {
     pub places: [u8; 2],
     /// How many groups have joined.
     pub joined: u8,
-    /// How many the newest client was told of.
+    /// How many groups the newest client has taken a View of.
     pub told: u8,
     /// Members in the order in which writes prefer them.
     favourites: Vec<u8>,

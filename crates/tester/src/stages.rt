@@ -172,7 +172,7 @@ impl Schedule {
         Ok(())
     }
 
-    /// The newest client is told of the places.
+    /// Sends the newest client a View of the places.
     fn refresh(&mut self, task: &mut Task) -> Result<(), AllocError> {
         task.client = self.clients;
         let line = self.written.of_client("refresh", task.client)?;
@@ -181,7 +181,7 @@ impl Schedule {
         Ok(())
     }
 
-    /// The newest client takes what it is told.
+    /// Lets the newest client take its View.
     fn learn(&mut self, task: &mut Task, view: u64) -> Result<(), AllocError> {
         let line = self.written.take(task.client, view, 1)?;
         task.stage = Stage::Finished;
@@ -197,7 +197,7 @@ impl Schedule {
         self.keep(task)
     }
 
-    /// The newest client is told of a group that has joined.
+    /// Sends the newest client a View with a group that has joined.
     fn announce(&mut self, task: &mut Task) -> Result<(), AllocError> {
         self.refresh(task)?;
         if let Stage::Learn(line) = task.stage {
@@ -206,7 +206,7 @@ impl Schedule {
         Ok(())
     }
 
-    /// It takes what it is told, and what it makes of it goes to members of the group.
+    /// Lets it take the View, and sends the messages that it makes to members of the group.
     fn join(&mut self, task: &mut Task, view: u64) -> Result<(), AllocError> {
         let line = self.written.take(task.client, view, 1)?;
         let group = task.group;

@@ -102,7 +102,7 @@ impl Schedule {
         self.written.note(line, 1, Receiver::Nodes(group))
     }
 
-    /// A client is told the places of the groups.
+    /// Sends a client a View of the groups' places.
     fn tell(&mut self, alloc: Global) -> Result<(), AllocError> {
         let client = self.clients;
         let line = self.written.of_client("refresh", client)?;

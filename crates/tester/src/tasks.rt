@@ -18,11 +18,11 @@ pub enum Stage {
     Send,
     /// It becomes whole from them.
     Hydrate,
-    /// The newest client is told of the places.
+    /// Sends the newest client a View of the places.
     Refresh,
     /// It takes the View that this line made.
     Learn(u64),
-    /// The newest client is told of a group that has joined.
+    /// Sends the newest client a View with a group that has joined.
     Tell,
     /// It takes the View that this line made, and what it makes of it is sent to the group.
     Join(u64),

@@ -22,7 +22,7 @@ pub enum Way {
 }
 
 /// The subexpressions of both sides, and for each left choice a bit for each right one with which it closes. Whether a member closes
-/// with another subexpression is told by what that needs.
+/// with another subexpression follows from what that needs.
 #[derive(Drop)]
 pub struct Closing<B: Allocator> {
     lefts: Parts<B>,

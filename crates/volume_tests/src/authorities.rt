@@ -1,4 +1,4 @@
-//! What the authority does and tells.
+//! What the authority does and answers.
 
 use super::said::Said::{self, Count, Step, View, Yes};
 use super::said::said_by;
@@ -23,7 +23,7 @@ enum Asked {
     /// To assign the next volume epoch.
     Assign,
     MayAssign,
-    /// To tell the client of a volume epoch where the groups stand.
+    /// To send the client of a volume epoch a View of the groups' places.
     Refresh(u32),
     MayRefresh(u32),
     /// To let the next group join.
@@ -71,7 +71,7 @@ fn broken(alloc: Global, text: &[u8], rows: &[Row]) -> Result<Option<usize>, Fau
     Ok(None)
 }
 
-/// The group steps to the child, configuration 1 at membership epoch 2, and Views tell so.
+/// The group steps to the child, configuration 1 at membership epoch 2, and Views say so.
 const STEPS_AND_VIEWS: &[Row] = &[
     (Asked::MayAdvance(1, 0), Err(NoGroup)),
     (Asked::MayAdvance(0, 1), Ok(Yes)),

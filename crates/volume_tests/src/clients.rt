@@ -261,7 +261,7 @@ fn authority_acts(
     Ok((admitted, authority.last_volume(), [judged, done]))
 }
 
-/// It assigns volume epoch 2, and tells the client of an earlier one nothing.
+/// It assigns volume epoch 2, and sends the client of an earlier one nothing.
 #[test]
 fn the_authority_acts(rt: HostRuntime) {
     assert_eq!(rt;

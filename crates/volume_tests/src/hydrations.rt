@@ -69,7 +69,7 @@ fn made(alloc: Global, hydration: &Hydration) -> Answer {
     Ok(Some((state.volume, start, state.contents.records.len())))
 }
 
-/// Takes what is sent, and tells what the copies make then.
+/// Takes what is sent, and returns what the copies make then.
 fn answer(alloc: Global, hydration: &mut Hydration, sent: Sent) -> Answer {
     hydration.take(&report(alloc, sent)?)?;
     made(alloc, hydration)

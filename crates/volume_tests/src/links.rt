@@ -18,7 +18,7 @@ fn is_reached(chains: &Chains, held: &[Link], number: u64) -> bool {
     number == 0 || held.iter().any(|link| link.number == number && !chains.has_pending(link.before))
 }
 
-// Takes a record up, and tells the complete point.
+// Takes a record up, and returns the complete point.
 fn take(
     alloc: Global,
     chains: &mut Chains,

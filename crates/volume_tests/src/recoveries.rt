@@ -110,7 +110,7 @@ enum Told {
     Report(u8, u8, Log, u64, u64),
     /// The report of member 0 of a group.
     MayReport(u8),
-    /// It is told once more where the groups stand.
+    /// It takes one more View of the groups' places.
     View(&'static [Place]),
     MayView(&'static [Place]),
     /// A member says that it holds the records up to 3.
@@ -166,7 +166,7 @@ fn found(recovery: &Recovery) -> Said {
     }
 }
 
-/// Whether the recovery would take what it may be told.
+/// Whether the recovery would take each message.
 fn judged(alloc: Global, recovery: &Recovery, told: Told) -> Result<Said, Fault> {
     match told {
         Told::MayReport(group) => {

@@ -24,7 +24,7 @@ fn packet(alloc: Global, lsn: u64, block: u32) -> Result<SharedRecord, Fail> {
     Ok(SharedRecord::pack(alloc, record)?)
 }
 
-// Takes a record up, and tells whether it is new.
+// Takes a record up, and returns whether it is new.
 fn take(alloc: Global, runs: &mut Runs, packet: SharedRecord) -> Result<bool, AllocError> {
     let Some(place) = runs.place_for(&packet) else {
         return Ok(false);
@@ -48,7 +48,7 @@ fn count_of(runs: &Runs, lsn: u64) -> usize {
     count
 }
 
-// Takes up the records 1 to 10,000 in steps of so many, and tells whether they come in order again.
+// Takes up the records 1 to 10,000 in steps of so many, and returns whether they come in order again.
 fn is_sorted(alloc: Global, step: u64) -> Result<bool, Fail> {
     let mut runs = Runs::new(alloc);
     for k in 0..COUNT {

@@ -1,4 +1,4 @@
-//! What a writer does and tells.
+//! What a writer does and answers.
 
 use super::said::Said::{self, Count, Install, Point, Record, Yes};
 use super::said::said_by;
@@ -101,7 +101,7 @@ pub enum Told {
     AckOf(u8, u64),
     /// Whether it would take this member's acknowledgement of number 1.
     MayAck(u8),
-    /// It is told where the groups stand, in a View of a volume epoch.
+    /// It takes a View of the groups' places, of a volume epoch.
     View(u32, &'static [Place]),
     /// Whether it would take such a View.
     MayView(u32, &'static [Place]),
@@ -175,7 +175,7 @@ fn view(alloc: Global, volume: u32, places: &[Place]) -> Result<View, Fault> {
     })
 }
 
-/// What the writer answers to what it is told of the groups: how many messages, or of one what it is.
+/// What the writer answers to a View: how many messages, or of one what it is.
 fn viewed(alloc: Global, writer: &mut Writer, view: &View) -> Result<Said, Fault> {
     let made = writer.view(alloc, view)?;
     Ok(match made.as_slice() {

@@ -52,7 +52,7 @@ pub fn fleet<H: Threads + Wait + Sync>(
     said(rt, alloc, &job, plan.as_bytes(), Some(script))
 }
 
-/// Whether a script's run on threads by one driver, and by four, tells this and is refused nothing.
+/// Returns whether a script's run on threads by one driver, and by four, prints this and is refused nothing.
 pub fn fleets_tell<H: Threads + Wait + Sync>(
     rt: &H,
     alloc: Global,

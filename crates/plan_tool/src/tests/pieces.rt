@@ -69,16 +69,16 @@ const COPIED_AND_INSTALLED_TOLD: &str =
     ",1,0,0,1,3,3,0,0,0,0,0,0,0,refused 57 NotEnough,3,0,0,0,refused 57 NotEnough,refused 80 NoMessage,0,0\
 ,1,1,1,1,0,0,3,0,0,1,0,0,0,0,0,refused 74 NotReady,1,0,0";
 
-/// What a run tells at its end.
+/// What a run prints at its end.
 const END: &str =
     "writer 1 durable 600 next 601\nwriter 2 durable 600 next 1601\nrecovery 2 cut 600 start 1600\n";
 
-/// What a fleet tells.
+/// What a fleet prints.
 const FLEET: &str =
     "steps 1259\nrefused 4\nwriter 1 durable 600 next 601\nwriter 2 durable 600 next 1601\nrecovery 2 cut 600 start 1600\n\
 journal yes\n";
 
-/// Whether a run and a fleet tell what is due.
+/// Returns whether a run and a fleet print what is expected.
 fn are_told<H: Threads + Wait + Sync>(rt: &H, alloc: Global) -> Result<(bool, bool), AllocError> {
     let script = written(alloc, COPIED_AND_INSTALLED)?;
     let told = written_told(alloc)?;

@@ -10,8 +10,8 @@ use std::sync::Wait;
 use std::test::*;
 use std::thread::Threads;
 
-/// Whether a run of a script over a plan tells this of its last line, and a fleet of one driver makes as many of its steps as are given, is
-/// refused the others, and tells at its end what the run does.
+/// Returns whether a run of a script over a plan prints this for its last line, and a fleet of one driver makes as many
+/// of its steps as are given, is refused the others, and prints at its end what the run prints.
 fn fleet_tells<H: Threads + Wait + Sync>(
     rt: &H,
     alloc: Global,

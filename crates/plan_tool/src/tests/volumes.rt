@@ -1,4 +1,4 @@
-//! Scripts that several tests run, and what a run tells of them.
+//! Scripts that several tests run, and what a run prints of them.
 
 use super::said::{job, says};
 use commands::Action;
@@ -38,7 +38,7 @@ refresh 1\ntake 2 6.1\ndeliver 0 6 8.1\ndeliver 0 0 2.1\ndeliver 0 6 10.1\nresta
 deliver 0 1 2.1\ndeliver 0 2 2.1\ndeliver 0 6 13.1\ndeliver 0 6 14.1\nhydrate 0 6\n\
 deliver 0 6 10.1\nhydrate 0 6\ndeliver 0 6 8.1\n";
 
-/// What is printed of a script whose lines tell this, each the number of messages made or a refusal.
+/// What is printed of a script whose lines have these results, each the number of messages made or a refusal.
 fn printed(alloc: Global, told: &str, end: &str) -> Result<String, AllocError> {
     let mut text = String::new(alloc);
     for (i, told) in told.split(',').enumerate() {
@@ -54,7 +54,7 @@ fn printed(alloc: Global, told: &str, end: &str) -> Result<String, AllocError> {
     Ok(text)
 }
 
-/// Whether a script over a plan tells this of its lines, and this at the end.
+/// Returns whether a script over a plan prints this for its lines, and this at the end.
 pub fn tells<H: Threads + Wait + Sync>(
     rt: &H,
     alloc: Global,

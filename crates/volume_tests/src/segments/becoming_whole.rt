@@ -32,7 +32,7 @@ const COPIES_OF_A_READ_SET: &[Row] = &[
     (Hydrate, Err(AlreadyWhole), 1),
 ];
 
-/// A node that was told no configuration whose member it is stays as it is.
+/// A node that took no step to a configuration whose member it is stays as it is.
 const COPIES_FOR_NO_MEMBER: &[Row] = &[
     (CopyOf(0, 0, 0, First(0)), Ok(Nothing), 0),
     (CopyOf(0, 0, 1, First(0)), Ok(Nothing), 0),

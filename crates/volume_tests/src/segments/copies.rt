@@ -32,7 +32,7 @@ const OF_TWO_COPIES: &[Row] = &[
     (Hydrate, Ok(Nothing), 5),
 ];
 
-/// What one member told doesn't complete the copy of another. Member 0's copy is that of a read set, and no read set needs member 1.
+/// What one member sent doesn't complete the copy of another. Member 0's copy is that of a read set, and no read set needs member 1.
 const OF_TWO_MEMBERS: &[Row] = &[
     (CopyPiece(2, 0, 1, Of(0, 2, 1, 3)), Ok(Nothing), 0),
     (CopyPiece(2, 1, 1, Of(1, 2, 4, 6)), Ok(Nothing), 0),
@@ -166,7 +166,7 @@ fn are_thirds(messages: &[Message], series: u64) -> bool {
         && is_piece(c, series, LAST_THIRD)
 }
 
-/// What a member tells that is asked for a copy at membership epoch 2.
+/// What a member answers that is asked for a copy at membership epoch 2.
 fn copy_of(alloc: Global, holder: &mut Segment) -> Result<Vec<Message>, Fault> {
     let answers = holder.deliver(alloc, &message(alloc, CopyAsk(0, 2))?)?;
     let mut copy = Vec::with_capacity(alloc, answers.len())?;
@@ -210,7 +210,7 @@ fn of_600_records(alloc: Global) -> Result<[bool; 3], Fault> {
     ])
 }
 
-/// 600 records are told in three pieces. The second copy, which a restart doesn't make the first again, counts once all of it is there,
+/// 600 records are sent in three pieces. The second copy, which a restart doesn't make the first again, counts once all of it is there,
 /// whatever was there of the first.
 #[test]
 fn two_copies_of_600_records(rt: HostRuntime) {

@@ -1,4 +1,4 @@
-//! The messages that nodes are told.
+//! The messages that nodes receive.
 
 use super::told::{Held, Part, Sent, Told};
 use crate::packets::{Line, chain, chained, packet, recovered};
@@ -176,7 +176,7 @@ fn plain(alloc: Global, told: Told) -> Result<Message, Fault> {
     })
 }
 
-/// The message that a node is told, `NoMessage` where it is told none.
+/// The message that a node receives, `NoMessage` if there is none.
 pub fn message(alloc: Global, told: Told) -> Result<Message, Fault> {
     Ok(match told {
         Told::Install(group, volume, member, whole) => Message::Install(Install {

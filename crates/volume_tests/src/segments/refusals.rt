@@ -11,7 +11,7 @@ use std::alloc::Global;
 use std::test::*;
 use volume_model::Fault::{self, *};
 
-/// What is wrong, the node that is told, what it is told, and why it refuses.
+/// What is wrong, the receiving node, the message, and why it refuses.
 type Case = (&'static str, At, Told, Fault);
 
 const FENCES: &[Case] = &[

@@ -69,7 +69,7 @@ pub enum Told {
     Step(u8, u8, u32),
     /// A question of a fresh member of a group for copies, at a membership epoch.
     CopyAsk(u8, u32),
-    /// The first copy for a group, at a membership epoch, that this member tells, in one piece.
+    /// The first copy for a group, at a membership epoch, that this member makes, in one piece.
     CopyOf(u8, u32, u8, Held),
     /// At a membership epoch, of this member, a piece of the copy of this number for group 0, under the lineage of the birth.
     CopyPiece(u32, u8, u64, Part),

@@ -33,7 +33,7 @@ pub enum Call {
 /// How many messages a call made and the durable point that it showed, or why it was refused.
 pub type Told = Result<(usize, u64), Fault>;
 
-/// A call, and what is to be told of it.
+/// A call and its expected result.
 pub type Step = (Call, Told);
 
 /// Changes to these bytes, one a byte, from the first byte of block 0 on.
