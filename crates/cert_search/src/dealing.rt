@@ -28,7 +28,7 @@ pub fn deal(alloc: Global, claims: usize, workers: usize) -> Result<Vec<Hand>, F
     Ok(hands_of(alloc, table, rows)?)
 }
 
-// Each worker's own deque, with its views of the others.
+// Returns each worker's own deque, with its views of the others.
 fn hands_of(alloc: Global, table: Table, rows: Vec<Vec<Reach>>) -> Result<Vec<Hand>, AllocError>
     requires { vec_len rows ≡ table.workers }
     ensures { IfOk result (λ hands. map hand_plain hands.items ≡ hands_from table.owns.items rows.items) }

@@ -38,7 +38,7 @@ fn is_kept(lengths: &[u32], at: usize, room: u32) -> bool
     true
 }
 
-/// How long a certificate is, 0 where there is none.
+/// Returns how long a certificate is, 0 where there is none.
 fn length_in(certificate: &Option<Certificate<Global>>) -> u32
     ensures { result ≡ length_in (rule_in certificate.now) }
 {
@@ -48,7 +48,7 @@ fn length_in(certificate: &Option<Certificate<Global>>) -> u32
     }
 }
 
-/// How long certificates are.
+/// Returns how long certificates are.
 fn lengths_of(
     alloc: Global,
     certificates: &[Option<Certificate<Global>>],

@@ -2,9 +2,9 @@
 
 /// Observes a search: called by the worker that searches a claim, when the search begins and when it has ended.
 pub trait Gate {
-    /// The claim was taken, and its search begins.
+    /// Is called when a worker has taken a claim, before its search begins.
     fn started(&self, claim: usize);
 
-    /// The claim's answer is known.
+    /// Is called when the claim's answer is known.
     fn finished(&self, claim: usize);
 }

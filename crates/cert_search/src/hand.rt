@@ -17,14 +17,14 @@ impl Hand {
     ghost use Rattle.std.specs.Prelude.{◌≡◌, IfSome, IfNone};
     ghost use Rattle.cert_search.specs.Hands.{ComesAfterOwn, IsThrough, SameDeal, TakesClaim};
 
-    // The hand of a worker with its own deque, and its views of the others.
+    // Makes the hand of a worker with its own deque, and its views of the others.
     pub(crate) fn new(own: Own, others: Vec<Reach>) -> Hand
         ensures { (result.own ≡ own) × (result.others ≡ others) }
     {
         Hand { own, others }
     }
 
-    // The hand's own deque, and its views of the others.
+    // Returns the hand's own deque, and its views of the others.
     pub(crate) fn into_parts(self) -> (Own, Vec<Reach>)
         ensures { (result.0 ≡ self.own) × (result.1 ≡ self.others) }
     {

@@ -29,7 +29,7 @@ fn digits(number: u16) -> u32
     }
 }
 
-/// How long the name of a side is.
+/// Returns how long the name of a side is.
 fn name_length(side: Side) -> u32
     ensures { result ≡ name_length side }
 {

@@ -26,7 +26,7 @@ impl Own {
     ghost use Rattle.cert_search.specs.Sights.{own_sight, reach_sight, Ends, Gets, SameDeque};
     ghost use Rattle.cert_search.specs.Dealing.{own_plain, own_out, GetsMarks};
 
-    // A deque with no claim in it.
+    // Makes a deque with no claim in it.
     pub(crate) fn new(alloc: Global, which: usize, capacity: usize) -> Result<Own, AllocError>
         ensures { IfOk result (λ o. ((own_sight o).0 ≡ which) × ((own_sight o).1 ≡ first_view)) }
     {
@@ -83,7 +83,7 @@ impl Own {
         unreachable!()
     }
 
-    // A view of the deque for another worker, which has had nothing of it. From now on no claim is dealt.
+    // Makes a view of the deque for another worker, which has had nothing of it. From now on no claim is dealt.
     pub(crate) fn reach(&mut self) -> Result<Reach, AllocError>
         ensures plain { own_plain self.new ≡ own_plain self.old }
         ensures lent { IfOk result (λ _. own_out self.new ≡ suc (own_out self.old)) }

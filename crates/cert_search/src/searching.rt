@@ -140,8 +140,9 @@ fn searched<R: Threads + Wait + Sync, G: Gate + Sync>(
     answers(alloc, claims, budget, &mut places)
 }
 
-/// A place for each claim of a plan, in the order of [`claims`](plan::claims()): a certificate that refutes the claim, or
-/// none where the search gave up. The budget bounds how many nodes are tried for a claim, and so does its share of the nodes of all.
+/// Returns a place for each claim of a plan, in the order of [`claims`](plan::claims()): a certificate that refutes the
+/// claim, or none where the search gave up. The budget bounds how many nodes are tried for a claim, and so does its
+/// share of the nodes of all.
 ///
 /// # Errors
 /// The kind of the first [`BadParent`](plan::PlanFault::BadParent) or [`MemberReused`](plan::PlanFault::MemberReused), which is

@@ -29,7 +29,7 @@ pub fn settle(alloc: Global, hands: Vec<Hand>) -> Result<(), Fault>
     Ok(())
 }
 
-// The hands' own deques in order, and their views of others' deques.
+// Returns the hands' own deques in order, and their views of others' deques.
 fn parts_of(alloc: Global, hands: Vec<Hand>) -> Result<(Vec<Own>, Vec<Reach>), AllocError>
     ensures { IfOk result (λ p. (map own_sight p.0.items ≡ map hand_own hands.items)
         × (map reach_sight p.1.items ≡ all_others hands.items)) }
@@ -44,7 +44,7 @@ fn parts_of(alloc: Global, hands: Vec<Hand>) -> Result<(Vec<Own>, Vec<Reach>), A
     Ok((owns, reaches))
 }
 
-// The views of one more hand.
+// Appends the views of one more hand.
 fn push_all(reaches: &mut Vec<Reach>, others: Vec<Reach>) -> Result<(), AllocError>
     ensures { IfOk result (λ _. map reach_sight reaches.new.items ≡ map reach_sight reaches.old.items ++ map reach_sight
         others.items) }
@@ -55,7 +55,7 @@ fn push_all(reaches: &mut Vec<Reach>, others: Vec<Reach>) -> Result<(), AllocErr
     Ok(())
 }
 
-// Each view goes to the worker whose deque it is of.
+// Gives each view to the worker whose deque it is of.
 fn gather(owns: &mut Vec<Own>, reaches: Vec<Reach>)
     requires { AreTied (names_in owns.old.items) (map reach_sight reaches.items) }
     ensures { EachTaken owns.old.items (map reach_sight reaches.items) owns.new.items }
@@ -66,7 +66,7 @@ fn gather(owns: &mut Vec<Own>, reaches: Vec<Reach>)
     }
 }
 
-// Each worker learns what stands in its view.
+// Lets each worker learn what stands in its view.
 fn learn_all(owns: &mut Vec<Own>)
     ensures { EachSettles owns.old.items }
 {

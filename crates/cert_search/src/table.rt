@@ -34,7 +34,7 @@ impl Table {
         Ok(Table { workers, owns })
     }
 
-    // The views of all other deques, from the right neighbour's round.
+    // Returns the views of all other deques, from the right neighbour's round.
     fn row(&mut self, alloc: Global, which: usize) -> Result<Vec<Reach>, AllocError>
         requires { which < self.old.workers }
         ensures row { IfOk result (λ row. IsRow self.old.workers self.old.owns.items which row.items) }
@@ -67,7 +67,7 @@ impl Table {
     }
 }
 
-// A deque for each worker, with no claim in it.
+// Returns a deque for each worker, with no claim in it.
 fn empty_deques(alloc: Global, capacity: usize, workers: usize) -> Result<Vec<Own>, AllocError>
     ensures { IfOk result (λ owns. IsFilledTo workers 0 owns.items) }
 {
@@ -78,7 +78,7 @@ fn empty_deques(alloc: Global, capacity: usize, workers: usize) -> Result<Vec<Ow
     Ok(owns)
 }
 
-// Claim c goes to the deque of the worker c mod workers.
+// Deals claim c to the deque of worker c mod workers.
 fn deal_out(owns: &mut Vec<Own>, claims: usize) -> Result<(), AllocError>
     requires some { 0 < length owns.old.items }
     requires empty { IsFilledTo (length owns.old.items) 0 owns.old.items }
@@ -91,7 +91,7 @@ fn deal_out(owns: &mut Vec<Own>, claims: usize) -> Result<(), AllocError>
     Ok(())
 }
 
-// A mark of the end for each worker goes to each deque, behind its claims.
+// Puts a mark of the end for each worker into each deque, behind its claims.
 fn close_all(owns: &mut Vec<Own>, workers: usize) -> Result<(), AllocError>
     ensures { IfOk result (λ _. EachGetsMarks workers owns.old.items owns.new.items) }
 {
@@ -102,7 +102,7 @@ fn close_all(owns: &mut Vec<Own>, workers: usize) -> Result<(), AllocError>
     Ok(())
 }
 
-// A mark of the end for each of so many workers.
+// Puts a mark of the end for each of so many workers.
 fn close_for(own: &mut Own, workers: usize) -> Result<(), AllocError>
     ensures { IfOk result (λ _. GetsMarks workers own.old own.new) }
 {

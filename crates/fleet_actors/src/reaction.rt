@@ -174,7 +174,7 @@ impl<L: Site> NodeActor<L> {
         self.decline(&mut log, pass, message_ref, fault)
     }
 
-    /// The body of [`react`](NodeActor::react).
+    /// Does what [`react`](NodeActor::react) says.
     #[inline(always)]
     fn react_as<'a, R: Wait, G: StepGate>(
         &mut self,
@@ -198,7 +198,7 @@ impl<L: Site> NodeActor<L> {
         }
     }
 
-    /// The general case of [`react`](NodeActor::react), out of line so that the write path keeps a small stack frame.
+    /// Does what [`react`](NodeActor::react) says, out of line so that the write path keeps a small stack frame.
     #[inline(never)]
     fn react_any<'a, R: Wait, G: StepGate>(
         &mut self,

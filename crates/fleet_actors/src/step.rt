@@ -50,7 +50,7 @@ pub(crate) fn reserve_step<'a, L: Site>(
     Ok(())
 }
 
-/// The same, after bringing the pass up to the journal.
+/// Does the same after bringing the pass up to the journal.
 #[inline(always)]
 pub(crate) fn catch_up_and_reserve<'a, L: Site>(
     log: &mut Log<'a, L>,

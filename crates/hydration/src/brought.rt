@@ -29,7 +29,7 @@ pub(crate) fn copied_by(copies: &[Collected]) -> MemberSet
     members
 }
 
-/// The newest of the pieces' lineages and of one that comes behind them.
+/// Returns the newest of the pieces' lineages and of one that comes behind them.
 fn newest_of<'a>(kept: &'a [Kept], last: &'a Lineage) -> &'a Lineage
     ensures { lineage_of result.now ≡ newest_with (lineage_of last.now) (contents_kept kept.now) }
 {
@@ -42,7 +42,7 @@ fn newest_of<'a>(kept: &'a [Kept], last: &'a Lineage) -> &'a Lineage
     newest
 }
 
-/// The newest lineage of the complete copies and of one that comes behind them.
+/// Returns the newest lineage of the complete copies and of one that comes behind them.
 fn newest_brought<'a>(copies: &'a [Collected], last: &'a Lineage) -> &'a Lineage
     ensures { lineage_of result.now ≡ newest_with (lineage_of last.now) (brought (all_collected copies.now)) }
 {

@@ -25,7 +25,7 @@ pub fn senders(copies: &[Copied]) -> MemberSet
     members
 }
 
-/// The newest of the copies' lineages and of one that comes behind them.
+/// Returns the newest of the copies' lineages and of one that comes behind them.
 pub fn newest_with<'a>(copies: &'a [Copied], last: &'a Lineage) -> &'a Lineage
     ensures { lineage_of result.now ≡ newest_with (lineage_of last.now) (contents_of (copies_in copies.now)) }
 {

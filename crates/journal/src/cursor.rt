@@ -38,7 +38,7 @@ impl<L: Site> ActorCursor<L> {
         }
     }
 
-    // The actor has made a step, which ends the history.
+    // Notes that the actor has made a step, which ends the history.
     pub(crate) fn advance(&mut self, seen: LogPrefix, number: usize)
         requires { (front_book seen ≡ L.history) × (length (front_log seen) ≡ number) }
         ensures { (self.new.who ≡ self.old.who) × (self.new.number ≡ number)

@@ -20,7 +20,7 @@ pub struct LastEntries {
     nodes: Vec<usize>,
 }
 
-// So many that have made no step.
+// Returns so many actors that have made no step.
 fn none_yet(alloc: Global, count: usize) -> Result<Vec<usize>, AllocError>
     ensures { IfOk result (λ v. v.items ≡ replicate count 0) }
 {
@@ -31,7 +31,7 @@ fn none_yet(alloc: Global, count: usize) -> Result<Vec<usize>, AllocError>
     Ok(made)
 }
 
-// The place of a member of a group.
+// Returns the place of a member of a group.
 fn place(group: u8, member: u8) -> usize
     ensures { result ≡ slot_of group member }
 {

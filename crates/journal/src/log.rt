@@ -61,7 +61,7 @@ fn never<R: Wait, T>(rt: &R) -> T
     unreachable!()
 }
 
-// The entry, as it stands in the first of these cells from then on.
+// Writes an entry into the first of these cells and returns it.
 #[inline(always)]
 fn write<'a>(rest: &mut &'a mut [Option<Entry>], entry: Entry) -> &'a Entry
     requires { 0 < length rest.old.now }
@@ -80,7 +80,7 @@ fn write<'a>(rest: &mut &'a mut [Option<Entry>], entry: Entry) -> &'a Entry
     written
 }
 
-// The number after so many messages more. Past 2^64 it waits for good.
+// Returns the number after so many messages more. Past 2^64 it waits for good.
 fn total<R: Wait>(rt: &R, messages: u64, more: usize) -> u64
     ensures { result ≡ messages + more }
 {
@@ -90,7 +90,7 @@ fn total<R: Wait>(rt: &R, messages: u64, more: usize) -> u64
     }
 }
 
-// How many groups have joined after an event, of those that had before it. Past 2^64 it waits for good.
+// Returns how many groups have joined after an event, of those that had before it. Past 2^64 it waits for good.
 fn joined_after<R: Wait>(rt: &R, joined: u64, event: &Event) -> u64
     ensures { result ≡ joined_after joined (event_of event.now) }
 {
@@ -100,7 +100,7 @@ fn joined_after<R: Wait>(rt: &R, joined: u64, event: &Event) -> u64
     }
 }
 
-// A place between two others, so many steps behind the first or before the second.
+// Returns a place between two others, so many steps behind the first or before the second.
 fn probe(low: usize, high: usize, step: usize, ahead: bool) -> usize
     requires { (0 < step) × (low + step < high) }
     ensures { (low < result) × (result < high) }
@@ -341,7 +341,7 @@ impl<'a, L: Site> Log<'a, L> {
         }
     }
 
-    // The entry at a place.
+    // Returns the entry at a place.
     fn entry(&self, cell: usize) -> &'a Entry
         requires { cell < vec_len self.now.entries }
         ensures { slice_get (kept_in self.now) cell ≡ Some result.now }
@@ -363,8 +363,8 @@ impl<'a, L: Site> Log<'a, L> {
         Ok(made)
     }
 
-    // The place of the step that made a message, looked for between two places: from the one or from the other on, in
-    // steps that double.
+    // Returns the place of the step that made a message, looked for between two places: from the one or from the other
+    // on, in steps that double.
     fn between(&self, first: usize, end: usize, ahead: bool, number: u64) -> usize
         requires within { (first < end) × (end ≤ vec_len self.now.entries) }
         requires made { (before L.plan (journal_of self.now) first < number)
@@ -388,8 +388,8 @@ impl<'a, L: Site> Log<'a, L> {
         low
     }
 
-    // Two places between which the step stands that made a message: the first one is this place, or the next one where the step stands
-    // behind that.
+    // Returns two places between which the step stands that made a message: the first one is this place, or the next
+    // one where the step stands behind that.
     #[inline(always)]
     fn behind(&self, near: usize, end: usize, number: u64) -> (usize, usize)
         requires within { (near < end) × (end ≤ vec_len self.now.entries) }
@@ -409,7 +409,8 @@ impl<'a, L: Site> Log<'a, L> {
         (near, next)
     }
 
-    // The place of the step that made a message: looked for behind this place where it stands there, else from the end on.
+    // Returns the place of the step that made a message: looked for behind this place where it stands there, else from
+    // the end on.
     #[inline(always)]
     fn maker(&self, near: usize, number: u64) -> usize
         requires { (0 < number) × (number ≤ self.now.messages) }
@@ -501,7 +502,7 @@ impl<'a, L: Site> Log<'a, L> {
         pass.note(event, fault, self.entries.len());
     }
 
-    // Each step and each note of the pass is in the journal.
+    // Checks that each step and each note of the pass is in the journal.
     fn check(&mut self, pass: &mut Pass<'a, L>)
         ensures log { self.new.entries ≡ self.old.entries }
         ensures stands { All (Stands L.plan (journal_of self.old)) (steps_of pass.old) }

@@ -64,7 +64,7 @@ fn is_from_zero(numeral: &Numeral<'_>) -> bool
     }
 }
 
-/// The general case of `is_in_range`.
+/// Decides the general case of `is_in_range`.
 fn is_any_in_range(text: &str) -> bool
     ensures { result ≡ is_some (number_of text.now) }
 {
@@ -85,7 +85,7 @@ fn whole(numeral: &Numeral<'_>) -> Option<u64>
     }
 }
 
-/// The general case of `whole_number`.
+/// Decides the general case of `whole_number`.
 fn any_whole_number(text: &str) -> Option<u64>
     ensures { result ≡ option_and_then as_u64 (number_of text.now) }
 {

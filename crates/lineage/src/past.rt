@@ -48,7 +48,7 @@ fn with_last(alloc: Global, entries: &[Entry], last: Entry) -> Result<Vec<Entry>
 }
 
 impl Past {
-    /// No entry.
+    /// Makes the past without an entry.
     pub fn empty(alloc: Global) -> Past
         ensures { entries_before result ≡ [] }
     {

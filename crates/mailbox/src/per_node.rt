@@ -33,14 +33,14 @@ pub struct MailSeats {
     seats: Vec<Option<MailSeat>>,
 }
 
-// Where the mailbox of a node stands.
+// Returns where the mailbox of a node stands.
 fn slot(group: u8, member: u8) -> usize
     ensures { result ≡ slot_of group member }
 {
     usize::from(group) * MEMBERS + usize::from(member)
 }
 
-// The mailbox of a node and a seat for each caller, or neither where the plan doesn't name the node.
+// Returns the mailbox of a node and a seat for each caller, or neither where the plan doesn't name the node.
 fn node_mailbox(
     alloc: Global,
     plan: &CheckedPlan,
@@ -60,7 +60,7 @@ fn node_mailbox(
     Ok((Some(mailbox), seats))
 }
 
-// So many callers that have no seat.
+// Returns so many callers that have no seat.
 fn without_seats(alloc: Global, callers: usize) -> Result<Vec<MailSeats>, AllocError>
     ensures count { IfOk result (λ made. vec_len made ≡ callers) }
     ensures none { IfOk result (λ made. All (λ s. s.seats.items ≡ []) made.items) }

@@ -64,6 +64,7 @@ fn put_image(out: &mut Vec<u8>, bytes: [u8; 512]) -> Result<(), AllocError>
     out.extend_from_slice(&bytes)
 }
 
+/// Appends the fields of a `View`.
 pub fn put_view(out: &mut Vec<u8>, view: &View) -> Result<(), Fault>
     ensures text { OnOk result (out.new.items ≡ out.old.items ++ body_spelled (message_of (Message.View view.now))) }
     ensures reads { OnOk result (IsReadBack (message_of (Message.View view.now))) }
@@ -75,6 +76,7 @@ pub fn put_view(out: &mut Vec<u8>, view: &View) -> Result<(), Fault>
     Ok(())
 }
 
+/// Appends the fields of a `StepTo`.
 pub fn put_step(out: &mut Vec<u8>, step: &StepTo) -> Result<(), AllocError>
     ensures text { OnOk result (out.new.items ≡ out.old.items ++ body_spelled (message_of (Message.StepTo step.now))) }
     ensures reads { OnOk result (IsReadBack (message_of (Message.StepTo step.now))) }
@@ -84,6 +86,7 @@ pub fn put_step(out: &mut Vec<u8>, step: &StepTo) -> Result<(), AllocError>
     Ok(())
 }
 
+/// Appends the fields of a `Fence`.
 pub fn put_fence(out: &mut Vec<u8>, fence: &Fence) -> Result<(), AllocError>
     ensures text { OnOk result (out.new.items ≡ out.old.items ++ body_spelled (message_of (Message.Fence fence.now))) }
     ensures reads { OnOk result (IsReadBack (message_of (Message.Fence fence.now))) }
@@ -92,6 +95,7 @@ pub fn put_fence(out: &mut Vec<u8>, fence: &Fence) -> Result<(), AllocError>
     Ok(())
 }
 
+/// Appends the fields of a `Report`.
 pub fn put_report(alloc: Global, out: &mut Vec<u8>, report: &Report) -> Result<(), Fault>
     ensures text { OnOk result (out.new.items ≡ out.old.items ++ body_spelled
         (message_of (Message.Report report.now))) }
@@ -103,6 +107,7 @@ pub fn put_report(alloc: Global, out: &mut Vec<u8>, report: &Report) -> Result<(
     Ok(())
 }
 
+/// Appends the fields of an `Install`.
 pub fn put_install(alloc: Global, out: &mut Vec<u8>, install: &Install) -> Result<(), Fault>
     ensures text { OnOk result (out.new.items ≡ out.old.items ++ body_spelled
         (message_of (Message.Install install.now))) }
@@ -114,6 +119,7 @@ pub fn put_install(alloc: Global, out: &mut Vec<u8>, install: &Install) -> Resul
     Ok(())
 }
 
+/// Appends the fields of a `Write`.
 pub fn put_write(out: &mut Vec<u8>, write: &Write) -> Result<(), AllocError>
     ensures text { OnOk result (out.new.items ≡ out.old.items ++ body_spelled (message_of (Message.Write write.now))) }
     ensures reads { OnOk result (IsReadBack (message_of (Message.Write write.now))) }
@@ -123,6 +129,7 @@ pub fn put_write(out: &mut Vec<u8>, write: &Write) -> Result<(), AllocError>
     Ok(())
 }
 
+/// Appends the fields of a `Gossip`.
 pub fn put_gossip(out: &mut Vec<u8>, gossip: &Gossip) -> Result<(), AllocError>
     ensures text { OnOk result (out.new.items ≡ out.old.items ++ body_spelled
         (message_of (Message.Gossip gossip.now))) }
@@ -133,6 +140,7 @@ pub fn put_gossip(out: &mut Vec<u8>, gossip: &Gossip) -> Result<(), AllocError>
     Ok(())
 }
 
+/// Appends the fields of an `Ack`.
 pub fn put_ack(out: &mut Vec<u8>, ack: &Ack) -> Result<(), AllocError>
     ensures text { OnOk result (out.new.items ≡ out.old.items ++ body_spelled (message_of (Message.Ack ack.now))) }
     ensures reads { OnOk result (IsReadBack (message_of (Message.Ack ack.now))) }
@@ -143,6 +151,7 @@ pub fn put_ack(out: &mut Vec<u8>, ack: &Ack) -> Result<(), AllocError>
     Ok(())
 }
 
+/// Appends the fields of a `CopyAsk`.
 pub fn put_copy_ask(out: &mut Vec<u8>, ask: &CopyAsk) -> Result<(), AllocError>
     ensures text { OnOk result (out.new.items ≡ out.old.items ++ body_spelled (message_of (Message.CopyAsk ask.now))) }
     ensures reads { OnOk result (IsReadBack (message_of (Message.CopyAsk ask.now))) }
@@ -152,6 +161,7 @@ pub fn put_copy_ask(out: &mut Vec<u8>, ask: &CopyAsk) -> Result<(), AllocError>
     Ok(())
 }
 
+/// Appends the fields of a `CopyReport`.
 pub fn put_copy_report(alloc: Global, out: &mut Vec<u8>, report: &CopyReport) -> Result<(), Fault>
     ensures text { OnOk result (out.new.items ≡ out.old.items ++ body_spelled
         (message_of (Message.CopyReport report.now))) }
@@ -166,6 +176,7 @@ pub fn put_copy_report(alloc: Global, out: &mut Vec<u8>, report: &CopyReport) ->
     Ok(())
 }
 
+/// Appends the fields of a `PageAsk`.
 pub fn put_page_ask(out: &mut Vec<u8>, ask: &PageAsk) -> Result<(), AllocError>
     ensures text { OnOk result (out.new.items ≡ out.old.items ++ body_spelled (message_of (Message.PageAsk ask.now))) }
     ensures reads { OnOk result (IsReadBack (message_of (Message.PageAsk ask.now))) }
@@ -176,6 +187,7 @@ pub fn put_page_ask(out: &mut Vec<u8>, ask: &PageAsk) -> Result<(), AllocError>
     Ok(())
 }
 
+/// Appends the fields of a `Page`.
 pub fn put_page(out: &mut Vec<u8>, page: &Page) -> Result<(), AllocError>
     ensures text { OnOk result (out.new.items ≡ out.old.items ++ body_spelled (message_of (Message.Page page.now))) }
     ensures reads { OnOk result (IsReadBack (message_of (Message.Page page.now))) }

@@ -28,6 +28,7 @@ fn read_volume(bytes: &[u8]) -> Result<(u32, &[u8]), Fault>
     Ok((volume, rest))
 }
 
+/// Reads a `View` off the bytes behind a message's kind, and returns it with the bytes left.
 #[tactic(auto, unfolding(crate::specs::Reading::view_at))]
 pub fn view_of(alloc: Global, bytes: &[u8]) -> Result<(Message, &[u8]), Fault>
     ensures { Gives (λ x. (message_of x.0, x.1.now)) result (view_at bytes.now) }
@@ -42,6 +43,7 @@ pub fn view_of(alloc: Global, bytes: &[u8]) -> Result<(Message, &[u8]), Fault>
     Ok((Message::View(view), rest))
 }
 
+/// Reads a `StepTo` off the bytes behind a message's kind, and returns it with the bytes left.
 #[tactic(auto, unfolding(crate::specs::Reading::step_at))]
 pub fn step_of(bytes: &[u8]) -> Result<(Message, &[u8]), Fault>
     ensures { Gives (λ x. (message_of x.0, x.1.now)) result (step_at bytes.now) }
@@ -51,6 +53,7 @@ pub fn step_of(bytes: &[u8]) -> Result<(Message, &[u8]), Fault>
     Ok((Message::StepTo(StepTo { group, place }), rest))
 }
 
+/// Reads a `Fence` off the bytes behind a message's kind, and returns it with the bytes left.
 #[tactic(auto, unfolding(crate::specs::Reading::fence_at))]
 pub fn fence_of(bytes: &[u8]) -> Result<(Message, &[u8]), Fault>
     ensures { Gives (λ x. (message_of x.0, x.1.now)) result (fence_at bytes.now) }
@@ -59,6 +62,7 @@ pub fn fence_of(bytes: &[u8]) -> Result<(Message, &[u8]), Fault>
     Ok((Message::Fence(Fence { group, label }), rest))
 }
 
+/// Reads a `Report` off the bytes behind a message's kind, and returns it with the bytes left.
 #[tactic(auto, unfolding(crate::specs::Reading::report_at))]
 pub fn report_of(alloc: Global, bytes: &[u8]) -> Result<(Message, &[u8]), Fault>
     ensures { Gives (λ x. (message_of x.0, x.1.now)) result (report_at bytes.now) }
@@ -75,6 +79,7 @@ pub fn report_of(alloc: Global, bytes: &[u8]) -> Result<(Message, &[u8]), Fault>
     Ok((Message::Report(report), rest))
 }
 
+/// Reads an `Install` off the bytes behind a message's kind, and returns it with the bytes left.
 #[tactic(auto, unfolding(crate::specs::Reading::install_at))]
 pub fn install_of(alloc: Global, bytes: &[u8]) -> Result<(Message, &[u8]), Fault>
     ensures { Gives (λ x. (message_of x.0, x.1.now)) result (install_at bytes.now) }
@@ -93,6 +98,7 @@ pub fn install_of(alloc: Global, bytes: &[u8]) -> Result<(Message, &[u8]), Fault
     Ok((Message::Install(install), rest))
 }
 
+/// Reads a `Write` off the bytes behind a message's kind, and returns it with the bytes left.
 #[tactic(auto, unfolding(crate::specs::Reading::write_at))]
 pub fn write_of(alloc: Global, bytes: &[u8]) -> Result<(Message, &[u8]), Fault>
     ensures { Gives (λ x. (message_of x.0, x.1.now)) result (write_at bytes.now) }
@@ -107,6 +113,7 @@ pub fn write_of(alloc: Global, bytes: &[u8]) -> Result<(Message, &[u8]), Fault>
     Ok((Message::Write(write), rest))
 }
 
+/// Reads a `Gossip` off the bytes behind a message's kind, and returns it with the bytes left.
 #[tactic(auto, unfolding(crate::specs::Reading::gossip_at))]
 pub fn gossip_of(alloc: Global, bytes: &[u8]) -> Result<(Message, &[u8]), Fault>
     ensures { Gives (λ x. (message_of x.0, x.1.now)) result (gossip_at bytes.now) }
@@ -121,6 +128,7 @@ pub fn gossip_of(alloc: Global, bytes: &[u8]) -> Result<(Message, &[u8]), Fault>
     Ok((Message::Gossip(gossip), rest))
 }
 
+/// Reads an `Ack` off the bytes behind a message's kind, and returns it with the bytes left.
 #[tactic(auto, unfolding(crate::specs::Reading::ack_at))]
 pub fn ack_of(bytes: &[u8]) -> Result<(Message, &[u8]), Fault>
     ensures { Gives (λ x. (message_of x.0, x.1.now)) result (ack_at bytes.now) }
@@ -137,6 +145,7 @@ pub fn ack_of(bytes: &[u8]) -> Result<(Message, &[u8]), Fault>
     Ok((Message::Ack(ack), rest))
 }
 
+/// Reads a `CopyAsk` off the bytes behind a message's kind, and returns it with the bytes left.
 #[tactic(auto, unfolding(crate::specs::Reading::copy_ask_at))]
 pub fn copy_ask_of(bytes: &[u8]) -> Result<(Message, &[u8]), Fault>
     ensures { Gives (λ x. (message_of x.0, x.1.now)) result (copy_ask_at bytes.now) }
@@ -146,6 +155,7 @@ pub fn copy_ask_of(bytes: &[u8]) -> Result<(Message, &[u8]), Fault>
     Ok((Message::CopyAsk(CopyAsk { group, epoch }), rest))
 }
 
+/// Reads a `CopyReport` off the bytes behind a message's kind, and returns it with the bytes left.
 #[tactic(auto, unfolding(crate::specs::Reading::copy_report_at))]
 pub fn copy_report_of(alloc: Global, bytes: &[u8]) -> Result<(Message, &[u8]), Fault>
     ensures { Gives (λ x. (message_of x.0, x.1.now)) result (copy_report_at bytes.now) }
@@ -169,6 +179,7 @@ pub fn copy_report_of(alloc: Global, bytes: &[u8]) -> Result<(Message, &[u8]), F
     Ok((Message::CopyReport(report), rest))
 }
 
+/// Reads a `PageAsk` off the bytes behind a message's kind, and returns it with the bytes left.
 #[tactic(auto, unfolding(crate::specs::Reading::page_ask_at))]
 pub fn page_ask_of(bytes: &[u8]) -> Result<(Message, &[u8]), Fault>
     ensures { Gives (λ x. (message_of x.0, x.1.now)) result (page_ask_at bytes.now) }
@@ -185,6 +196,7 @@ pub fn page_ask_of(bytes: &[u8]) -> Result<(Message, &[u8]), Fault>
     Ok((Message::PageAsk(ask), rest))
 }
 
+/// Reads a `Page` off the bytes behind a message's kind, and returns it with the bytes left.
 #[tactic(auto, unfolding(crate::specs::Reading::page_at))]
 pub fn page_of(alloc: Global, bytes: &[u8]) -> Result<(Message, &[u8]), Fault>
     ensures { Gives (λ x. (message_of x.0, x.1.now)) result (page_at bytes.now) }

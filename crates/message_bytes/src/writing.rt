@@ -17,6 +17,7 @@ use std::alloc::{AllocError, Global};
 use volume_model::Fault;
 use wire::Contents;
 
+/// Appends a number as 2 bytes.
 pub fn put_u16(out: &mut Vec<u8>, number: u16) -> Result<(), AllocError>
     ensures text { OnOk result (out.new.items ≡ out.old.items ++ to_be_bytes w16 number) }
     ensures fits { number < 2 ^ 16 }
@@ -24,6 +25,7 @@ pub fn put_u16(out: &mut Vec<u8>, number: u16) -> Result<(), AllocError>
     out.extend_from_slice(&number.to_be_bytes())
 }
 
+/// Appends a number as 4 bytes.
 pub fn put_u32(out: &mut Vec<u8>, number: u32) -> Result<(), AllocError>
     ensures text { OnOk result (out.new.items ≡ out.old.items ++ to_be_bytes w32 number) }
     ensures fits { number < 2 ^ 32 }
@@ -31,6 +33,7 @@ pub fn put_u32(out: &mut Vec<u8>, number: u32) -> Result<(), AllocError>
     out.extend_from_slice(&number.to_be_bytes())
 }
 
+/// Appends a number as 8 bytes.
 pub fn put_u64(out: &mut Vec<u8>, number: u64) -> Result<(), AllocError>
     ensures text { OnOk result (out.new.items ≡ out.old.items ++ to_be_bytes w64 number) }
     ensures fits { number < 2 ^ 64 }
@@ -69,6 +72,7 @@ fn put_entries(out: &mut Vec<u8>, entries: &[Entry]) -> Result<(), AllocError>
     Ok(())
 }
 
+/// Appends the bytes of a record.
 pub fn put_record(out: &mut Vec<u8>, packet: &SharedRecord) -> Result<(), AllocError>
     ensures text { OnOk result (out.new.items ≡ out.old.items ++ spelled (shared_redo packet.now)) }
     ensures reads { OnOk result (decoded (spelled (shared_redo packet.now)) ≡ Ok (shared_redo packet.now)) }

@@ -19,7 +19,7 @@ impl<'a, L: FleetSite> Fleet<'a, L> {
     ghost use Rattle.volume_model.specs.declared.fault.Fault.TheVariants.{NoMessage};
     ghost use Rattle.fleet_actors.specs.declared.halt.Halt.TheVariants.{Refused};
 
-    // One try of what the authority does.
+    // Tries once what the authority is asked to do.
     fn try_authority<R: Wait>(
         &self,
         rt: &R,
@@ -35,7 +35,7 @@ impl<'a, L: FleetSite> Fleet<'a, L> {
         actor.act(rt, self.alloc, &mut log, pass, act, self.slots)
     }
 
-    // What the authority does, by the journal's pass.
+    // Enters what the authority does, by the journal's pass.
     pub(crate) fn enter_authority<R: Wait>(
         &self,
         rt: &R,

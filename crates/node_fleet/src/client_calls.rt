@@ -18,7 +18,7 @@ use volume_model::Fault;
 use wire::Message;
 use world::Client;
 
-// Whether an action may move the durable point of its client.
+// Returns whether an action may move the durable point of its client.
 fn moves(action: &ClientAction) -> bool
     ensures { result ≡ is_moving action.now }
 {
@@ -35,7 +35,7 @@ impl<'a, L: FleetSite> Fleet<'a, L> {
     ghost use Rattle.fleet_actors.specs.Actions.{IsFound};
     ghost use Rattle.fleet_actors.specs.declared.halt.Halt.TheVariants.{Refused};
 
-    // The client of a volume epoch, if it has a slot.
+    // Returns the client of a volume epoch, if it has a slot.
     fn client(&self, volume: u32) -> Option<&Mutex<ClientActor<L>>> {
         self.clients.get(volume as usize)
     }
@@ -134,7 +134,7 @@ impl<'a, L: FleetSite> Fleet<'a, L> {
         Ok(receipt)
     }
 
-    // A client does what it is asked to, in one try.
+    // Tries once what a client is asked to do.
     #[inline(always)]
     fn does<R: Wait>(
         &self,
@@ -156,7 +156,7 @@ impl<'a, L: FleetSite> Fleet<'a, L> {
         }
     }
 
-    // One try of a client's taking of the message with this number.
+    // Tries once to let a client take the message with this number.
     #[inline(always)]
     fn try_take<R: Wait>(
         &self,
@@ -187,7 +187,7 @@ impl<'a, L: FleetSite> Fleet<'a, L> {
         Ok(receipt)
     }
 
-    // A client takes the message with this number, in one try.
+    // Lets a client take the message with this number, in one try.
     #[inline(always)]
     fn take<R: Wait>(
         &self,
@@ -209,7 +209,7 @@ impl<'a, L: FleetSite> Fleet<'a, L> {
         }
     }
 
-    // What a client is asked to do, by the journal's pass.
+    // Enters what a client is asked to do, by the journal's pass.
     pub(crate) fn enter_client<R: Wait>(
         &self,
         rt: &R,
@@ -230,7 +230,7 @@ impl<'a, L: FleetSite> Fleet<'a, L> {
         }
     }
 
-    // A copy of what it is asked to do goes to a client: apart from a taking, which copies nothing.
+    // Gives a client a copy of what it is asked to do, except a taking, which copies nothing.
     #[inline(never)]
     fn copied_step<R: Wait>(
         &self,
@@ -250,7 +250,7 @@ impl<'a, L: FleetSite> Fleet<'a, L> {
         self.enter_client(rt, pass, volume, asked)
     }
 
-    // The same of a copy.
+    // Enters a copy of what a client is asked to do.
     pub(crate) fn enter_client_copy<R: Wait>(
         &self,
         rt: &R,

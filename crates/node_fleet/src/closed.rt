@@ -19,7 +19,7 @@ impl<'a, L: Site> Journal<'a, L> {
     ghost use Rattle.journal.specs.Passes.{journal_of};
     ghost use Rattle.node_fleet.specs.Journals.{entries_in};
 
-    // The journal of a fleet that is closed.
+    // Returns the journal of a fleet that is closed.
     pub(crate) fn of(log: Log<'a, L>) -> Journal<'a, L>
         ensures { entries_in result ≡ journal_of log.entry }
     {

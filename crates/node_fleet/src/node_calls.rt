@@ -25,7 +25,7 @@ impl<'a, L: FleetSite> Fleet<'a, L> {
     ghost use Rattle.volume_model.specs.declared.fault.Fault.TheVariants.{NoMessage};
     ghost use Rattle.fleet_actors.specs.declared.halt.Halt.TheVariants.{Refused};
 
-    // The node of a member of a group, and none where the plan doesn't name it.
+    // Returns the node of a member of a group, and none where the plan doesn't name it.
     fn node(&self, group: u8, member: u8) -> Option<&Mutex<NodeActor<L>>>
         ensures { IfNone result (is_named L.plan group member ≡ false) }
     {
@@ -95,7 +95,7 @@ impl<'a, L: FleetSite> Fleet<'a, L> {
         }
     }
 
-    // One try of a delivery.
+    // Tries a delivery once.
     fn try_deliver<R: Wait, G: StepGate>(
         &self,
         rt: &R,
@@ -118,7 +118,7 @@ impl<'a, L: FleetSite> Fleet<'a, L> {
         actor.react(rt, self.alloc, &self.journal, pass, message_ref, gate)
     }
 
-    // A delivery, by the journal's pass.
+    // Enters a delivery, by the journal's pass.
     pub(crate) fn enter_delivery<R: Wait, G: StepGate>(
         &self,
         rt: &R,
@@ -150,7 +150,7 @@ impl<'a, L: FleetSite> Fleet<'a, L> {
         }
     }
 
-    // One try of what a node does of itself.
+    // Tries once what a node does without a message.
     fn try_node<R: Wait>(
         &self,
         rt: &R,
@@ -172,7 +172,7 @@ impl<'a, L: FleetSite> Fleet<'a, L> {
         actor.act(rt, self.alloc, &mut log, pass, action)
     }
 
-    // What a node does of itself, by the journal's pass.
+    // Enters what a node does without a message, by the journal's pass.
     pub(crate) fn enter_node<R: Wait>(
         &self,
         rt: &R,

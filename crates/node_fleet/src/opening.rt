@@ -32,7 +32,7 @@ use world::Client;
 /// The most members of a group.
 const MEMBERS: usize = 64;
 
-// A pass that has done nothing.
+// Returns a pass that has done nothing.
 fn pass<'a, L: FleetSite>(
     alloc: Global,
     share: Share<L>,
@@ -79,7 +79,7 @@ fn passes<'a, L: FleetSite>(
     Ok(made)
 }
 
-// The client of a volume epoch: the first is born a writer, and no View has reached the others.
+// Returns the client of a volume epoch: the first is born a writer, and no View has reached the others.
 fn client<L: Site>(
     alloc: Global,
     plan: &Arc<CheckedPlan>,
@@ -100,7 +100,8 @@ fn client<L: Site>(
     Ok(ClientActor::new(cursor, client))
 }
 
-// The clients of the volume epochs up to that of the last slot, and of volume epoch 0, which nobody is born with.
+// Returns the clients of the volume epochs up to that of the last slot, and of volume epoch 0, which nobody is born
+// with.
 fn clients<L: Site>(
     alloc: Global,
     plan: &Arc<CheckedPlan>,
@@ -121,7 +122,7 @@ fn clients<L: Site>(
     Ok(made)
 }
 
-// The node of a member of a group, where the plan names it.
+// Returns the node of a member of a group, where the plan names it.
 fn node<L: Site>(
     alloc: Global,
     plan: &Arc<CheckedPlan>,
@@ -142,7 +143,7 @@ fn node<L: Site>(
     Ok(Some(Mutex::new(actor)))
 }
 
-// The nodes that the plan names, each in its slot, of which there are 64 a group.
+// Returns the nodes that the plan names, each in its slot, of which there are 64 a group.
 fn nodes<L: Site>(
     alloc: Global,
     plan: &Arc<CheckedPlan>,

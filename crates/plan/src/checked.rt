@@ -122,7 +122,8 @@ impl CheckedPlan {
         }
     }
 
-    /// A checked plan is certified: in each configuration the read sets meet the write sets, and each step is one.
+    /// Proves that a checked plan is certified: in each configuration the read sets meet the write sets, and each step
+    /// is one.
     pub fn certified(&self)
         ensures { IsCertified (checked_model self.now) }
     {

@@ -60,7 +60,7 @@ impl PlanFault {
     ghost use Rattle.std.specs.Prelude.{◌≡◌};
     ghost use Rattle.plan.specs.FaultKinds.{is_input, kind_of};
 
-    /// What is wrong, without the place.
+    /// Returns what is wrong, without the place.
     pub fn kind(&self) -> Fault
         ensures { result ≡ kind_of self.now }
     {
@@ -123,7 +123,7 @@ pub fn claim_name(step: bool) -> &'static str
     if step { "step" } else { "meets" }
 }
 
-/// How the line of a fault of the text begins.
+/// Returns how the line of a fault of the text begins.
 fn verdict_name(input: bool) -> &'static str
     ensures { result.now ≡ verdict_text input }
 {

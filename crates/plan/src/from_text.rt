@@ -22,7 +22,7 @@ use volume_model::Fault;
 /// How many bytes a text may have.
 const MAX_TEXT: usize = 16_777_216;
 
-/// What a text spells as JSON.
+/// Returns what a text spells as JSON.
 #[tactic(auto, unfolding(crate::specs::PlanText::json_of))]
 fn json(alloc: Global, text: &[u8]) -> Result<Value, Fault>
     ensures { Gives view result (json_of text.now) }
@@ -38,7 +38,7 @@ fn json(alloc: Global, text: &[u8]) -> Result<Value, Fault>
     }
 }
 
-/// The value that a text spells.
+/// Returns the value that a text spells.
 #[tactic(auto, unfolding(crate::specs::PlanText::value_of))]
 pub(crate) fn value(alloc: Global, text: &[u8]) -> Result<Value, Fault>
     ensures read { Gives view result (value_of text.now) }
@@ -68,7 +68,7 @@ fn by_tape(alloc: Global, text: &str) -> Result<Plan, PlanFault>
     }
 }
 
-/// The plan that a text spells.
+/// Returns the plan that a text spells.
 ///
 /// # Errors
 /// The first fault in reading order: the text's size, its JSON, the keys and the format, how far numbers may run ahead, the

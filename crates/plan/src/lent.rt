@@ -17,7 +17,7 @@ use refutation::Certificate;
 use std::alloc::{Allocator, Global};
 use volume_model::Fault;
 
-/// That read sets meet write sets.
+/// Returns the claim that read sets meet write sets.
 fn meets_claim<B: Allocator + Clone>(
     alloc: B,
     configuration: &Configuration,
@@ -33,7 +33,8 @@ fn meets_claim<B: Allocator + Clone>(
     })
 }
 
-/// That read sets of the child without a fresh member meet what satisfies the dual of the parent's read expression.
+/// Returns the claim that read sets of the child without a fresh member meet what satisfies the dual of the parent's
+/// read expression.
 fn step_claim<B: Allocator + Clone>(
     alloc: B,
     child: &Configuration,

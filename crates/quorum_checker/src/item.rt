@@ -71,7 +71,7 @@ impl<'e, A: Allocator> Item<'e, A> {
         }
     }
 
-    /// What it asks for of its children, and nothing of a member.
+    /// Returns what it asks for of its children, and nothing of a member.
     pub(crate) fn threshold(self) -> Option<Threshold<'e, A>>
         ensures meaning { MatchOption result (IsMember (shown self.entry))
             (λ t. IsThreshold self.entry.is_dual (shown self.entry) t) }

@@ -88,14 +88,14 @@ pub fn check_lent<A: Allocator, B: Allocator>(
     check_rule(certificate.tree(), &mut items)
 }
 
-/// Where a rule refutes a claim, each set that satisfies its left expression, and is clear of what it
-/// has to be clear of, meets each set that satisfies its right expression.
+/// Proves that where a rule refutes a claim, each set that satisfies its left expression, and is clear of what it has
+/// to be clear of, meets each set that satisfies its right expression.
 pub fn refuted_claim_meets()
     ensures { (rule : Rule) (left right : Formula) (clear : FinSet nat_cmp) → Refutes rule
         (claim_state left right clear) → Meets left right clear }
 {}
 
-/// No fault is found exactly where the rule refutes.
+/// Proves that no fault is found exactly where the rule refutes.
 pub fn no_fault_refutes()
     ensures refutes { (rule : Rule) (state : State) → first_fault rule state ≡ None → Refutes rule state }
     ensures accepted { (rule : Rule) (state : State) → Refutes rule state → first_fault rule state ≡ None }

@@ -8,7 +8,7 @@ ghost use Rattle.quorum_checker.specs.Refutes.{picked_weight, paired_weight};
 use quorum_expr::{Expr, wide};
 use std::alloc::Allocator;
 
-/// What all children weigh.
+/// Returns what all children weigh.
 pub fn total<A: Allocator>(of: &[(u8, Expr<A>)]) -> u128
     ensures sum { result ≡ total_weight (bare of.now) }
     ensures small { result ≤ 255 * length of.now }
@@ -55,7 +55,7 @@ pub fn picked<A: Allocator>(of: &[(u8, Expr<A>)], numbers: &[u8]) -> u128
     all
 }
 
-/// For each pair the smaller of its two weights.
+/// Returns for each pair the smaller of its two weights.
 pub fn paired<A: Allocator>(
     of: &[(u8, Expr<A>)],
     others: &[(u8, Expr<A>)],

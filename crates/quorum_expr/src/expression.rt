@@ -22,7 +22,7 @@ pub enum Expr<A: Allocator> {
     },
 }
 
-/// A weight as a number that many of them can be added to.
+/// Returns a weight as a number that many of them can be added to.
 pub fn wide(weight: u8) -> u128
     ensures same { result ≡ weight }
     ensures small { result ≤ 255 }
@@ -30,7 +30,7 @@ pub fn wide(weight: u8) -> u128
     u128::from(weight)
 }
 
-/// Whether an expression holds in a set of members.
+/// Returns whether an expression holds in a set of members.
 pub fn holds<A: Allocator>(expr: &Expr<A>, members: MemberSet) -> bool
     ensures { result ≡ sat (formula_of expr.now) (set.contains members) }
 {
@@ -52,7 +52,7 @@ pub fn holds<A: Allocator>(expr: &Expr<A>, members: MemberSet) -> bool
     }
 }
 
-/// Whether the dual of an expression holds in a set of members.
+/// Returns whether the dual of an expression holds in a set of members.
 pub fn holds_dual<A: Allocator>(expr: &Expr<A>, members: MemberSet) -> bool
     ensures { result ≡ sat (dual_of (formula_of expr.now)) (set.contains members) }
 {

@@ -58,7 +58,7 @@ fn small(number: u64) -> u8
 }
 
 impl Lists {
-    /// The members that the name stands for.
+    /// Returns the members that the name stands for.
     pub fn named(&self, name: ListName) -> MemberSet
         ensures { result ≡ set_of self.now name }
     {
@@ -74,7 +74,7 @@ impl Weights {
     ghost use Rattle.quorum_expr.specs.Reading.{weight_of};
     ghost use Rattle.quorum_expr.specs.Forms.{weights_data};
 
-    /// What the child with a number weighs, and 0 where that isn't from 1 to 255.
+    /// Returns what the child with a number weighs, and 0 where that isn't from 1 to 255.
     pub fn at(&self, number: usize) -> u8
         ensures { result ≡ weight_of (weights_data self.now) number }
     {

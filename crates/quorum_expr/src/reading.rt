@@ -342,7 +342,7 @@ pub fn read_expr_at<N: Node>(alloc: Global, node: &N, lists: &Lists) -> Result<E
     Ok(expr)
 }
 
-/// The expression that a value spells, over the members of these lists.
+/// Returns the expression that a value spells, over the members of these lists.
 ///
 /// # Errors
 /// The first fault, outer ones before inner ones and children in order: at each node [`Fault::Malformed`] for another

@@ -10,7 +10,7 @@ use crate::expression::{Expr, wide};
 use std::alloc::Allocator;
 use volume_model::Fault;
 
-/// The same expression in other memory.
+/// Copies an expression into other memory.
 ///
 /// # Errors
 /// `NoMemory` where a growth was refused.
@@ -32,7 +32,7 @@ pub fn copy_in<A: Allocator, B: Allocator + Clone>(
     }
 }
 
-/// The dual of an expression with good thresholds.
+/// Returns the dual of an expression with good thresholds.
 fn dual_formula<A: Allocator, B: Allocator + Clone>(
     expr: &Expr<A>,
     alloc: B,
@@ -57,7 +57,8 @@ fn dual_formula<A: Allocator, B: Allocator + Clone>(
     }
 }
 
-/// The expression that holds in a set exactly where the given one, which is valid, doesn't hold in the complement.
+/// Returns the expression that holds in a set exactly where the given one, which is valid, doesn't hold in the
+/// complement.
 ///
 /// # Errors
 /// `NoMemory` where a growth was refused.

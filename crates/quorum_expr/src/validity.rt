@@ -14,7 +14,8 @@ pub const LEVELS: u8 = 6;
 /// How many nodes an expression may have.
 pub const NODES: u32 = 4_096;
 
-/// Whether a threshold is from 1 to the weights of all its children, which are at most 64 and weigh at least 1 each.
+/// Returns whether a threshold is from 1 to the weights of all its children, which are at most 64 and weigh at least 1
+/// each.
 fn is_good_choice<A: Allocator>(k: u16, of: &[(u8, Expr<A>)]) -> bool
     ensures { result ≡ good_choice k (weighed formula_of of.now) }
 {
@@ -31,7 +32,7 @@ fn is_good_choice<A: Allocator>(k: u16, of: &[(u8, Expr<A>)]) -> bool
     1 <= k && u128::from(k) <= all
 }
 
-/// The first fault of an expression that may have so many levels. The room falls by one a node, to 0 at least.
+/// Returns the first fault of an expression that may have so many levels. The room falls by one a node, to 0 at least.
 fn fault_within<A: Allocator>(expr: &Expr<A>, levels: u8, room: &mut u32) -> Option<Fault>
     ensures fault { result ≡ shape_fault (formula_of expr.now) levels }
     ensures counted { IfNone result (room.new ≡ room.old - nodes (formula_of expr.now)) }
@@ -62,8 +63,8 @@ fn fault_within<A: Allocator>(expr: &Expr<A>, levels: u8, room: &mut u32) -> Opt
     }
 }
 
-/// Whether an expression has at most six levels, each threshold from 1 to the weights of its at most 64 children, which
-/// weigh 1 to 255 each, members of 0 to 63 alone and at most 4,096 nodes. Takes no memory.
+/// Returns whether an expression has at most six levels, each threshold from 1 to the weights of its at most 64
+/// children, which weigh 1 to 255 each, members of 0 to 63 alone and at most 4,096 nodes. Takes no memory.
 ///
 /// # Errors
 /// The first fault, outer ones before inner ones and children in order: `TooDeep`, `BadCount` of a threshold, `NotAMember`; and

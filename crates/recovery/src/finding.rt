@@ -19,7 +19,7 @@ use std::alloc::Global;
 use volume_model::Fault;
 use writer_core::GroupStates;
 
-/// What a recovery of this volume epoch finds in the reports that it has.
+/// Returns what a recovery of this volume epoch finds in the reports that it has.
 ///
 /// # Errors
 /// `LsnSpent` if its own numbers would begin above the greatest, and `NoMemory`, which may come before it, if there

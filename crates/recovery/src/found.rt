@@ -28,8 +28,8 @@ impl Found {
     ghost use Rattle.writer_core.specs.Writers.{client_of};
     ghost use Rattle.recovery.specs.Finds.{IsFindOf};
 
-    /// What the recovery had found that has become this writer. The writer that a volume is born with was none: of it
-    /// that is no record, and its lineage.
+    /// Returns what the recovery had found that has become this writer. The writer that a volume is born with was none:
+    /// of it that is no record, and its lineage.
     ///
     /// # Errors
     /// `AllocError` if there is no memory.

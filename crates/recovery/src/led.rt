@@ -15,7 +15,7 @@ impl Led {
     ghost use Rattle.std.specs.Prelude.{◌≡◌, ◌≤◌, ◌==◌, ℕ, true, false, if◌then◌else◌, OnOk};
     ghost use Rattle.recovery.specs.Led.{is_led};
 
-    /// No number.
+    /// Makes a set without a number.
     pub fn new(alloc: Global) -> Led
         ensures { (n : ℕ) → is_led result n ≡ false }
     {

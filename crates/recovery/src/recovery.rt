@@ -340,8 +340,8 @@ impl Recovery {
         Ok(())
     }
 
-    /// Opens: returns the writer that the recovery becomes once a write quorum of each group has acknowledged its
-    /// install. Takes no memory.
+    /// Returns the writer that the recovery becomes once a write quorum of each group has acknowledged its install.
+    /// Takes no memory.
     ///
     /// # Errors
     /// Those of [`Recovery::admits_open`], with the recovery unchanged.

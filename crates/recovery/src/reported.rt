@@ -16,7 +16,7 @@ use redo_record::RecordSet;
 use std::alloc::{AllocError, Global};
 use writer_core::GroupState;
 
-/// The newest of the lineages of all reports and of one that comes behind them.
+/// Returns the newest of the lineages of all reports and of one that comes behind them.
 fn newest_reported<'a>(group_states: &'a [GroupState], last: &'a Lineage) -> &'a Lineage
     ensures { lineage_of result.now ≡ newest_with (lineage_of last.now) (reports_in (groups_of group_states.now)) }
 {

@@ -16,7 +16,7 @@ use std::alloc::{AllocError, Global};
 use wire::{Fence, Message, Place};
 use writer_core::{GroupStates, group_installs, label_at};
 
-/// One Fence a group of the view.
+/// Returns one Fence a group of the view.
 ///
 /// # Errors
 /// `AllocError` if there is no memory.
@@ -38,7 +38,7 @@ pub fn fences(
     Ok(messages)
 }
 
-/// One Fence for each group that these places raise.
+/// Returns one Fence for each group that these places raise.
 ///
 /// # Errors
 /// `AllocError` if there is no memory.

@@ -23,7 +23,7 @@ fn count_before(packets: &[SharedRecord], packet: &SharedRecord) -> usize
     packets.partition_point(|other| other.is_before(packet))
 }
 
-/// Where a record would stand among these, which are in order; `None` if its record is one of theirs.
+/// Returns where a record would stand among these, which are in order; `None` if its record is one of theirs.
 pub fn place_among(packets: &[SharedRecord], packet: &SharedRecord) -> Option<usize>
     requires { IsInOrder (map shared_redo packets.now) }
     ensures { MatchOption result (IsHeldIn (map shared_redo packets.now) (shared_redo packet.now))

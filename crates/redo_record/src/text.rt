@@ -17,7 +17,7 @@ impl Text {
     ghost use Rattle.std.specs.Prelude.{◌≡◌, ◌+◌, [], ◌++◌, length};
     ghost use Rattle.redo_record.specs.Text.{text_bytes};
 
-    /// No byte.
+    /// Makes the text without a byte.
     pub fn new() -> Text
         ensures { text_bytes result ≡ [] }
     {

@@ -54,7 +54,7 @@ impl Window {
         &self.shared.as_slice()[self.from..self.from + self.len]
     }
 
-    /// So many of the records, from one of them on, without a copy of them. Fails only with `NoMemory`.
+    /// Returns so many of the records, from one of them on, without a copy of them. Fails only with `NoMemory`.
     pub fn part(&self, from: usize, len: usize) -> Result<Window, AllocError>
         requires { from + len ≤ length (redos_seen self.now) }
         ensures { IfOk result (λ part. redos_seen part ≡ take len (drop from (redos_seen self.now))) }

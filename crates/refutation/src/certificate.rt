@@ -30,7 +30,7 @@ impl<A: Allocator> Certificate<A> {
     ghost use Rattle.volume_model.specs.Answer.{Gives};
     ghost use Rattle.refutation.specs.Certificate.{certificate_rule};
 
-    /// The certificate that a refutation is. `OverLimit`, with the refutation, where it passes a limit.
+    /// Returns the certificate that a refutation is. `OverLimit`, with the refutation, where it passes a limit.
     pub fn new(tree: Refutation<A>) -> Result<Certificate<A>, (Fault, Refutation<A>)>
         ensures made { IfOk result (λ c. certificate_rule c ≡ rule_of tree) }
         ensures within { OnOk result (is_certificate (rule_of tree) ≡ true) }
@@ -57,7 +57,7 @@ impl<A: Allocator> Certificate<A> {
         &self.tree
     }
 
-    /// The same certificate in other memory.
+    /// Returns the same certificate in other memory.
     ///
     /// # Errors
     /// `NoMemory` where a growth was refused.

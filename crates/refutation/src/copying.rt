@@ -10,7 +10,7 @@ use crate::{Refutation, Side};
 use std::alloc::Allocator;
 use volume_model::Fault;
 
-/// The same numbers in other memory.
+/// Returns the same numbers in other memory.
 fn copy_list<T: Copy, B: Allocator + Clone>(numbers: &[T], alloc: &B) -> Result<Vec<T, B>, Fault>
     ensures { Gives (λ v. v.items) result (Ok numbers.now) }
 {
@@ -19,7 +19,7 @@ fn copy_list<T: Copy, B: Allocator + Clone>(numbers: &[T], alloc: &B) -> Result<
     Ok(copy)
 }
 
-/// A refutation in a box of its own.
+/// Returns a refutation in a box of its own.
 #[inline]
 fn boxed<B: Allocator + Clone>(
     rule: Refutation<B>,
@@ -95,7 +95,7 @@ fn copy_match<B: Allocator + Clone>(
     })
 }
 
-/// The same refutation in other memory.
+/// Returns the same refutation in other memory.
 #[cycle(copy)]
 pub fn copy_tree<A: Allocator, B: Allocator + Clone>(
     rule: &Refutation<A>,

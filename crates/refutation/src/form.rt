@@ -47,7 +47,7 @@ impl RuleName {
     ghost use Rattle.std.specs.Prelude.{◌≡◌, ◌≤◌};
     ghost use Rattle.refutation.specs.Reading.{key_count};
 
-    /// How many keys a rule of this name has, the name included.
+    /// Returns how many keys a rule of this name has, the name included.
     pub fn key_count(self) -> usize
         ensures keys { result ≡ key_count self }
         ensures few { result ≤ 5 }

@@ -111,7 +111,8 @@ pub fn number_at<N: Node>(value: &N, key: &str, most: u64) -> Result<u64, Fault>
     number_to(&found, most)
 }
 
-/// The members of an object, with one more, which takes the place of an earlier one with its key. Fails only if memory runs out.
+/// Returns the members of an object with one more, which takes the place of an earlier one with its key. Fails only if
+/// memory runs out.
 pub fn with(
     alloc: Global,
     map: Map<String, Value>,

@@ -11,7 +11,7 @@ use std::alloc::Allocator;
 /// How many entries a list may have.
 pub const MAX_LIST: usize = 255;
 
-/// Whether there are at most so many levels.
+/// Returns whether there are at most so many levels.
 #[cycle(levels)]
 pub fn is_shallow<A: Allocator>(rule: &Refutation<A>, levels: u8) -> bool
     ensures { result ≡ nat_le (depth_of (rule_of rule.now)) levels }
@@ -48,7 +48,7 @@ fn are_short(entries: usize, branches: usize) -> bool
     entries <= MAX_LIST && branches <= MAX_LIST
 }
 
-/// Whether no list is too long, and each member is below 64.
+/// Returns whether no list is too long, and each member is below 64.
 #[cycle(lists)]
 pub fn keep_lists<A: Allocator>(rule: &Refutation<A>) -> bool
     ensures { result ≡ keeps_lists (rule_of rule.now) }
@@ -82,7 +82,7 @@ fn each_keep_lists<A: Allocator>(branches: &[Refutation<A>]) -> bool
     true
 }
 
-/// How much is left of so much room once each rule has taken one.
+/// Returns how much is left of so much room once each rule has taken one.
 #[cycle(count)]
 pub fn room_after<A: Allocator>(rule: &Refutation<A>, room: u32) -> u32
     ensures { result ≡ room - nodes_of (rule_of rule.now) }

@@ -281,7 +281,7 @@ pub fn read_certificate_at<N: Node>(alloc: Global, node: &N) -> Result<Certifica
     }
 }
 
-/// The certificate that a value spells.
+/// Returns the certificate that a value spells.
 ///
 /// # Errors
 /// The first fault, outer ones before inner ones and branches in order: at each rule `Malformed` for another shape or a

@@ -27,7 +27,7 @@ fn side_name(side: Side) -> &'static str
     }
 }
 
-/// The member that names a rule.
+/// Returns the member that names a rule.
 fn named(alloc: Global, name: &str) -> Result<Map<String, Value>, AllocError>
     ensures { IfOk result (λ m. members_view m.entries ≡ with_member (codes "rule") (string name.now) no_members) }
 {
@@ -35,7 +35,7 @@ fn named(alloc: Global, name: &str) -> Result<Map<String, Value>, AllocError>
     with(alloc, Map::new(alloc), "rule", name)
 }
 
-/// The members that rules about an item of one side have in common.
+/// Returns the members that rules about an item of one side have in common.
 fn at_side(
     alloc: Global,
     name: &str,
@@ -53,7 +53,7 @@ fn at_side(
     with(alloc, map, "item", Value::from(u64::from(item)))
 }
 
-/// The members that rules about an item of each side have in common.
+/// Returns the members that rules about an item of each side have in common.
 fn at_both(
     alloc: Global,
     name: &str,
@@ -226,7 +226,8 @@ fn branches_json<A: Allocator>(
     Ok(list)
 }
 
-/// The JSON of a certificate, which is read back as that certificate. It nests at most 81 deep. Fails only if memory runs out.
+/// Returns the JSON of a certificate, which is read back as that certificate. It nests at most 81 deep. Fails only if
+/// memory runs out.
 pub fn write_certificate<A: Allocator>(
     alloc: Global,
     certificate: &Certificate<A>,

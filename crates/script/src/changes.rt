@@ -32,7 +32,7 @@ pub fn issue(alloc: Global, mut words: Parts) -> Result<Event, Fault>
     Ok(Event::Issue { volume, changes })
 }
 
-/// Changes, each a word.
+/// Reads changes, each a word.
 fn all_changes(alloc: Global, words: Parts) -> Result<Vec<Change>, Fault>
     requires { words.separator ≡ 32 }
     ensures { ReadsBy (λ v. changes_of v.items) (changes_in (parts_left words.entry)) result }

@@ -2,7 +2,7 @@
 
 ghost use Rattle.script.specs.Examples.{SayTheirLines};
 
-/// A law: what the grammar says of some lines.
+/// Proves what the grammar says of some lines.
 pub fn say_their_lines()
     ensures { SayTheirLines }
 {}

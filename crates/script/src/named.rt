@@ -29,7 +29,7 @@ fn digits(text: &[u8]) -> (u32, &[u8])
     (value, &[])
 }
 
-/// The number at the head of a text, and what comes after it.
+/// Returns the number at the head of a text, and what comes after it.
 #[inline(always)]
 pub fn number(text: &[u8]) -> Option<(u32, &[u8])>
     ensures { IfSome result (λ found. IsNumberAt text.now found.0 found.1.now) }
@@ -41,7 +41,7 @@ pub fn number(text: &[u8]) -> Option<(u32, &[u8])>
     }
 }
 
-/// The number of a group or a member at the head of a text, and what comes after it and a space.
+/// Returns the number of a group or a member at the head of a text, and what comes after it and a space.
 #[inline(always)]
 fn id(text: &[u8]) -> Option<(u8, &[u8])>
     ensures { IfSome result (λ found. IsNumberAt text.now found.0 (32 ∷ found.1.now) × (found.0 ≤ 255)) }
@@ -53,7 +53,7 @@ fn id(text: &[u8]) -> Option<(u8, &[u8])>
     Some((number as u8, after(rest, b' ')?))
 }
 
-/// What comes after a byte, where a text begins with it.
+/// Returns what comes after a byte, where a text begins with it.
 #[inline(always)]
 pub fn after(text: &[u8], byte: u8) -> Option<&[u8]>
     ensures { IfSome result (λ rest. text.now ≡ byte ∷ rest.now) }
@@ -64,7 +64,7 @@ pub fn after(text: &[u8], byte: u8) -> Option<&[u8]>
     }
 }
 
-/// What comes after the end of a line, where a text begins with it.
+/// Returns what comes after the end of a line, where a text begins with it.
 #[inline(always)]
 fn after_line(text: &[u8]) -> Option<&[u8]>
     ensures { IfSome result (λ rest. EndsLine text.now rest.now) }
@@ -90,7 +90,7 @@ fn name<'a>(text: &'a [u8], events: &[Option<u32>]) -> Option<(u32, u32, &'a [u8
     Some((events[line as usize - 1]?, place, rest))
 }
 
-/// What comes after `deliver `, where a text begins with it.
+/// Returns what comes after `deliver `, where a text begins with it.
 #[inline(always)]
 fn after_deliver(text: &[u8]) -> Option<&[u8]>
     ensures { IfSome result (λ rest. text.now ≡ codes "deliver " ++ rest.now) }
@@ -101,7 +101,7 @@ fn after_deliver(text: &[u8]) -> Option<&[u8]>
     }
 }
 
-/// What comes after `take `, where a text begins with it.
+/// Returns what comes after `take `, where a text begins with it.
 #[inline(always)]
 fn after_take(text: &[u8]) -> Option<&[u8]>
     ensures { IfSome result (λ rest. text.now ≡ codes "take " ++ rest.now) }
@@ -150,8 +150,8 @@ fn taking<'a>(text: &'a [u8], events: &[Option<u32>]) -> Option<(Order, &'a [u8]
     ))
 }
 
-/// The order of the first line of a text, and what comes after the line, where it is a delivery or a taking as most are. `events`
-/// has the index of each earlier line's event.
+/// Returns the order of the first line of a text, and what comes after the line, where it is a delivery or a taking as
+/// most are. `events` has the index of each earlier line's event.
 #[inline(always)]
 pub fn named_order<'a>(text: &'a [u8], events: &[Option<u32>]) -> Option<(Order, &'a [u8])>
     ensures { IfSome result (λ found. HasOrder text.now events.now found.0 found.1.now) }

@@ -126,7 +126,7 @@ impl<'a> Parts<'a> {
         self.take_number(u64::MAX)
     }
 
-    /// Nothing more may be left.
+    /// Checks that nothing more is left.
     #[inline(always)]
     pub fn end(self) -> Result<(), Fault>
         ensures { Reads (ended (parts_left self.entry)) result }

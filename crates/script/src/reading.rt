@@ -165,7 +165,7 @@ fn add_first<'a>(
     }
 }
 
-/// Why a script can't be run whose line with this number was refused.
+/// Returns why a script can't be run whose line with this number was refused.
 fn stop_at(fault: Fault, line: usize) -> ScriptFault
     ensures { result ≡ stop_at fault line }
 {
@@ -175,7 +175,8 @@ fn stop_at(fault: Fault, line: usize) -> ScriptFault
     }
 }
 
-/// For how many lines of a text room is made: one more than it has newlines, and no more than a script may have.
+/// Returns for how many lines of a text room is made: one more than it has newlines, and no more than a script may
+/// have.
 fn lines_at_most(text: &[u8]) -> usize
     ensures { result ≤ SCRIPT_LINES }
 {

@@ -15,7 +15,7 @@ pub fn first_place(text: &[u8], byte: u8) -> Option<usize>
     memchr(byte, text)
 }
 
-/// How often a byte stands in a piece of a text.
+/// Returns how often a byte stands in a piece of a text.
 #[inline(always)]
 fn count_in_piece(piece: &[u8], byte: u8) -> u8
     requires { length piece.now ≤ PIECE }
@@ -31,8 +31,8 @@ fn count_in_piece(piece: &[u8], byte: u8) -> u8
     count
 }
 
-/// How often a byte stands in a text. Piece by piece, with a count of one byte, many bytes are compared at a time; `memchr_iter` goes from one
-/// place to the next.
+/// Returns how often a byte stands in a text. Piece by piece, with a count of one byte, many bytes are compared at a
+/// time; `memchr_iter` goes from one place to the next.
 pub fn count_of(text: &[u8], byte: u8) -> usize
     ensures counted { result ≡ count_by (λ b. b == byte) text.now }
     ensures within { result + 1 < 2 ^ 64 }

@@ -126,7 +126,7 @@ impl Segment {
         self.held.records.complete_point()
     }
 
-    /// Restarts: drops the pieces of copies and of an install, and keeps all else.
+    /// Drops the pieces of copies and of an install, and keeps all else.
     pub fn restart(&mut self)
         ensures node { node_of self.new ≡ restarted (node_of self.old) }
         ensures actor { IsSameActor self.old self.new }
@@ -341,7 +341,7 @@ impl Segment {
         })
     }
 
-    /// A record that it holds, for the other nodes of its group.
+    /// Returns a record that it holds, for the other nodes of its group.
     fn gossip(&self, lsn: u64) -> Result<Carried<'_>, Fault>
         ensures own { IfErr result (λ fault. fault ≢ NoMemory) }
         ensures answers { AnswersAlways offered_step
@@ -366,8 +366,8 @@ impl Segment {
         })
     }
 
-    /// A record that it holds, for the other nodes of its group, of several with the number the first in the order of
-    /// their bytes. Takes no memory.
+    /// Returns a record that it holds, for the other nodes of its group, of several with the number the first in the
+    /// order of their bytes. Takes no memory.
     ///
     /// # Errors
     /// `NotWhole` before the segment is whole, `NotInstalled` if its lineage isn't that of the volume epoch that it
@@ -398,7 +398,7 @@ impl Segment {
         self.prepare_record(alloc, write.label, &write.packet)
     }
 
-    /// The body of [`Segment::prepare`].
+    /// Does what [`Segment::prepare`] says.
     #[inline(always)]
     fn prepared(&mut self, alloc: Global, message: &Message) -> Result<Prepared, Fault>
         ensures step { Prepares (message_of message.now) self.old result }

@@ -62,7 +62,7 @@ impl SegmentState {
         })
     }
 
-    /// All that is held, which is shared with later calls until a record comes. Fails only with `NoMemory`.
+    /// Returns all that is held, shared with later calls until a record comes. Fails only with `NoMemory`.
     pub fn contents(&mut self, alloc: Global) -> Result<Arc<Contents>, AllocError>
         ensures contents { IfOk result (λ contents. contents_of (arc_value contents) ≡ state_contents self.new) }
         ensures same { state_contents self.new ≡ state_contents self.old }

@@ -159,7 +159,7 @@ impl<B: Allocator> Closing<B> {
         }
     }
 
-    /// How a pair is closed, where the pairs of children are known.
+    /// Returns how a pair is closed, where the pairs of children are known.
     pub fn way(&self, one: &Part, other: &Part) -> Option<Way> {
         if !one.is_live {
             return Some(Way::Dead(Side::Left));
@@ -178,7 +178,7 @@ impl<B: Allocator> Closing<B> {
         }
     }
 
-    /// How a pair of choices is closed.
+    /// Returns how a pair of choices is closed.
     fn two_choices(&self, one: &Part, of: &Choice, other: &Part, others: &Choice) -> Option<Way> {
         if self.match_closes(one, of, other, others) {
             return Some(Way::Match);
@@ -212,7 +212,7 @@ impl<B: Allocator> Closing<B> {
         (weight >= others.needed()).then_some(Way::Pick(Side::Right))
     }
 
-    /// What those children of a left choice weigh that close with the right side.
+    /// Returns what those children of a left choice weigh that close with the right side.
     fn left_weight_with(&self, of: &Choice, other: &Part) -> usize {
         let mut weight = 0usize;
         for child in self.lefts.children(of) {
@@ -223,7 +223,7 @@ impl<B: Allocator> Closing<B> {
         weight
     }
 
-    /// What those children of a right choice weigh that close with the left side.
+    /// Returns what those children of a right choice weigh that close with the left side.
     fn right_weight_with(&self, one: &Part, others: &Choice) -> usize {
         let mut weight = 0usize;
         for child in self.rights.children(others) {

@@ -16,7 +16,7 @@ impl<B: Allocator> Grid<B> {
         rows.saturating_mul(columns / 64 + 1)
     }
 
-    /// So many rows of this many columns.
+    /// Returns so many rows of this many columns.
     pub fn new(arena: B, rows: usize, columns: usize) -> Result<Grid<B>, AllocError> {
         let bits = vec![in arena; 0u64; Grid::<B>::words(rows, columns)]?;
         let words = columns / 64 + 1;

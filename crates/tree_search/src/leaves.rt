@@ -6,7 +6,7 @@ use quorum_expr::{Expr, MEMBERS};
 use refutation::{Refutation, Side};
 use std::alloc::Allocator;
 
-/// The item of a side that can't hold, as a refutation.
+/// Returns the item of a side that can't hold, as a refutation.
 pub fn dead_on<A: Allocator, B: Allocator>(
     state: &State<'_, A>,
     side: Side,
@@ -16,7 +16,7 @@ pub fn dead_on<A: Allocator, B: Allocator>(
     Some(Refutation::Dead { side, item })
 }
 
-/// An item that can't hold, as a refutation.
+/// Returns an item that can't hold, as a refutation.
 fn dead<A: Allocator, B: Allocator>(state: &State<'_, A>) -> Option<Refutation<B>> {
     match dead_on(state, Side::Left) {
         Some(tree) => Some(tree),
@@ -24,7 +24,7 @@ fn dead<A: Allocator, B: Allocator>(state: &State<'_, A>) -> Option<Refutation<B
     }
 }
 
-/// Two items that are the same member, as a refutation.
+/// Returns two items that are the same member, as a refutation.
 fn clash<A: Allocator, B: Allocator>(state: &State<'_, A>) -> Option<Refutation<B>> {
     let rights = state.right.members();
     for (i, item) in state.left.items.iter().enumerate() {

@@ -200,7 +200,7 @@ impl<'e> Heaviest<'e> {
     }
 }
 
-/// What those children weigh that close with some other.
+/// Returns what those children weigh that close with some other.
 fn weight_of_closed(edges: &[u64], lefts: &[u8; 64]) -> usize {
     let mut weight = 0usize;
     for (edge, left) in edges.iter().zip(lefts) {

@@ -27,7 +27,7 @@ fn are_flat(children: &[Part]) -> bool {
     true
 }
 
-/// What those children weigh that may hold, and don't without these members.
+/// Returns what those children weigh that may hold, and don't without these members.
 fn weight_of(children: &[Part], members: u64) -> usize {
     let mut weight = 0usize;
     for child in children {
@@ -64,7 +64,7 @@ fn needed_by(children: &[Part], needed: usize) -> u64 {
     sure
 }
 
-/// What is known of a choice over these children.
+/// Returns what is known of a choice over these children.
 pub fn known_of(choice: Choice, children: &[Part]) -> Known {
     let mut members = 0u64;
     let mut live = 0usize;

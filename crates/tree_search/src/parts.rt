@@ -74,7 +74,7 @@ impl Choice {
         usize::from(self.count)
     }
 
-    /// What children weigh of which one holds at least: one more than what it can do without.
+    /// Returns what children weigh of which one holds at least: one more than what it can do without.
     pub fn needed(&self) -> usize {
         (usize::from(self.total) + 1).saturating_sub(usize::from(self.k))
     }
@@ -85,7 +85,7 @@ impl Choice {
     }
 }
 
-/// What all children weigh.
+/// Returns what all children weigh.
 pub fn total<A: Allocator>(of: &[(u8, Expr<A>)]) -> usize {
     let mut total = 0usize;
     for (weight, _) in of {
@@ -141,7 +141,7 @@ struct Listing<'e, A: Allocator, B: Allocator> {
 }
 
 impl<'e, A: Allocator, B: Allocator> Listing<'e, A, B> {
-    /// One more part.
+    /// Adds one more part.
     fn add(&mut self, weight: u8, expr: &'e Expr<A>) -> Result<(), AllocError> {
         let part = match expr {
             Expr::Member(member) => member_part(*member, weight, self.absent),
@@ -155,7 +155,7 @@ impl<'e, A: Allocator, B: Allocator> Listing<'e, A, B> {
         append(&mut self.parts.all, part)
     }
 
-    /// The children of a choice, which come last.
+    /// Adds the children of a choice, which come last.
     fn add_children(&mut self, number: usize) -> Result<(), AllocError> {
         let children = self.children.get(number).copied().unwrap_or(&[]);
         let first = self.parts.all.len();

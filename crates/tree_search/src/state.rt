@@ -29,7 +29,7 @@ impl<'a, A: Allocator> Row<'a, A> {
         u16::try_from(self.before.saturating_add(at)).ok()
     }
 
-    /// Other items, behind as many.
+    /// Returns other items, behind as many.
     pub fn with<'b>(&self, before: usize, items: &'b [&'b Expr<A>]) -> Row<'b, A>
     where
         'a: 'b,
@@ -41,7 +41,7 @@ impl<'a, A: Allocator> Row<'a, A> {
         }
     }
 
-    /// One child in the place of an item, and the other items left alone.
+    /// Returns one child in the place of an item, and the other items left alone.
     pub fn narrowed<'b>(&self, items: &'b [&'b Expr<A>]) -> Row<'b, A>
     where
         'a: 'b,
@@ -112,7 +112,7 @@ impl<'a, A: Allocator> Row<'a, A> {
         self.items.iter().all(|item| holds(*item, members))
     }
 
-    /// The first item that doesn't hold even in all members that may be there.
+    /// Returns the first item that doesn't hold even in all members that may be there.
     pub fn first_dead(&self) -> Option<usize> {
         let present = self.absent.complement();
         self.items.iter().position(|item| !holds(*item, present))

@@ -119,14 +119,14 @@ pub enum Fault {
 }
 
 impl Fault {
-    /// The number that stands for the fault in what the program prints.
+    /// Returns the number that stands for the fault in what the program prints.
     pub fn number(self) -> u8
         ensures { result ≡ number_of self }
     {
         self as u8
     }
 
-    /// The name that is printed of the fault.
+    /// Returns the name that is printed of the fault.
     fn name(self) -> &'static str
         ensures { result.now ≡ name_of self }
     {

@@ -63,7 +63,7 @@ impl Actors {
         })
     }
 
-    /// The authority acts.
+    /// Lets the authority act.
     fn authority_step(&mut self, alloc: Global, act: AuthorityAct) -> Result<u64, Fault>
         requires { AreActors self.old }
         ensures steps { Steps never_after_growth (of_authority (world_of self.old) (authority_acted (plan_of self.old)
@@ -74,7 +74,7 @@ impl Actors {
         authority_step::act(alloc, &mut self.authority, &mut self.messages, act)
     }
 
-    /// A node acts. `NoActor` if its group hasn't joined, or the plan doesn't name it.
+    /// Lets a node act. `NoActor` if its group hasn't joined, or the plan doesn't name it.
     fn node_step(
         &mut self,
         alloc: Global,
@@ -102,7 +102,7 @@ impl Actors {
         }
     }
 
-    /// A client acts. `NoActor` if it isn't there, unless it takes a View.
+    /// Lets a client act. `NoActor` if it isn't there, unless it takes a View.
     fn client_step(
         &mut self,
         alloc: Global,
@@ -126,7 +126,7 @@ impl Actors {
         }
     }
 
-    /// A client that isn't there acts: it is born by a View, and anything else is refused.
+    /// Lets a client act that isn't there: it is born by a View, and anything else is refused.
     fn absent_step(
         &mut self,
         alloc: Global,
@@ -150,7 +150,7 @@ impl Actors {
         Ok(enter(&mut self.messages, made))
     }
 
-    /// A client becomes a writer. `NoActor` if it isn't there.
+    /// Opens a client as a writer. `NoActor` if it isn't there.
     fn opening_step(&mut self, volume: u32) -> Result<u64, Fault>
         requires { AreActors self.old }
         ensures steps { Steps never_after_growth (of_client (world_of self.old) volume
@@ -172,7 +172,7 @@ impl Actors {
         }
     }
 
-    /// A node takes the message with this number.
+    /// Lets a node take the message with this number.
     #[inline(always)]
     pub(crate) fn deliver(
         &mut self,
@@ -190,7 +190,7 @@ impl Actors {
         self.node_step(alloc, group, member, NodeOrder::Deliver { message })
     }
 
-    /// A client takes the message with this number.
+    /// Lets a client take the message with this number.
     #[inline(always)]
     pub(crate) fn take(&mut self, alloc: Global, volume: u32, message: u64) -> Result<u64, Fault>
         requires { AreActors self.old }

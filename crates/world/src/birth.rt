@@ -62,8 +62,8 @@ fn begin_by_view(
     Recovery::new(alloc, plan.clone()?, message)
 }
 
-/// The recovery that a client which isn't there becomes by a View of its volume epoch, and the messages that it makes. Refused as
-/// [`admits_birth`] says.
+/// Returns the recovery that a client which isn't there becomes by a View of its volume epoch, and the messages that it
+/// makes. Refused as [`admits_birth`] says.
 fn begin(
     alloc: Global,
     plan: &Arc<CheckedPlan>,
@@ -82,7 +82,7 @@ fn begin(
     }
 }
 
-/// A client that no View has reached acts: it becomes a recovery by a View, and anything else is refused.
+/// Lets a client act that no View has reached: it becomes a recovery by a View, and anything else is refused.
 pub fn act(
     alloc: Global,
     plan: &Arc<CheckedPlan>,

@@ -105,8 +105,8 @@ impl Client {
         }
     }
 
-    /// No more messages than this many are made by a message that it takes: one a group, and one for each 256 records of the log that it
-    /// found.
+    /// Returns a bound on the messages that taking a message makes: one a group, and one for each 256 records of the
+    /// log found.
     pub(crate) fn most_taken(&self) -> usize
         ensures { (message : model.Message) → Few result (taken (client_plan self.now) (client_volume self.now)
             (seen_client self.now) message) }
@@ -123,7 +123,8 @@ impl Client {
         }
     }
 
-    /// No more messages than this many are made by its cut: one a group, and one for each 256 records that its reports hold.
+    /// Returns a bound on the messages that its cut makes: one a group, and one for each 256 records that its reports
+    /// hold.
     pub(crate) fn most_cut(&self) -> usize
         ensures { Few result (cut_client (client_plan self.now) (client_volume self.now) (seen_client self.now)) }
     {
@@ -215,8 +216,8 @@ impl Client {
         }
     }
 
-    /// Opens: the recovery becomes a writer. Refused as [`Client::admits_open`] says; then the client is unchanged.
-    /// Takes no memory.
+    /// Turns the recovery into a writer. Refused as [`Client::admits_open`] says; then the client is unchanged. Refused
+    /// as [`Client::admits_open`] says; then the client is unchanged. Takes no memory.
     pub fn open(&mut self) -> Result<(), Fault>
         ensures answers { AnswersAfterGrowth never_after_growth silent
             (opened (client_plan self.old) (seen_client self.old)) (seen_client self.old) result

@@ -26,7 +26,7 @@ pub fn act_of<'a>(order: ClientOrder<'a>, messages: &'a [Message]) -> Result<Cli
     }
 }
 
-/// No more messages than this many are made by an act of this client.
+/// Returns a bound on the messages that this act of the client makes.
 fn most_acted(client: &Client, act: ClientAct<'_>) -> usize
     ensures { ActsFew (client_plan client.now) (client_volume client.now) (seen_client client.now) act.entry result }
 {
@@ -40,7 +40,7 @@ fn most_acted(client: &Client, act: ClientAct<'_>) -> usize
     }
 }
 
-/// No more messages than this many are made by what an order asks of this client.
+/// Returns a bound on the messages that the client makes of an order.
 fn most_made(client: &Client, order: ClientOrder<'_>) -> usize
     ensures { MakesAtMost (client_plan client.now) (client_volume client.now) (seen_client client.now) order.entry
         result }

@@ -47,7 +47,7 @@ fn take(
     Ok(enter(messages, made))
 }
 
-/// The body of [`act`].
+/// Does what [`act`] says.
 #[inline(always)]
 fn act_as(
     alloc: Global,
@@ -63,7 +63,7 @@ fn act_as(
     take(segment, messages, prepared)
 }
 
-/// The general case of [`act`], out of line so that the write path keeps a small stack frame.
+/// Does what [`act`] says, out of line so that the write path keeps a small stack frame.
 #[inline(never)]
 fn act_any(
     alloc: Global,

@@ -30,7 +30,7 @@ pub fn slot(slots: usize, group: u8, member: u8) -> Option<usize>
     }
 }
 
-/// The segment of a member as it is born, or none where the plan doesn't name the member.
+/// Returns the segment of a member as it is born, or none where the plan doesn't name the member.
 fn born(
     alloc: Global,
     plan: &Arc<CheckedPlan>,

@@ -28,7 +28,7 @@ fn admits_message(recovery: &Recovery, message: &Message) -> Result<(), Fault>
     }
 }
 
-/// The answer of a recovery to what a writer alone does.
+/// Returns the answer of a recovery to what a writer alone does.
 fn not_open<T>() -> Result<T, Fault>
     ensures { result ≡ Err NotOpen }
 {
@@ -50,7 +50,7 @@ pub fn admits(alloc: Global, recovery: &Recovery, act: ClientAct<'_>) -> Result<
     }
 }
 
-/// A recovery takes a message, and answers those that it makes.
+/// Lets a recovery take a message, and returns the messages that it makes.
 fn take(alloc: Global, recovery: &mut Recovery, message: &Message) -> Result<Vec<Message>, Fault>
     ensures answers { Answers acted (taken (recovery_plan recovery.old) (recovery_volume recovery.old)
         (client_of recovery.old) (message_of message.now)) (client_of recovery.old) result (client_of recovery.new) }
@@ -66,7 +66,7 @@ fn take(alloc: Global, recovery: &mut Recovery, message: &Message) -> Result<Vec
     Ok(Vec::new(alloc))
 }
 
-/// A recovery acts. `NotOpen` if a writer alone could.
+/// Lets a recovery act. `NotOpen` if a writer alone could.
 pub fn act(
     alloc: Global,
     recovery: &mut Recovery,

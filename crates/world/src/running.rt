@@ -44,7 +44,7 @@ fn event_result(step: Result<u64, Fault>) -> Result<Result<u32, Fault>, Fault>
     }
 }
 
-/// Of every list of events over the plan, every promise that the volume makes of runs. It does nothing.
+/// Proves every promise that the volume makes of runs, of every list of events over the plan. It does nothing.
 pub fn promised(plan: &CheckedPlan)
     ensures { PromisesRuns (checked_model plan.now) }
 {

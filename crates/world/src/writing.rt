@@ -50,7 +50,7 @@ pub fn admits(writer: &Writer, act: ClientAct<'_>) -> Result<(), Fault>
     }
 }
 
-/// A writer takes a message, and answers those that it makes.
+/// Lets a writer take a message, and returns the messages that it makes.
 fn take(alloc: Global, writer: &mut Writer, message: &Message) -> Result<Messages, Fault>
     ensures answers { Answers answered (taken (writer_plan writer.old) (writer_volume writer.old) (client_of writer.old)
         (message_of message.now)) (client_of writer.old) result (client_of writer.new) }
@@ -70,7 +70,7 @@ fn take(alloc: Global, writer: &mut Writer, message: &Message) -> Result<Message
     Ok(Messages::Empty)
 }
 
-/// A writer acts. `AlreadyDone` if it is to cut.
+/// Lets a writer act. `AlreadyDone` if it is to cut.
 pub fn act(alloc: Global, writer: &mut Writer, act: ClientAct<'_>) -> Result<Messages, Fault>
     ensures answers { AnswersAfterGrowth (client_after_growth act.entry) answered
         (client_acted act.entry (writer_plan writer.old) (writer_volume writer.old) (client_of writer.old))

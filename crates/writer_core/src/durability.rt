@@ -32,7 +32,7 @@ impl DurabilityTracker {
     ghost use Rattle.writer_core.specs.Groups.{groups_in};
     ghost use Rattle.writer_core.specs.DurabilityTracker.{CoversNone, Covers, CoversPrefix, CoversLog};
 
-    /// No record is covered yet.
+    /// Makes the tracker that covers no record yet.
     pub fn none() -> DurabilityTracker
         ensures { CoversNone result }
     {
@@ -45,7 +45,8 @@ impl DurabilityTracker {
         }
     }
 
-    /// The LSN of a group's last record that is not above the last consistency point covered, 0 where it has none.
+    /// Returns the LSN of a group's last record that is not above the last consistency point covered, 0 where it has
+    /// none.
     pub fn durable_last(&self, group: u8) -> u64
         requires { group < 16 }
         ensures { result ≡ slice_index self.now.durable_lasts group }

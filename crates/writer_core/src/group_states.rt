@@ -77,7 +77,7 @@ impl GroupStates {
         &self.plan
     }
 
-    /// The allocator of what it keeps.
+    /// Returns the allocator of what it keeps.
     pub(crate) fn alloc(&self) -> Global {
         *self.list.allocator()
     }
@@ -90,7 +90,7 @@ impl GroupStates {
         self.list.len() as u8
     }
 
-    /// What is kept of each group, in their order.
+    /// Returns what is kept of each group, in their order.
     pub fn as_slice(&self) -> &[GroupState]
         ensures groups { groups_of result.now ≡ groups_in self.now }
         ensures many { length result.now ≤ (group_states_plan self.now).groups }
@@ -98,7 +98,7 @@ impl GroupStates {
         self.list.as_slice()
     }
 
-    /// What is kept of a group, and none where the view has no such group.
+    /// Returns what is kept of a group, and none where the view has no such group.
     pub fn get(&self, group: u8) -> Option<&GroupState>
         ensures { MatchOption result (length (groups_in self.now) ≤ group) (λ s. (group < length (groups_in self.now))
             × (group_of (groups_in self.now) group ≡ group_at s.now)) }

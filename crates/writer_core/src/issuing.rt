@@ -95,7 +95,7 @@ pub fn carry<'a>(volume: u32, group_states: &GroupStates, packet: &'a SharedReco
     }
 }
 
-/// No message yet, but room for this many. One takes no memory.
+/// Makes room for this many messages. For one it takes no memory. One takes no memory.
 #[inline(always)]
 pub fn room_for(alloc: Global, messages: usize) -> Result<Messages, AllocError>
     ensures { IfOk result (λ made. listed made ≡ []) }

@@ -43,7 +43,7 @@ impl LastLsns {
     ghost use Rattle.writer_core.specs.Log.{packets_in};
     ghost use Rattle.writer_core.specs.LastLsns.{kept_of_group, kept_of_block, AreLasts, AreLastsOfAll, AreLastLsnsOfPrefix, AreLinkedFrom, Enters, EntersNone, Leaves};
 
-    /// No record is entered yet. Takes no memory.
+    /// Makes the numbers of no record. Takes no memory.
     pub fn new(alloc: Global) -> LastLsns
         ensures last_lsns { AreLasts result [] }
         ensures none { result.entered ≡ 0 }
