@@ -8,7 +8,7 @@ use lib.ListN.{get_elem?}
 use Rattle.cert_search.specs.declared.deque.Had.{Had}
 use Rattle.cert_search.specs.declared.hand.Hand.{Hand}
 use Rattle.cert_search.specs.declared.own.Own.{Own}
-use Rattle.cert_search.specs.declared.reach.Reach.{Reach}
+use Rattle.cert_search.specs.declared.steal_handle.StealHandle.{StealHandle}
 use Rattle.cert_search.specs.declared.deque.Holder.TheVariants.{Owner}
 use Rattle.cert_search.specs.Deque.{both_views, out_of, claims_of, Settles}
 use Rattle.cert_search.proofs.Claims.{owner_out}
@@ -23,8 +23,8 @@ use Rattle.cert_search.proofs.Rounds.{look_first, looked, sight_of, round_at, si
 use Rattle.cert_search.proofs.Gots.{flat, flat_at, flat_from, place, place_apart, gots, gots_each, gots_none, gots_one, tally, tally_append, tally_none, tally_one, taken_out, taken_owner, taken_end, taken_end_at, taken_here, taken_else, taken_got, taken_dealt}
 
 -- a hand goes in front
-pub others_more : (rs : List Reach) (more : List Reach) (hs : List Hand) (h : Hand) (all : List Sight) → more ≡ h.others.items → map reach_sight rs ++ all_others (h ∷ hs) ≡ all → (map reach_sight rs ++ map reach_sight more) ++ all_others hs ≡ all
-others_more rs more hs h all is e = append_assoc (map reach_sight rs) (map reach_sight more) (all_others hs) ∙ ap (λ (l : List Reach). map reach_sight rs ++ (map reach_sight l ++ all_others hs)) is ∙ e
+pub others_more : (rs : List StealHandle) (more : List StealHandle) (hs : List Hand) (h : Hand) (all : List Sight) → more ≡ h.others.items → map reach_sight rs ++ all_others (h ∷ hs) ≡ all → (map reach_sight rs ++ map reach_sight more) ++ all_others hs ≡ all
+others_more rs more hs h all is e = append_assoc (map reach_sight rs) (map reach_sight more) (all_others hs) ∙ ap (λ (l : List StealHandle). map reach_sight rs ++ (map reach_sight l ++ all_others hs)) is ∙ e
 
 -- one view is taken back
 module _ (first owns : List Own) (o p : Own) (s : Sight) (rest all : List Sight) (lt : s.0 < length owns) (is : o ≡ get_or owns s.0 o) (same : SameDeque (own_sight o) (own_sight p)) (both : (own_sight p).1 ≡ both_views (own_sight o).1 s.1) where

@@ -8,7 +8,7 @@ use Rattle.atomic_table.proofs.Lists.{one_turn}
 use Rattle.cert_search.specs.declared.deque.Had.{Had}
 use Rattle.cert_search.specs.declared.hand.Hand.{Hand}
 use Rattle.cert_search.specs.declared.own.Own.{Own}
-use Rattle.cert_search.specs.declared.reach.Reach.{Reach}
+use Rattle.cert_search.specs.declared.steal_handle.StealHandle.{StealHandle}
 use Rattle.cert_search.specs.Deque.{had, claims_of}
 use Rattle.cert_search.specs.Sights.{Name, Sight, Ends, Gets, GetsOne, own_sight, reach_sight, own_calm, reach_calm, calm, calms, sights, look, share_of, share, face, round_of, IsRound}
 use Rattle.cert_search.specs.Hands.{sights_of, had_from, IsOfDeal, SameDeal, TakesClaim, ComesAfterOwn, IsThrough}
@@ -130,7 +130,7 @@ pub shares_by_faces : (ss ts : List Sight) → map face ts ≡ map face ss → m
 shares_by_faces ss ts same = sym (map_twice face of_face ts) ∙ ap (map of_face) same ∙ map_twice face of_face ss
 
 -- a mark of the end changes no face
-pub calm_faces : (own : Own) (others : List Reach) → map face (calms own others) ≡ map face (sights own others)
+pub calm_faces : (own : Own) (others : List StealHandle) → map face (calms own others) ≡ map face (sights own others)
 calm_faces own others = λ i. face (own_sight own) ∷ (map_twice reach_calm face others ∙ sym (map_twice reach_sight face others)) i
 
 -- nor what has been had
@@ -201,7 +201,7 @@ own_ended old new (Some c) e = λ claims workers deal other. ap (λ (v : Had). v
 own_ended old new None e = tt
 
 -- the own deque stays, and one of the others gives the claim or none does
-module _ (old : Hand) (own : Own) (others : List Reach) (r : Option ℕ) (same : own_calm own ≡ own_calm old.own) (some : IfSome r (λ c. GetsOne (map reach_calm old.others.items) c (map reach_calm others))) where
+module _ (old : Hand) (own : Own) (others : List StealHandle) (r : Option ℕ) (same : own_calm own ≡ own_calm old.own) (some : IfSome r (λ c. GetsOne (map reach_calm old.others.items) c (map reach_calm others))) where
   abbrev Gives : Option ℕ → Type 0
   Gives r = IfSome r (λ c. GetsOne (calms old.own old.others.items) c (calms own others))
 

@@ -7,7 +7,7 @@ use native.Mathlib.Decide.{ℕ_discrete}
 use Rattle.std.proofs.lemmas.List.FromFn.{map-range_with_len_more}
 use Rattle.cert_search.specs.declared.hand.Hand.{Hand}
 use Rattle.cert_search.specs.declared.own.Own.{Own}
-use Rattle.cert_search.specs.declared.reach.Reach.{Reach}
+use Rattle.cert_search.specs.declared.steal_handle.StealHandle.{StealHandle}
 use Rattle.cert_search.specs.declared.deque.Had.{Had}
 use Rattle.cert_search.specs.declared.deque.Holder.TheVariants.{Owner}
 use Rattle.cert_search.specs.Deque.{had, guest_view, dealt_more, out_of}
@@ -144,20 +144,20 @@ pub filled_same : (claims workers : ℕ) (owns owns' : List Own) → map own_pla
 filled_same claims workers owns owns' same filled = same ∙ filled ∙ ap (λ names. map (fresh names claims workers) (range_with_len 0 workers)) (sym (same_names owns owns' same))
 
 -- the view of one more deque
-pub part_more : (names : List Name) (claims workers which k d : ℕ) (o : Own) (r : Reach) (row : List Reach) → 1 ≤ k → d ≡ (which + k) % workers → own_plain o ≡ fresh names claims workers d → SameDeque (own_sight o) (reach_sight r) → (reach_sight r).1 ≡ guest_view (own_sight o).1.dealt (own_sight o).1.marks
+pub part_more : (names : List Name) (claims workers which k d : ℕ) (o : Own) (r : StealHandle) (row : List StealHandle) → 1 ≤ k → d ≡ (which + k) % workers → own_plain o ≡ fresh names claims workers d → SameDeque (own_sight o) (reach_sight r) → (reach_sight r).1 ≡ guest_view (own_sight o).1.dealt (own_sight o).1.marks
     → row_plain row ≡ fresh_part names claims workers which (k - 1) → row_plain (row ++ r ∷ []) ≡ fresh_part names claims workers which (k + 1 - 1)
 part_more names claims workers which k d o r row ge is mine same cut part =
     let seen : plain_of (reach_sight r) ≡ fresh names claims workers d = (λ i. let t : Plain = (same.0 i, (cut i).dealt, (cut i).got, Some (same.1 i), (cut i).marks) in t) ∙ ap (λ (p : Plain). let t : Plain = (p.0, p.1, [], p.3, p.4) in t) mine in
     let number : d ≡ (which + (1 + (k - 1))) % workers = let e : k ≡ 1 + (k - 1) = omega arith in is ∙ ap (λ n. (which + n) % workers) e in
     let more : (k - 1) + 1 ≡ k + 1 - 1 = omega arith in
-    range_push (λ (x : Reach). plain_of (reach_sight x)) (λ n. fresh names claims workers ((which + n) % workers)) 1 (k - 1) row r part (seen ∙ ap (fresh names claims workers) number) ∙ ap (fresh_part names claims workers which) more
+    range_push (λ (x : StealHandle). plain_of (reach_sight x)) (λ n. fresh names claims workers ((which + n) % workers)) 1 (k - 1) row r part (seen ∙ ap (fresh names claims workers) number) ∙ ap (fresh_part names claims workers which) more
 
 -- the number of a deque, and what it was dealt
 abbrev first_two : Plain → ℕ × List ℕ
 first_two p = (p.0, p.1)
 
 -- a worker that has its own deque and the views of all others
-pub hand_round : (names : List Name) (claims workers n : ℕ) (own : Own) (others : List Reach) → n < workers → own_plain own ≡ fresh names claims workers n → row_plain others ≡ fresh_row names claims workers n → IsRound claims workers own.which (sights own others)
+pub hand_round : (names : List Name) (claims workers n : ℕ) (own : Own) (others : List StealHandle) → n < workers → own_plain own ≡ fresh names claims workers n → row_plain others ≡ fresh_row names claims workers n → IsRound claims workers own.which (sights own others)
 hand_round names claims workers n own others lt mine row =
     subst (λ d. IsRound claims workers d (sights own others)) (sym (ap (λ (p : Plain). p.0) mine)) (record {
       within = lt;
@@ -173,7 +173,7 @@ hand_round names claims workers n own others lt mine row =
         ∙ map_twice (λ k. fresh names claims workers ((n + k) % workers)) first_two (range_with_len 1 (workers - 1)) ∙ sym (map_twice (λ k. (n + k) % workers) (share claims workers) (range_with_len 1 (workers - 1)))
 
 -- the hands that are made of the workers' deques, and of their views of the others
-pub hands_made : (names : List Name) (claims workers a n : ℕ) (owns : List Own) (rows : List (Vec Reach Global)) → map own_plain owns ≡ map (fresh names claims workers) (range_with_len a n) → map (λ row. row_plain row.items) rows ≡ map (fresh_row names claims workers) (range_with_len a n)
+pub hands_made : (names : List Name) (claims workers a n : ℕ) (owns : List Own) (rows : List (Vec StealHandle Global)) → map own_plain owns ≡ map (fresh names claims workers) (range_with_len a n) → map (λ row. row_plain row.items) rows ≡ map (fresh_row names claims workers) (range_with_len a n)
     → ((k : ℕ) (o : Own) → slice_get owns k ≡ Some o → own_out o ≡ workers - 1) → hands_from owns rows ≡ map (fresh_hand names claims workers) (range_with_len a n)
 hands_made names claims workers a zero [] rows mine seen out = refl
 hands_made names claims workers a zero (o ∷ os) rows mine seen out = absurd (cc (mine))
@@ -187,11 +187,11 @@ hands_made names claims workers a (suc n) (o ∷ os) (r ∷ rs) mine seen out =
     λ i. (out 0 o refl i, own i ∷ row i) ∷ hands_made names claims workers (a + 1) n os rs owns rows (λ k p e. out (suc k) p e) i
 
 -- one more hand is made
-pub hands_more : (hands hands' : List Hand) (owns owns' : List Own) (rows rows' : List (Vec Reach Global)) (own : Own) (row : Vec Reach Global) (h : Hand) (all : List (ℕ × List Plain)) → hands' ≡ hands ++ h ∷ [] → owns ≡ own ∷ owns' → rows ≡ row ∷ rows' → (h.own ≡ own) × (h.others ≡ row)
+pub hands_more : (hands hands' : List Hand) (owns owns' : List Own) (rows rows' : List (Vec StealHandle Global)) (own : Own) (row : Vec StealHandle Global) (h : Hand) (all : List (ℕ × List Plain)) → hands' ≡ hands ++ h ∷ [] → owns ≡ own ∷ owns' → rows ≡ row ∷ rows' → (h.own ≡ own) × (h.others ≡ row)
     → length owns ≡ length rows → map hand_plain hands ++ hands_from owns rows ≡ all → (length owns' ≡ length rows') × (map hand_plain hands' ++ hands_from owns' rows' ≡ all)
 hands_more hands hands' owns owns' rows rows' own row h all more is are made count before =
     let first : hand_plain h ≡ ((own_out own, own_plain own ∷ row_plain row.items)) =
-    λ i. (own_out (made.0 i), own_plain (made.0 i) ∷ (map_twice reach_sight plain_of h.others.items ∙ ap (λ (v : Vec Reach Global). row_plain v.items) made.1) i) in (
+    λ i. (own_out (made.0 i), own_plain (made.0 i) ∷ (map_twice reach_sight plain_of h.others.items ∙ ap (λ (v : Vec StealHandle Global). row_plain v.items) made.1) i) in (
       omega (arith, count, ap length is, ap length are),
       ap (λ l. map hand_plain l ++ hands_from owns' rows') more ∙ ap (λ l. l ++ hands_from owns' rows') (map_push hand_plain hands h) ∙ append_assoc (map hand_plain hands) (hand_plain h ∷ []) (hands_from owns' rows')
           ∙ ap (λ p. map hand_plain hands ++ p ∷ hands_from owns' rows') first ∙ (λ i. map hand_plain hands ++ hands_from (sym is i) (sym are i)) ∙ before,

@@ -5,7 +5,7 @@ use Rattle.std.specs.declared.alloc.Global.{Global}
 use Rattle.cert_search.specs.declared.deque.Had.{Had}
 use Rattle.cert_search.specs.declared.deque.Holder.TheVariants.{Owner}
 use Rattle.cert_search.specs.declared.own.Own.{Own}
-use Rattle.cert_search.specs.declared.reach.Reach.{Reach}
+use Rattle.cert_search.specs.declared.steal_handle.StealHandle.{StealHandle}
 use Rattle.cert_search.specs.Deque.{had, claims_of, out_of}
 use Rattle.cert_search.specs.Sights.{Name, Sight, own_sight, reach_sight}
 
@@ -83,7 +83,7 @@ IsFilled claims workers owns = map own_plain owns ≡ map (fresh (names_in owns)
     (range_with_len 0 workers)
 
 -- what a worker's views of other deques say of them
-abbrev pub row_plain : List Reach → List Plain
+abbrev pub row_plain : List StealHandle → List Plain
 row_plain rs = map (λ r. plain_of (reach_sight r)) rs
 
 -- the deques of n workers from the right neighbour of `which` on
@@ -100,12 +100,12 @@ abbrev pub AreRows : List Name → ℕ → ℕ → ℕ → List (List Plain) →
 AreRows names claims workers n rows = rows ≡ map (fresh_row names claims workers) (range_with_len 0 n)
 
 -- whatever claims the deques have been dealt, the views are of all others, from the right neighbour of `which` round
-abbrev pub IsRow : ℕ → List Own → ℕ → List Reach → Type 0
+abbrev pub IsRow : ℕ → List Own → ℕ → List StealHandle → Type 0
 IsRow workers owns which row = (claims : ℕ) → IsFilled claims workers owns → row_plain row ≡ fresh_row (names_in owns)
     claims workers which
 
 -- the same of each worker
-abbrev pub EachRow : ℕ → List Own → List (Vec Reach Global) → Type 0
+abbrev pub EachRow : ℕ → List Own → List (Vec StealHandle Global) → Type 0
 EachRow workers owns rows = (claims : ℕ) → IsFilled claims workers owns → AreRows (names_in owns) claims workers workers
     (map (λ row. row_plain row.items) rows)
 

@@ -5,7 +5,7 @@ use Rattle.std.specs.declared.alloc.Global.{Global}
 use Rattle.cert_search.specs.declared.deque.Had.{Had}
 use Rattle.cert_search.specs.declared.hand.Hand.{Hand}
 use Rattle.cert_search.specs.declared.own.Own.{Own}
-use Rattle.cert_search.specs.declared.reach.Reach.{Reach}
+use Rattle.cert_search.specs.declared.steal_handle.StealHandle.{StealHandle}
 use Rattle.cert_search.specs.Deque.{claims_of}
 use Rattle.cert_search.specs.Sights.{Name, Sight, sights, look, name_at, round_of, IsRound}
 use Rattle.cert_search.specs.Dealing.{Plain, plain_of, own_plain, own_out, row_plain, fresh, fresh_row}
@@ -131,7 +131,7 @@ abbrev pub hand_plain : Hand → ℕ × List Plain
 hand_plain h = (own_out h.own, map plain_of (sights_of h))
 
 -- the same of the hands that are made of deques and of views of the others
-abbrev pub hands_from : List Own → List (Vec Reach Global) → List (ℕ × List Plain)
+abbrev pub hands_from : List Own → List (Vec StealHandle Global) → List (ℕ × List Plain)
 hands_from [] rows = []
 hands_from (own ∷ owns) [] = []
 hands_from (own ∷ owns) (row ∷ rows) = (own_out own, own_plain own ∷ row_plain row.items) ∷ hands_from owns rows

@@ -5,7 +5,7 @@ use Rattle.std.specs.declared.alloc.Global.{Global}
 use Rattle.crossbeam_deque.specs.Handles.{view, worker_view, worker_deque, stealer_deque}
 use Rattle.cert_search.specs.declared.deque.Had.{Had}
 use Rattle.cert_search.specs.declared.own.Own.{Own}
-use Rattle.cert_search.specs.declared.reach.Reach.{Reach}
+use Rattle.cert_search.specs.declared.steal_handle.StealHandle.{StealHandle}
 use Rattle.cert_search.specs.Deque.{had, guest_view, at_end, GetsClaim, claims_of}
 
 -- which deque it is: two handles of one deque have one name
@@ -21,7 +21,7 @@ abbrev pub own_sight : Own → Sight
 own_sight o = (o.which, worker_view o.deque, worker_deque o.deque)
 
 -- what a worker knows of another's deque
-abbrev pub reach_sight : Reach → Sight
+abbrev pub reach_sight : StealHandle → Sight
 reach_sight r = (r.which, view r.pass, stealer_deque r.stealer)
 
 -- it is the same deque, with the same number
@@ -44,7 +44,7 @@ calm s = (s.0, had s.1.holder s.1.deals s.1.dealt s.1.got s.1.marks false, s.2)
 abbrev pub own_calm : Own → Sight
 own_calm o = calm (own_sight o)
 
-abbrev pub reach_calm : Reach → Sight
+abbrev pub reach_calm : StealHandle → Sight
 reach_calm r = calm (reach_sight r)
 
 -- the claim has been had of one of the deques, and what is known of the others is as it was
@@ -63,11 +63,11 @@ name_at d [] = None
 name_at d (p ∷ ps) = if p.0 == d then Some p.1 else name_at d ps
 
 -- what a worker knows of each deque, in the order in which it tries them
-abbrev pub sights : Own → List Reach → List Sight
+abbrev pub sights : Own → List StealHandle → List Sight
 sights own others = own_sight own ∷ map reach_sight others
 
 -- the same, whether or not it has had marks of the end
-abbrev pub calms : Own → List Reach → List Sight
+abbrev pub calms : Own → List StealHandle → List Sight
 calms own others = own_calm own ∷ map reach_calm others
 
 -- the number of a deque, and the claims that were dealt to it

@@ -4,7 +4,7 @@ ghost use Rattle.volume_model.specs.declared.fault.Fault.TheVariants.{NoMemory};
 ghost use Rattle.cert_search.specs.Hands.{hand_plain, hands_from, AreDealt, IsOfDeal, ShareDeques};
 
 use crate::hand::Hand;
-use crate::reach::Reach;
+use crate::steal_handle::StealHandle;
 use crate::table::Table;
 use std::alloc::{AllocError, Global};
 use volume_model::Fault;
@@ -29,7 +29,11 @@ pub fn deal(alloc: Global, claims: usize, workers: usize) -> Result<Vec<Hand>, F
 }
 
 // Returns each worker's own deque, with its views of the others.
-fn hands_of(alloc: Global, table: Table, rows: Vec<Vec<Reach>>) -> Result<Vec<Hand>, AllocError>
+fn hands_of(
+    alloc: Global,
+    table: Table,
+    rows: Vec<Vec<StealHandle>>,
+) -> Result<Vec<Hand>, AllocError>
     requires { vec_len rows ≡ table.workers }
     ensures { IfOk result (λ hands. map hand_plain hands.items ≡ hands_from table.owns.items rows.items) }
 {

@@ -3,14 +3,14 @@ ghost use Rattle.std.specs.Prelude.{◌≡◌, map, true, IfSome, IfNone, All};
 ghost use Rattle.cert_search.specs.Sights.{reach_sight, reach_calm, GetsOne};
 
 use crate::own::Own;
-use crate::reach::Reach;
+use crate::steal_handle::StealHandle;
 use std::sync::Wait;
 
 /// A worker's own deque and its views of the others, from its right neighbour's on.
 #[derive(Drop)]
 pub struct Hand {
     own: Own,
-    others: Vec<Reach>,
+    others: Vec<StealHandle>,
 }
 
 impl Hand {
@@ -18,14 +18,14 @@ impl Hand {
     ghost use Rattle.cert_search.specs.Hands.{ComesAfterOwn, IsThrough, SameDeal, TakesClaim};
 
     // Makes the hand of a worker with its own deque, and its views of the others.
-    pub(crate) fn new(own: Own, others: Vec<Reach>) -> Hand
+    pub(crate) fn new(own: Own, others: Vec<StealHandle>) -> Hand
         ensures { (result.own ≡ own) × (result.others ≡ others) }
     {
         Hand { own, others }
     }
 
     // Returns the hand's own deque, and its views of the others.
-    pub(crate) fn into_parts(self) -> (Own, Vec<Reach>)
+    pub(crate) fn into_parts(self) -> (Own, Vec<StealHandle>)
         ensures { (result.0 ≡ self.own) × (result.1 ≡ self.others) }
     {
         let Hand { own, others } = self;
@@ -48,7 +48,7 @@ impl Hand {
 }
 
 // Steals from the deques of the others in turn.
-fn steal_any<R: Wait>(rt: &R, others: &mut Vec<Reach>) -> Option<usize>
+fn steal_any<R: Wait>(rt: &R, others: &mut Vec<StealHandle>) -> Option<usize>
     ensures some { IfSome result (λ c. GetsOne (map reach_calm others.old.items) c (map reach_calm others.new.items)) }
     ensures same { IfNone result (map reach_calm others.new.items ≡ map reach_calm others.old.items) }
     ensures none { IfNone result (All (λ s. s.1.ended ≡ true) (map reach_sight others.new.items)) }

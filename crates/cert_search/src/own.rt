@@ -4,7 +4,7 @@ ghost use Rattle.crossbeam_deque.specs.Handles.{worker_flavor, worker_port, work
 ghost use Rattle.cert_search.specs.Deque.{is_owner};
 
 use crate::deque::{Closes, Deals, Owner, Settled, Takes, Task, Thieves};
-use crate::reach::Reach;
+use crate::steal_handle::StealHandle;
 use std::alloc::{AllocError, Global};
 use std::sync::Wait;
 
@@ -84,7 +84,7 @@ impl Own {
     }
 
     // Makes a view of the deque for another worker, which has had nothing of it. From now on no claim is dealt.
-    pub(crate) fn reach(&mut self) -> Result<Reach, AllocError>
+    pub(crate) fn reach(&mut self) -> Result<StealHandle, AllocError>
         ensures plain { own_plain self.new ≡ own_plain self.old }
         ensures lent { IfOk result (λ _. own_out self.new ≡ suc (own_out self.old)) }
         ensures reach { IfOk result (λ r. SameDeque (own_sight self.old) (reach_sight r)
@@ -92,7 +92,7 @@ impl Own {
     {
         let stealer = self.deque.stealer()?;
         let pass = self.deque.another::<Thieves>();
-        Ok(Reach {
+        Ok(StealHandle {
             which: self.which,
             stealer,
             pass,
@@ -101,12 +101,12 @@ impl Own {
     }
 
     // Takes another worker's view back.
-    pub(crate) fn take_back(&mut self, reach: Reach)
+    pub(crate) fn take_back(&mut self, reach: StealHandle)
         requires { (own_sight self.old).2 ≡ (reach_sight reach).2 }
         ensures same { SameDeque (own_sight self.old) (own_sight self.new) }
         ensures both { (own_sight self.new).1 ≡ both_views (own_sight self.old).1 (reach_sight reach).1 }
     {
-        let Reach {
+        let StealHandle {
             which: _,
             stealer: _,
             pass,

@@ -7,7 +7,7 @@ ghost use Rattle.cert_search.specs.Settled.{all_others, hand_own, AreOfOneDeal, 
 
 use crate::hand::Hand;
 use crate::own::Own;
-use crate::reach::Reach;
+use crate::steal_handle::StealHandle;
 use std::alloc::{AllocError, Global};
 use volume_model::Fault;
 
@@ -30,7 +30,7 @@ pub fn settle(alloc: Global, hands: Vec<Hand>) -> Result<(), Fault>
 }
 
 // Returns the hands' own deques in order, and their views of others' deques.
-fn parts_of(alloc: Global, hands: Vec<Hand>) -> Result<(Vec<Own>, Vec<Reach>), AllocError>
+fn parts_of(alloc: Global, hands: Vec<Hand>) -> Result<(Vec<Own>, Vec<StealHandle>), AllocError>
     ensures { IfOk result (λ p. (map own_sight p.0.items ≡ map hand_own hands.items)
         × (map reach_sight p.1.items ≡ all_others hands.items)) }
 {
@@ -45,7 +45,7 @@ fn parts_of(alloc: Global, hands: Vec<Hand>) -> Result<(Vec<Own>, Vec<Reach>), A
 }
 
 // Appends the views of one more hand.
-fn push_all(reaches: &mut Vec<Reach>, others: Vec<Reach>) -> Result<(), AllocError>
+fn push_all(reaches: &mut Vec<StealHandle>, others: Vec<StealHandle>) -> Result<(), AllocError>
     ensures { IfOk result (λ _. map reach_sight reaches.new.items ≡ map reach_sight reaches.old.items ++ map reach_sight
         others.items) }
 {
@@ -56,7 +56,7 @@ fn push_all(reaches: &mut Vec<Reach>, others: Vec<Reach>) -> Result<(), AllocErr
 }
 
 // Gives each view to the worker whose deque it is of.
-fn gather(owns: &mut Vec<Own>, reaches: Vec<Reach>)
+fn gather(owns: &mut Vec<Own>, reaches: Vec<StealHandle>)
     requires { AreTied (names_in owns.old.items) (map reach_sight reaches.items) }
     ensures { EachTaken owns.old.items (map reach_sight reaches.items) owns.new.items }
 {

@@ -3,7 +3,7 @@ ghost use Rattle.std.specs.Prelude.{◌≡◌, ◌<◌, ◌≤◌, length, IfOk}
 ghost use Rattle.cert_search.specs.Dealing.{EachGetsMarks, GetsMarks, IsFilledTo};
 
 use crate::own::Own;
-use crate::reach::Reach;
+use crate::steal_handle::StealHandle;
 use std::alloc::{AllocError, Global};
 
 /// A deque for each worker, with its own claims. No claim was taken.
@@ -35,7 +35,7 @@ impl Table {
     }
 
     // Returns the views of all other deques, from the right neighbour's round.
-    fn row(&mut self, alloc: Global, which: usize) -> Result<Vec<Reach>, AllocError>
+    fn row(&mut self, alloc: Global, which: usize) -> Result<Vec<StealHandle>, AllocError>
         requires { which < self.old.workers }
         ensures row { IfOk result (λ row. IsRow self.old.workers self.old.owns.items which row.items) }
         ensures workers { self.new.workers ≡ self.old.workers }
@@ -51,7 +51,7 @@ impl Table {
     }
 
     /// Makes the views of each worker.
-    pub(crate) fn rows(&mut self, alloc: Global) -> Result<Vec<Vec<Reach>>, AllocError>
+    pub(crate) fn rows(&mut self, alloc: Global) -> Result<Vec<Vec<StealHandle>>, AllocError>
         requires none { AreOut self.old.workers 0 self.old.owns.items }
         ensures count { IfOk result (λ rows. vec_len rows ≡ self.old.workers) }
         ensures rows { IfOk result (λ rows. EachRow self.old.workers self.old.owns.items rows.items) }

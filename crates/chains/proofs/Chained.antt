@@ -16,7 +16,7 @@ use Rattle.chains.specs.Pending.{IsReached, IsPending, IsReleased}
 use Rattle.chains.specs.Pending.IsReleased.{itself, next}
 use Rattle.chains.specs.PendingRecords.{waiters, IsPendingIn, AreReleased}
 use Rattle.chains.proofs.Rise.{is_in}
-use Rattle.chains.proofs.Releasing.{CanTell, keeps_number, one_waits, waits_still, waits_now, still_number, waited, not_woken, waits_on, reaches_number, woken_number}
+use Rattle.chains.proofs.Releasing.{CanTell, keeps_number, one_waits, waits_still, waits_now, still_number, waited, not_released, waits_on, reaches_number, released_number}
 
 -- whether a number is reached can be decided
 pub can_tell : (records : List Redo) → GroupLinksFall records → CanTell records
@@ -139,7 +139,7 @@ module _ (r : Redo) (records : List Redo) (released : List ℕ) (old : Chains) (
       before = complete_point_is_greatest records (fewer_fall r records fall)
 
       one : (old.point < last) ⊎ (last ≤ old.point) → (max old.point last ≡ 0) ⊎ IsGroundedNumber all (max old.point last)
-      one (inl l) = let e : last ≡ max old.point last = omega arith in inr (subst (IsGroundedNumber all) e (woken_number r records near tell last (wakes last top)))
+      one (inl l) = let e : last ≡ max old.point last = omega arith in inr (subst (IsGroundedNumber all) e (released_number r records near tell last (wakes last top)))
       one (inr l) = let e : scl records ≡ max old.point last = (let f : old.point ≡ scl records = c.point in omega arith) in elim before.is_one [
         | inl z ↦ inl (omega arith)
         | inr p ↦ inr (subst (IsGroundedNumber all) e (keeps_number r records (scl records) p))
@@ -166,7 +166,7 @@ module _ (r : Redo) (records : List Redo) (released : List ℕ) (old : Chains) (
 
       kept : (k m : ℕ) → IsPending all k m → IsIn m (waiters new.pending k)
       kept k m w = elim (cases_Bool (any (λ n. n == k) released)) [
-        | inl e ↦ absurd (let (x, i, f) = any_passes (λ n. n == k) released e in not_woken r records near tell k m w (wakes k (subst (λ n. IsIn n released) (eq_of x k f) i)))
+        | inl e ↦ absurd (let (x, i, f) = any_passes (λ n. n == k) released e in not_released r records near tell k m w (wakes k (subst (λ n. IsIn n released) (eq_of x k f) i)))
         | inr e ↦ subst (IsIn m) (sym (is k ∙ asleep k e)) (c.kept k m (waited r records near tell k m w))
       ]
 

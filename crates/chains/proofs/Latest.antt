@@ -1,4 +1,4 @@
--- Who has begun to wait recently.
+-- The numbers that became pending last.
 use Rattle.std.proofs.Common.{◌≡◌, ◌≢◌, ℕ, suc, ◌+◌, ◌<◌, ◌==◌, ◌||◌, not, MatchBool, Bool, true, false, if◌then◌else◌, List, [], ◌∷◌, ◌++◌, length, drop, get_or, refl, sym, ap, ◌∙◌, subst, inl, inr, arith}
 use Rattle.std.proofs.lemmas.Bool.{cases_Bool, true≢false}
 use Rattle.std.proofs.lemmas.Bool.Decides.{nat_tests}
@@ -49,7 +49,7 @@ same_any : (test : ℕ → Bool) (ns : List ℕ) → list_any test ns ≡ any te
 same_any test [] = refl
 same_any test (n ∷ ns) = ap (λ b. test n || b) (same_any test ns)
 
--- whoever waits for a number that isn't released
+-- whatever is pending under a number that isn't released
 abbrev pub is_left : List ℕ → PendingRecord → Bool
 is_left released w = not (list_any (λ n. n == w.before) released)
 

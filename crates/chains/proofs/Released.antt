@@ -13,7 +13,7 @@ pub record AreSome (pending : ℕ → ℕ → Type 0) (n : ℕ) (xs : List ℕ) 
   pub only : (m : ℕ) → IsIn m xs → IsReleased pending n m
   pub start : IsIn n xs
 
--- whoever waits for one of the first so many is among them
+-- whatever is pending under one of the first so many is among them
 abbrev pub AreClosed : (ℕ → ℕ → Type 0) → List ℕ → ℕ → Type 0
 AreClosed pending xs k = (i d m : ℕ) → i < k → pending (get_or xs i d) m → IsIn m xs
 

@@ -1,4 +1,4 @@
--- What is left of who waits, once some are released.
+-- What is left pending once some are released.
 use Rattle.std.proofs.Common.{◌≡◌, ℕ, Bool, ◌==◌, cond, List, [], ◌∷◌, if◌then◌else◌, None, refl, ap, ◌∙◌, inl, inr, arith, ◌<◌, ◌++◌, ◌⊎◌, subst, true, false}
 use Rattle.std.proofs.lemmas.Bool.{cases_Bool, eqb-true}
 use Rattle.std.proofs.lemmas.Bool.Decides.{nat_tests}

@@ -93,10 +93,10 @@ module _ (r : Redo) (records : List Redo) where
     lands (inr p) = let (b, g, e) = p in from_one r b (with_record-has r records) g e
 
     -- what is released is grounded
-    pub woken_number : (n : ℕ) → Released n → IsGroundedNumber all n
-    woken_number n itself = (r, lands (keeps_reached r.prev_group near), refl)
-    woken_number n (next k m w pending) =
-        let (b, g, e) = woken_number k w in
+    pub released_number : (n : ℕ) → Released n → IsGroundedNumber all n
+    released_number n itself = (r, lands (keeps_reached r.prev_group near), refl)
+    released_number n (next k m w pending) =
+        let (b, g, e) = released_number k w in
         let (off, (q, i, a, c)) = pending in
         (q, from_one q b (with_record-keeps r records q i) g (e ∙ sym a), c)
 
@@ -109,8 +109,8 @@ module _ (r : Redo) (records : List Redo) where
           | inr j ↦ ((λ reached. off (keeps_reached k reached)), (q, j, a, b))
         ]
 
-    pub not_woken : (k m : ℕ) → IsPending all k m → Released k → ⊥
-    not_woken k m w released = w.0 (inr (woken_number k released))
+    pub not_released : (k m : ℕ) → IsPending all k m → Released k → ⊥
+    not_released k m w released = w.0 (inr (released_number k released))
 
     pub waits_on : (k m : ℕ) → IsPending records k m → (Released k → ⊥) → IsPending all k m
     waits_on k m w asleep =

@@ -5,7 +5,7 @@ use Rattle.std.specs.BTreeMap.{get}
 use Rattle.chains.specs.declared.earlier.Earlier.{Earlier}
 use Rattle.chains.specs.Listed.{numbers_in, IsRoomy}
 
--- who waits for the number
+-- the numbers pending under the number
 abbrev pub earlier_waiters : Earlier → ℕ → List ℕ
 earlier_waiters earlier k = numbers_in (get nat_cmp earlier.waiting k)
 

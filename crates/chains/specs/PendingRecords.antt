@@ -1,4 +1,4 @@
--- What is kept of who waits for whom.
+-- What is kept of pending numbers and the numbers that they are pending under.
 use Rattle.std.specs.Prelude.{ℕ, ◌<◌, ◌++◌, List, length, vec_capacity}
 use Rattle.volume_model.specs.Lists.{IsIn}
 use Rattle.chains.specs.declared.pending_records.PendingRecords.{PendingRecords}
@@ -7,7 +7,7 @@ use Rattle.chains.specs.Recent.{recent_waiters}
 use Rattle.chains.specs.Rising.{AreGrowing}
 use Rattle.chains.specs.Pending.{IsReleased}
 
--- who waits for the number, in the order in which they came
+-- the numbers pending under the number, in the order in which they came
 abbrev pub waiters : PendingRecords → ℕ → List ℕ
 waiters pending k = earlier_waiters pending.earlier k ++ recent_waiters pending.recent.items k
 

@@ -5,7 +5,7 @@ use Rattle.volume_model.specs.Plan.{Plan}
 use Rattle.volume_model.specs.World.{Event}
 use Rattle.volume_model.specs.Journal.{Entry, IsRun, events}
 use Rattle.volume_model.specs.World.{opening, results}
-use Rattle.world.specs.Outcomes.{KeepsPromises, TellsRun}
+use Rattle.world.specs.Outcomes.{KeepsPromises, IsOutcomeOfRun}
 use Rattle.drivers.specs.declared.driving.Driven.{Driven}
 
 -- whether the run of these events refuses none of them, and there are so many
@@ -22,4 +22,4 @@ pub record IsDriven (plan : Plan) (orders : ℕ) (driven : Driven) : Type 0 wher
   pub promises : KeepsPromises plan (events entries)
   pub lines : driven.steps + driven.refused ≡ orders
   pub agrees : driven.agrees ≡ replays plan (events entries) driven.steps
-  pub outcome : TellsRun plan (events entries) driven.outcome
+  pub outcome : IsOutcomeOfRun plan (events entries) driven.outcome

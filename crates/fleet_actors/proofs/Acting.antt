@@ -49,14 +49,14 @@ found_there made (action.Resend lsn) found is = tt
 found_there made (action.Read group block) found is = tt
 
 -- the step of an action is that of the client's answer
-deed_step : (plan : Plan) (w : World) (volume : ℕ) (asked : ClientAction) (found : Option model.Message) → IsFound w.messages asked found
+action_step : (plan : Plan) (w : World) (volume : ℕ) (asked : ClientAction) (found : Option model.Message) → IsFound w.messages asked found
     → step plan w (event_by volume asked) ≡ of_client w volume (action_acted found asked plan volume (w.clients volume))
-deed_step plan w volume (action.Issue changes) found is = refl
-deed_step plan w volume (action.Take message) found is = ap (λ (o : Option model.Message). of_client w volume (take plan volume (w.clients volume) o)) is.1
-deed_step plan w volume action.Cut found is = refl
-deed_step plan w volume action.Open found is = refl
-deed_step plan w volume (action.Resend lsn) found is = refl
-deed_step plan w volume (action.Read group block) found is = refl
+action_step plan w volume (action.Issue changes) found is = refl
+action_step plan w volume (action.Take message) found is = ap (λ (o : Option model.Message). of_client w volume (take plan volume (w.clients volume) o)) is.1
+action_step plan w volume action.Cut found is = refl
+action_step plan w volume action.Open found is = refl
+action_step plan w volume (action.Resend lsn) found is = refl
+action_step plan w volume (action.Read group block) found is = refl
 
 -- a client that was old, of this plan, does what it is asked to, in a world that has it
 module _ (plan own : Plan) (of : own ≡ plan) (w : World) (volume : ℕ) (asked : ClientAction) (found : Option model.Message) (old new : Client) (event : Event) (here : w.clients volume ≡ old) (is : event ≡ event_by volume asked) (heard : IsFound w.messages asked found) where
@@ -64,7 +64,7 @@ module _ (plan own : Plan) (of : own ≡ plan) (w : World) (volume : ℕ) (asked
   answer = action_acted found asked own volume old
 
   whole : step plan w event ≡ of_client w volume answer
-  whole = ap (step plan w) is ∙ deed_step plan w volume asked found heard ∙ λ i. of_client w volume (action_acted found asked (sym of i) volume (here i))
+  whole = ap (step plan w) is ∙ action_step plan w volume asked found heard ∙ λ i. of_client w volume (action_acted found asked (sym of i) volume (here i))
 
   pub refuses_alike : refusal (step plan w event) ≡ refusal answer
   refuses_alike = ap refusal whole ∙ of_client-refusal w volume answer

@@ -16,14 +16,14 @@ use Rattle.fleet_actors.specs.Actions.{action_acted, HasFound}
 use Rattle.fleet_actors.specs.Attempts.{JudgedOf}
 
 -- a client finds its refusals on its own
-pub deed_own : (asked : ClientAction) (found : Option Message) (plan : Plan) (volume : ℕ) (now : Client) → HasFound asked found → Refuses IsOwnOfClient (action_acted found asked plan volume now)
-deed_own (action.Issue changes) found plan volume now has = issued_own plan volume now (changes_of changes.items)
-deed_own (action.Take message) None plan volume now has = absurd cc
-deed_own (action.Take message) (Some m) plan volume now has = taken_own plan volume now m
-deed_own action.Cut found plan volume now has = cut_own plan volume now
-deed_own action.Open found plan volume now has = opened_own plan now
-deed_own (action.Resend lsn) found plan volume now has = resent_own volume now lsn
-deed_own (action.Read group block) found plan volume now has = page_asked_own volume now group block
+pub action_own : (asked : ClientAction) (found : Option Message) (plan : Plan) (volume : ℕ) (now : Client) → HasFound asked found → Refuses IsOwnOfClient (action_acted found asked plan volume now)
+action_own (action.Issue changes) found plan volume now has = issued_own plan volume now (changes_of changes.items)
+action_own (action.Take message) None plan volume now has = absurd cc
+action_own (action.Take message) (Some m) plan volume now has = taken_own plan volume now m
+action_own action.Cut found plan volume now has = cut_own plan volume now
+action_own action.Open found plan volume now has = opened_own plan now
+action_own (action.Resend lsn) found plan volume now has = resent_own volume now lsn
+action_own (action.Read group block) found plan volume now has = page_asked_own volume now group block
 
 module _ {T : Type 0} (full : Bool) (defined : Result T Fault) (own : Refuses IsOwnOfClient defined) where
   is_own : (fault : Fault) → defined ≡ Err fault → IsOwnOfClient fault

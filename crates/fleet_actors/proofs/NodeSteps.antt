@@ -47,10 +47,10 @@ not_joined w g from joined j f h = omega (arith, h, j, f)
 pub unjoined_delivery : (plan : Plan) (w : World) (g m number : ℕ) → groups_joined w.authority ≤ g → refusal (step plan w (Event.Deliver g m number)) ≡ 82
 unjoined_delivery plan w g m number h = absent plan w g m (deliver plan g m (w.nodes g m) (numbered w.messages number)) h
 
-pub unjoined_deed : (plan : Plan) (w : World) (g m : ℕ) (what : NodeAction) → groups_joined w.authority ≤ g → refusal (step plan w (event_by g m what)) ≡ 82
-unjoined_deed plan w g m action.Hydrate h = absent plan w g m (hydrated plan g m (w.nodes g m)) h
-unjoined_deed plan w g m action.Restart h = absent plan w g m (Ok (record { made = []; node = restarted (w.nodes g m) })) h
-unjoined_deed plan w g m (action.Offer lsn) h = absent plan w g m (offered g (w.nodes g m) lsn) h
+pub unjoined_action : (plan : Plan) (w : World) (g m : ℕ) (what : NodeAction) → groups_joined w.authority ≤ g → refusal (step plan w (event_by g m what)) ≡ 82
+unjoined_action plan w g m action.Hydrate h = absent plan w g m (hydrated plan g m (w.nodes g m)) h
+unjoined_action plan w g m action.Restart h = absent plan w g m (Ok (record { made = []; node = restarted (w.nodes g m) })) h
+unjoined_action plan w g m (action.Offer lsn) h = absent plan w g m (offered g (w.nodes g m) lsn) h
 
 module _ (plan : Plan) (w : World) (g m : ℕ) (joined : nat_lt g (groups_joined w.authority) ≡ true) (named : is_named plan g m ≡ true) (now : Node) (here : now ≡ w.nodes g m) where
   -- a delivery is the node's own step, of the message that was found
@@ -102,10 +102,10 @@ action_actor g m action.Hydrate = refl
 action_actor g m action.Restart = refl
 action_actor g m (action.Offer lsn) = refl
 
-pub deed_own : (plan : Plan) (g m : ℕ) (now : Node) (what : NodeAction) → Refuses IsOwn (done_by plan g m now what)
-deed_own plan g m now action.Hydrate = hydrated_own plan g m now
-deed_own plan g m now action.Restart = tt
-deed_own plan g m now (action.Offer lsn) = offered_own g now lsn
+pub action_own : (plan : Plan) (g m : ℕ) (now : Node) (what : NodeAction) → Refuses IsOwn (done_by plan g m now what)
+action_own plan g m now action.Hydrate = hydrated_own plan g m now
+action_own plan g m now action.Restart = tt
+action_own plan g m now (action.Offer lsn) = offered_own g now lsn
 
 -- A node that stands in the journal as at its mark: what it refuses, the model refuses.
 module _ (plan : Plan) (slots cells : ℕ) (es : List Entry) (seen : World) (actor : Actor) (g m : ℕ) (now : Node) (who : actor ≡ Actor.Node g m) (named : is_named plan g m ≡ true) (state : now ≡ seen.nodes g m) (agree : Agree actor seen (world_at plan es)) (joined : nat_lt g (groups_joined (world_at plan es).authority) ≡ true) where
@@ -120,7 +120,7 @@ module _ (plan : Plan) (slots cells : ℕ) (es : List Entry) (seen : World) (act
   -- what it does of itself
   pub denies : (what : NodeAction) (fault : Fault) → Fails fault (done_by plan g m now what) → Exact plan slots cells es (event_by g m what) fault
   denies what fault fails =
-      exact plan slots cells es g m (event_by g m what) (done_by plan g m now what) (does plan (world_at plan es) g m joined named now here what) (deed_own plan g m now what) fault fails
+      exact plan slots cells es g m (event_by g m what) (done_by plan g m now what) (does plan (world_at plan es) g m joined named now here what) (action_own plan g m now what) fault fails
 
   -- the messages that it answers a letter with are the model's
   pub answers : (number asked : ℕ) (found : Option Message) → asked ≡ number → numbered (world_at plan es).messages number ≡ found → (s : NodeStep) → deliver plan g m now found ≡ Ok s → (made : List Message) → made ≡ s.made → makes (step plan (world_at plan es) (Event.Deliver g m asked)) ≡ Some made
@@ -138,8 +138,8 @@ module _ (plan : Plan) (slots cells : ℕ) (es : List Entry) (seen : World) (act
   grants what s ok = ap refusal (does plan (world_at plan es) g m joined named now here what ∙ ap (of_node (world_at plan es) g m) ok)
 
   -- so are those that it makes of itself
-  pub tells : (what : NodeAction) (s : NodeStep) → done_by plan g m now what ≡ Ok s → (made : List Message) → made ≡ s.made → makes (step plan (world_at plan es) (event_by g m what)) ≡ Some made
-  tells what s ok made are =
+  pub makes_step : (what : NodeAction) (s : NodeStep) → done_by plan g m now what ≡ Ok s → (made : List Message) → made ≡ s.made → makes (step plan (world_at plan es) (event_by g m what)) ≡ Some made
+  makes_step what s ok made are =
       ap makes (does plan (world_at plan es) g m joined named now here what ∙ ap (of_node (world_at plan es) g m) ok) ∙ ap (λ (ms : List Message). Some ms) (sym are)
 
   -- and it is then the model's node
@@ -162,8 +162,8 @@ module _ (plan : Plan) (g m : ℕ) (s : Segment) (is : IsSegmentOf plan g m s) (
   same_act : act_of s act ≡ done_by plan g m (node_of s) what
   same_act = (λ i. acted act (is.plan_is i) (is.group_is i) (is.member_is i) (node_of s)) ∙ same plan g m (node_of s)
 
-  pub deed_steps : (made : NodeStep) → act_of s act ≡ Ok made → done_by plan g m (node_of s) what ≡ Ok made
-  deed_steps made ok = sym same_act ∙ ok
+  pub action_steps : (made : NodeStep) → act_of s act ≡ Ok made → done_by plan g m (node_of s) what ≡ Ok made
+  action_steps made ok = sym same_act ∙ ok
 
-  pub deed_fails : (fault : Fault) → AnswersAfterGrowth (act_after_growth act) step_of (act_of s act) (node_of s) (Err fault) (node_of s) → Fails fault (done_by plan g m (node_of s) what)
-  deed_fails fault h = subst (Fails fault) same_act (late_fails (act_after_growth act) step_of (act_of s act) (node_of s) (node_of s) fault h)
+  pub action_fails : (fault : Fault) → AnswersAfterGrowth (act_after_growth act) step_of (act_of s act) (node_of s) (Err fault) (node_of s) → Fails fault (done_by plan g m (node_of s) what)
+  action_fails fault h = subst (Fails fault) same_act (late_fails (act_after_growth act) step_of (act_of s act) (node_of s) (node_of s) fault h)

@@ -11,7 +11,7 @@ use Rattle.volume_model.specs.ClientRecovery.{cut_client, opened}
 use Rattle.volume_model.specs.World.{Event, take}
 use Rattle.recovery.specs.Finds.{is_spent}
 use Rattle.writer_core.specs.Changes.{changes_of}
-use Rattle.journal.specs.Standing.{durable_of}
+use Rattle.journal.specs.PassSteps.{durable_of}
 use Rattle.fleet_actors.specs.declared.client_action.ClientAction.{ClientAction}
 use Rattle.fleet_actors.specs.declared.client_action.ClientAction.TheVariants as action
 

@@ -9,7 +9,7 @@ use Rattle.journal.specs.declared.entry.Receipt.{Receipt}
 use Rattle.journal.specs.declared.pass.Pass.{Pass}
 use Rattle.journal.specs.declared.row.Site.{Ghosts as SiteGhosts}
 use Rattle.journal.specs.Passes.{AddsStep, AddsRefusal, notes_of, steps_of}
-use Rattle.journal.specs.Standing.{Made}
+use Rattle.journal.specs.PassSteps.{Made}
 use Rattle.fleet_actors.specs.declared.halt.Halt.{Halt}
 use Rattle.fleet_actors.specs.declared.halt.Halt.TheVariants.{StaleCursor, Refused}
 

@@ -6,7 +6,7 @@ use Rattle.volume_model.specs.Client.{Client}
 use Rattle.world.specs.Clients.{client_volume, seen_client}
 use Rattle.journal.specs.declared.row.Site.{Ghosts as SiteGhosts}
 use Rattle.journal.specs.declared.entry.Receipt.{Receipt}
-use Rattle.journal.specs.Standing.{IsElse, Made}
+use Rattle.journal.specs.PassSteps.{IsElse, Made}
 use Rattle.fleet_actors.specs.declared.halt.Halt.{Halt}
 use Rattle.fleet_actors.specs.declared.halt.Halt.TheVariants.{Refused}
 use Rattle.fleet_actors.specs.declared.client_action.ClientAction.{ClientAction}

@@ -8,7 +8,7 @@ ghost use Rattle.wire.specs.Message.{message_of};
 ghost use Rattle.writer_core.specs.Writers.{answered};
 ghost use Rattle.recovery.specs.Recoveries.{admitted};
 ghost use Rattle.world.specs.Clients.{client_plan, client_volume, seen_client, IsSameClient};
-ghost use Rattle.journal.specs.Standing.{durable_of};
+ghost use Rattle.journal.specs.PassSteps.{durable_of};
 ghost use Rattle.fleet_actors.specs.Actions.{action_acted, action_after_growth, action_durable, HasFound};
 ghost use Rattle.fleet_actors.specs.Attempts.{JudgedOf};
 

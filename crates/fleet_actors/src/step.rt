@@ -9,7 +9,7 @@ ghost use Rattle.volume_model.specs.Judging.{Exact};
 ghost use Rattle.wire.specs.Listed.{listed};
 ghost use Rattle.wire.specs.Message.{messages_of};
 ghost use Rattle.world.specs.Events.{event_of};
-ghost use Rattle.journal.specs.Standing.{durable_in};
+ghost use Rattle.journal.specs.PassSteps.{durable_in};
 ghost use Rattle.journal.specs.Passes.{cursor_number, journal_of, marked, notes_of, seat_of, seen_at, steps_of, world_of, HasNoteRoom, SeesAll};
 ghost use Rattle.fleet_actors.specs.declared.halt.Halt.TheVariants.{Refused, StaleCursor};
 ghost use Rattle.fleet_actors.specs.RecordsAttempt.{AddsNote, Enters, IsExact, PassRecords};

@@ -12,7 +12,7 @@ use Rattle.volume_model.proofs.Worlds.{last_at_most}
 use Rattle.volume_model.proofs.ListFacts.{get_within}
 use Rattle.journal.specs.declared.pass.PassStep.{PassStep}
 use Rattle.journal.specs.Entries.{entry_of}
-use Rattle.journal.specs.Standing.{Made, made, Stands}
+use Rattle.journal.specs.PassSteps.{Made, made, Stands}
 use Rattle.journal.specs.Passes.{made_of, AtMost}
 use Rattle.journal.proofs.Each.{all_map}
 

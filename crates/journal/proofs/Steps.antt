@@ -11,7 +11,7 @@ use Rattle.volume_model.proofs.Fronts.{prefix_get, prefix_self}
 use Rattle.volume_model.proofs.ListFacts.{get_within}
 use Rattle.volume_model.proofs.Worlds.{take_prefix, take_long, get_last, world_at-push, last_of-push, last_covers}
 use Rattle.volume_model.proofs.FoundMessages as found
-use Rattle.journal.specs.Standing.{durable_in, Made, made, Stands, IsElse}
+use Rattle.journal.specs.PassSteps.{durable_in, Made, made, Stands, IsElse}
 
 module _ (plan : Plan) where
   -- a step that stands in a beginning stands in the whole

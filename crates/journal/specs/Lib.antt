@@ -1,6 +1,6 @@
 pub mod Actors
 pub mod Entries
-pub mod Standing
+pub mod PassSteps
 pub mod History
 pub mod Fronts
 pub mod Named

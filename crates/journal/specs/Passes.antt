@@ -24,7 +24,7 @@ use Rattle.journal.specs.Entries.{entry_of, entries_of, note_of}
 use Rattle.journal.specs.Fronts.{front_log}
 use Rattle.journal.specs.LastEntries.{last_in}
 use Rattle.wire.specs.Listed.{listed}
-use Rattle.journal.specs.Standing.{Made, made}
+use Rattle.journal.specs.PassSteps.{Made, made}
 use Rattle.journal.specs.Tokens.{shown}
 
 -- a step that a pass holds

@@ -125,7 +125,7 @@ impl<'a, L: Site> Log<'a, L> {
     ghost use Rattle.journal.specs.Actors.{seen_who};
     ghost use Rattle.journal.specs.Entries.{entry_of};
     ghost use Rattle.wire.specs.Listed.{listed};
-    ghost use Rattle.journal.specs.Standing.{durable_in, made, IsElse, NamesEarlier, Stands};
+    ghost use Rattle.journal.specs.PassSteps.{durable_in, made, IsElse, NamesEarlier, Stands};
     ghost use Rattle.journal.specs.Passes.{journal_of, kept_in, message_ref_message, message_ref_number, letter_step, cursor_number, marked, notes_of, seat_of, seen_at, steps_of, world_of, AddsRefusal, AddsStep, HasNoteRoom, HasPlace, HasStepRoom, SeesAll};
 
     /// Makes an empty journal over a row of unwritten cells, for clients of volume epochs up to the last slot's and

@@ -8,7 +8,7 @@ ghost use Rattle.journal.specs.Fronts.{front_book, front_log, log_of};
 ghost use Rattle.board.specs.Seats.{seat_table};
 ghost use Rattle.volume_model.specs.Judging.{IsRefused};
 ghost use Rattle.journal.specs.Entries.{entry_of, entries_of, note_of};
-ghost use Rattle.journal.specs.Standing.{made, Stands};
+ghost use Rattle.journal.specs.PassSteps.{made, Stands};
 
 use crate::entry::{Entry, Note};
 use crate::history::{History, LogPrefix};

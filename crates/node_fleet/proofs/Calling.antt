@@ -7,7 +7,7 @@ use Rattle.volume_model.specs.Judging.{Refusal}
 use Rattle.board.specs.declared.BoardStep.{BoardStep}
 use Rattle.journal.specs.declared.entry.Receipt.{Receipt}
 use Rattle.journal.specs.Passes.{AddsStep}
-use Rattle.journal.specs.Standing.{Made}
+use Rattle.journal.specs.PassSteps.{Made}
 use Rattle.fleet_actors.specs.declared.client_action.ClientAction.{ClientAction}
 use Rattle.fleet_actors.specs.declared.client_action.ClientAction.TheVariants as action
 use Rattle.fleet_actors.specs.declared.halt.Halt.{Halt}

@@ -13,7 +13,7 @@ use Rattle.journal.specs.declared.entry.Receipt.{Receipt}
 use Rattle.journal.specs.declared.pass.Pass.{Pass}
 use Rattle.journal.specs.declared.row.Site.{Ghosts as SiteGhosts}
 use Rattle.journal.specs.Passes.{AddsStep, notes_of, steps_of}
-use Rattle.journal.specs.Standing.{IsElse, Made}
+use Rattle.journal.specs.PassSteps.{IsElse, Made}
 use Rattle.fleet_actors.specs.declared.client_action.ClientAction.{ClientAction}
 use Rattle.fleet_actors.specs.declared.client_action.ClientAction.TheVariants as action
 use Rattle.fleet_actors.specs.RecordsAttempt.{AddsNote}

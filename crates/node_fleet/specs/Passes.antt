@@ -7,7 +7,7 @@ use Rattle.mailbox.specs.declared.MailStep.{MailStep}
 use Rattle.mailbox.specs.Mails.{steps_at, HasNoSteps}
 use Rattle.journal.specs.declared.row.Site.{Ghosts as SiteGhosts}
 use Rattle.journal.specs.Passes as journal
-use Rattle.journal.specs.Standing.{Made}
+use Rattle.journal.specs.PassSteps.{Made}
 use Rattle.node_fleet.specs.declared.site.FleetSite.{Ghosts as FleetGhosts}
 use Rattle.node_fleet.specs.declared.pass.Pass.{Pass}
 

@@ -5,7 +5,7 @@ ghost use Rattle.volume_model.specs.Judging.{IsRefused};
 ghost use Rattle.board.specs.Seats.{board_table, returned, AreReturnedTo};
 ghost use Rattle.mailbox.specs.Mails.{ids_of, AreBack};
 ghost use Rattle.journal.specs.Passes.{journal_of};
-ghost use Rattle.journal.specs.Standing.{Stands};
+ghost use Rattle.journal.specs.PassSteps.{Stands};
 ghost use Rattle.node_fleet.specs.Passes.{notes_of, seat_of, steps_of};
 ghost use Rattle.node_fleet.specs.Returned.{HasAll};
 

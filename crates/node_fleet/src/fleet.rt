@@ -57,7 +57,7 @@ impl<'a, L: FleetSite> Fleet<'a, L> {
     ghost use Rattle.volume_model.specs.Judging.{IsRefused};
     ghost use Rattle.world.specs.Outcomes.{KeepsPromises};
     ghost use Rattle.board.specs.Board.{IsBoard};
-    ghost use Rattle.journal.specs.Standing.{NamesEarlier, Stands};
+    ghost use Rattle.journal.specs.PassSteps.{NamesEarlier, Stands};
     ghost use Rattle.node_fleet.specs.Journals.{entries_in};
     ghost use Rattle.node_fleet.specs.Passes.{notes_of, seat_of, steps_of};
     ghost use Rattle.node_fleet.specs.Returned.{MailIsKept};

@@ -10,7 +10,7 @@ pub enum Broken {
     #[error("memory ran out")]
     Memory(#[from(alloc)] AllocError),
     #[error("{0} says: {1}")]
-    Told(&'static str, String),
+    Reported(&'static str, String),
     #[error("{0} prints a line of no known shape")]
     Strange(&'static str),
     #[error("answer {place} is of line {line}")]

@@ -181,7 +181,7 @@ impl Outcome {
     ) -> Result<Outcome, Broken> {
         if output.status > 1 || !output.stderr.is_empty() {
             let line = String::from_str(alloc, output.stderr.as_str().trim_end())?;
-            return Err(Broken::Told(name, line));
+            return Err(Broken::Reported(name, line));
         }
         let outcome = Outcome::read(alloc, output.stdout.as_str())?;
         if outcome.strange != 0 {

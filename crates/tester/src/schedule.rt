@@ -27,7 +27,7 @@ pub struct Schedule {
     /// How many groups have joined.
     pub joined: u8,
     /// How many groups the newest client has taken a View of.
-    pub told: u8,
+    pub viewed: u8,
     /// Members in the order in which writes prefer them.
     favourites: Vec<u8>,
     /// Messages that weren't delivered in their time.
@@ -54,7 +54,7 @@ impl Schedule {
             open,
             places: [0; 2],
             joined: plan.born,
-            told: plan.born,
+            viewed: plan.born,
             favourites,
             late: Vec::new(alloc),
             tasks: Vec::new(alloc),

@@ -24,7 +24,7 @@ impl Schedule {
         let mut groups = Vec::new(alloc);
         let changes = self.rng.from(1, 4);
         for _ in 0..changes {
-            let is_second = self.told == 2 && self.rng.chance(50);
+            let is_second = self.viewed == 2 && self.rng.chance(50);
             groups.push(u8::from(is_second))?;
         }
         Ok(groups)
@@ -210,7 +210,7 @@ impl Schedule {
     fn join(&mut self, task: &mut Task, view: u64) -> Result<(), AllocError> {
         let line = self.written.take(task.client, view, 1)?;
         let group = task.group;
-        self.told = self.joined;
+        self.viewed = self.joined;
         self.written.note(line, 1, Receiver::Nodes(group))?;
         task.stage = Stage::Finished;
         let members = self.members(group);

@@ -23,7 +23,7 @@ const LABEL: Label = Label {
 
 /// What happens to a client, and what it is asked.
 #[derive(Clone, Copy)]
-enum Told {
+enum Input {
     /// It takes a View of volume epoch 2 that has the group at its root.
     View,
     /// It takes a member's report that it holds no record.
@@ -51,26 +51,26 @@ enum Told {
 }
 
 /// What happens to a client, and what it answers or why it refuses.
-type Row = (Told, Result<Said, Fault>);
+type Row = (Input, Result<Said, Fault>);
 
 /// The message that it takes.
-fn message(alloc: Global, told: Told) -> Result<Message, Fault> {
+fn message(alloc: Global, input: Input) -> Result<Message, Fault> {
     let root = Place {
         configuration: 0,
         epoch: 1,
     };
-    Ok(match told {
-        Told::View => Message::View(View {
+    Ok(match input {
+        Input::View => Message::View(View {
             volume: 2,
             places: Box::new(alloc, vec![in alloc; root]?)?,
         }),
-        Told::Report(from) => Message::Report(Report {
+        Input::Report(from) => Message::Report(Report {
             group: 0,
             label: LABEL,
             from,
             contents: shared(alloc, Lineage::birth(alloc)?, RecordSet::new(alloc))?,
         }),
-        Told::Ack(from) => Message::Ack(Ack {
+        Input::Ack(from) => Message::Ack(Ack {
             group: 0,
             label: LABEL,
             from,
@@ -92,10 +92,10 @@ fn made(alloc: Global, client: &mut Client, act: ClientAct<'_>) -> Result<Said, 
 }
 
 /// What the client answers to a question.
-fn shown(client: &Client, told: Told) -> Said {
-    match told {
-        Told::Volume => Count(client.volume() as usize),
-        Told::Groups => Count(usize::from(client.groups())),
+fn shown(client: &Client, input: Input) -> Said {
+    match input {
+        Input::Volume => Count(client.volume() as usize),
+        Input::Groups => Count(usize::from(client.groups())),
         _ => match client.state() {
             ClientState::Unborn => Said::No,
             ClientState::Recovery(_) => Recovers,
@@ -105,24 +105,24 @@ fn shown(client: &Client, told: Told) -> Said {
 }
 
 /// What the client answers.
-fn answer(alloc: Global, client: &mut Client, told: Told) -> Result<Said, Fault> {
-    match told {
-        Told::View | Told::Report(_) | Told::Ack(_) => {
-            made(alloc, client, ClientAct::Take(&message(alloc, told)?))
+fn answer(alloc: Global, client: &mut Client, input: Input) -> Result<Said, Fault> {
+    match input {
+        Input::View | Input::Report(_) | Input::Ack(_) => {
+            made(alloc, client, ClientAct::Take(&message(alloc, input)?))
         }
-        Told::Cut => made(alloc, client, ClientAct::Cut),
-        Told::Issue(groups) => made(alloc, client, ClientAct::Issue(&changes(alloc, groups)?)),
-        Told::Resend(lsn) => made(alloc, client, ClientAct::Resend { lsn }),
-        Told::Read => made(alloc, client, ClientAct::Read { group: 0, block: 0 }),
-        Told::Open => match client.open() {
+        Input::Cut => made(alloc, client, ClientAct::Cut),
+        Input::Issue(groups) => made(alloc, client, ClientAct::Issue(&changes(alloc, groups)?)),
+        Input::Resend(lsn) => made(alloc, client, ClientAct::Resend { lsn }),
+        Input::Read => made(alloc, client, ClientAct::Read { group: 0, block: 0 }),
+        Input::Open => match client.open() {
             Ok(()) => Ok(Yes),
             Err(fault) => Err(fault),
         },
-        Told::MayOpen => match client.admits_open() {
+        Input::MayOpen => match client.admits_open() {
             Ok(()) => Ok(Yes),
             Err(fault) => Err(fault),
         },
-        _ => Ok(shown(client, told)),
+        _ => Ok(shown(client, input)),
     }
 }
 
@@ -135,8 +135,8 @@ fn broken(alloc: Global, first: bool, rows: &[Row]) -> Result<Option<usize>, Fau
     } else {
         Client::unborn(plan, 2)
     };
-    for (place, (told, expected)) in rows.iter().enumerate() {
-        if answer(alloc, &mut client, *told) != *expected {
+    for (place, (input, expected)) in rows.iter().enumerate() {
+        if answer(alloc, &mut client, *input) != *expected {
             return Ok(Some(place));
         }
     }
@@ -145,57 +145,57 @@ fn broken(alloc: Global, first: bool, rows: &[Row]) -> Result<Option<usize>, Fau
 
 /// A client is nothing before its first View, and a recovery from then on.
 const BEGINS_BY_A_VIEW: &[Row] = &[
-    (Told::Volume, Ok(Count(2))),
-    (Told::Groups, Ok(Count(1))),
-    (Told::Ack(0), Err(NoActor)),
-    (Told::Cut, Err(NoActor)),
-    (Told::MayOpen, Err(NoActor)),
-    (Told::View, Ok(Count(1))),
-    (Told::State, Ok(Recovers)),
-    (Told::Volume, Ok(Count(2))),
-    (Told::Groups, Ok(Count(1))),
+    (Input::Volume, Ok(Count(2))),
+    (Input::Groups, Ok(Count(1))),
+    (Input::Ack(0), Err(NoActor)),
+    (Input::Cut, Err(NoActor)),
+    (Input::MayOpen, Err(NoActor)),
+    (Input::View, Ok(Count(1))),
+    (Input::State, Ok(Recovers)),
+    (Input::Volume, Ok(Count(2))),
+    (Input::Groups, Ok(Count(1))),
 ];
 
 /// A recovery that installs refuses what isn't for it, and what a writer alone does.
 const A_RECOVERY_REFUSES: &[Row] = &[
-    (Told::View, Ok(Count(1))),
-    (Told::Report(0), Ok(Count(0))),
-    (Told::Report(1), Ok(Count(0))),
-    (Told::Report(2), Ok(Count(0))),
-    (Told::Cut, Ok(Count(1))),
-    (Told::Ack(64), Err(NotAddressed)),
-    (Told::Ack(0), Ok(Count(0))),
-    (Told::Resend(1), Err(NotOpen)),
+    (Input::View, Ok(Count(1))),
+    (Input::Report(0), Ok(Count(0))),
+    (Input::Report(1), Ok(Count(0))),
+    (Input::Report(2), Ok(Count(0))),
+    (Input::Cut, Ok(Count(1))),
+    (Input::Ack(64), Err(NotAddressed)),
+    (Input::Ack(0), Ok(Count(0))),
+    (Input::Resend(1), Err(NotOpen)),
 ];
 
 /// It becomes a writer once four have installed.
 const READS_CUTS_AND_OPENS: &[Row] = &[
-    (Told::View, Ok(Count(1))),
-    (Told::Report(0), Ok(Count(0))),
-    (Told::Report(1), Ok(Count(0))),
-    (Told::Report(2), Ok(Count(0))),
-    (Told::Cut, Ok(Count(1))),
-    (Told::MayOpen, Err(NotReady)),
-    (Told::Open, Err(NotReady)),
-    (Told::Ack(0), Ok(Count(0))),
-    (Told::Ack(1), Ok(Count(0))),
-    (Told::Ack(2), Ok(Count(0))),
-    (Told::Ack(3), Ok(Count(0))),
-    (Told::MayOpen, Ok(Yes)),
-    (Told::Open, Ok(Yes)),
-    (Told::Open, Err(AlreadyDone)),
-    (Told::Issue(&[0, 0]), Ok(Count(2))),
+    (Input::View, Ok(Count(1))),
+    (Input::Report(0), Ok(Count(0))),
+    (Input::Report(1), Ok(Count(0))),
+    (Input::Report(2), Ok(Count(0))),
+    (Input::Cut, Ok(Count(1))),
+    (Input::MayOpen, Err(NotReady)),
+    (Input::Open, Err(NotReady)),
+    (Input::Ack(0), Ok(Count(0))),
+    (Input::Ack(1), Ok(Count(0))),
+    (Input::Ack(2), Ok(Count(0))),
+    (Input::Ack(3), Ok(Count(0))),
+    (Input::MayOpen, Ok(Yes)),
+    (Input::Open, Ok(Yes)),
+    (Input::Open, Err(AlreadyDone)),
+    (Input::Issue(&[0, 0]), Ok(Count(2))),
 ];
 
 /// The writer that a volume is born with takes no View of another volume epoch, and doesn't open again.
 const THE_FIRST_IS_OPEN: &[Row] = &[
-    (Told::View, Err(NotAddressed)),
-    (Told::State, Ok(Writes)),
-    (Told::MayOpen, Err(AlreadyDone)),
-    (Told::Cut, Err(AlreadyDone)),
-    (Told::Issue(&[0]), Ok(Count(1))),
-    (Told::Resend(1), Ok(Count(1))),
-    (Told::Read, Ok(Count(1))),
+    (Input::View, Err(NotAddressed)),
+    (Input::State, Ok(Writes)),
+    (Input::MayOpen, Err(AlreadyDone)),
+    (Input::Cut, Err(AlreadyDone)),
+    (Input::Issue(&[0]), Ok(Count(1))),
+    (Input::Resend(1), Ok(Count(1))),
+    (Input::Read, Ok(Count(1))),
 ];
 
 /// What each table is of, whether its client is the first, and its rows.

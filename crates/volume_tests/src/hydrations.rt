@@ -176,21 +176,21 @@ fn copied(alloc: Global, from: u8, past: Past, last: u64) -> Result<Copied, Faul
 }
 
 /// Such copies.
-fn copies(alloc: Global, told: &[(u8, Past, u64)]) -> Result<Vec<Copied>, Fault> {
+fn copies(alloc: Global, input: &[(u8, Past, u64)]) -> Result<Vec<Copied>, Fault> {
     let mut copies: Vec<Copied> = Vec::new(alloc);
-    for (from, past, last) in told {
+    for (from, past, last) in input {
         copies.push(copied(alloc, *from, *past, *last)?)?;
     }
     Ok(copies)
 }
 
 /// The newest lineage of copies and of what is kept, which is that of a recovery or, where there is none, no lineage.
-fn newest(alloc: Global, told: &[(u8, Past, u64)], kept: Option<Past>) -> Result<Past, Fault> {
+fn newest(alloc: Global, input: &[(u8, Past, u64)], kept: Option<Past>) -> Result<Past, Fault> {
     let kept = match kept {
         Some((volume, cut)) => recovered(alloc, volume, cut)?,
         None => Lineage::empty(alloc),
     };
-    let copies = copies(alloc, told)?;
+    let copies = copies(alloc, input)?;
     let newest = newest_with(&copies, &kept);
     Ok((newest.last_epoch(), newest.last_cut()))
 }

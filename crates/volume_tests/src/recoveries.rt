@@ -105,7 +105,7 @@ fn cut_of_a_long_log(rt: HostRuntime) {
 
 /// What happens to a recovery, and what it is asked whether it would take or may do.
 #[derive(Clone, Copy)]
-enum Told {
+enum Input {
     /// A member of a group says that it holds the records of a log from a number up to another.
     Report(u8, u8, Log, u64, u64),
     /// The report of member 0 of a group.
@@ -126,7 +126,7 @@ enum Told {
 }
 
 /// What happens to a recovery, and what it answers or why it refuses.
-type Row = (Told, Result<Said, Fault>);
+type Row = (Input, Result<Said, Fault>);
 
 /// A View of volume epoch 2.
 fn view(alloc: Global, places: &[Place]) -> Result<View, Fault> {
@@ -167,43 +167,43 @@ fn found(recovery: &Recovery) -> Said {
 }
 
 /// Whether the recovery would take each message.
-fn judged(alloc: Global, recovery: &Recovery, told: Told) -> Result<Said, Fault> {
-    match told {
-        Told::MayReport(group) => {
+fn judged(alloc: Global, recovery: &Recovery, input: Input) -> Result<Said, Fault> {
+    match input {
+        Input::MayReport(group) => {
             let records = records(alloc, Log::Short, 1, 4)?;
             recovery.admits_report(&report(alloc, group, 0, records)?)?
         }
-        Told::MayView(places) => recovery.admits_view(&view(alloc, places)?)?,
-        Told::MayAck(from) => recovery.admits_ack(&ack(from))?,
-        Told::MayCut => recovery.admits_cut(alloc)?,
-        Told::MayOpen => recovery.admits_open()?,
+        Input::MayView(places) => recovery.admits_view(&view(alloc, places)?)?,
+        Input::MayAck(from) => recovery.admits_ack(&ack(from))?,
+        Input::MayCut => recovery.admits_cut(alloc)?,
+        Input::MayOpen => recovery.admits_open()?,
         _ => return Ok(found(recovery)),
     }
     Ok(Yes)
 }
 
 /// What the recovery answers.
-fn answer(alloc: Global, recovery: &mut Recovery, told: Told) -> Result<Said, Fault> {
-    match told {
-        Told::Report(group, from, log, first, last) => {
+fn answer(alloc: Global, recovery: &mut Recovery, input: Input) -> Result<Said, Fault> {
+    match input {
+        Input::Report(group, from, log, first, last) => {
             let records = records(alloc, log, first, last)?;
             recovery.take_report(&report(alloc, group, from, records)?)?;
             Ok(Yes)
         }
-        Told::View(places) => Ok(Count(recovery.view(alloc, &view(alloc, places)?)?.len())),
-        Told::Ack(from) => {
+        Input::View(places) => Ok(Count(recovery.view(alloc, &view(alloc, places)?)?.len())),
+        Input::Ack(from) => {
             recovery.take_ack(&ack(from))?;
             Ok(Yes)
         }
-        Told::Cut => Ok(Count(recovery.cut(alloc)?.len())),
-        _ => judged(alloc, recovery, told),
+        Input::Cut => Ok(Count(recovery.cut(alloc)?.len())),
+        _ => judged(alloc, recovery, input),
     }
 }
 
 /// The place of the first row that the recovery doesn't keep to, `None` where it keeps to all.
 fn broken_by(alloc: Global, recovery: &mut Recovery, rows: &[Row]) -> Option<usize> {
-    for (place, (told, expected)) in rows.iter().enumerate() {
-        if answer(alloc, recovery, *told) != *expected {
+    for (place, (input, expected)) in rows.iter().enumerate() {
+        if answer(alloc, recovery, *input) != *expected {
             return Some(place);
         }
     }
@@ -225,39 +225,39 @@ fn broken(alloc: Global, rows: &[Row]) -> Result<(usize, Option<usize>), Fault> 
 
 /// Three members hold the records up to 4.
 const A_CUT_AT_3: &[Row] = &[
-    (Told::Report(0, 0, Log::Short, 1, 4), Ok(Yes)),
-    (Told::Report(0, 1, Log::Short, 1, 4), Ok(Yes)),
-    (Told::Report(0, 2, Log::Short, 1, 4), Ok(Yes)),
-    (Told::Cut, Ok(Count(1))),
-    (Told::Find, Ok(Found(3, 13, 3))),
+    (Input::Report(0, 0, Log::Short, 1, 4), Ok(Yes)),
+    (Input::Report(0, 1, Log::Short, 1, 4), Ok(Yes)),
+    (Input::Report(0, 2, Log::Short, 1, 4), Ok(Yes)),
+    (Input::Cut, Ok(Count(1))),
+    (Input::Find, Ok(Found(3, 13, 3))),
 ];
 
 /// Three members hold the records up to 5.
 const A_CUT_AT_5: &[Row] = &[
-    (Told::Report(0, 0, Log::Short, 1, 5), Ok(Yes)),
-    (Told::Report(0, 1, Log::Short, 1, 5), Ok(Yes)),
-    (Told::Report(0, 2, Log::Short, 1, 5), Ok(Yes)),
-    (Told::Cut, Ok(Count(1))),
-    (Told::Find, Ok(Found(5, 15, 5))),
+    (Input::Report(0, 0, Log::Short, 1, 5), Ok(Yes)),
+    (Input::Report(0, 1, Log::Short, 1, 5), Ok(Yes)),
+    (Input::Report(0, 2, Log::Short, 1, 5), Ok(Yes)),
+    (Input::Cut, Ok(Count(1))),
+    (Input::Find, Ok(Found(5, 15, 5))),
 ];
 
 /// One report is too few.
 const READING: &[Row] = &[
-    (Told::View(&[ROOT]), Ok(Count(0))),
-    (Told::Find, Ok(Said::No)),
-    (Told::Report(0, 0, Log::Short, 1, 4), Ok(Yes)),
-    (Told::MayCut, Err(NotReady)),
-    (Told::Cut, Err(NotReady)),
+    (Input::View(&[ROOT]), Ok(Count(0))),
+    (Input::Find, Ok(Said::No)),
+    (Input::Report(0, 0, Log::Short, 1, 4), Ok(Yes)),
+    (Input::MayCut, Err(NotReady)),
+    (Input::Cut, Err(NotReady)),
 ];
 
 /// What the recovery says before it does it.
 const JUDGES: &[Row] = &[
-    (Told::MayReport(0), Ok(Yes)),
-    (Told::MayReport(1), Err(NotAddressed)),
-    (Told::MayView(&[ROOT]), Ok(Yes)),
-    (Told::MayAck(0), Ok(Yes)),
-    (Told::MayAck(64), Err(NotAddressed)),
-    (Told::MayOpen, Err(NotReady)),
+    (Input::MayReport(0), Ok(Yes)),
+    (Input::MayReport(1), Err(NotAddressed)),
+    (Input::MayView(&[ROOT]), Ok(Yes)),
+    (Input::MayAck(0), Ok(Yes)),
+    (Input::MayAck(64), Err(NotAddressed)),
+    (Input::MayOpen, Err(NotReady)),
 ];
 
 const TABLES: &[(&str, &[Row])] = &[
@@ -292,20 +292,20 @@ fn births_by_a_view_alone(rt: HostRuntime) {
 
 /// Four members say that they have installed what was found, which isn't looked for again.
 const INSTALLED: &[Row] = &[
-    (Told::Cut, Err(AlreadyDone)),
-    (Told::Ack(0), Ok(Yes)),
-    (Told::Ack(1), Ok(Yes)),
-    (Told::Ack(2), Ok(Yes)),
-    (Told::Ack(3), Ok(Yes)),
+    (Input::Cut, Err(AlreadyDone)),
+    (Input::Ack(0), Ok(Yes)),
+    (Input::Ack(1), Ok(Yes)),
+    (Input::Ack(2), Ok(Yes)),
+    (Input::Ack(3), Ok(Yes)),
 ];
 
 /// The first record of the writer begins behind the allowance, and follows the last one that was found.
 const OPENED: &[writers::Row] = &[
-    (writers::Told::Issue(&[0]), Ok(Count(1))),
-    (writers::Told::Log, Ok(Count(4))),
-    (writers::Told::LogRecord(3), Ok(Record(14, 3))),
-    (writers::Told::Resend(14), Ok(Record(14, 3))),
-    (writers::Told::Resend(4), Err(NoLogRecord)),
+    (writers::Input::Issue(&[0]), Ok(Count(1))),
+    (writers::Input::Log, Ok(Count(4))),
+    (writers::Input::LogRecord(3), Ok(Record(14, 3))),
+    (writers::Input::Resend(14), Ok(Record(14, 3))),
+    (writers::Input::Resend(4), Err(NoLogRecord)),
 ];
 
 /// Where rows aren't kept to by a recovery that has cut at 3, by the same once it was refused to open, and by the writer that it becomes;
@@ -358,9 +358,9 @@ fn are_installs(messages: &[Message], expected: &[Installed]) -> bool {
 
 /// The three groups of the plan say what they hold, of which the last has no record.
 const OF_THREE_GROUPS: &[Row] = &[
-    (Told::Report(0, 0, Log::OfTwo, 1, 257), Ok(Yes)),
-    (Told::Report(1, 0, Log::OfTwo, 258, 857), Ok(Yes)),
-    (Told::Report(2, 0, Log::OfTwo, 858, 857), Ok(Yes)),
+    (Input::Report(0, 0, Log::OfTwo, 1, 257), Ok(Yes)),
+    (Input::Report(1, 0, Log::OfTwo, 258, 857), Ok(Yes)),
+    (Input::Report(2, 0, Log::OfTwo, 858, 857), Ok(Yes)),
 ];
 
 /// What is installed in the groups at their roots.

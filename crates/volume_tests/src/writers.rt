@@ -94,7 +94,7 @@ fn text(plan: Plan) -> &'static [u8] {
 
 /// What happens to a writer, and what it is asked.
 #[derive(Clone, Copy)]
-pub enum Told {
+pub enum Input {
     /// At a membership epoch, a member of group 0 says up to which number it holds all records.
     Ack(u32, u8, u64),
     /// The same of a group's only member.
@@ -132,7 +132,7 @@ pub enum Told {
 }
 
 /// What happens to a writer, and what it answers or why it refuses.
-pub type Row = (Told, Result<Said, Fault>);
+pub type Row = (Input, Result<Said, Fault>);
 
 /// A group at its root.
 const ROOT: Place = Place {
@@ -185,55 +185,55 @@ fn viewed(alloc: Global, writer: &mut Writer, view: &View) -> Result<Said, Fault
 }
 
 /// What the writer answers to a question about its log.
-fn logged(writer: &Writer, told: Told) -> Result<Said, Fault> {
+fn logged(writer: &Writer, input: Input) -> Result<Said, Fault> {
     let log = writer.log();
-    Ok(match told {
-        Told::Log => Count(log.len()),
-        Told::LogRecord(place) if place < log.len() => {
+    Ok(match input {
+        Input::Log => Count(log.len()),
+        Input::LogRecord(place) if place < log.len() => {
             let record = log.packet(place).record();
             Record(record.lsn, record.prev_volume)
         }
-        Told::Resend(lsn) => said_by(&writer.resend(lsn)?.write()?),
+        Input::Resend(lsn) => said_by(&writer.resend(lsn)?.write()?),
         _ => Said::No,
     })
 }
 
 /// What the writer answers to a question.
-fn shown(writer: &Writer, told: Told) -> Result<Said, Fault> {
-    Ok(match told {
-        Told::Read(group) => said_by(&writer.read(group, 0)?),
-        Told::GroupPoint(group) => Point(writer.group_point(group)?),
-        Told::Complete => Point(writer.complete_point()),
-        Told::Durable => Point(writer.durable_point()),
-        Told::Start => Point(writer.start()),
-        Told::Volume => Point(u64::from(writer.volume())),
-        Told::Acknowledged(lsn) if writer.acknowledged(lsn) => Yes,
-        _ => return logged(writer, told),
+fn shown(writer: &Writer, input: Input) -> Result<Said, Fault> {
+    Ok(match input {
+        Input::Read(group) => said_by(&writer.read(group, 0)?),
+        Input::GroupPoint(group) => Point(writer.group_point(group)?),
+        Input::Complete => Point(writer.complete_point()),
+        Input::Durable => Point(writer.durable_point()),
+        Input::Start => Point(writer.start()),
+        Input::Volume => Point(u64::from(writer.volume())),
+        Input::Acknowledged(lsn) if writer.acknowledged(lsn) => Yes,
+        _ => return logged(writer, input),
     })
 }
 
 /// What the writer answers to what happens to it.
-fn answer(alloc: Global, writer: &mut Writer, told: Told) -> Result<Said, Fault> {
-    match told {
-        Told::Ack(member, from, scl) => writer.take_ack(&ack(0, member, from, scl))?,
-        Told::AckOf(group, scl) => writer.take_ack(&ack(group, 1, 0, scl))?,
-        Told::MayAck(from) => writer.admits_ack(&ack(0, 1, from, 1))?,
-        Told::View(volume, places) => return viewed(alloc, writer, &view(alloc, volume, places)?),
-        Told::MayView(volume, places) => writer.admits_view(&view(alloc, volume, places)?)?,
-        Told::Issue(groups) => {
+fn answer(alloc: Global, writer: &mut Writer, input: Input) -> Result<Said, Fault> {
+    match input {
+        Input::Ack(member, from, scl) => writer.take_ack(&ack(0, member, from, scl))?,
+        Input::AckOf(group, scl) => writer.take_ack(&ack(group, 1, 0, scl))?,
+        Input::MayAck(from) => writer.admits_ack(&ack(0, 1, from, 1))?,
+        Input::View(volume, places) => return viewed(alloc, writer, &view(alloc, volume, places)?),
+        Input::MayView(volume, places) => writer.admits_view(&view(alloc, volume, places)?)?,
+        Input::Issue(groups) => {
             let made = writer.issue(alloc, &changes(alloc, groups)?)?;
             return Ok(Count(made.len()));
         }
-        Told::MayIssue(groups) => writer.admits(&changes(alloc, groups)?.clone()?)?,
-        _ => return shown(writer, told),
+        Input::MayIssue(groups) => writer.admits(&changes(alloc, groups)?.clone()?)?,
+        _ => return shown(writer, input),
     }
     Ok(Yes)
 }
 
 /// The place of the first row that the writer doesn't keep to, `None` where it keeps to all.
 pub fn broken_by(alloc: Global, writer: &mut Writer, rows: &[Row]) -> Option<usize> {
-    for (place, (told, expected)) in rows.iter().enumerate() {
-        if answer(alloc, writer, *told) != *expected {
+    for (place, (input, expected)) in rows.iter().enumerate() {
+        if answer(alloc, writer, *input) != *expected {
             return Some(place);
         }
     }
@@ -248,177 +248,177 @@ fn broken(alloc: Global, plan: Plan, rows: &[Row]) -> Result<Option<usize>, Faul
 
 /// The group's point is the greatest number that a write set holds.
 const THE_POINT_OF_SIX: &[Row] = &[
-    (Told::Ack(1, 0, 5), Ok(Yes)),
-    (Told::Ack(1, 1, 3), Ok(Yes)),
-    (Told::Ack(1, 2, 4), Ok(Yes)),
-    (Told::Ack(1, 3, 1), Ok(Yes)),
-    (Told::Ack(1, 4, 0), Ok(Yes)),
-    (Told::Ack(1, 5, 2), Ok(Yes)),
-    (Told::GroupPoint(0), Ok(Point(2))),
-    (Told::GroupPoint(1), Err(NoGroup)),
+    (Input::Ack(1, 0, 5), Ok(Yes)),
+    (Input::Ack(1, 1, 3), Ok(Yes)),
+    (Input::Ack(1, 2, 4), Ok(Yes)),
+    (Input::Ack(1, 3, 1), Ok(Yes)),
+    (Input::Ack(1, 4, 0), Ok(Yes)),
+    (Input::Ack(1, 5, 2), Ok(Yes)),
+    (Input::GroupPoint(0), Ok(Point(2))),
+    (Input::GroupPoint(1), Err(NoGroup)),
 ];
 
 /// Here it is one that write sets of both sixes hold.
 const THE_POINT_OF_BOTH_SIXES: &[Row] = &[
-    (Told::Ack(1, 0, 5), Ok(Yes)),
-    (Told::Ack(1, 1, 3), Ok(Yes)),
-    (Told::Ack(1, 2, 4), Ok(Yes)),
-    (Told::Ack(1, 3, 1), Ok(Yes)),
-    (Told::Ack(1, 4, 0), Ok(Yes)),
-    (Told::Ack(1, 5, 2), Ok(Yes)),
-    (Told::Ack(1, 6, 4), Ok(Yes)),
-    (Told::GroupPoint(0), Ok(Point(2))),
-    (Told::Ack(1, 5, 3), Ok(Yes)),
-    (Told::GroupPoint(0), Ok(Point(3))),
+    (Input::Ack(1, 0, 5), Ok(Yes)),
+    (Input::Ack(1, 1, 3), Ok(Yes)),
+    (Input::Ack(1, 2, 4), Ok(Yes)),
+    (Input::Ack(1, 3, 1), Ok(Yes)),
+    (Input::Ack(1, 4, 0), Ok(Yes)),
+    (Input::Ack(1, 5, 2), Ok(Yes)),
+    (Input::Ack(1, 6, 4), Ok(Yes)),
+    (Input::GroupPoint(0), Ok(Point(2))),
+    (Input::Ack(1, 5, 3), Ok(Yes)),
+    (Input::GroupPoint(0), Ok(Point(3))),
 ];
 
 /// Transactions of too many changes, of as many as the allowance has, and of one more; and what the writer knows before the records are
 /// acknowledged and after.
 const TRANSACTIONS: &[Row] = &[
-    (Told::Issue(&[0; 33]), Err(BadTransaction)),
-    (Told::Issue(&[0; 10]), Ok(Count(10))),
-    (Told::Issue(&[0]), Err(LimitReached)),
-    (Told::Volume, Ok(Point(1))),
-    (Told::Start, Ok(Point(0))),
-    (Told::Log, Ok(Count(10))),
-    (Told::Acknowledged(10), Ok(Said::No)),
-    (Told::Ack(1, 0, 10), Ok(Yes)),
-    (Told::Ack(1, 1, 10), Ok(Yes)),
-    (Told::Ack(1, 2, 10), Ok(Yes)),
-    (Told::Ack(1, 3, 10), Ok(Yes)),
-    (Told::Complete, Ok(Point(10))),
-    (Told::Durable, Ok(Point(10))),
-    (Told::Acknowledged(10), Ok(Yes)),
-    (Told::Resend(10), Ok(Record(10, 9))),
-    (Told::Resend(11), Err(NoLogRecord)),
-    (Told::Read(0), Ok(Point(10))),
-    (Told::Read(1), Err(NoGroup)),
+    (Input::Issue(&[0; 33]), Err(BadTransaction)),
+    (Input::Issue(&[0; 10]), Ok(Count(10))),
+    (Input::Issue(&[0]), Err(LimitReached)),
+    (Input::Volume, Ok(Point(1))),
+    (Input::Start, Ok(Point(0))),
+    (Input::Log, Ok(Count(10))),
+    (Input::Acknowledged(10), Ok(Said::No)),
+    (Input::Ack(1, 0, 10), Ok(Yes)),
+    (Input::Ack(1, 1, 10), Ok(Yes)),
+    (Input::Ack(1, 2, 10), Ok(Yes)),
+    (Input::Ack(1, 3, 10), Ok(Yes)),
+    (Input::Complete, Ok(Point(10))),
+    (Input::Durable, Ok(Point(10))),
+    (Input::Acknowledged(10), Ok(Yes)),
+    (Input::Resend(10), Ok(Record(10, 9))),
+    (Input::Resend(11), Err(NoLogRecord)),
+    (Input::Read(0), Ok(Point(10))),
+    (Input::Read(1), Err(NoGroup)),
 ];
 
 /// A write set of the child acknowledges after its View.
 const A_WRITE_SET_OF_THE_CHILD: &[Row] = &[
-    (Told::Issue(&[0]), Ok(Count(1))),
-    (Told::View(1, &[CHILD]), Ok(Count(0))),
-    (Told::Ack(1, 0, 1), Ok(Yes)),
-    (Told::Ack(1, 1, 1), Ok(Yes)),
-    (Told::Ack(1, 2, 1), Ok(Yes)),
-    (Told::Ack(1, 3, 1), Ok(Yes)),
-    (Told::Durable, Ok(Point(1))),
+    (Input::Issue(&[0]), Ok(Count(1))),
+    (Input::View(1, &[CHILD]), Ok(Count(0))),
+    (Input::Ack(1, 0, 1), Ok(Yes)),
+    (Input::Ack(1, 1, 1), Ok(Yes)),
+    (Input::Ack(1, 2, 1), Ok(Yes)),
+    (Input::Ack(1, 3, 1), Ok(Yes)),
+    (Input::Durable, Ok(Point(1))),
 ];
 
 /// A write set of the root alone acknowledges after the child's View, which is too late.
 const A_WRITE_SET_OF_THE_ROOT_LATE: &[Row] = &[
-    (Told::Issue(&[0]), Ok(Count(1))),
-    (Told::View(1, &[CHILD]), Ok(Count(0))),
-    (Told::Ack(1, 0, 1), Ok(Yes)),
-    (Told::Ack(1, 1, 1), Ok(Yes)),
-    (Told::Ack(1, 2, 1), Ok(Yes)),
-    (Told::Ack(1, 5, 1), Ok(Yes)),
-    (Told::Durable, Ok(Point(0))),
+    (Input::Issue(&[0]), Ok(Count(1))),
+    (Input::View(1, &[CHILD]), Ok(Count(0))),
+    (Input::Ack(1, 0, 1), Ok(Yes)),
+    (Input::Ack(1, 1, 1), Ok(Yes)),
+    (Input::Ack(1, 2, 1), Ok(Yes)),
+    (Input::Ack(1, 5, 1), Ok(Yes)),
+    (Input::Durable, Ok(Point(0))),
 ];
 
 /// The same before it.
 const A_WRITE_SET_OF_THE_ROOT_EARLY: &[Row] = &[
-    (Told::Issue(&[0]), Ok(Count(1))),
-    (Told::Ack(1, 0, 1), Ok(Yes)),
-    (Told::Ack(1, 1, 1), Ok(Yes)),
-    (Told::Ack(1, 2, 1), Ok(Yes)),
-    (Told::Ack(1, 5, 1), Ok(Yes)),
-    (Told::View(1, &[CHILD]), Ok(Count(0))),
-    (Told::Durable, Ok(Point(1))),
+    (Input::Issue(&[0]), Ok(Count(1))),
+    (Input::Ack(1, 0, 1), Ok(Yes)),
+    (Input::Ack(1, 1, 1), Ok(Yes)),
+    (Input::Ack(1, 2, 1), Ok(Yes)),
+    (Input::Ack(1, 5, 1), Ok(Yes)),
+    (Input::View(1, &[CHILD]), Ok(Count(0))),
+    (Input::Durable, Ok(Point(1))),
 ];
 
 /// What is said at a membership epoch that the writer doesn't know yet doesn't count.
 const A_LATER_EPOCH: &[Row] = &[
-    (Told::Issue(&[0]), Ok(Count(1))),
-    (Told::Ack(2, 0, 1), Ok(Yes)),
-    (Told::Ack(2, 1, 1), Ok(Yes)),
-    (Told::Ack(2, 2, 1), Ok(Yes)),
-    (Told::Ack(2, 3, 1), Ok(Yes)),
-    (Told::View(1, &[CHILD]), Ok(Count(0))),
-    (Told::Durable, Ok(Point(0))),
+    (Input::Issue(&[0]), Ok(Count(1))),
+    (Input::Ack(2, 0, 1), Ok(Yes)),
+    (Input::Ack(2, 1, 1), Ok(Yes)),
+    (Input::Ack(2, 2, 1), Ok(Yes)),
+    (Input::Ack(2, 3, 1), Ok(Yes)),
+    (Input::View(1, &[CHILD]), Ok(Count(0))),
+    (Input::Durable, Ok(Point(0))),
 ];
 
 /// Views of a place that the plan doesn't have, and of another volume epoch.
 const VIEWS_OF_OTHERS: &[Row] = &[
-    (Told::View(1, &[CHILD]), Err(NotInPlan)),
-    (Told::View(2, &[CHILD]), Err(NotAddressed)),
+    (Input::View(1, &[CHILD]), Err(NotInPlan)),
+    (Input::View(2, &[CHILD]), Err(NotAddressed)),
 ];
 
 /// What the writer says before it does it.
 const JUDGES: &[Row] = &[
-    (Told::MayIssue(&[0; 33]), Err(BadTransaction)),
-    (Told::MayIssue(&[0]), Ok(Yes)),
-    (Told::MayAck(5), Ok(Yes)),
-    (Told::MayAck(64), Err(NotAddressed)),
-    (Told::MayView(1, &[CHILD]), Err(NotInPlan)),
+    (Input::MayIssue(&[0; 33]), Err(BadTransaction)),
+    (Input::MayIssue(&[0]), Ok(Yes)),
+    (Input::MayAck(5), Ok(Yes)),
+    (Input::MayAck(64), Err(NotAddressed)),
+    (Input::MayView(1, &[CHILD]), Err(NotInPlan)),
 ];
 
 /// The second group's only member holds nothing.
 const NOTHING_OF_THE_SECOND: &[Row] = &[
-    (Told::Issue(&[0, 1, 1]), Ok(Count(3))),
-    (Told::Issue(&[0, 0, 1]), Ok(Count(3))),
-    (Told::AckOf(0, 5), Ok(Yes)),
-    (Told::AckOf(1, 0), Ok(Yes)),
-    (Told::Read(0), Ok(Point(0))),
-    (Told::Read(1), Ok(Point(0))),
+    (Input::Issue(&[0, 1, 1]), Ok(Count(3))),
+    (Input::Issue(&[0, 0, 1]), Ok(Count(3))),
+    (Input::AckOf(0, 5), Ok(Yes)),
+    (Input::AckOf(1, 0), Ok(Yes)),
+    (Input::Read(0), Ok(Point(0))),
+    (Input::Read(1), Ok(Point(0))),
 ];
 
 /// It holds a record less than it should for the first transaction.
 const TOO_LITTLE_OF_THE_SECOND: &[Row] = &[
-    (Told::Issue(&[0, 1, 1]), Ok(Count(3))),
-    (Told::Issue(&[0, 0, 1]), Ok(Count(3))),
-    (Told::AckOf(0, 5), Ok(Yes)),
-    (Told::AckOf(1, 2), Ok(Yes)),
-    (Told::Read(0), Ok(Point(0))),
-    (Told::Read(1), Ok(Point(0))),
+    (Input::Issue(&[0, 1, 1]), Ok(Count(3))),
+    (Input::Issue(&[0, 0, 1]), Ok(Count(3))),
+    (Input::AckOf(0, 5), Ok(Yes)),
+    (Input::AckOf(1, 2), Ok(Yes)),
+    (Input::Read(0), Ok(Point(0))),
+    (Input::Read(1), Ok(Point(0))),
 ];
 
 /// Both hold the first transaction.
 const THE_FIRST_TRANSACTION: &[Row] = &[
-    (Told::Issue(&[0, 1, 1]), Ok(Count(3))),
-    (Told::Issue(&[0, 0, 1]), Ok(Count(3))),
-    (Told::AckOf(0, 5), Ok(Yes)),
-    (Told::AckOf(1, 3), Ok(Yes)),
-    (Told::Read(0), Ok(Point(1))),
-    (Told::Read(1), Ok(Point(3))),
+    (Input::Issue(&[0, 1, 1]), Ok(Count(3))),
+    (Input::Issue(&[0, 0, 1]), Ok(Count(3))),
+    (Input::AckOf(0, 5), Ok(Yes)),
+    (Input::AckOf(1, 3), Ok(Yes)),
+    (Input::Read(0), Ok(Point(1))),
+    (Input::Read(1), Ok(Point(3))),
 ];
 
 /// The second holds all, the first only what the first transaction has.
 const TOO_LITTLE_OF_THE_FIRST: &[Row] = &[
-    (Told::Issue(&[0, 1, 1]), Ok(Count(3))),
-    (Told::Issue(&[0, 0, 1]), Ok(Count(3))),
-    (Told::AckOf(0, 1), Ok(Yes)),
-    (Told::AckOf(1, 6), Ok(Yes)),
-    (Told::Read(0), Ok(Point(1))),
-    (Told::Read(1), Ok(Point(3))),
+    (Input::Issue(&[0, 1, 1]), Ok(Count(3))),
+    (Input::Issue(&[0, 0, 1]), Ok(Count(3))),
+    (Input::AckOf(0, 1), Ok(Yes)),
+    (Input::AckOf(1, 6), Ok(Yes)),
+    (Input::Read(0), Ok(Point(1))),
+    (Input::Read(1), Ok(Point(3))),
 ];
 
 /// Both hold all.
 const BOTH_TRANSACTIONS: &[Row] = &[
-    (Told::Issue(&[0, 1, 1]), Ok(Count(3))),
-    (Told::Issue(&[0, 0, 1]), Ok(Count(3))),
-    (Told::AckOf(0, 5), Ok(Yes)),
-    (Told::AckOf(1, 6), Ok(Yes)),
-    (Told::Read(0), Ok(Point(5))),
-    (Told::Read(1), Ok(Point(6))),
+    (Input::Issue(&[0, 1, 1]), Ok(Count(3))),
+    (Input::Issue(&[0, 0, 1]), Ok(Count(3))),
+    (Input::AckOf(0, 5), Ok(Yes)),
+    (Input::AckOf(1, 6), Ok(Yes)),
+    (Input::Read(0), Ok(Point(5))),
+    (Input::Read(1), Ok(Point(6))),
 ];
 
 /// A group is installed before the writer writes to it.
 const A_GROUP_JOINS: &[Row] = &[
-    (Told::MayIssue(&[1]), Err(BadTransaction)),
-    (Told::Read(1), Err(NoGroup)),
-    (Told::View(1, &[ROOT, ROOT]), Ok(Install(1))),
-    (Told::MayIssue(&[1]), Err(NotJoined)),
-    (Told::MayIssue(&[0]), Ok(Yes)),
-    (Told::View(1, &[ROOT]), Ok(Count(0))),
-    (Told::AckOf(1, 0), Ok(Yes)),
-    (Told::MayIssue(&[1]), Ok(Yes)),
-    (Told::View(1, &[ROOT, ROOT]), Ok(Count(0))),
-    (Told::Issue(&[1]), Ok(Count(1))),
-    (Told::Durable, Ok(Point(0))),
-    (Told::AckOf(1, 1), Ok(Yes)),
-    (Told::Durable, Ok(Point(1))),
+    (Input::MayIssue(&[1]), Err(BadTransaction)),
+    (Input::Read(1), Err(NoGroup)),
+    (Input::View(1, &[ROOT, ROOT]), Ok(Install(1))),
+    (Input::MayIssue(&[1]), Err(NotJoined)),
+    (Input::MayIssue(&[0]), Ok(Yes)),
+    (Input::View(1, &[ROOT]), Ok(Count(0))),
+    (Input::AckOf(1, 0), Ok(Yes)),
+    (Input::MayIssue(&[1]), Ok(Yes)),
+    (Input::View(1, &[ROOT, ROOT]), Ok(Count(0))),
+    (Input::Issue(&[1]), Ok(Count(1))),
+    (Input::Durable, Ok(Point(0))),
+    (Input::AckOf(1, 1), Ok(Yes)),
+    (Input::Durable, Ok(Point(1))),
 ];
 
 /// What each table is of, its plan, and its rows.

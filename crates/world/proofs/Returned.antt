@@ -19,7 +19,7 @@ use Rattle.writer_core.specs.Logs.{log_of_set}
 use Rattle.world.specs.declared.outcome.RecoveryOutcome.{RecoveryOutcome}
 use Rattle.world.specs.declared.outcome.WriterOutcome.{WriterOutcome}
 use Rattle.world.specs.declared.outcome.Outcome.{Outcome}
-use Rattle.world.specs.Outcomes.{opened_of, find_of, covered_by, HasAcknowledged, KeepsReturned, PromisesRuns, TellsRun}
+use Rattle.world.specs.Outcomes.{opened_of, find_of, covered_by, HasAcknowledged, KeepsReturned, PromisesRuns, IsOutcomeOfRun}
 
 is_in-map : {A B : Type 0} (f : A → B) (x : A) (xs : List A) → IsIn x xs → IsIn (f x) (map f xs)
 is_in-map f x (y ∷ xs) (inl e) = inl (ap f e)
@@ -105,6 +105,6 @@ module _ (world : World) (keeps : KeepsCommits world) where
   }
 
 -- the same of an answer
-pub returned_of : (plan : Plan) (events : List Event) → PromisesRuns plan → (result : Result Outcome Fault) → IfOk result (TellsRun plan events) → IfOk result KeepsReturned
-returned_of plan events promises (Ok outcome) tells = kept_returned (run plan (opening plan) events) (promises events).commits outcome tells.writers_are tells.finds_are
-returned_of plan events promises (Err fault) tells = tells
+pub returned_of : (plan : Plan) (events : List Event) → PromisesRuns plan → (result : Result Outcome Fault) → IfOk result (IsOutcomeOfRun plan events) → IfOk result KeepsReturned
+returned_of plan events promises (Ok outcome) is_run = kept_returned (run plan (opening plan) events) (promises events).commits outcome is_run.writers_are is_run.finds_are
+returned_of plan events promises (Err fault) is_run = is_run

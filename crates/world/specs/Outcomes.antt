@@ -57,7 +57,7 @@ OpenAtTheirCuts plan events =
 
 -- The outcome is exactly the model's run of these events: the result of each event, and of the world after them the
 -- opened writers and the recoveries that have cut.
-pub record TellsRun (plan : Plan) (events : List Event) (outcome : Outcome) : Type 0 where
+pub record IsOutcomeOfRun (plan : Plan) (events : List Event) (outcome : Outcome) : Type 0 where
   pub results_are : outcome.results.items ≡ results plan (opening plan) events
   pub writers_are : map opened_of outcome.writers.items ≡ writers_in (run plan (opening plan) events)
   pub finds_are : map find_of outcome.finds.items ≡ finds_in (run plan (opening plan) events)

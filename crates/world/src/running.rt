@@ -5,7 +5,7 @@ ghost use Rattle.std.specs.Arc.{arc_value};
 ghost use Rattle.volume_model.specs.declared.fault.Fault.TheVariants.{NoMemory};
 ghost use Rattle.plan.specs.CheckedModel.{checked_model};
 ghost use Rattle.world.specs.Events.{events_of, ordered_events};
-ghost use Rattle.world.specs.Outcomes.{KeepsPromises, KeepsReturned, PromisesRuns, TellsRun};
+ghost use Rattle.world.specs.Outcomes.{KeepsPromises, KeepsReturned, PromisesRuns, IsOutcomeOfRun};
 
 use crate::actors::Actors;
 use crate::event::{Event, Order};
@@ -71,7 +71,7 @@ fn usual_messages(event: &Event) -> usize {
 
 /// Returns the outcome of events that happen one after the other.
 fn outcome_of(alloc: Global, plan: &Arc<CheckedPlan>, events: &[Event]) -> Result<Outcome, Fault>
-    ensures tells { IfOk result (TellsRun (checked_model (arc_value plan.now)) (events_of events.now)) }
+    ensures is_run { IfOk result (IsOutcomeOfRun (checked_model (arc_value plan.now)) (events_of events.now)) }
     ensures memory { IfErr result (λ e. e ≡ NoMemory) }
 {
     let mut actors = Actors::open(alloc, plan)?;
@@ -111,7 +111,7 @@ fn outcome_of_orders(
     plan: &Arc<CheckedPlan>,
     orders: Vec<Order>,
 ) -> Result<Outcome, Fault>
-    ensures tells { IfOk result (TellsRun (checked_model (arc_value plan.now))
+    ensures is_run { IfOk result (IsOutcomeOfRun (checked_model (arc_value plan.now))
         (ordered_events (checked_model (arc_value plan.now)) orders.items)) }
     ensures memory { IfErr result (λ e. e ≡ NoMemory) }
 {
@@ -148,7 +148,7 @@ fn outcome_of_orders(
 /// `NoMemory` ends the run.
 pub fn run(alloc: Global, plan: &Arc<CheckedPlan>, events: &[Event]) -> Result<Outcome, Fault>
     // The outcome is exactly that of the model.
-    ensures tells { IfOk result (TellsRun (checked_model (arc_value plan.now)) (events_of events.now)) }
+    ensures is_run { IfOk result (IsOutcomeOfRun (checked_model (arc_value plan.now)) (events_of events.now)) }
 
     // Whatever the events: every commit that a returned writer has acknowledged stands, with the whole log before it, in the log of every
     // returned find of a later volume epoch, and no two records are acknowledged under one LSN.
@@ -172,7 +172,7 @@ pub fn run_orders(
     plan: &Arc<CheckedPlan>,
     orders: Vec<Order>,
 ) -> Result<Outcome, Fault>
-    ensures tells { IfOk result (TellsRun (checked_model (arc_value plan.now))
+    ensures is_run { IfOk result (IsOutcomeOfRun (checked_model (arc_value plan.now))
         (ordered_events (checked_model (arc_value plan.now)) orders.items)) }
     ensures returned { IfOk result KeepsReturned }
     ensures promises { KeepsPromises (checked_model (arc_value plan.now))

@@ -43,14 +43,14 @@ fn answered(script: &mut String, group: u32, line: u32) -> Result<(), AllocError
 }
 
 /// The result of the lines of a group.
-const TOLD: &str = ",0,0,1,1,1,1,1,1,0,0,0,0,0,1,1,1,1,1,0,0,0,0,0";
+const PRINTED: &str = ",0,0,1,1,1,1,1,1,0,0,0,0,0,1,1,1,1,1,0,0,0,0,0";
 
 #[test]
 fn groups_join_one_by_one(rt: HostRuntime) -> Result<(), AllocError> {
     let alloc = rt.alloc();
     let plan = growing(alloc)?;
     let script = one_by_one(alloc, 16)?;
-    let told = TOLD.repeat(alloc, 15)?;
+    let told = PRINTED.repeat(alloc, 15)?;
     let told = told.strip_prefix(',').unwrap_or("");
     let end = "writer 1 durable 15 next 16\n";
     assert!(rt; tells(&rt, alloc, &plan, &script, told, end)?);

@@ -15,7 +15,7 @@ use std::alloc::{AllocError, Global};
 enum Answer<'b> {
     Status(u8),
     Printed(&'b str),
-    Told(&'b str),
+    Reported(&'b str),
     Checked(&'b str),
 }
 
@@ -47,7 +47,7 @@ fn line_of(text: &str) -> Option<Line<'_>> {
         "$" => Some(Line::Command(rest)),
         "?" => Some(Line::Answer(Answer::Status(rest.parse::<u8>().ok()?))),
         "<" => Some(Line::Answer(Answer::Printed(rest))),
-        "!" => Some(Line::Answer(Answer::Told(rest))),
+        "!" => Some(Line::Answer(Answer::Reported(rest))),
         "%" => Some(Line::Answer(Answer::Checked(rest))),
         _ => None,
     }
@@ -83,7 +83,7 @@ fn note<'b>(question: &mut Question<'b>, answer: Answer<'b>) -> Result<(), Alloc
     match answer {
         Answer::Status(status) => question.status = status,
         Answer::Printed(line) => add_line(&mut question.printed, line)?,
-        Answer::Told(line) => add_line(&mut question.told, line)?,
+        Answer::Reported(line) => add_line(&mut question.reported, line)?,
         Answer::Checked(line) => question.checked = Some(line),
     }
     Ok(())

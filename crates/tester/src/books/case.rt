@@ -21,7 +21,7 @@ pub struct Question<'b> {
     /// What is to be printed; where `checked` is known that is asked of a check of what is printed.
     pub printed: String,
     /// What is to be written to standard error.
-    pub told: String,
+    pub reported: String,
     /// What a check says of the plan that is printed, which is the same for all jobs.
     pub checked: Option<&'b str>,
 }
@@ -34,7 +34,7 @@ impl<'b> Question<'b> {
             is_answered: false,
             status: 0,
             printed: String::new(alloc),
-            told: String::new(alloc),
+            reported: String::new(alloc),
             checked: None,
         }
     }

@@ -49,14 +49,14 @@ fn try_job<H: Threads + Wait + Sync>(
         Err(error) => Err(*error),
     };
     let output = say(threads, alloc, job, plan, texts.script)?;
-    let is_told = output.ended_with(question.status, question.told.as_str());
-    if is_told && prints(threads, alloc, question, output.stdout.as_str())? {
+    let is_reported = output.ended_with(question.status, question.reported.as_str());
+    if is_reported && prints(threads, alloc, question, output.stdout.as_str())? {
         Ok(output)
     } else {
         Err(Wrong::Answer {
             status: output.status,
             printed: output.stdout,
-            told: output.stderr,
+            reported: output.stderr,
         })
     }
 }

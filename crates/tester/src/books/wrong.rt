@@ -17,11 +17,11 @@ pub enum Wrong {
     Edit,
     #[error("its jobs print different texts")]
     Differs,
-    #[error("status {status}\n{printed}{told}")]
+    #[error("status {status}\n{printed}{reported}")]
     Answer {
         status: u8,
         printed: String,
-        told: String,
+        reported: String,
     },
 }
 

@@ -2,15 +2,15 @@
 
 ghost use Rattle.segment_core.specs.Segment.{IsReady};
 
+use super::inputs::Held::First;
+use super::inputs::Input::{self, CopyAsk, CopyOf, Fence, Gossip, Install, PageAsk, Step, Write};
+use super::inputs::Sent::Ours;
 use super::messages::message;
 use super::nodes::At::{self, Copied, Fresh, Holding, Hydrated, Promised, Tail, Whole};
 use super::nodes::node;
 use super::rows::{Row, Table, are_kept};
 use super::steps::Said::{self, Acks, Asks, Byte, Copies, Nothing, Offers, Reports};
 use super::steps::said_by;
-use super::told::Held::First;
-use super::told::Sent::Ours;
-use super::told::Told::{self, CopyAsk, CopyOf, Fence, Gossip, Install, PageAsk, Step, Write};
 use segment_core::{NodeAct, Prepared, Segment};
 use std::alloc::Global;
 use std::test::*;
@@ -71,9 +71,9 @@ fn applied(node: &mut Segment, prepared: Prepared) -> Parts
 }
 
 /// Whether a record is taken so in two parts.
-fn takes(alloc: Global, at: At, told: Told, parts: Parts) -> Result<bool, Fault> {
+fn takes(alloc: Global, at: At, input: Input, parts: Parts) -> Result<bool, Fault> {
     let mut node = node(alloc, at)?;
-    let prepared = node.prepare(alloc, &message(alloc, told)?)?;
+    let prepared = node.prepare(alloc, &message(alloc, input)?)?;
     Ok(applied(&mut node, prepared) == parts)
 }
 

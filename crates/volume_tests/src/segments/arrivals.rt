@@ -1,12 +1,12 @@
 //! Records that come in other orders than that of their chains, and the pages that they make.
 
+use super::inputs::Input::{ByteOf, Fence, Offer, Restart, Write};
+use super::inputs::Sent::{self, After, Ours};
 use super::nodes::At::{Tail, Whole};
 use super::nodes::node;
 use super::rows::{Row, Table, are_kept, broken_by};
 use super::steps::Said::{Acks, Byte, Nothing, Offers, Reports};
 use super::steps::answer;
-use super::told::Sent::{self, After, Ours};
-use super::told::Told::{ByteOf, Fence, Offer, Restart, Write};
 use segment_core::Segment;
 use std::alloc::Global;
 use std::test::*;

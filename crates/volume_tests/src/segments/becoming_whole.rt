@@ -1,10 +1,10 @@
 //! A member that joins and is made whole by copies of a read set.
 
+use super::inputs::Held::First;
+use super::inputs::Input::{ByteOf, CopyOf, Fence, Hydrate, Offer, Restart, Step};
 use super::nodes::At::{Hydrated, Joined, Joining};
 use super::rows::{Row, Table, are_kept};
 use super::steps::Said::{Asks, Byte, Nothing, Offers, Reports};
-use super::told::Held::First;
-use super::told::Told::{ByteOf, CopyOf, Fence, Hydrate, Offer, Restart, Step};
 use std::test::*;
 use volume_model::Fault::{AlreadyWhole, NoRecord, NotEnough, NotInstalled, NotWhole};
 

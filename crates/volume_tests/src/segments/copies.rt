@@ -1,14 +1,14 @@
 //! Copies that come in pieces.
 
+use super::inputs::Input::{self, CopyAsk, CopyPiece, Hydrate, Restart, Step};
+use super::inputs::Part::{self, Of, One};
+use super::inputs::{FIRST_THIRD, LAST_THIRD, ORDERS, SECOND_THIRD};
 use super::messages::message;
 use super::nodes::At::{Early, Fresh, Holding};
 use super::nodes::node;
 use super::rows::{Row, Table, are_kept, broken};
 use super::steps::Said::{Asks, Nothing};
 use super::steps::answer;
-use super::told::Part::{self, Of, One};
-use super::told::Told::{self, CopyAsk, CopyPiece, Hydrate, Restart, Step};
-use super::told::{FIRST_THIRD, LAST_THIRD, ORDERS, SECOND_THIRD};
 use segment_core::Segment;
 use std::alloc::Global;
 use std::test::*;

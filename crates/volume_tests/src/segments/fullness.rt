@@ -1,13 +1,13 @@
 //! As many records as a segment may hold.
 
+use super::inputs::Input::{CopyPiece, Hydrate, InstallPiece, Write};
+use super::inputs::Part::Of;
+use super::inputs::Sent::Ours;
 use super::nodes::At::{self, Fresh, Whole};
 use super::nodes::node;
 use super::rows::{Row, broken_by};
 use super::steps::Said::{Acks, Nothing};
 use super::steps::answer;
-use super::told::Part::Of;
-use super::told::Sent::Ours;
-use super::told::Told::{CopyPiece, Hydrate, InstallPiece, Write};
 use std::alloc::Global;
 use std::test::*;
 use volume_model::Fault::{self, Full};
@@ -38,12 +38,12 @@ fn filled(alloc: Global, at: At, rows: &[Row]) -> Result<(Option<u16>, Option<us
     for piece in 0..4096 {
         let before = u64::from(piece) * 256;
         let part = Of(piece, 4096, before + 1, before + 256);
-        let (told, last) = match at {
+        let (input, last) = match at {
             Whole => (InstallPiece(2, 1, part), Acks(MOST)),
             _ => (CopyPiece(2, 0, 1, part), Nothing),
         };
         let expected = if piece == 4095 { last } else { Nothing };
-        if answer(alloc, &mut node, told)? != expected {
+        if answer(alloc, &mut node, input)? != expected {
             return Ok((Some(piece), None));
         }
     }

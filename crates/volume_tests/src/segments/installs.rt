@@ -1,12 +1,12 @@
 //! Installs that come in pieces.
 
+use super::inputs::Input::{ByteOf, Fence, InstallPiece, Restart, Step, Write};
+use super::inputs::Part::{Of, One};
+use super::inputs::Sent::{self, Ours};
+use super::inputs::{FIRST_THIRD, LAST_THIRD, ORDERS, SECOND_THIRD};
 use super::nodes::At::Holding;
 use super::rows::{Row, Table, are_kept, broken};
 use super::steps::Said::{Acks, Byte, Nothing, Reports};
-use super::told::Part::{Of, One};
-use super::told::Sent::{self, Ours};
-use super::told::Told::{ByteOf, Fence, InstallPiece, Restart, Step, Write};
-use super::told::{FIRST_THIRD, LAST_THIRD, ORDERS, SECOND_THIRD};
 use std::alloc::Global;
 use std::test::*;
 use volume_model::Fault::{self, BadPiece, Full, NotInstalled, StaleMember, StaleVolume};

@@ -1,6 +1,6 @@
 //! The messages that nodes receive.
 
-use super::told::{Held, Part, Sent, Told};
+use super::inputs::{Held, Input, Part, Sent};
 use crate::packets::{Line, chain, chained, packet, recovered};
 use lineage::Lineage;
 use redo_record::{RecordSet, SharedRecord};
@@ -92,8 +92,8 @@ fn part(alloc: Global, volume: u32, part: Part) -> Result<(u16, u16, Contents), 
 }
 
 /// The message of an install's piece.
-fn install_piece(alloc: Global, label: Label, told: Part) -> Result<Message, Fault> {
-    let (piece, of, contents) = part(alloc, label.volume, told)?;
+fn install_piece(alloc: Global, label: Label, input: Part) -> Result<Message, Fault> {
+    let (piece, of, contents) = part(alloc, label.volume, input)?;
     Ok(Message::Install(Install {
         group: 0,
         label,
@@ -109,9 +109,9 @@ fn copy_piece(
     epoch: u32,
     from: u8,
     series: u64,
-    told: Part,
+    input: Part,
 ) -> Result<Message, Fault> {
-    let (piece, of, contents) = part(alloc, 1, told)?;
+    let (piece, of, contents) = part(alloc, 1, input)?;
     Ok(Message::CopyReport(CopyReport {
         group: 0,
         epoch,
@@ -123,25 +123,25 @@ fn copy_piece(
 }
 
 /// The messages for clients.
-fn for_clients(alloc: Global, told: Told) -> Result<Message, Fault> {
-    Ok(match told {
-        Told::View => Message::View(View {
+fn for_clients(alloc: Global, input: Input) -> Result<Message, Fault> {
+    Ok(match input {
+        Input::View => Message::View(View {
             volume: 1,
             places: Box::new(alloc, Vec::new(alloc))?,
         }),
-        Told::Report => Message::Report(Report {
+        Input::Report => Message::Report(Report {
             group: 0,
             label: LABEL,
             from: 1,
             contents: Arc::new(alloc, held(alloc, Held::First(0))?)?,
         }),
-        Told::Ack => Message::Ack(Ack {
+        Input::Ack => Message::Ack(Ack {
             group: 0,
             label: LABEL,
             from: 1,
             scl: 1,
         }),
-        Told::Page => Message::Page(Page {
+        Input::Page => Message::Page(Page {
             group: 0,
             label: LABEL,
             from: 1,
@@ -152,54 +152,54 @@ fn for_clients(alloc: Global, told: Told) -> Result<Message, Fault> {
 }
 
 /// The messages that hold nothing but numbers, and those for clients.
-fn plain(alloc: Global, told: Told) -> Result<Message, Fault> {
-    Ok(match told {
-        Told::Fence(group, volume, member) => Message::Fence(Fence {
+fn plain(alloc: Global, input: Input) -> Result<Message, Fault> {
+    Ok(match input {
+        Input::Fence(group, volume, member) => Message::Fence(Fence {
             group,
             label: Label { volume, member },
         }),
-        Told::Step(group, configuration, epoch) => Message::StepTo(StepTo {
+        Input::Step(group, configuration, epoch) => Message::StepTo(StepTo {
             group,
             place: Place {
                 configuration,
                 epoch,
             },
         }),
-        Told::CopyAsk(group, epoch) => Message::CopyAsk(CopyAsk { group, epoch }),
-        Told::PageAsk(group, volume, member, point) => Message::PageAsk(PageAsk {
+        Input::CopyAsk(group, epoch) => Message::CopyAsk(CopyAsk { group, epoch }),
+        Input::PageAsk(group, volume, member, point) => Message::PageAsk(PageAsk {
             group,
             label: Label { volume, member },
             block: 0,
             point,
         }),
-        _ => return for_clients(alloc, told),
+        _ => return for_clients(alloc, input),
     })
 }
 
 /// The message that a node receives, `NoMessage` if there is none.
-pub fn message(alloc: Global, told: Told) -> Result<Message, Fault> {
-    Ok(match told {
-        Told::Install(group, volume, member, whole) => Message::Install(Install {
+pub fn message(alloc: Global, input: Input) -> Result<Message, Fault> {
+    Ok(match input {
+        Input::Install(group, volume, member, whole) => Message::Install(Install {
             group,
             label: Label { volume, member },
             piece: 0,
             of: 1,
             contents: Box::new(alloc, held(alloc, whole)?)?,
         }),
-        Told::InstallPiece(volume, member, part) => {
+        Input::InstallPiece(volume, member, part) => {
             return install_piece(alloc, Label { volume, member }, part);
         }
-        Told::Write(group, volume, member, record) => Message::Write(Write {
+        Input::Write(group, volume, member, record) => Message::Write(Write {
             group,
             label: Label { volume, member },
             packet: sent(alloc, record)?,
         }),
-        Told::Gossip(group, volume, member, record) => Message::Gossip(Gossip {
+        Input::Gossip(group, volume, member, record) => Message::Gossip(Gossip {
             group,
             label: Label { volume, member },
             packet: sent(alloc, record)?,
         }),
-        Told::CopyOf(group, epoch, from, whole) => Message::CopyReport(CopyReport {
+        Input::CopyOf(group, epoch, from, whole) => Message::CopyReport(CopyReport {
             group,
             epoch,
             from,
@@ -207,9 +207,9 @@ pub fn message(alloc: Global, told: Told) -> Result<Message, Fault> {
             of: 1,
             part: Box::new(alloc, first_copy(alloc, whole)?)?,
         }),
-        Told::CopyPiece(epoch, from, series, part) => {
+        Input::CopyPiece(epoch, from, series, part) => {
             return copy_piece(alloc, epoch, from, series, part);
         }
-        _ => return plain(alloc, told),
+        _ => return plain(alloc, input),
     })
 }

@@ -1,8 +1,8 @@
 //! The nodes that things happen to.
 
+use super::inputs::{Held, Input, Sent};
 use super::plans::{REPLACED, SMALL};
 use super::steps::answer;
-use super::told::{Held, Sent, Told};
 use crate::texts::checked;
 use segment_core::Segment;
 use std::alloc::Global;
@@ -36,30 +36,30 @@ pub enum At {
 }
 
 /// A fence of volume epoch 2.
-const PROMISE: &[Told] = &[Told::Fence(0, 2, 1)];
+const PROMISE: &[Input] = &[Input::Fence(0, 2, 1)];
 
 /// A step to membership epoch 2.
-const STEP: &[Told] = &[Told::Step(0, 1, 2)];
+const STEP: &[Input] = &[Input::Step(0, 1, 2)];
 
 /// The step, and copies of a read set.
-const COPIES: &[Told] = &[
-    Told::Step(0, 1, 2),
-    Told::CopyOf(0, 2, 0, Held::First(0)),
-    Told::CopyOf(0, 2, 1, Held::First(0)),
-    Told::CopyOf(0, 2, 2, Held::First(0)),
+const COPIES: &[Input] = &[
+    Input::Step(0, 1, 2),
+    Input::CopyOf(0, 2, 0, Held::First(0)),
+    Input::CopyOf(0, 2, 1, Held::First(0)),
+    Input::CopyOf(0, 2, 2, Held::First(0)),
 ];
 
 /// The same, and how they make a member whole.
-const HYDRATION: &[Told] = &[
-    Told::Step(0, 1, 2),
-    Told::CopyOf(0, 2, 0, Held::First(0)),
-    Told::CopyOf(0, 2, 1, Held::First(0)),
-    Told::CopyOf(0, 2, 2, Held::First(0)),
-    Told::Hydrate,
+const HYDRATION: &[Input] = &[
+    Input::Step(0, 1, 2),
+    Input::CopyOf(0, 2, 0, Held::First(0)),
+    Input::CopyOf(0, 2, 1, Held::First(0)),
+    Input::CopyOf(0, 2, 2, Held::First(0)),
+    Input::Hydrate,
 ];
 
 /// What happens to a member of a group until it is that node.
-fn story(at: At) -> &'static [Told] {
+fn story(at: At) -> &'static [Input] {
     match at {
         At::Promised => PROMISE,
         At::Fresh | At::Joined => STEP,
@@ -84,12 +84,12 @@ fn born(alloc: Global, at: At) -> Result<Segment, Fault> {
 /// That node.
 pub fn node(alloc: Global, at: At) -> Result<Segment, Fault> {
     let mut node = born(alloc, at)?;
-    for told in story(at) {
-        answer(alloc, &mut node, *told)?;
+    for input in story(at) {
+        answer(alloc, &mut node, *input)?;
     }
     if let At::Holding(last) = at {
         for lsn in 1..=last {
-            answer(alloc, &mut node, Told::Write(0, 1, 1, Sent::Ours(lsn)))?;
+            answer(alloc, &mut node, Input::Write(0, 1, 1, Sent::Ours(lsn)))?;
         }
     }
     Ok(node)

@@ -1,18 +1,18 @@
 //! Why a node refuses each message. Those of pieces stand in `installs` and `copies`. That no number is left for a copy is left to the
 //! contract: it takes more copies than a test can ask for.
 
+use super::inputs::Held::{First, Nothing};
+use super::inputs::Input::{self, *};
+use super::inputs::Sent::{Others, Ours};
 use super::nodes::At::{self, Fresh, Nobody, Promised, Tail, Whole};
 use super::nodes::node;
 use super::steps::{Said, answer};
-use super::told::Held::{First, Nothing};
-use super::told::Sent::{Others, Ours};
-use super::told::Told::{self, *};
 use std::alloc::Global;
 use std::test::*;
 use volume_model::Fault::{self, *};
 
 /// What is wrong, the receiving node, the message, and why it refuses.
-type Case = (&'static str, At, Told, Fault);
+type Case = (&'static str, At, Input, Fault);
 
 const FENCES: &[Case] = &[
     ("of another group", Whole, Fence(1, 2, 1), NotAddressed),
@@ -262,14 +262,14 @@ const KINDS: &[(&str, &[Case])] = &[
 ];
 
 /// What a new node answers.
-fn told(alloc: Global, at: At, told: Told) -> Result<Said, Fault> {
-    answer(alloc, &mut node(alloc, at)?, told)
+fn input(alloc: Global, at: At, input: Input) -> Result<Said, Fault> {
+    answer(alloc, &mut node(alloc, at)?, input)
 }
 
 /// What is wrong in the first case that isn't refused as it says, `None` where each is.
 fn taken(alloc: Global, cases: &[Case]) -> Option<&'static str> {
     for (what, at, message, fault) in cases {
-        if told(alloc, *at, *message) != Err(*fault) {
+        if input(alloc, *at, *message) != Err(*fault) {
             return Some(*what);
         }
     }

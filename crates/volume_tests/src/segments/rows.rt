@@ -1,23 +1,23 @@
 //! Tables of what happens to a node, and what it answers.
 
+use super::inputs::Input;
 use super::nodes::{At, node};
 use super::steps::{Said, answer};
-use super::told::Told;
 use segment_core::Segment;
 use std::alloc::Global;
 use std::process::Abort;
 use volume_model::Fault;
 
 /// What happens to a node, what it answers or why it refuses, and its complete point then.
-pub type Row = (Told, Result<Said, Fault>, u64);
+pub type Row = (Input, Result<Said, Fault>, u64);
 
 /// What a table is of, the node that it begins with, and its rows.
 pub type Table = (&'static str, At, &'static [Row]);
 
 /// The place of the first row that the node doesn't keep to, `None` where it keeps to all.
 pub fn broken_by(alloc: Global, node: &mut Segment, rows: &[Row]) -> Option<usize> {
-    for (place, (told, expected, point)) in rows.iter().enumerate() {
-        if answer(alloc, node, *told) != *expected || node.scl() != *point {
+    for (place, (input, expected, point)) in rows.iter().enumerate() {
+        if answer(alloc, node, *input) != *expected || node.scl() != *point {
             return Some(place);
         }
     }

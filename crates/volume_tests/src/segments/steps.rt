@@ -1,7 +1,7 @@
 //! What a node answers to what happens to it.
 
+use super::inputs::Input;
 use super::messages::message;
-use super::told::Told;
 use redo_record::SharedRecord;
 use segment_core::Segment;
 use std::alloc::Global;
@@ -67,28 +67,28 @@ pub fn said_by(messages: &Messages) -> Said {
 }
 
 /// What the node answers to a message.
-fn delivered(alloc: Global, node: &mut Segment, told: Told) -> Result<Said, Fault> {
-    let message = message(alloc, told)?;
+fn delivered(alloc: Global, node: &mut Segment, input: Input) -> Result<Said, Fault> {
+    let message = message(alloc, input)?;
     let answers = node.deliver(alloc, &message)?;
     Ok(said_by(&answers))
 }
 
 /// What the node answers.
-pub fn answer(alloc: Global, node: &mut Segment, told: Told) -> Result<Said, Fault> {
-    match told {
-        Told::Restart => {
+pub fn answer(alloc: Global, node: &mut Segment, input: Input) -> Result<Said, Fault> {
+    match input {
+        Input::Restart => {
             node.restart();
             Ok(Said::Nothing)
         }
-        Told::Hydrate => {
+        Input::Hydrate => {
             node.hydrate(alloc)?;
             Ok(Said::Nothing)
         }
-        Told::Offer(lsn) => Ok(said_in(&node.offer(lsn)?.gossip()?)),
-        Told::ByteOf(block, point, place) => match node.page_at(alloc, block, point)?.get(place) {
+        Input::Offer(lsn) => Ok(said_in(&node.offer(lsn)?.gossip()?)),
+        Input::ByteOf(block, point, place) => match node.page_at(alloc, block, point)?.get(place) {
             Some(byte) => Ok(Said::Byte(*byte)),
             None => Ok(Said::Another),
         },
-        _ => delivered(alloc, node, told),
+        _ => delivered(alloc, node, input),
     }
 }

@@ -6,7 +6,7 @@ use Rattle.wire.specs.Message.{message_of}
 use Rattle.writer_core.specs.Writers.{answered}
 use Rattle.world.specs.Clients.{client_plan, client_volume, seen_client}
 use Rattle.fleet_actors.specs.Actions.{action_acted, action_after_growth}
-use Rattle.fleet_actors.proofs.Judged.{deed_own, done_answer, judged_answer, judged_test, still_answer}
+use Rattle.fleet_actors.proofs.Judged.{action_own, done_answer, judged_answer, judged_test, still_answer}
 use Rattle.fleet_actors.proofs.client_attempt.try_step.Goals as goal
 
 pub returns-in-Err-clause-refused : goal.returns-in-Err-clause-refused
@@ -15,7 +15,7 @@ returns-in-Err-clause-refused c =
     let action = c.args.action.now in
     let found : Option model.Message = option_map message_of (option_copied c.args.found) in
     let defined : ClientAnswer = action_acted found action (client_plan old) (client_volume old) (seen_client old) in
-    judged_test c.args.full defined (deed_own action found (client_plan old) (client_volume old) (seen_client old) c.requires.found) (action_after_growth action) c.in-Err.fault c.in-Err.ensures
+    judged_test c.args.full defined (action_own action found (client_plan old) (client_volume old) (seen_client old) c.requires.found) (action_after_growth action) c.in-Err.fault c.in-Err.ensures
 
 pub returns-clause-done : goal.returns-clause-done
 returns-clause-done c =
@@ -30,7 +30,7 @@ returns-clause-refused c =
     let action = c.args.action.now in
     let found : Option model.Message = option_map message_of (option_copied c.args.found) in
     let defined : ClientAnswer = action_acted found action (client_plan old) (client_volume old) (seen_client old) in
-    judged_answer c.args.full defined (deed_own action found (client_plan old) (client_volume old) (seen_client old) c.requires.found) (action_after_growth action) answered (seen_client old) (seen_client c.act.new.client) c.act.result c.act.ensures.answers
+    judged_answer c.args.full defined (action_own action found (client_plan old) (client_volume old) (seen_client old) c.requires.found) (action_after_growth action) answered (seen_client old) (seen_client c.act.new.client) c.act.result c.act.ensures.answers
 
 pub returns-clause-still : goal.returns-clause-still
 returns-clause-still c =

@@ -12,7 +12,7 @@ use Rattle.mailbox.specs.Seats.{MailboxId}
 use Rattle.mailbox.proofs.Back.{have_first}
 use Rattle.journal.specs.Entries.{entries_of}
 use Rattle.journal.specs.Passes.{journal_of}
-use Rattle.journal.specs.Standing.{Stands}
+use Rattle.journal.specs.PassSteps.{Stands}
 use Rattle.journal.specs.Tokens.{shown}
 use Rattle.journal.proofs.Each.{all_push}
 use Rattle.node_fleet.specs.declared.pass.Pass.{Pass}

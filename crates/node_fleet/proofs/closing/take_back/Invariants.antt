@@ -6,7 +6,7 @@ use Rattle.mailbox.specs.Mails.{back_at, steps_at, AreBack, Has}
 use Rattle.mailbox.specs.declared.Mailbox.{Mailbox}
 use Rattle.journal.specs.Passes.{journal_of}
 use Rattle.node_fleet.specs.Passes.{steps_of, notes_of, seat_of}
-use Rattle.journal.specs.Standing.{Stands}
+use Rattle.journal.specs.PassSteps.{Stands}
 use Rattle.node_fleet.proofs.closing.take_back.Given as goal
 
 abbrev pub invariant-loop-pass : goal.invariant-loop-pass

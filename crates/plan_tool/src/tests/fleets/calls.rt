@@ -31,10 +31,10 @@ pub enum Call {
 }
 
 /// How many messages a call made and the durable point that it showed, or why it was refused.
-pub type Told = Result<(usize, u64), Fault>;
+pub type CallResult = Result<(usize, u64), Fault>;
 
 /// A call and its expected result.
-pub type Step = (Call, Told);
+pub type Step = (Call, CallResult);
 
 /// Changes to these bytes, one a byte, from the first byte of block 0 on.
 fn changes(alloc: Global, bytes: &str) -> Result<Vec<Change>, AllocError> {
@@ -88,7 +88,7 @@ impl Call {
 }
 
 /// The result of a call.
-fn told_of(made: &Result<Receipt, Fault>) -> Told {
+fn result_of(made: &Result<Receipt, Fault>) -> CallResult {
     match made {
         Ok(receipt) => Ok((receipt.made, receipt.durable)),
         Err(fault) => Err(*fault),
@@ -125,7 +125,7 @@ pub fn first_wrong<'a, L: FleetSite, R: Wait>(
     for (i, (call, told)) in steps.iter().enumerate() {
         let before = look.lent();
         let made = call.made(rt, alloc, fleet, &mut passes[i % count], look);
-        if told_of(&made) != *told || !is_lent(*call, &made, before, look.lent()) {
+        if result_of(&made) != *told || !is_lent(*call, &made, before, look.lent()) {
             return Some(i);
         }
         let number = made.map_or(0, |receipt| receipt.number);

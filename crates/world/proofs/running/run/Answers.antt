@@ -13,4 +13,4 @@ returns-clause-promises c =
 
 pub returns-clause-returned : goal.returns-clause-returned
 returns-clause-returned c =
-    returned_of (checked_model (arc_value c.args.plan.now)) (events_of c.args.events.now) (subst (λ (p : CheckedPlan). PromisesRuns (checked_model p)) c.deref.ensures c.promised.ensures) c.outcome_of.result c.outcome_of.ensures.tells
+    returned_of (checked_model (arc_value c.args.plan.now)) (events_of c.args.events.now) (subst (λ (p : CheckedPlan). PromisesRuns (checked_model p)) c.deref.ensures c.promised.ensures) c.outcome_of.result c.outcome_of.ensures.is_run

@@ -13,4 +13,4 @@ returns-clause-promises c =
 
 pub returns-clause-returned : goal.returns-clause-returned
 returns-clause-returned c =
-    returned_of (checked_model (arc_value c.args.plan.now)) (ordered_events (checked_model (arc_value c.args.plan.now)) c.args.orders.items) (subst (λ (p : CheckedPlan). PromisesRuns (checked_model p)) c.deref.ensures c.promised.ensures) c.outcome_of_orders.result c.outcome_of_orders.ensures.tells
+    returned_of (checked_model (arc_value c.args.plan.now)) (ordered_events (checked_model (arc_value c.args.plan.now)) c.args.orders.items) (subst (λ (p : CheckedPlan). PromisesRuns (checked_model p)) c.deref.ensures c.promised.ensures) c.outcome_of_orders.result c.outcome_of_orders.ensures.is_run

@@ -1,5 +1,5 @@
 use Rattle.std.proofs.Common.{◌≡◌, ◌+◌, ◌∷◌, [], length, length-append, ap, sym, ◌∙◌, map, zero-add, Vec, Global, ◌-◌, Some, subst, arith}
-use Rattle.cert_search.specs.declared.reach.Reach.{Reach}
+use Rattle.cert_search.specs.declared.steal_handle.StealHandle.{StealHandle}
 use Rattle.cert_search.specs.Dealing.{names_in, row_plain, fresh_row, AreRows, IsFilled, LendsOthers}
 use Rattle.cert_search.proofs.Tables.{range_push, same_names, filled_same}
 use Rattle.cert_search.proofs.Lents.{rows_more}
@@ -11,7 +11,7 @@ loop-which-preserved c =
     let t = c.loop-which.self in
     let inv = c.loop-which.invariant in
     let which = c.loop-which.which in
-    let plain = λ (row : Vec Reach Global). row_plain row.items in
+    let plain = λ (row : Vec StealHandle Global). row_plain row.items in
     record {
       workers = c.in_ok-row.ensures.workers ∙ inv.workers;
       same = c.in_ok-row.ensures.same ∙ inv.same;

@@ -10,7 +10,7 @@ use Rattle.journal.specs.Entries.{entry_of, entries_of, note_of}
 use Rattle.journal.specs.Fronts.{front_log, log_of}
 use Rattle.journal.specs.LastEntries.{last_known, or_zero}
 use Rattle.wire.specs.Listed.{listed}
-use Rattle.journal.specs.Standing.{made, Stands}
+use Rattle.journal.specs.PassSteps.{made, Stands}
 use Rattle.journal.specs.Tokens.{shown}
 use Rattle.world.specs.Events.{event_of}
 use Rattle.volume_model.specs.World.{World, groups_joined}

@@ -4,7 +4,7 @@ use Rattle.volume_model.proofs.Judges.{refused_longer}
 use Rattle.journal.specs.declared.entry.Entry.{Entry}
 use Rattle.journal.specs.Entries.{entry_of, entries_of, note_of}
 use Rattle.journal.specs.Fronts.{front_log, log_of}
-use Rattle.journal.specs.Standing.{made}
+use Rattle.journal.specs.PassSteps.{made}
 use Rattle.journal.specs.Tokens.{shown}
 use Rattle.journal.proofs.Entered.{entries_begin, length-entries}
 use Rattle.journal.proofs.Steps.{stands_longer}

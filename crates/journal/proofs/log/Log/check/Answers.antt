@@ -5,7 +5,7 @@ use Rattle.journal.specs.declared.pass.PassStep.{PassStep}
 use Rattle.journal.specs.Entries.{entries_of, note_of}
 use Rattle.journal.specs.Fronts.{front_log}
 use Rattle.journal.specs.Passes.{made_of}
-use Rattle.journal.specs.Standing.{Stands}
+use Rattle.journal.specs.PassSteps.{Stands}
 use Rattle.journal.specs.Tokens.{shown}
 use Rattle.journal.proofs.Each.{all_map}
 use Rattle.journal.proofs.log.Log.check.Goals as goal

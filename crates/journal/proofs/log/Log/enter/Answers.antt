@@ -9,7 +9,7 @@ use Rattle.journal.specs.declared.pass.PassStep.{PassStep}
 use Rattle.journal.specs.Entries.{entry_of, entries_of}
 use Rattle.wire.specs.Listed.{listed}
 use Rattle.journal.specs.Passes.{steps_of, made_of}
-use Rattle.journal.specs.Standing.{Made, made}
+use Rattle.journal.specs.PassSteps.{Made, made}
 use Rattle.journal.specs.Fronts.{front_log}
 use Rattle.journal.specs.Tokens.{shown}
 use Rattle.journal.proofs.Entered.{entries_push, entries_world, length-entries}

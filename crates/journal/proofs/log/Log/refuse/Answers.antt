@@ -4,7 +4,7 @@ use Rattle.world.specs.Events.{event_of}
 use Rattle.journal.specs.declared.entry.Entry.{Entry}
 use Rattle.journal.specs.declared.pass.PassStep.{PassStep}
 use Rattle.journal.specs.Entries.{entry_of, entries_of}
-use Rattle.journal.specs.Standing.{made, Stands}
+use Rattle.journal.specs.PassSteps.{made, Stands}
 use Rattle.journal.specs.Tokens.{shown}
 use Rattle.journal.proofs.Entered.{length-entries}
 use Rattle.journal.proofs.Noting.{at_most_all, noted_now}

@@ -5,7 +5,7 @@ use Rattle.journal.specs.declared.entry.Entry.{Entry}
 use Rattle.journal.specs.declared.pass.PassStep.{PassStep}
 use Rattle.journal.specs.Entries.{entry_of, entries_of}
 use Rattle.journal.specs.Passes.{made_of, world_of}
-use Rattle.journal.specs.Standing.{made, IsElse, Stands}
+use Rattle.journal.specs.PassSteps.{made, IsElse, Stands}
 use Rattle.journal.specs.Tokens.{shown}
 use Rattle.journal.proofs.Each.{all_map}
 use Rattle.journal.proofs.Steps.{none_made}

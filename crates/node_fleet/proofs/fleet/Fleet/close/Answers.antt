@@ -5,7 +5,7 @@ use Rattle.volume_model.specs.Plan.{Plan}
 use Rattle.volume_model.specs.Journal.{Entry, events}
 use Rattle.plan.specs.CheckedModel.{checked_model}
 use Rattle.world.specs.Outcomes.{KeepsPromises}
-use Rattle.journal.specs.Standing.{NamesEarlier}
+use Rattle.journal.specs.PassSteps.{NamesEarlier}
 use Rattle.node_fleet.specs.Journals.{entries_in}
 use Rattle.node_fleet.specs.Passes.{seat_of}
 use Rattle.node_fleet.proofs.Ending.{mail_kept, mail_whole}

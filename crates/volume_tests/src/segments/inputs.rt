@@ -54,7 +54,7 @@ pub enum Sent {
 /// What happens to a node. Of a message that speaks under a label the group stands first, then the label's volume epoch and membership
 /// epoch.
 #[derive(Clone, Copy)]
-pub enum Told {
+pub enum Input {
     /// A fence.
     Fence(u8, u32, u32),
     /// What a recovery installs, in one piece.

@@ -9,7 +9,7 @@ use std::sync::Wait;
 
 /// A view of the deque of worker `which`, from which another worker steals.
 #[derive(Drop)]
-pub struct Reach {
+pub struct StealHandle {
     pub(crate) which: usize,
     pub(crate) stealer: Thief,
     pub(crate) pass: Entry,
@@ -20,7 +20,7 @@ pub struct Reach {
     ghost at_end: { ended ≡ (view pass).ended },
 }
 
-impl Reach {
+impl StealHandle {
     ghost use Rattle.std.specs.Prelude.{◌≡◌, MatchOption};
     ghost use Rattle.cert_search.specs.Sights.{reach_sight, Ends, Gets};
 
