@@ -1,4 +1,4 @@
--- Who waits for one number.
+-- The numbers that are pending under one number.
 use Rattle.std.specs.Prelude.{◌<◌, ℕ, List, [], ◌∷◌, Option, Some, None, length, vec_capacity}
 use Rattle.chains.specs.declared.waiters.Waiters.{Waiters}
 use Rattle.chains.specs.declared.waiters.Waiters.TheVariants.{Nobody, One, Many}

@@ -1,4 +1,4 @@
--- Who waits for whom, in a set of records.
+-- Which numbers are pending under which, in a set of records.
 use Rattle.std.specs.Prelude.{◌≡◌, ◌⊎◌, ◌||◌, ◌==◌, ℕ, Bool, List}
 use Rattle.volume_model.specs.Lists.{IsIn}
 use Rattle.volume_model.specs.Redo.{Redo, grounded}

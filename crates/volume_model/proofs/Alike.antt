@@ -84,7 +84,7 @@ module _ (plan : Plan) where
   there_alike : (i j g m : ℕ) (r : NodeAnswer) → nat_lt g i ≡ nat_lt g j → if_there plan i g m r ≡ if_there plan j g m r
   there_alike i j g m r e = ap (λ (b : Bool). refuse_if (not (b && is_named plan g m)) NoActor r) e
 
-  -- The same is told of an event in v as in w, where both have its actor in one state, a node is there in both or in neither, and v has the messages of w; but that there was no message
+  -- The result of an event is the same in v and in w, where both have its actor in one state, a node is there in both or in neither, and v has the messages of w; but that there was no message
   pub answered_alike : (w v : World) (e : Event) → Agree (actor_of e) w v → JoinedAlike e w v → Keeps w v → answer (step plan w e) ≢ Err NoMessage → answer (step plan v e) ≡ answer (step plan w e)
   answered_alike w v Assign same there keeps found = authority_alike w v (assigned plan w.authority) (assigned plan v.authority) (ap (λ (s : Authority). assigned plan s) same)
   answered_alike w v (Advance group c) same there keeps found = authority_alike w v (advanced plan w.authority group c) (advanced plan v.authority group c) (ap (λ (s : Authority). advanced plan s group c) same)

@@ -138,7 +138,7 @@ module _ (plan : Plan) where
   refused_longer slots cells es fs n p room h =
       let l = prefix_length es fs p in
       let within = h.within in
-      record { within = omega (arith, l, within); event_result = result_longer slots cells n.number es fs n.event n.fault p room h.within h.event_result }
+      record { within = omega (arith, l, within); judged_so = result_longer slots cells n.number es fs n.event n.fault p room h.within h.judged_so }
 
   result_now : (slots cells number : ℕ) (es : List Entry) (event : Event) (fault : Fault) → IsNoted fault → IsOne event (world_at plan (take number es)) (world_at plan es)
       → Exact plan slots cells es event fault → found_in plan es number event fault ≡ wanted slots cells fault
@@ -198,7 +198,7 @@ module _ (plan : Plan) where
   -- what the model refuses now may be noted
   pub noted : (slots cells number : ℕ) (es : List Entry) (event : Event) (fault : Fault) → IsNoted fault → number ≤ length es → IsOne event (world_at plan (take number es)) (world_at plan es)
       → Exact plan slots cells es event fault → IsRefused plan slots cells es (record { event = event; fault = fault; number = number })
-  noted slots cells number es event fault is le agree h = record { within = le; event_result = result_now slots cells number es event fault is agree h }
+  noted slots cells number es event fault is le agree h = record { within = le; judged_so = result_now slots cells number es event fault is agree h }
 
   -- by the actor's last number alone
   pub noted_at_last : (slots cells number : ℕ) (es : List Entry) (event : Event) (fault : Fault) → IsNoted fault → number ≤ length es → last_of (actor_of event) es ≤ number

@@ -9,16 +9,16 @@ use std::thread;
 
 // One holder of a seat.
 #[derive(Drop)]
-struct Desk<'m> {
+struct Replies<'m> {
     mail: &'m Mailbox,
     seat: MailSeat,
     ghost of: { IsSeatOf mail.now seat },
 }
 
-impl<'m> Desk<'m> {
+impl<'m> Replies<'m> {
     // Posts two letters, and the closing letter.
     fn post_two<R: Wait>(self, rt: &R, first: u64, second: u64) {
-        let Desk { mail, mut seat } = self;
+        let Replies { mail, mut seat } = self;
         mail.post(rt, &mut seat, first);
         mail.post(rt, &mut seat, second);
         mail.close(rt, &mut seat);
@@ -26,7 +26,7 @@ impl<'m> Desk<'m> {
 
     // Whether these two letters come in this order, and then the closing letter.
     fn collects_two<R: Wait>(self, rt: &R, first: u64, second: u64) -> bool {
-        let Desk { mail, mut seat } = self;
+        let Replies { mail, mut seat } = self;
         let one = mail.collect(rt, &mut seat);
         let other = mail.collect(rt, &mut seat);
         let last = mail.collect(rt, &mut seat);
@@ -72,8 +72,8 @@ fn letters_reach_another_thread_in_order(rt: HostRuntime) -> Result<(), Fail> {
     let second = seats.pop().ok_or("no seat")?;
     let first = seats.pop().ok_or("no seat")?;
     let (rt, mail) = (&rt, &mail);
-    let poster = Desk { mail, seat: first };
-    let reader = Desk { mail, seat: second };
+    let poster = Replies { mail, seat: first };
+    let reader = Replies { mail, seat: second };
     let ends = thread::join(
         rt,
         move || poster.post_two(rt, 7, 8),

@@ -159,7 +159,7 @@ fn ends_in_room<H: Threads + Wait + Sync>(
     action: Action,
     room: usize,
     status: u8,
-    told: &[u8],
+    expected: &[u8],
 ) -> bool {
     let mut err = Output::new(Vec::new(alloc));
     let end = perform(
@@ -171,7 +171,7 @@ fn ends_in_room<H: Threads + Wait + Sync>(
         &mut Output::new(Room(room)),
         &mut err,
     );
-    end == status && err.into_inner().as_slice() == told
+    end == status && err.into_inner().as_slice() == expected
 }
 
 /// How many bytes the job writes.

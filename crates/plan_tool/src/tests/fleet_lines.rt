@@ -40,7 +40,7 @@ fn a_hundred_thousand_lines(rt: HostRuntime) -> Result<(), AllocError> {
     let alloc = rt.alloc();
     let plan = far_ahead(alloc)?;
     let script = long(alloc, RECORDS)?;
-    let told = "steps 99999\nrefused 0\nwriter 1 durable 11111 next 11112\njournal yes\n";
-    assert!(rt; fleets_tell(&rt, alloc, &plan, &script, told));
+    let expected = "steps 99999\nrefused 0\nwriter 1 durable 11111 next 11112\njournal yes\n";
+    assert!(rt; fleets_tell(&rt, alloc, &plan, &script, expected));
     Ok(())
 }

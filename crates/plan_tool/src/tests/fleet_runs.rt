@@ -58,10 +58,11 @@ pub fn fleets_tell<H: Threads + Wait + Sync>(
     alloc: Global,
     plan: &str,
     script: &str,
-    told: &str,
+    expected: &str,
 ) -> bool {
     let script = script.as_bytes();
-    fleet(rt, alloc, 1, plan, script).is(0, told) && fleet(rt, alloc, 4, plan, script).is(0, told)
+    fleet(rt, alloc, 1, plan, script).is(0, expected)
+        && fleet(rt, alloc, 4, plan, script).is(0, expected)
 }
 
 /// Whether the journal of a script's run agrees.

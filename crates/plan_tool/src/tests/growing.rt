@@ -50,10 +50,10 @@ fn groups_join_one_by_one(rt: HostRuntime) -> Result<(), AllocError> {
     let alloc = rt.alloc();
     let plan = growing(alloc)?;
     let script = one_by_one(alloc, 16)?;
-    let told = PRINTED.repeat(alloc, 15)?;
-    let told = told.strip_prefix(',').unwrap_or("");
+    let expected = PRINTED.repeat(alloc, 15)?;
+    let expected = expected.strip_prefix(',').unwrap_or("");
     let end = "writer 1 durable 15 next 16\n";
-    assert!(rt; tells(&rt, alloc, &plan, &script, told, end)?);
+    assert!(rt; tells(&rt, alloc, &plan, &script, expected, end)?);
     let all = "steps 300\nrefused 0\nwriter 1 durable 15 next 16\njournal yes\n";
     assert!(rt; fleets_tell(&rt, alloc, &plan, &script, all));
     Ok(())

@@ -26,7 +26,7 @@ const SOME_LONGER: &str = r#"{"format":1,"lal":10,"groups":[
 {"configurations":[{"parent":null,"members":[0,1],"full":[],"read":{"k":2,"of":"all"},"write":{"k":2,"of":"all"},"meets":null,"step":null}]}
 ]}"#;
 
-/// Tells nobody of a search.
+/// A gate that does nothing.
 struct NoGate;
 
 impl Gate for NoGate {

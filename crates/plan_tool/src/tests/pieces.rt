@@ -81,8 +81,8 @@ journal yes\n";
 /// Returns whether a run and a fleet print what is expected.
 fn are_told<H: Threads + Wait + Sync>(rt: &H, alloc: Global) -> Result<(bool, bool), AllocError> {
     let script = written(alloc, COPIED_AND_INSTALLED)?;
-    let told = written_told(alloc)?;
-    let run = tells(rt, alloc, THREE_COPIES, &script, &told, END)?;
+    let expected = written_told(alloc)?;
+    let run = tells(rt, alloc, THREE_COPIES, &script, &expected, END)?;
     let fleet = fleet(rt, alloc, 1, THREE_COPIES, script.as_bytes());
     Ok((run, fleet.is(1, FLEET)))
 }

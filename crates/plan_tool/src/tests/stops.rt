@@ -22,9 +22,9 @@ fn fleet_tells<H: Threads + Wait + Sync>(
     refused: usize,
 ) -> Result<bool, AllocError> {
     let run = said(rt, alloc, &job(Action::Run), plan.as_bytes(), Some(script));
-    let told = String::from_utf8_lossy(alloc, run.out.as_slice())?;
+    let output = String::from_utf8_lossy(alloc, run.out.as_slice())?;
     // The ends of clients stand behind the lines, the first writer's before all others.
-    let Some((lines, ends)) = told.split_once("writer") else {
+    let Some((lines, ends)) = output.split_once("writer") else {
         return Ok(false);
     };
     let want = format!(in alloc; "steps {steps}\nrefused {refused}\nwriter{ends}journal yes\n")?;

@@ -39,16 +39,16 @@ deliver 0 1 2.1\ndeliver 0 2 2.1\ndeliver 0 6 13.1\ndeliver 0 6 14.1\nhydrate 0 
 deliver 0 6 10.1\nhydrate 0 6\ndeliver 0 6 8.1\n";
 
 /// What is printed of a script whose lines have these results, each the number of messages made or a refusal.
-fn printed(alloc: Global, told: &str, end: &str) -> Result<String, AllocError> {
+fn printed(alloc: Global, expected: &str, end: &str) -> Result<String, AllocError> {
     let mut text = String::new(alloc);
-    for (i, told) in told.split(',').enumerate() {
+    for (i, expected) in expected.split(',').enumerate() {
         let line = i.saturating_add(1);
-        let ok = if told.starts_with("refused") {
+        let ok = if expected.starts_with("refused") {
             ""
         } else {
             "ok "
         };
-        write!(text, "{line} {ok}{told}\n")?;
+        write!(text, "{line} {ok}{expected}\n")?;
     }
     text.push_str(end)?;
     Ok(text)
@@ -60,11 +60,11 @@ pub fn tells<H: Threads + Wait + Sync>(
     alloc: Global,
     plan: &str,
     script: &str,
-    told: &str,
+    expected: &str,
     end: &str,
 ) -> Result<bool, AllocError> {
-    let status = u8::from(told.contains("refused"));
-    let line = printed(alloc, told, end)?;
+    let status = u8::from(expected.contains("refused"));
+    let line = printed(alloc, expected, end)?;
     let (plan, script) = (plan.as_bytes(), Some(script.as_bytes()));
     Ok(says(rt, alloc, &job(Action::Run), plan, script, status, &line))
 }

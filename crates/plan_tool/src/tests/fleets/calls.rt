@@ -122,10 +122,10 @@ pub fn first_wrong<'a, L: FleetSite, R: Wait>(
         return None;
     }
     let mut last = 0;
-    for (i, (call, told)) in steps.iter().enumerate() {
+    for (i, (call, expected)) in steps.iter().enumerate() {
         let before = look.lent();
         let made = call.made(rt, alloc, fleet, &mut passes[i % count], look);
-        if result_of(&made) != *told || !is_lent(*call, &made, before, look.lent()) {
+        if result_of(&made) != *expected || !is_lent(*call, &made, before, look.lent()) {
             return Some(i);
         }
         let number = made.map_or(0, |receipt| receipt.number);

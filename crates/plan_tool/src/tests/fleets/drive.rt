@@ -68,8 +68,8 @@ pub fn ended<'a, L: FleetSite>(
     let events = journal.events(alloc)?;
     let outcome = run(alloc, plan, events.as_slice())?;
     let mut refused = 0usize;
-    for told in &outcome.results {
-        refused = refused.saturating_add(usize::from(told.is_err()));
+    for expected in &outcome.results {
+        refused = refused.saturating_add(usize::from(expected.is_err()));
     }
     Ok(Ending {
         wrong,

@@ -83,7 +83,7 @@ fn by_letters<'a, L: FleetSite, R: Wait>(
     steps: &[Step],
 ) -> Result<Vec<Step>, AllocError> {
     let mut calls = Vec::new(alloc);
-    for (call, told) in steps {
+    for (call, expected) in steps {
         let call = match *call {
             Call::Deliver(member, _) => {
                 let letter = collect(rt, fleet, pass, member);
@@ -91,7 +91,7 @@ fn by_letters<'a, L: FleetSite, R: Wait>(
             }
             other => other,
         };
-        calls.push((call, *told))?;
+        calls.push((call, *expected))?;
     }
     Ok(calls)
 }

@@ -29,13 +29,13 @@ loop-weight-smaller g t c = falls _ _ c.loop-weight-test.true
 
 pub loop-weight-preserved : goal.loop-weight-preserved
 loop-weight-preserved g t c =
-    let told : sat (formula_of c.loop-weight-item.result.1) (set.contains c.args.members) ≡ c.match-child.is_held = elim c.match-child.branch [
+    let holds_so : sat (formula_of c.loop-weight-item.result.1) (set.contains c.args.members) ≡ c.match-child.is_held = elim c.match-child.branch [
       | in-Member-child w ↦ sat-Member c.loop-weight-item.result.1 w.in-Member-child.member (set.contains c.args.members) w.in-Member-child.is ∙ sym (w.is_held-is ∙ w.contains-is_held.ensures.is_in)
       | in-KOf-child w ↦ sym (w.is_held-is ∙ w.holds-is_held.ensures)
     ] in
     elim c.if-is_held.branch [
-      | then-is_held w ↦ missing_less c.deref-weight-items.result.now c.loop-weight.weight-index c.loop-weight-item.result (set.contains c.args.members) _ _ w.from.result _ c.loop-weight-test.true c.loop-weight-item.is (told ∙ w.if-is_held.true) (w.missing-is ∙ w.saturating_sub-missing.ensures) w.from.ensures c.loop-weight.invariant
-      | else-is_held w ↦ missing_same c.deref-weight-items.result.now c.loop-weight.weight-index c.loop-weight-item.result (set.contains c.args.members) _ _ _ c.loop-weight-test.true c.loop-weight-item.is (told ∙ w.if-is_held.false) w.missing-is c.loop-weight.invariant
+      | then-is_held w ↦ missing_less c.deref-weight-items.result.now c.loop-weight.weight-index c.loop-weight-item.result (set.contains c.args.members) _ _ w.from.result _ c.loop-weight-test.true c.loop-weight-item.is (holds_so ∙ w.if-is_held.true) (w.missing-is ∙ w.saturating_sub-missing.ensures) w.from.ensures c.loop-weight.invariant
+      | else-is_held w ↦ missing_same c.deref-weight-items.result.now c.loop-weight.weight-index c.loop-weight-item.result (set.contains c.args.members) _ _ _ c.loop-weight-test.true c.loop-weight-item.is (holds_so ∙ w.if-is_held.false) w.missing-is c.loop-weight.invariant
     ]
 
 pub returns-after-loop-weight : goal.returns-after-loop-weight
