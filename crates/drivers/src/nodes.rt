@@ -2,10 +2,7 @@
 
 use plan::CheckedPlan;
 use std::alloc::{AllocError, Global};
-use world::{Event, Order};
-
-/// The most members of a group.
-const MEMBERS: usize = 64;
+use world::{Event, MEMBERS, Order};
 
 /// A member of a group.
 #[derive(Clone, Copy)]

@@ -5,9 +5,7 @@ ghost use Rattle.world.specs.Slots.{slot_of};
 
 use crate::actor_name::ActorName;
 use std::alloc::{AllocError, Global};
-
-/// The most members of a group.
-const MEMBERS: usize = 64;
+use world::MEMBERS;
 
 /// The number of each actor's last entry, 0 if it has none.
 #[derive(Drop)]

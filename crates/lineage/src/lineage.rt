@@ -5,12 +5,10 @@ ghost use Rattle.lineage.specs.Entries.{entries_with, is_lineage};
 
 use crate::entry::Entry;
 use crate::past::Past;
+use redo_record::LAST_LSN;
 use std::alloc::{AllocError, Global};
 use std::sync::Arc;
 use volume_model::Fault;
-
-/// The greatest LSN.
-const LAST_LSN: u64 = 1 << 62;
 
 /// The entries of the recoveries that a volume went through, of growing volume epochs and starts. Clones and extensions share
 /// them.

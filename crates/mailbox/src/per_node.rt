@@ -12,9 +12,7 @@ use crate::{Letter, MailSeat, Mailbox};
 use plan::CheckedPlan;
 use std::alloc::{AllocError, Global};
 use std::sync::Wait;
-
-/// The most members of a group.
-const MEMBERS: usize = 64;
+use world::MEMBERS;
 
 /// The capacity of a node's mailbox.
 const CAPACITY: usize = 1024;

@@ -27,10 +27,7 @@ use std::alloc::{AllocError, Global};
 use std::sync::ledger::Share;
 use std::sync::{Arc, Mutex};
 use volume_model::Fault;
-use world::Client;
-
-/// The most members of a group.
-const MEMBERS: usize = 64;
+use world::{Client, MEMBERS};
 
 // Returns a pass that has done nothing.
 fn pass<'a, L: FleetSite>(

@@ -8,7 +8,7 @@ ghost use Rattle.redo_record.specs.Head.{number_at, head_in, is_allowed};
 pub const HEAD_BYTES: usize = 45;
 
 /// The greatest LSN.
-const LAST_LSN: u64 = 1 << 62;
+pub const LAST_LSN: u64 = 1 << 62;
 
 /// The numbers that stand before a record's bytes.
 #[derive(Clone, Copy)]

@@ -19,9 +19,10 @@ mod window;
 
 pub use decoding::decode;
 pub use encoding::encode;
+pub use head::LAST_LSN;
 pub use packet::Packet;
-pub use payload::Payload;
+pub use payload::{MOST_BYTES, Payload};
 pub use placing::place_among;
 pub use record::Record;
-pub use record_set::RecordSet;
+pub use record_set::{MOST_IN_PIECE, RecordSet};
 pub use shared_record::SharedRecord;

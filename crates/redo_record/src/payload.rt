@@ -3,7 +3,7 @@
 ghost use Rattle.std.specs.Prelude.{◌≤◌};
 
 /// How many bytes a record writes at most.
-const MOST_BYTES: usize = 64;
+pub const MOST_BYTES: usize = 64;
 
 /// 1 to 64 bytes, in place.
 #[derive(Clone, Copy)]

@@ -14,10 +14,7 @@ use crate::plain::plain_changes;
 use std::alloc::Global;
 use volume_model::Fault;
 use world::Event;
-use writer_core::Change;
-
-/// For how many changes room is made at once: a transaction of more is refused when it is issued.
-const MOST_CHANGES: usize = 32;
+use writer_core::{Change, MOST_CHANGES};
 
 /// `issue V G:B:O:HEX ..`, with at least one change.
 pub fn issue(alloc: Global, mut words: Parts) -> Result<Event, Fault>

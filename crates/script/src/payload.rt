@@ -5,11 +5,8 @@ ghost use Rattle.redo_record.specs.Payload.{payload_bytes};
 ghost use Rattle.script.specs.Words.{digit_in, byte_in, bytes_in, all_bytes_in};
 ghost use Rattle.script.specs.Reads.{Reads, ReadsBy};
 
-use redo_record::Payload;
+use redo_record::{MOST_BYTES, Payload};
 use volume_model::Fault;
-
-/// The most bytes of a change.
-pub const MOST_BYTES: usize = 64;
 
 /// Returns the value of a hexadecimal digit in lower case.
 #[inline(always)]

@@ -8,7 +8,8 @@ ghost use Rattle.script.specs.Plain.{AreBytesAt, IsPlaceAt};
 ghost use Rattle.script.specs.Words.{words_in};
 
 use crate::named::{after, number};
-use crate::payload::{MOST_BYTES, byte_of};
+use crate::payload::byte_of;
+use redo_record::MOST_BYTES;
 use std::alloc::{AllocError, Global};
 use writer_core::Change;
 

@@ -6,14 +6,11 @@ ghost use Rattle.volume_model.specs.Pieces.{is_piece, piece_of, pieces_of};
 ghost use Rattle.wire.specs.Contents.{contents_of, piece_in};
 
 use lineage::Lineage;
-use redo_record::RecordSet;
+use redo_record::{MOST_IN_PIECE, RecordSet};
 use std::alloc::AllocError;
 
 /// Of how many pieces contents may be.
 pub const MOST_PIECES: u16 = 4096;
-
-/// How many records a piece may have.
-const MOST_IN_PIECE: usize = 256;
 
 /// The contents of a segment: what it holds, reports, or is to hold.
 #[derive(Drop)]

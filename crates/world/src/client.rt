@@ -4,15 +4,13 @@ use crate::acts::ClientAct;
 use crate::{birth, recovering, writing};
 use plan::CheckedPlan;
 use recovery::Recovery;
+use redo_record::MOST_IN_PIECE;
 use std::alloc::Global;
 use std::mem;
 use std::sync::Arc;
 use volume_model::{Fault, steps_are_few};
 use wire::Messages;
 use writer_core::Writer;
-
-/// How many records a piece of an Install has at most.
-const MOST_IN_PIECE: usize = 256;
 
 /// How far a client has come.
 #[derive(Drop)]

@@ -23,7 +23,7 @@ mod writing;
 pub use acts::{AuthorityAct, ClientAct};
 pub use client::{Client, ClientState};
 pub use event::{Event, Order};
-pub use nodes::slot;
+pub use nodes::{MEMBERS, slot};
 pub use outcome::{Outcome, RecoveryOutcome, WriterOutcome};
 pub use recovery::Found;
 pub use running::{promised, run, run_orders};

@@ -16,7 +16,7 @@ use std::sync::Arc;
 use volume_model::Fault;
 
 /// The most members of a group.
-const MEMBERS: usize = 64;
+pub const MEMBERS: usize = 64;
 
 /// Returns the slot of a member of a group, where there is one among this many.
 pub fn slot(slots: usize, group: u8, member: u8) -> Option<usize>

@@ -18,6 +18,7 @@ use volume_model::{
     Fault, acknowledgements_last, finds_last, one_lineage_an_epoch, opens_at_its_cut,
     pages_are_true, runs_are_orderly, volume_keeps_commits,
 };
+use writer_core::MOST_CHANGES;
 
 /// Returns a number of messages. More than it can count are as if memory ran out, as these would take more of it than
 /// is there.
@@ -57,9 +58,6 @@ pub fn promised(plan: &CheckedPlan)
     opens_at_its_cut();
     runs_are_orderly();
 }
-
-/// The most changes of a transaction that isn't refused.
-const MOST_CHANGES: usize = 32;
 
 /// Returns how many messages an event mostly makes.
 fn usual_messages(event: &Event) -> usize {

@@ -24,4 +24,5 @@ pub use group_states::GroupStates;
 pub use installs::{group_installs, label_at};
 pub use log::Log;
 pub use moving::are_places;
+pub use transaction::MOST_CHANGES;
 pub use writer::Writer;

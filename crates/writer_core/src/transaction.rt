@@ -12,7 +12,7 @@ use crate::group_states::GroupStates;
 const BLOCK: usize = 512;
 
 /// The most changes that a transaction asks for.
-const MOST_CHANGES: usize = 32;
+pub const MOST_CHANGES: usize = 32;
 
 /// Returns whether a change is one of a group that there is, within a block.
 fn is_change(groups: usize, change: &Change) -> bool

@@ -19,14 +19,11 @@ use crate::log::Log;
 use crate::transaction::{have_joined, is_transaction};
 use lineage::Lineage;
 use plan::CheckedPlan;
-use redo_record::RecordSet;
+use redo_record::{LAST_LSN, RecordSet};
 use std::alloc::Global;
 use std::sync::Arc;
 use volume_model::Fault;
 use wire::{Ack, Carried, Message, Messages, PageAsk, View};
-
-/// The greatest LSN.
-const LAST_LSN: u64 = 1 << 62;
 
 /// The writer of a volume epoch: the log that it began with, and what it has issued since.
 #[derive(Drop)]
