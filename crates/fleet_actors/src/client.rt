@@ -9,7 +9,7 @@ ghost use Rattle.journal.specs.Passes.{marked, seen_at};
 ghost use Rattle.journal.proofs.Plans.{Plan-set};
 
 use crate::client_action::ClientAction;
-use crate::client_attempt::{durable_point, shown, try_step, try_take};
+use crate::client_attempt::{shown, try_step};
 use crate::halt::Halt;
 use crate::step::{commit_or_note, reserve_step};
 use journal::{ActorCursor, Log, Pass, Receipt, Site};
@@ -17,7 +17,7 @@ use std::alloc::Global;
 use std::sync::Wait;
 use volume_model::Fault;
 use wire::Message;
-use world::{Client, Event};
+use world::Client;
 
 /// The client of a volume epoch and its cursor.
 #[derive(Drop)]
@@ -34,7 +34,6 @@ impl<L: Site> ClientActor<L> {
     ghost use Rattle.std.specs.Option.{option_copied};
     ghost use Rattle.volume_model.specs.declared.fault.Fault.TheVariants.{NoMessage};
     ghost use Rattle.wire.specs.Message.{message_of};
-    ghost use Rattle.volume_model.specs.World.Event.{Take};
     ghost use Rattle.journal.specs.Passes.{journal_of, seat_of, steps_of, world_of, SeesAll};
     ghost use Rattle.fleet_actors.specs.declared.halt.Halt.TheVariants.{Refused, StaleCursor};
     ghost use Rattle.fleet_actors.specs.Actions.{event_by, IsFound};
@@ -95,45 +94,6 @@ impl<L: Site> ClientActor<L> {
         commit_or_note(rt, log, cursor, pass, action.event(volume), done, durable)
     }
 
-    /// Takes message `message` and enters the step. The caller holds the client's lock and the journal's.
-    ///
-    /// # Errors
-    /// Those of [`ClientActor::act`] for a message.
-    #[inline(always)]
-    pub fn take<'a, R: Wait>(
-        &mut self,
-        rt: &R,
-        alloc: Global,
-        log: &mut Log<'a, L>,
-        pass: &mut Pass<'a, L>,
-        message: u64,
-    ) -> Result<Receipt, Halt>
-        ensures recorded { PassRecords (Take (actor_volume self.old) message) result pass.old pass.new }
-        ensures exact { IsExact L.plan L.slots (length L.cells) (journal_of log.old)
-            (Take (actor_volume self.old) message) result }
-        ensures entered { Enters (Take (actor_volume self.old) message) (journal_of log.old) (journal_of log.new)
-            result }
-        ensures stale { result ≡ Err StaleCursor → IsStale self.old.cursor log.old }
-        ensures seat { seat_of pass.new ≡ seat_of pass.old }
-        ensures unmade { IsUnmade (ClientAction.Take message) (steps_of pass.old) result }
-        ensures same { actor_volume self.new ≡ actor_volume self.old }
-        ensures moved { OnOk result (actor_client self.new ≡ (world_of log.new).clients (actor_volume self.old)) }
-        ensures still { OnErr result (actor_client self.new ≡ actor_client self.old) }
-    {
-        let Some(message_ref) = log.seek(pass, message) else {
-            return Err(Halt::Refused(Fault::NoMessage));
-        };
-        let ClientActor { cursor, client } = self;
-        if let Err(halt) = reserve_step(log, pass, cursor) {
-            return Err(halt);
-        }
-        let volume = client.volume();
-        let done = try_take(alloc, client, log.is_full(), message_ref.message());
-        let durable = durable_point(client);
-        let event = Event::Take { volume, message };
-        commit_or_note(rt, log, cursor, pass, event, done, durable)
-    }
-
     /// Performs an action and enters the step. The caller holds the client's lock and the journal's.
     ///
     /// # Errors
@@ -165,12 +125,21 @@ impl<L: Site> ClientActor<L> {
         ensures moved { OnOk result (actor_client self.new ≡ (world_of log.new).clients (actor_volume self.old)) }
         ensures still { OnErr result (actor_client self.new ≡ actor_client self.old) }
     {
-        match action {
-            ClientAction::Take { message } => self.take(rt, alloc, log, pass, message),
-            other => {
-                log.catch_up(pass);
-                self.step(rt, alloc, log, pass, other, None)
-            }
-        }
+        let ClientAction::Take { message } = action else {
+            log.catch_up(pass);
+            return self.step(rt, alloc, log, pass, action, None);
+        };
+        let Some(message_ref) = log.seek(pass, message) else {
+            return Err(Halt::Refused(Fault::NoMessage));
+        };
+        let found = message_ref.message();
+        self.step(
+            rt,
+            alloc,
+            log,
+            pass,
+            ClientAction::Take { message },
+            Some(found),
+        )
     }
 }

@@ -3,7 +3,6 @@
 ghost use Rattle.std.specs.Prelude.{false, option_map, ◌≡◌, IfErr, IfOk, Ok, OnErr, OnOk, Some};
 ghost use Rattle.std.specs.Option.{option_copied};
 ghost use Rattle.volume_model.specs.Answer.{refusal_of, AnswersAfterGrowth};
-ghost use Rattle.volume_model.specs.World.{take};
 ghost use Rattle.wire.specs.Message.{message_of};
 ghost use Rattle.writer_core.specs.Writers.{answered};
 ghost use Rattle.recovery.specs.Recoveries.{admitted};
@@ -115,34 +114,9 @@ pub fn try_step(
     act(alloc, client, action, found)
 }
 
-/// Attempts to take a message: otherwise as [`try_step`].
-#[inline(always)]
-pub(crate) fn try_take(
-    alloc: Global,
-    client: &mut Client,
-    is_full: bool,
-    message: &Message,
-) -> Result<Messages, Fault>
-    ensures done { IfOk result (λ made. take (client_plan client.old) (client_volume client.old)
-        (seen_client client.old) (Some (message_of message.now)) ≡ Ok (answered made (seen_client client.new))) }
-    ensures room { OnOk result (is_full ≡ false) }
-    ensures refused { IfErr result (λ fault. JudgedOf is_full (take (client_plan client.old) (client_volume client.old)
-        (seen_client client.old) (Some (message_of message.now))) fault) }
-    ensures still { OnErr result (seen_client client.new ≡ seen_client client.old) }
-    ensures same { IsSameClient client.old client.new }
-{
-    if is_full {
-        if let Err(fault) = client.admits(alloc, ClientAct::Take(message)) {
-            return Err(fault);
-        }
-        return Err(Fault::JournalFull);
-    }
-    client.act(alloc, ClientAct::Take(message))
-}
-
 /// Returns a client's durable point, 0 before its opening.
 #[inline(always)]
-pub(crate) fn durable_point(client: &Client) -> u64
+fn durable_point(client: &Client) -> u64
     ensures { result ≡ durable_of (seen_client client.now) }
 {
     match client.state() {

@@ -1,7 +1,6 @@
 //! The clients' calls of a fleet.
 
 ghost use Rattle.std.specs.Prelude.{◌≡◌, IfErr, IfOk, OnErr};
-ghost use Rattle.volume_model.specs.World.Event.{Take};
 ghost use Rattle.journal.specs.Passes.{seat_of, steps_of};
 ghost use Rattle.fleet_actors.specs.Actions.{event_by};
 ghost use Rattle.fleet_actors.specs.RecordsAttempt.{PassRecords};
@@ -134,9 +133,8 @@ impl<'a, L: FleetSite> Fleet<'a, L> {
         Ok(receipt)
     }
 
-    // Tries once what a client is asked to do.
-    #[inline(always)]
-    fn does<R: Wait>(
+    // Enters a client's action, by the journal's pass.
+    pub(crate) fn enter_client<R: Wait>(
         &self,
         rt: &R,
         pass: &mut Pass<'a, L>,
@@ -156,101 +154,7 @@ impl<'a, L: FleetSite> Fleet<'a, L> {
         }
     }
 
-    // Tries once to let a client take the message with this number.
-    #[inline(always)]
-    fn try_take<R: Wait>(
-        &self,
-        rt: &R,
-        pass: &mut Pass<'a, L>,
-        volume: u32,
-        message: u64,
-    ) -> Result<Receipt, Halt>
-        ensures recorded { PassRecords (Take volume message) result pass.old pass.new }
-        ensures raised { IfOk result (λ r. Raises (ClientAction.Take message) r.durable (seat_of pass.old)
-            (seat_of pass.new)) }
-        ensures still { OnErr result (seat_of pass.new ≡ seat_of pass.old) }
-        ensures unmade { IsUnmade (ClientAction.Take message) (steps_of pass.old) result }
-    {
-        let Some(client) = self.client(volume) else {
-            let action = ClientAction::Take { message };
-            return Err(self.refuse_slotless(rt, pass, volume, action));
-        };
-        let mut actor = lock_spinning(rt, client);
-        if actor.volume() != volume {
-            return Err(Halt::StaleCursor);
-        }
-        let receipt = {
-            let mut log = lock_spinning(rt, &self.journal);
-            actor.take(rt, self.alloc, &mut log, pass, message)?
-        };
-        pass.raise(&self.board, receipt.durable);
-        Ok(receipt)
-    }
-
-    // Lets a client take the message with this number, in one try.
-    #[inline(always)]
-    fn take<R: Wait>(
-        &self,
-        rt: &R,
-        pass: &mut Pass<'a, L>,
-        volume: u32,
-        message: u64,
-    ) -> Result<Receipt, Fault>
-        ensures recorded { PassRecordsCall (Take volume message) result pass.old pass.new }
-        ensures raised { IfOk result (λ r. RaisesBy (Take volume message) r.durable (seat_of pass.old)
-            (seat_of pass.new)) }
-        ensures still { OnErr result (seat_of pass.new ≡ seat_of pass.old) }
-        ensures unmade { IfErr result (λ fault. fault ≡ NoMessage → NamesElse (Take volume message)
-            (steps_of pass.old)) }
-    {
-        match self.try_take(rt, pass, volume, message) {
-            Ok(receipt) => Ok(receipt),
-            Err(halt) => Err(refusal_of(rt, halt)),
-        }
-    }
-
-    // Enters what a client is asked to do, by the journal's pass.
-    pub(crate) fn enter_client<R: Wait>(
-        &self,
-        rt: &R,
-        pass: &mut Pass<'a, L>,
-        volume: u32,
-        action: ClientAction,
-    ) -> Result<Receipt, Fault>
-        ensures recorded { PassRecordsCall (event_by volume action) result pass.old pass.new }
-        ensures raised { IfOk result (λ r. RaisesBy (event_by volume action) r.durable (seat_of pass.old)
-            (seat_of pass.new)) }
-        ensures still { OnErr result (seat_of pass.new ≡ seat_of pass.old) }
-        ensures unmade { IfErr result (λ fault. fault ≡ NoMessage → NamesElse (event_by volume action)
-            (steps_of pass.old)) }
-    {
-        match action {
-            ClientAction::Take { message } => self.take(rt, pass, volume, message),
-            other => self.does(rt, pass, volume, other),
-        }
-    }
-
-    // Gives a client a copy of what it is asked to do, except a taking, which copies nothing.
-    #[inline(never)]
-    fn copied_step<R: Wait>(
-        &self,
-        rt: &R,
-        pass: &mut Pass<'a, L>,
-        volume: u32,
-        action: &ClientAction,
-    ) -> Result<Receipt, Fault>
-        ensures recorded { PassRecordsCall (event_by volume action.now) result pass.old pass.new }
-        ensures raised { IfOk result (λ r. RaisesBy (event_by volume action.now) r.durable (seat_of pass.old)
-            (seat_of pass.new)) }
-        ensures still { OnErr result (seat_of pass.new ≡ seat_of pass.old) }
-        ensures unmade { IfErr result (λ fault. fault ≡ NoMessage → NamesElse (event_by volume action.now)
-            (steps_of pass.old)) }
-    {
-        let asked = action.clone()?;
-        self.enter_client(rt, pass, volume, asked)
-    }
-
-    // Enters a copy of what a client is asked to do.
+    // Enters a copy of a client's action.
     pub(crate) fn enter_client_copy<R: Wait>(
         &self,
         rt: &R,
@@ -265,9 +169,7 @@ impl<'a, L: FleetSite> Fleet<'a, L> {
         ensures unmade { IfErr result (λ fault. fault ≡ NoMessage → NamesElse (event_by volume action.now)
             (steps_of pass.old)) }
     {
-        if let ClientAction::Take { message } = action {
-            return self.take(rt, pass, volume, *message);
-        }
-        self.copied_step(rt, pass, volume, action)
+        let copy = action.clone()?;
+        self.enter_client(rt, pass, volume, copy)
     }
 }

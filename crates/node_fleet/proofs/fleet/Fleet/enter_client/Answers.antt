@@ -1,7 +1,7 @@
 use Rattle.journal.specs.Passes.{notes_of, seat_of, steps_of}
 use Rattle.fleet_actors.specs.Actions.{event_by}
 use Rattle.node_fleet.proofs.Calling.{lost_halt, raises_by, records_refused, unmade_names}
-use Rattle.node_fleet.proofs.fleet.Fleet.does.Goals as goal
+use Rattle.node_fleet.proofs.fleet.Fleet.enter_client.Goals as goal
 
 pub returns-in-Ok-clause-raised : goal.returns-in-Ok-clause-raised
 returns-in-Ok-clause-raised g c = raises_by c.args.volume c.args.action c.in-Ok.receipt.durable (seat_of c.args.pass.now) (seat_of c.try_client.new.pass) c.in-Ok.ensures.raised

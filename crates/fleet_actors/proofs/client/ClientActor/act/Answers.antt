@@ -1,0 +1,11 @@
+use Rattle.std.proofs.Common.{List, refl, ap, ◌∙◌}
+use Rattle.volume_model.specs.Journal.{Entry, world_at}
+use Rattle.volume_model.specs.Lists.{numbered}
+use Rattle.journal.specs.Entries.{entries_of}
+use Rattle.journal.specs.Tokens.{shown}
+use Rattle.fleet_actors.proofs.client.ClientActor.act.Goals as goal
+
+pub step-2-requires-clause-found : goal.step-2-requires-clause-found
+step-2-requires-clause-found g c =
+    let plan = g.L.Site.plan in
+    (refl, ap (λ (l : List Entry). numbered (world_at plan l).messages c.message) (ap (λ ts. entries_of (shown ts.items)) c.seek.ensures.log.0) ∙ c.in-Some.ensures.is ∙ c.message-found.ensures)
