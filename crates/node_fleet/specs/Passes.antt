@@ -1,13 +1,17 @@
 -- What contracts see of a pass of a fleet.
-use Rattle.std.specs.Prelude.{◌≡◌, ℕ, List, []}
+use Rattle.std.specs.Prelude.{◌≡◌, ℕ, List, [], Result}
+use Rattle.volume_model.specs.declared.fault.Fault.{Fault}
 use Rattle.volume_model.specs.Judging.{Refusal}
+use Rattle.volume_model.specs.World.{Event}
 use Rattle.world.specs.Slots.{slot_of}
 use Rattle.board.specs.declared.BoardStep.{BoardStep}
 use Rattle.mailbox.specs.declared.MailStep.{MailStep}
 use Rattle.mailbox.specs.Mails.{steps_at, HasNoSteps}
+use Rattle.journal.specs.declared.entry.Receipt.{Receipt}
 use Rattle.journal.specs.declared.row.Site.{Ghosts as SiteGhosts}
 use Rattle.journal.specs.Passes as journal
 use Rattle.journal.specs.PassSteps.{Made}
+use Rattle.node_fleet.specs.Calls.{RecordsCall}
 use Rattle.node_fleet.specs.declared.site.FleetSite.{Ghosts as FleetGhosts}
 use Rattle.node_fleet.specs.declared.pass.Pass.{Pass}
 
@@ -39,3 +43,8 @@ module _ {X : Type 0} {f : FleetGhosts X} {s : SiteGhosts X} where
   -- it has made no step and no note more, and nothing on the board
   abbrev pub IsEntrySame : Pass X f s → Pass X f s → Type 0
   IsEntrySame before after = after.entered ≡ before.entered
+
+  -- it has the step of this event more, as its receipt says, or a note of the refusal
+  abbrev pub Records : Event → Result Receipt Fault → Pass X f s → Pass X f s → Type 0
+  Records event result before after =
+      RecordsCall event result (steps_of before) (steps_of after) (notes_of before) (notes_of after)

@@ -5,8 +5,8 @@ ghost use Rattle.volume_model.specs.World.Event.{Deliver};
 ghost use Rattle.fleet_actors.specs.Acts as acts;
 ghost use Rattle.fleet_actors.specs.Actions as actions;
 ghost use Rattle.fleet_actors.specs.Nodes as nodes;
-ghost use Rattle.node_fleet.specs.Calls.{NamesElse, PassRecordsCall, RaisesBy, Unmade};
-ghost use Rattle.node_fleet.specs.Passes.{notes_of, seat_of, steps_of, IsEntrySame, IsMailSame};
+ghost use Rattle.node_fleet.specs.Calls.{NamesElse, RaisesBy, Unmade};
+ghost use Rattle.node_fleet.specs.Passes.{notes_of, seat_of, steps_of, IsEntrySame, IsMailSame, Records};
 
 use crate::fleet::Fleet;
 use crate::pass::Pass;
@@ -40,7 +40,7 @@ impl<'a, L: FleetSite> Fleet<'a, L> {
         pass: &mut Pass<'a, L>,
         act: AuthorityAct,
     ) -> Result<Receipt, Fault>
-        ensures recorded { PassRecordsCall (acts.event_by act) result pass.old pass.new }
+        ensures recorded { Records (acts.event_by act) result pass.old pass.new }
         ensures seat { seat_of pass.new ≡ seat_of pass.old }
         ensures mail { IsMailSame pass.old pass.new }
         ensures found { IfErr result (λ fault. fault ≢ NoMessage) }
@@ -63,7 +63,7 @@ impl<'a, L: FleetSite> Fleet<'a, L> {
         volume: u32,
         action: ClientAction,
     ) -> Result<Receipt, Fault>
-        ensures recorded { PassRecordsCall (actions.event_by volume action) result pass.old pass.new }
+        ensures recorded { Records (actions.event_by volume action) result pass.old pass.new }
         ensures raised { IfOk result (λ r. RaisesBy (actions.event_by volume action) r.durable (seat_of pass.old)
             (seat_of pass.new)) }
         ensures still { OnErr result (seat_of pass.new ≡ seat_of pass.old) }
@@ -85,7 +85,7 @@ impl<'a, L: FleetSite> Fleet<'a, L> {
         volume: u32,
         action: &ClientAction,
     ) -> Result<Receipt, Fault>
-        ensures recorded { PassRecordsCall (actions.event_by volume action.now) result pass.old pass.new }
+        ensures recorded { Records (actions.event_by volume action.now) result pass.old pass.new }
         ensures raised { IfOk result (λ r. RaisesBy (actions.event_by volume action.now) r.durable (seat_of pass.old)
             (seat_of pass.new)) }
         ensures still { OnErr result (seat_of pass.new ≡ seat_of pass.old) }
@@ -112,7 +112,7 @@ impl<'a, L: FleetSite> Fleet<'a, L> {
         message: u64,
         gate: &G,
     ) -> Result<Receipt, Fault>
-        ensures recorded { PassRecordsCall (Deliver group member message) result pass.old pass.new }
+        ensures recorded { Records (Deliver group member message) result pass.old pass.new }
         ensures unmade { IfErr result (λ fault. Unmade message (steps_of pass.old) fault) }
         ensures seat { seat_of pass.new ≡ seat_of pass.old }
         ensures mail { IsMailSame pass.old pass.new }
@@ -134,7 +134,7 @@ impl<'a, L: FleetSite> Fleet<'a, L> {
         member: u8,
         action: NodeAction,
     ) -> Result<Receipt, Fault>
-        ensures recorded { PassRecordsCall (nodes.event_by group member action) result pass.old pass.new }
+        ensures recorded { Records (nodes.event_by group member action) result pass.old pass.new }
         ensures found { IfErr result (λ fault. fault ≢ NoMessage) }
         ensures seat { seat_of pass.new ≡ seat_of pass.old }
         ensures mail { IsMailSame pass.old pass.new }
