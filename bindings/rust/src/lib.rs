@@ -300,6 +300,7 @@ impl Recovery {
 
 /// A change of a block: 1 to 64 bytes from an offset on.
 #[derive(Clone, Copy)]
+#[repr(transparent)]
 pub struct Change(raw::Change);
 
 impl Change {

@@ -16,6 +16,8 @@ impl Handle {
     pub const EMPTY: Handle = Handle { at: std::ptr::null_mut(), live: false };
 }
 
+// The library reads the fields.
+#[allow(dead_code)]
 #[repr(C)]
 #[derive(Clone, Copy)]
 pub struct Change {
