@@ -43,7 +43,9 @@ impl Fault {
 
     /// Returns the name, as `docs/FAULTS.md` has it.
     pub fn name(self) -> String {
-        let named = filled(|out, length, needed| unsafe { raw::volume_fault_name(self.0, out, length, needed) });
+        let named = filled(|out, length, needed| unsafe {
+            raw::volume_fault_name(self.0, out, length, needed)
+        });
         String::from_utf8(named.unwrap_or_default()).unwrap_or_default()
     }
 }
@@ -137,7 +139,9 @@ impl Iterator for Messages<'_> {
 
     fn next(&mut self) -> Option<Self::Item> {
         let handle = &mut self.0 .0;
-        match filled(|out, length, needed| unsafe { raw::volume_next_message(handle, out, length, needed) }) {
+        match filled(|out, length, needed| unsafe {
+            raw::volume_next_message(handle, out, length, needed)
+        }) {
             Err(Fault(raw::NO_MORE)) => None,
             other => Some(other),
         }
@@ -156,7 +160,14 @@ impl Plan {
         let mut line = [0u8; 256];
         let mut needed = 0;
         let made = Handle::made(|out| unsafe {
-            raw::volume_plan_read(text.as_ptr(), text.len(), out, line.as_mut_ptr(), line.len(), &mut needed)
+            raw::volume_plan_read(
+                text.as_ptr(),
+                text.len(),
+                out,
+                line.as_mut_ptr(),
+                line.len(),
+                &mut needed,
+            )
         });
         made.map(Plan).map_err(|fault| PlanFault {
             fault,
@@ -175,7 +186,8 @@ impl Segment {
     /// 82 where the plan names no such member.
     pub fn new(plan: &mut Plan, group: u8, member: u8) -> Result<Segment, Fault> {
         let plan = &mut plan.0 .0;
-        Handle::made(|out| unsafe { raw::volume_segment_new(plan, group, member, out) }).map(Segment)
+        Handle::made(|out| unsafe { raw::volume_segment_new(plan, group, member, out) })
+            .map(Segment)
     }
 
     /// Makes a segment from a snapshot: the segment that was saved, after a restart. Then give it each message that was
@@ -183,7 +195,12 @@ impl Segment {
     ///
     /// # Errors
     /// 1, 2 or 3 where the bytes aren't a snapshot's; 82 where the plan names no such member.
-    pub fn resume(plan: &mut Plan, group: u8, member: u8, snapshot: &[u8]) -> Result<Segment, Fault> {
+    pub fn resume(
+        plan: &mut Plan,
+        group: u8,
+        member: u8,
+        snapshot: &[u8],
+    ) -> Result<Segment, Fault> {
         let plan = &mut plan.0 .0;
         Handle::made(|out| unsafe {
             raw::volume_segment_resume(plan, group, member, snapshot.as_ptr(), snapshot.len(), out)
@@ -196,7 +213,9 @@ impl Segment {
     /// # Errors
     /// 1, 2 or 3 where the bytes aren't a message's; the segment's refusal; 91 while there are messages to hand out.
     pub fn take(&mut self, message: &[u8]) -> Result<(), Fault> {
-        checked(unsafe { raw::volume_segment_take(&mut self.0 .0, message.as_ptr(), message.len()) })
+        checked(unsafe {
+            raw::volume_segment_take(&mut self.0 .0, message.as_ptr(), message.len())
+        })
     }
 
     /// Becomes whole from the copies that it took. Put a snapshot on the disk before it takes another message.
@@ -221,7 +240,9 @@ impl Segment {
     /// 54 before the segment is whole; 60 where the member keeps no pages; 61 where it isn't complete up to `point`.
     pub fn page(&mut self, block: u32, point: u64) -> Result<[u8; 512], Fault> {
         let mut page = [0; 512];
-        checked(unsafe { raw::volume_segment_page(&mut self.0 .0, block, point, page.as_mut_ptr(), page.len()) })?;
+        checked(unsafe {
+            raw::volume_segment_page(&mut self.0 .0, block, point, page.as_mut_ptr(), page.len())
+        })?;
         Ok(page)
     }
 
@@ -241,7 +262,9 @@ impl Segment {
     /// Memory ran out.
     pub fn snapshot(&mut self) -> Result<Vec<u8>, Fault> {
         let handle = &mut self.0 .0;
-        filled(|out, length, needed| unsafe { raw::volume_segment_snapshot(handle, out, length, needed) })
+        filled(|out, length, needed| unsafe {
+            raw::volume_segment_snapshot(handle, out, length, needed)
+        })
     }
 
     /// Hands out the messages that the segment made.
@@ -260,7 +283,10 @@ impl Recovery {
     /// 1, 2 or 3 where the bytes aren't a message's; 81 where they aren't a View's; 41 where its places aren't the plan's.
     pub fn new(plan: &mut Plan, view: &[u8]) -> Result<Recovery, Fault> {
         let plan = &mut plan.0 .0;
-        Handle::made(|out| unsafe { raw::volume_recovery_new(plan, view.as_ptr(), view.len(), out) }).map(Recovery)
+        Handle::made(|out| unsafe {
+            raw::volume_recovery_new(plan, view.as_ptr(), view.len(), out)
+        })
+        .map(Recovery)
     }
 
     /// Takes a message that is for it: a View, Report or Ack.
@@ -314,7 +340,13 @@ impl Change {
         }
         let mut place = [0; 64];
         place[..bytes.len()].copy_from_slice(bytes);
-        Ok(Change(raw::Change { block, offset, group, length: bytes.len() as u8, bytes: place }))
+        Ok(Change(raw::Change {
+            block,
+            offset,
+            group,
+            length: bytes.len() as u8,
+            bytes: place,
+        }))
     }
 }
 
@@ -387,8 +419,18 @@ impl Writer {
     pub fn points(&mut self) -> Result<Points, Fault> {
         let mut points = raw::Points::default();
         checked(unsafe { raw::volume_writer_points(&mut self.0 .0, &mut points) })?;
-        let raw::Points { complete, durable, start, last } = points;
-        Ok(Points { complete, durable, start, last })
+        let raw::Points {
+            complete,
+            durable,
+            start,
+            last,
+        } = points;
+        Ok(Points {
+            complete,
+            durable,
+            start,
+            last,
+        })
     }
 
     /// Returns the LSN up to which a group's records are acknowledged by a write quorum.
@@ -407,7 +449,9 @@ impl Writer {
     /// None of an open writer's own.
     pub fn is_acknowledged(&mut self, lsn: u64) -> Result<bool, Fault> {
         let mut acknowledged = false;
-        checked(unsafe { raw::volume_writer_acknowledged(&mut self.0 .0, lsn, &mut acknowledged) })?;
+        checked(unsafe {
+            raw::volume_writer_acknowledged(&mut self.0 .0, lsn, &mut acknowledged)
+        })?;
         Ok(acknowledged)
     }
 
@@ -436,8 +480,10 @@ impl Authority {
     /// 1, 2 or 3 where the bytes aren't a snapshot's; 42 where they are of another plan's groups.
     pub fn resume(plan: &mut Plan, snapshot: &[u8]) -> Result<Authority, Fault> {
         let plan = &mut plan.0 .0;
-        Handle::made(|out| unsafe { raw::volume_authority_resume(plan, snapshot.as_ptr(), snapshot.len(), out) })
-            .map(Authority)
+        Handle::made(|out| unsafe {
+            raw::volume_authority_resume(plan, snapshot.as_ptr(), snapshot.len(), out)
+        })
+        .map(Authority)
     }
 
     /// Assigns the next volume epoch, and makes the View for its recovery. Put a snapshot on the disk before the View
@@ -480,7 +526,9 @@ impl Authority {
     /// Memory ran out.
     pub fn snapshot(&mut self) -> Result<Vec<u8>, Fault> {
         let handle = &mut self.0 .0;
-        filled(|out, length, needed| unsafe { raw::volume_authority_snapshot(handle, out, length, needed) })
+        filled(|out, length, needed| unsafe {
+            raw::volume_authority_snapshot(handle, out, length, needed)
+        })
     }
 
     /// Hands out the messages that the authority made.

@@ -12,7 +12,9 @@ fn plan(text: &str) -> Plan {
 }
 
 fn segments(plan: &mut Plan, count: u8) -> Vec<Segment> {
-    (0..count).map(|member| Segment::new(plan, 0, member).expect("a member of the plan")).collect()
+    (0..count)
+        .map(|member| Segment::new(plan, 0, member).expect("a member of the plan"))
+        .collect()
 }
 
 fn all(messages: volume::Messages<'_>) -> Vec<Message> {
@@ -23,20 +25,30 @@ fn all(messages: volume::Messages<'_>) -> Vec<Message> {
 fn deliver(segment: &mut Segment, messages: &[Message]) -> Vec<Message> {
     let mut answers = Vec::new();
     for message in messages {
-        segment.take(message).expect("a message that the segment takes");
+        segment
+            .take(message)
+            .expect("a message that the segment takes");
         answers.extend(all(segment.messages()));
     }
     answers
 }
 
 fn issue(writer: &mut Writer, block: u32, bytes: &[u8]) -> (u64, Vec<Message>) {
-    writer.issue(&[Change::new(0, block, 0, bytes).unwrap()]).expect("a transaction");
+    writer
+        .issue(&[Change::new(0, block, 0, bytes).unwrap()])
+        .expect("a transaction");
     let writes = all(writer.messages());
     (writer.points().unwrap().last, writes)
 }
 
 /// Commits a transaction on these members.
-fn commit(writer: &mut Writer, segments: &mut [Segment], members: &[usize], block: u32, bytes: &[u8]) -> u64 {
+fn commit(
+    writer: &mut Writer,
+    segments: &mut [Segment],
+    members: &[usize],
+    block: u32,
+    bytes: &[u8],
+) -> u64 {
     let (lsn, writes) = issue(writer, block, bytes);
     for &member in members {
         for ack in deliver(&mut segments[member], &writes) {
@@ -47,7 +59,12 @@ fn commit(writer: &mut Writer, segments: &mut [Segment], members: &[usize], bloc
 }
 
 /// Recovers over these members, of which all report and install.
-fn recover(plan: &mut Plan, authority: &mut Authority, segments: &mut [Segment], members: &[usize]) -> Writer {
+fn recover(
+    plan: &mut Plan,
+    authority: &mut Authority,
+    segments: &mut [Segment],
+    members: &[usize],
+) -> Writer {
     authority.assign().unwrap();
     let view = all(authority.messages()).remove(0);
     let mut recovery = Recovery::new(plan, &view).unwrap();
@@ -64,7 +81,10 @@ fn recover(plan: &mut Plan, authority: &mut Authority, segments: &mut [Segment],
             recovery.take(&ack).unwrap();
         }
     }
-    recovery.open().map_err(|(_, fault)| fault).expect("a write quorum has acknowledged")
+    recovery
+        .open()
+        .map_err(|(_, fault)| fault)
+        .expect("a write quorum has acknowledged")
 }
 
 #[test]
@@ -86,7 +106,10 @@ fn a_failed_writers_commits_stand() {
 
     // The old writer can't write any more.
     let (_, writes) = issue(&mut first, 8, b"late");
-    assert_eq!(segments[4].take(&writes[0]).unwrap_err().name(), "StaleVolume");
+    assert_eq!(
+        segments[4].take(&writes[0]).unwrap_err().name(),
+        "StaleVolume"
+    );
 
     let next = commit(&mut second, &mut segments, &[2, 3, 4, 5], 8, b"next");
     assert!(second.is_acknowledged(next).unwrap());
@@ -149,7 +172,12 @@ fn refusals_say_what_is_wrong() {
     };
     assert_eq!(line, (13, "input: 13 Malformed".to_string()));
     let mut plan = plan(SIX_COPIES);
-    assert_eq!(Segment::new(&mut plan, 0, 6).err().map(|fault| fault.to_string()), Some("82 NoActor".to_string()));
+    assert_eq!(
+        Segment::new(&mut plan, 0, 6)
+            .err()
+            .map(|fault| fault.to_string()),
+        Some("82 NoActor".to_string())
+    );
     let mut writer = Writer::first(&mut plan).unwrap();
     assert_eq!(writer.take(b"").unwrap_err().number(), 1);
     assert_eq!(Change::new(0, 0, 0, b"").err().map(Fault::number), Some(72));
