@@ -57,7 +57,7 @@ impl Recovery {
         Ok(view)
     }
 
-    /// Returns whether a message makes a recovery. Takes no memory.
+    /// Checks whether a message makes a recovery. Takes no memory.
     ///
     /// # Errors
     /// `NotAddressed` if it is no View, and `NotInPlan` if its places aren't those of the plan's first groups, of all
@@ -114,7 +114,7 @@ impl Recovery {
         self.group_states.plan().groups()
     }
 
-    /// Returns whether a later View can be taken. Takes no memory.
+    /// Checks whether a later View can be taken. Takes no memory.
     ///
     /// # Errors
     /// `NotAddressed` if it is one of another volume epoch, and `NotInPlan` if its places aren't those of the plan's
@@ -170,7 +170,7 @@ impl Recovery {
         }
     }
 
-    /// Returns whether a report can be taken. Takes no memory.
+    /// Checks whether a report can be taken. Takes no memory.
     ///
     /// # Errors
     /// `NotAddressed` if it isn't for this recovery, of a group of the volume with records of that group, from a
@@ -210,7 +210,7 @@ impl Recovery {
         Ok(())
     }
 
-    /// Returns whether an acknowledgement can be taken. Takes no memory.
+    /// Checks whether an acknowledgement can be taken. Takes no memory.
     ///
     /// # Errors
     /// `NotAddressed` if it isn't one to this recovery, of a group of the volume and a member.
@@ -261,7 +261,7 @@ impl Recovery {
         find(alloc, self.volume, &self.group_states)
     }
 
-    /// Returns whether it can cut the log that the reports hold.
+    /// Checks whether it can cut the log that the reports hold.
     ///
     /// # Errors
     /// `AlreadyDone` if it has cut, `NotReady` if in some group the senders of its reports are no read set, and

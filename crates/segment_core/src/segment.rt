@@ -135,7 +135,7 @@ impl Segment {
         self.assembly = Assembly::new();
     }
 
-    /// Returns the tests of a message's label.
+    /// Checks a message's label.
     fn check_label(&self, label: Label) -> Result<(), Fault>
         ensures own { IfErr result (λ fault. fault ≢ NoMemory) }
         ensures checks { MatchResult result (λ _. (rest : NodeAnswer) → label_checks (node_of self.now) (label_of label)

@@ -8,7 +8,7 @@ ghost use Rattle.wire.specs.Message.{message_of};
 use volume_model::Fault;
 use wire::Message;
 
-/// Returns whether a message is for the client of a volume epoch, over this many groups: a View of its volume epoch,
+/// Checks whether a message is for the client of a volume epoch, over this many groups: a View of its volume epoch,
 /// or a report, an acknowledgement or a page for it. `NotAddressed` if it is for another, or for none.
 pub fn addressed(volume: u32, groups: u8, message: &Message) -> Result<(), Fault>
     ensures { MatchResult result (λ _. is_for volume groups (message_of message.now) ≡ true)

@@ -15,7 +15,7 @@ use volume_model::Fault;
 use wire::Message;
 
 impl AuthorityAct {
-    /// Returns whether the authority would do it: exactly the refusal of [`AuthorityAct::done_by`], without acting.
+    /// Checks whether the authority would do it: exactly the refusal of [`AuthorityAct::done_by`], without acting.
     /// Takes no memory.
     ///
     /// # Errors

@@ -20,7 +20,7 @@ use std::sync::Arc;
 use volume_model::Fault;
 use wire::Message;
 
-/// Returns whether a client that isn't there would become a recovery by a message: by a View of its volume epoch, at
+/// Checks whether a client that isn't there would become a recovery by a message: by a View of its volume epoch, at
 /// places of the plan (else `NotInPlan`). Any other message is refused: `NotAddressed` if it isn't for the client,
 /// else `NoActor`, as there is none to take it.
 fn admits_birth(plan: &CheckedPlan, volume: u32, message: &Message) -> Result<(), Fault>
@@ -34,7 +34,7 @@ fn admits_birth(plan: &CheckedPlan, volume: u32, message: &Message) -> Result<()
     }
 }
 
-/// Returns whether a client that no View has reached would act: by a View alone.
+/// Checks whether a client that no View has reached would act: by a View alone.
 pub fn admits(plan: &CheckedPlan, volume: u32, act: ClientAct<'_>) -> Result<(), Fault>
     ensures answers { AnswersAfterGrowth (client_after_growth act.entry) admitted
         (refusal_of (client_acted act.entry (checked_model plan.now) volume unborn)) tt result tt }

@@ -136,7 +136,7 @@ impl Client {
         }
     }
 
-    /// Returns whether it would do what it is asked to: exactly the refusal of [`Client::act`], without acting. A cut
+    /// Checks whether it would do what it is asked to: exactly the refusal of [`Client::act`], without acting. A cut
     /// is judged by finding the log, which takes memory; nothing else does.
     ///
     /// # Errors
@@ -201,7 +201,7 @@ impl Client {
         }
     }
 
-    /// Returns whether it would become a writer: exactly the refusal of [`Client::open`], without acting. `NoActor`
+    /// Checks whether it would become a writer: exactly the refusal of [`Client::open`], without acting. `NoActor`
     /// before its birth, `AlreadyDone` if it is one, `NotReady` until the members of a write set of each group have
     /// acknowledged what it installed. Takes no memory.
     pub fn admits_open(&self) -> Result<(), Fault>

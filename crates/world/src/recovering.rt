@@ -16,7 +16,7 @@ use std::alloc::Global;
 use volume_model::Fault;
 use wire::Message;
 
-/// Returns whether a recovery would take a message. `NotAddressed` if it isn't for it, `NotInPlan` for a View of
+/// Checks whether a recovery would take a message. `NotAddressed` if it isn't for it, `NotInPlan` for a View of
 /// other places.
 fn admits_message(recovery: &Recovery, message: &Message) -> Result<(), Fault>
     ensures { result ≡ refusal_of (taken (recovery_plan recovery.now) (recovery_volume recovery.now)
@@ -35,7 +35,7 @@ fn not_open<T>() -> Result<T, Fault>
     Err(Fault::NotOpen)
 }
 
-/// Returns whether a recovery would act. `NotOpen` if a writer alone could.
+/// Checks whether a recovery would act. `NotOpen` if a writer alone could.
 pub fn admits(alloc: Global, recovery: &Recovery, act: ClientAct<'_>) -> Result<(), Fault>
     ensures answers { AnswersAfterGrowth (client_after_growth act.entry) admitted
         (refusal_of (client_acted act.entry (recovery_plan recovery.now) (recovery_volume recovery.now)

@@ -15,7 +15,7 @@ use volume_model::Fault;
 use wire::{Message, Messages};
 use writer_core::Writer;
 
-/// Returns whether a writer would take a message. `NotAddressed` if it isn't for it, `NotInPlan` for a View of other
+/// Checks whether a writer would take a message. `NotAddressed` if it isn't for it, `NotInPlan` for a View of other
 /// places.
 fn admits_message(writer: &Writer, message: &Message) -> Result<(), Fault>
     ensures { result ≡ refusal_of (taken (writer_plan writer.now) (writer_volume writer.now) (client_of writer.now)
@@ -27,7 +27,7 @@ fn admits_message(writer: &Writer, message: &Message) -> Result<(), Fault>
     }
 }
 
-/// Returns whether a writer would act. `AlreadyDone` if it is to cut.
+/// Checks whether a writer would act. `AlreadyDone` if it is to cut.
 pub fn admits(writer: &Writer, act: ClientAct<'_>) -> Result<(), Fault>
     ensures answers { AnswersAfterGrowth (client_after_growth act.entry) admitted
         (refusal_of (client_acted act.entry (writer_plan writer.now) (writer_volume writer.now) (client_of writer.now)))

@@ -169,7 +169,7 @@ impl Writer {
         self.durability.durable
     }
 
-    /// Returns whether an acknowledgement can be taken: `NotAddressed` if it isn't one to this writer, of a group of
+    /// Checks whether an acknowledgement can be taken: `NotAddressed` if it isn't one to this writer, of a group of
     /// the volume and a member. Takes no memory.
     pub fn admits_ack(&self, ack: &Ack) -> Result<(), Fault>
         ensures refusal { result ≡ refusal_of (taken (writer_plan self.now) (writer_volume self.now)
@@ -210,7 +210,7 @@ impl Writer {
         Ok(())
     }
 
-    /// Returns whether a View can be taken: `NotAddressed` if it is one of another volume epoch, `NotInPlan` if its
+    /// Checks whether a View can be taken: `NotAddressed` if it is one of another volume epoch, `NotInPlan` if its
     /// places aren't those of the plan's first groups, of all that are there at birth at least, each at one of its
     /// configurations. Takes no memory.
     pub fn admits_view(&self, view: &View) -> Result<(), Fault>
@@ -308,7 +308,7 @@ impl Writer {
         self.log.is_point(lsn) && lsn <= self.durable_point()
     }
 
-    /// Returns whether a transaction can be issued: `BadTransaction` if it isn't one of 1 to 32 good changes of
+    /// Checks whether a transaction can be issued: `BadTransaction` if it isn't one of 1 to 32 good changes of
     /// groups of the view, `NotJoined` if one of them is of a group that hasn't joined, `LsnSpent` if no LSNs are
     /// left for it, `LimitReached` if the last of its records would stand further above the durable point and the
     /// start than the plan allows. Takes no memory.
