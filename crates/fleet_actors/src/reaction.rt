@@ -16,10 +16,11 @@ use wire::Message;
 use world::Event;
 
 impl<L: Site> NodeActor<L> {
-    ghost use Rattle.std.specs.Prelude.{length, ◌≢◌, IfErr, IfOk, Ok, OnErr};
+    ghost use Rattle.std.specs.Prelude.{length, ◌≢◌, IfErr, IfOk, Ok, OnErr, Some};
     ghost use Rattle.volume_model.specs.declared.fault.Fault.TheVariants.{NoMessage};
     ghost use Rattle.volume_model.specs.Answer.{Fails};
     ghost use Rattle.volume_model.specs.World.Event.{Deliver};
+    ghost use Rattle.wire.specs.Message.{message_of};
     ghost use Rattle.segment_core.specs.Prepared.{step_of};
     ghost use Rattle.segment_core.specs.Segment.{node_of, IsReady};
     ghost use Rattle.journal.specs.Passes.{journal_of, message_ref_message, message_ref_number, seat_of};
@@ -30,20 +31,15 @@ impl<L: Site> NodeActor<L> {
     /// Prepares the reaction to a message under the node's lock alone: finds every refusal, makes every growth and
     /// works out the answers. The node is unchanged.
     #[inline(always)]
-    fn prepare<'a>(
-        &mut self,
-        alloc: Global,
-        message_ref: &MessageRef<'a, L>,
-    ) -> Result<Prepared, Fault>
+    fn prepare(&mut self, alloc: Global, message: &Message) -> Result<Prepared, Fault>
         ensures ready { IfOk result (λ prepared. IsReady self.new.segment prepared) }
-        ensures step { IfOk result (λ prepared. delivery_of self.new (message_ref_message message_ref.now)
+        ensures step { IfOk result (λ prepared. delivery_of self.new (Some (message_of message.now))
             ≡ Ok (step_of prepared (node_of self.new.segment))) }
-        ensures fails { IfErr result
-            (λ fault. Fails fault (delivery_of self.new (message_ref_message message_ref.now))) }
+        ensures fails { IfErr result (λ fault. Fails fault (delivery_of self.new (Some (message_of message.now)))) }
         ensures same { (self.new.group ≡ self.old.group) × (self.new.member ≡ self.old.member)
             × (actor_node self.new ≡ actor_node self.old) }
     {
-        self.segment.prepare(alloc, message_ref.message())
+        self.segment.prepare(alloc, message)
     }
 
     /// Applies a prepared reaction and enters the step. The caller holds the node's lock and the journal's.
@@ -174,17 +170,19 @@ impl<L: Site> NodeActor<L> {
         self.decline(&mut log, pass, message_ref, fault)
     }
 
-    /// Does what [`react`](NodeActor::react) says.
+    /// Reacts to a message, which is the one that is referred to, as [`react`](NodeActor::react) says.
     #[inline(always)]
-    fn react_as<'a, R: Wait, G: StepGate>(
+    fn react_to<'a, R: Wait, G: StepGate>(
         &mut self,
         rt: &R,
         alloc: Global,
         journal: &Mutex<Log<'a, L>>,
         pass: &mut Pass<'a, L>,
         message_ref: &mut MessageRef<'a, L>,
+        message: &'a Message,
         gate: &G,
     ) -> Result<Receipt, Halt>
+        requires { message_ref_message message_ref.old ≡ Some (message_of message.now) }
         ensures recorded { PassRecords (Deliver (actor_group self.old) (actor_member self.old)
             (message_ref_number message_ref.old)) result pass.old pass.new }
         ensures seat { seat_of pass.new ≡ seat_of pass.old }
@@ -192,7 +190,7 @@ impl<L: Site> NodeActor<L> {
         ensures same { (actor_group self.new ≡ actor_group self.old) × (actor_member self.new ≡ actor_member self.old) }
         ensures still { OnErr result (actor_node self.new ≡ actor_node self.old) }
     {
-        match self.prepare(alloc, message_ref) {
+        match self.prepare(alloc, message) {
             Ok(prepared) => self.accept(rt, journal, pass, message_ref, gate, prepared),
             Err(fault) => self.reject(rt, journal, pass, message_ref, fault),
         }
@@ -216,7 +214,8 @@ impl<L: Site> NodeActor<L> {
         ensures same { (actor_group self.new ≡ actor_group self.old) × (actor_member self.new ≡ actor_member self.old) }
         ensures still { OnErr result (actor_node self.new ≡ actor_node self.old) }
     {
-        self.react_as(rt, alloc, journal, pass, message_ref, gate)
+        let message = message_ref.message();
+        self.react_to(rt, alloc, journal, pass, message_ref, message, gate)
     }
 
     /// Delivers a message to the node, whose lock the caller holds: prepares the reaction, lends the answers to the
@@ -249,8 +248,9 @@ impl<L: Site> NodeActor<L> {
         ensures still { OnErr result (actor_node self.new ≡ actor_node self.old) }
     {
         // Most messages are Writes: compiled on their own, they take a tenth fewer instructions.
-        if let Message::Write(_) = message_ref.message() {
-            return self.react_as(rt, alloc, journal, pass, message_ref, gate);
+        let message = message_ref.message();
+        if let Message::Write(_) = message {
+            return self.react_to(rt, alloc, journal, pass, message_ref, message, gate);
         }
         self.react_any(rt, alloc, journal, pass, message_ref, gate)
     }
