@@ -25,7 +25,6 @@ use Rattle.plan.proofs.RereadPlan.{AreRead}
 use Rattle.plan.proofs.Rewrites.{compact, writes}
 use Rattle.plan.proofs.Text.{is_json, text-read}
 use Rattle.plan_text.specs.Certificates.{IsReadBack, certificate_values}
-use Rattle.plan_text.specs.Puts.{Puts}
 use Rattle.plan_text.specs.Taped.{HasClaims, Spells}
 use Rattle.plan_text.specs.Written.{IsTextOf, PutsMade, rules_in}
 use Rattle.plan_text.proofs.Texts.{nested, text_of}

@@ -1,12 +1,13 @@
 //! The text of a plan as a tape.
 
-ghost use Rattle.std.specs.Prelude.{◌≡◌, ◌≢◌, ◌≤◌, Err, IfErr, IfOk, length};
+ghost use Rattle.std.specs.Prelude.{◌≡◌, ◌≢◌, ◌≤◌, Err, IfErr, IfOk, OnOk, length};
 ghost use Rattle.std.specs.Str.{IsUtf8};
 ghost use Rattle.volume_model.specs.declared.fault.Fault.TheVariants.{NoMemory};
 ghost use Rattle.plan.specs.declared.fault.PlanFault.TheVariants.{Text};
+ghost use Rattle.plan.specs.FaultKinds.{kind_of};
 ghost use Rattle.plan.specs.Kept.{KeepsValues};
 ghost use Rattle.plan.specs.Plan.{plan_data};
-ghost use Rattle.plan.specs.PlanText.{Reads, plan_of};
+ghost use Rattle.plan.specs.PlanText.{IsWithinSize, Reads, plan_of};
 ghost use Rattle.plan.specs.Written.{IsCompact, rewritten};
 ghost use Rattle.plan_text.specs.Taped.{HasClaims, Spells};
 ghost use Rattle.plan_text.specs.Written.{rules_in};
@@ -73,6 +74,9 @@ impl<'a> TapedPlan<'a> {
     ) -> Result<TapedPlan<'a>, PlanFault>
         ensures text { IfOk result (λ taped. taped ≡ text.entry.now) }
         ensures fault { IfErr result (λ fault. fault ≢ Text NoMemory → plan_of text.entry.now ≡ Err fault) }
+        // `NoMemory` is no answer to a text that is too long, here and below.
+        ensures memory { IfErr result (λ fault. kind_of fault ≡ NoMemory → IsWithinSize text.entry.now) }
+        ensures within { OnOk result (IsWithinSize text.entry.now) }
     {
         if text.len() > MAX_TEXT {
             return Err(PlanFault::Text(Fault::OverLimit));
