@@ -16,7 +16,7 @@ use Rattle.commands.specs.Searched.{IsPlanLine}
 use Rattle.commands.specs.Unfound.{found_status, unfound_lines}
 use Rattle.commands.proofs.Findings.{all_shown, rewritten-is}
 use Rattle.commands.proofs.Searching.{gap-map, no_gap, status_by, status-is}
-use Rattle.commands.proofs.search.searched.Goals as goal
+use Rattle.commands.proofs.search.searched_tape.Goals as goal
 
 pub returns-clause-told : goal.returns-clause-told
 returns-clause-told g c =
@@ -45,7 +45,7 @@ returns-clause-told g c =
       answers = answered;
       rules = rules;
       fitted = fitted;
-      line = subst (λ (p : PlanData). IsPlanLine p c.in_ok-line.line.items) is line.2;
+      line = subst (λ (p : PlanData). IsPlanLine text p c.in_ok-line.line.items) is line.2;
       notes_are = c.in_ok-unfound.ensures ∙ ap₂ (λ xs ys. unfound_lines (all_lent xs) (rules_of ys)) c.deref.ensures.value c.deref-2.ensures.value;
       status_is = status;
       faultless = λ zero. c.shown_claims_certify.ensures.fault_free plan claims rules listed (all_shown 100000 text claims found rules answered fitted (no_gap rules (sym status ∙ zero)));
