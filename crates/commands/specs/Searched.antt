@@ -2,6 +2,7 @@
 use Rattle.std.specs.Prelude.{◌≡◌, ◌⊎◌, ℕ, ◌-◌, ◌<◌, ◌≤◌, List, ◌++◌, length, replicate, Option, None, Result, Ok, Err, codes, string_bytes}
 use Rattle.refutation.specs.Rule.{Rule}
 use Rattle.plan.specs.declared.fault.PlanFault.{PlanFault}
+use Rattle.plan.specs.Kept.{KeepsValues}
 use Rattle.plan.specs.PlanData.{PlanData}
 use Rattle.plan.specs.PlanFaults.{plan_fault}
 use Rattle.plan.specs.PlanText.{◌>=>◌, plan_of}
@@ -20,16 +21,18 @@ use Rattle.commands.specs.declared.reply.Found.{Found}
 abbrev pub claims_of : List ℕ → Result (List PlacedClaim) PlanFault
 claims_of text = plan_of text >=> claims_in
 
--- a line of compact JSON that spells this plan
-pub record IsPlanLine (plan : PlanData) (line : List ℕ) : Type 0 where
+-- A line of compact JSON that spells this plan, and all values of a text but its certificates: its expressions stay as
+-- that text spells them.
+pub record IsPlanLine (source : List ℕ) (plan : PlanData) (line : List ℕ) : Type 0 where
   pub text : List ℕ
   pub spelled : spelt text ≡ Ok plan
   pub compact : IsCompact text
+  pub kept : KeepsValues source text
   pub line_is : line ≡ text ++ codes "\n"
 
 -- a line of compact JSON that spells the plan of a text with these certificates
 abbrev pub IsLineWith : List ℕ → List (Option Rule) → List ℕ → Type 0
-IsLineWith text rules line = (plan : PlanData) × (rewritten text rules ≡ Ok plan) × IsPlanLine plan line
+IsLineWith text rules line = (plan : PlanData) × (rewritten text rules ≡ Ok plan) × IsPlanLine text plan line
 
 -- the room for certificates that the line of a text's plan without any leaves in 16,777,216 bytes
 abbrev pub IsRoom : List ℕ → ℕ → ℕ → Type 0
@@ -42,9 +45,10 @@ AreFitted text found kept =
     ((line : List ℕ) × IsLineWith text found line × (length line ≤ 16777216) × (kept ≡ found))
     ⊎ ((line : List ℕ) × (room : ℕ) × IsLineWith text found line × (16777216 < length line) × IsRoom text (length found) room × AreKept room found kept)
 
--- The plan's text spells a plan that has claims, and what is printed is a line that spells this plan with what was found for its
--- claims with a budget of 100,000 and fits, and a line for each of them for which nothing was or doesn't fit. The status is 0 exactly where there is no such line, and then that
--- plan has no fault.
+-- The plan's text spells a plan that has claims. What is printed is a line that spells this plan, its expressions as
+-- that text spells them, with what was found for its claims with a budget of 100,000 and fits; and a line for each
+-- claim for which nothing was found or doesn't fit. The status is 0 exactly where there is no such line, and then the
+-- printed plan has no fault.
 pub record TellsSearch (plan : List ℕ) (status : ℕ) (text notes : List ℕ) : Type 0 where
   pub data_of : PlanData
   pub spelled : plan_of plan ≡ Ok data_of
@@ -54,7 +58,7 @@ pub record TellsSearch (plan : List ℕ) (status : ℕ) (text notes : List ℕ) 
   pub answers : AreAnswers 100000 claims found
   pub rules : List (Option Rule)
   pub fitted : AreFitted plan found rules
-  pub line : IsPlanLine (with_certificates data_of rules) text
+  pub line : IsPlanLine plan (with_certificates data_of rules) text
   pub notes_are : notes ≡ unfound_lines claims rules
   pub status_is : status ≡ found_status rules
   pub faultless : status ≡ 0 → plan_fault (with_certificates data_of rules) ≡ None

@@ -44,22 +44,15 @@ pub fn contents<'a, R: FallibleRead>(
     }
 }
 
-/// Reads the plan of a text.
-fn plan_in(alloc: Global, text: &[u8]) -> Result<Plan, Stop<'static>>
-    ensures plan { IfOk result (λ plan. plan_of text.now ≡ Ok (plan_data plan)) }
-    ensures stop { IfErr result (StopsBy (λ fault. plan_of text.now ≡ Err fault)) }
-{
-    let mut scratch = Scratch::new(alloc);
-    let taped = taped(alloc, text, &mut scratch)?;
-    plan_of_tape(alloc, &taped)
-}
-
-/// A text as a tape.
+/// Parses the text of a plan.
 pub fn taped<'a>(
     alloc: Global,
     text: &'a [u8],
     scratch: &'a mut Scratch,
-) -> Result<TapedPlan<'a>, Stop<'static>> {
+) -> Result<TapedPlan<'a>, Stop<'static>>
+    ensures text { IfOk result (λ taped. taped ≡ text.entry.now) }
+    ensures stop { IfErr result (StopsBy (λ fault. plan_of text.entry.now ≡ Err fault)) }
+{
     match TapedPlan::parse(alloc, text, scratch) {
         Ok(taped) => Ok(taped),
         Err(fault) => Err(Stop::of_plan(fault)),
@@ -67,10 +60,25 @@ pub fn taped<'a>(
 }
 
 /// Reads the plan of a tape.
-pub fn plan_of_tape(alloc: Global, text: &TapedPlan<'_>) -> Result<Plan, Stop<'static>> {
+pub fn plan_of_tape(alloc: Global, text: &TapedPlan<'_>) -> Result<Plan, Stop<'static>>
+    ensures plan { IfOk result (λ plan. plan_of text.now ≡ Ok (plan_data plan)) }
+    ensures stop { IfErr result (StopsBy (λ fault. plan_of text.now ≡ Err fault)) }
+{
     match text.plan(alloc) {
         Ok(plan) => Ok(plan),
         Err(fault) => Err(Stop::of_plan(fault)),
+    }
+}
+
+/// Reads the plan of a text.
+fn plan_in(alloc: Global, text: &[u8]) -> Result<Plan, Stop<'static>>
+    ensures plan { IfOk result (λ plan. plan_of text.now ≡ Ok (plan_data plan)) }
+    ensures stop { IfErr result (StopsBy (λ fault. plan_of text.now ≡ Err fault)) }
+{
+    let mut scratch = Scratch::new(alloc);
+    match taped(alloc, text, &mut scratch) {
+        Ok(taped) => plan_of_tape(alloc, &taped),
+        Err(stop) => Err(stop),
     }
 }
 

@@ -235,8 +235,9 @@ pub fn perform<
     // the number of the script's first bad line, or what tells of the threads' run of as many events as the script has.
     ensures fleets { job.now.action ≡ Fleet → Ends O.contents E.contents (AnswersOf (file_of P.remaining job.now.plan.now plan.old plan.new) (FleetsTo (file_of S.remaining (script_name job.now) script.old script.new))) result out.old out.new err.old err.new }
 
-    // What a search answers and writes is due to the text of its file: the line of the first fault of the plan or of its claims; or the plan
-    // that the text spells with what was found for its claims, and the claims for which nothing was.
+    // What a search answers and writes is due to the text of its file: the line of the first fault of the plan or of
+    // its claims; or the plan that the text spells with what was found for its claims, each expression as the text
+    // spells it, and the claims for which nothing was found.
     ensures searches { job.now.action ≡ Search → Ends O.contents E.contents (AnswersOf (file_of P.remaining job.now.plan.now plan.old plan.new) SearchesTo) result out.old out.new err.old err.new }
 
     // A file is said to be one that can't be read only where it couldn't be opened, or a read of it failed; and an output one that can't be

@@ -6,8 +6,7 @@ ghost use Rattle.refutation.specs.Certificate.{certificate_rule};
 ghost use Rattle.plan.specs.LentClaims.{all_lent, lent_placed};
 ghost use Rattle.plan.specs.Plan.{plan_data};
 ghost use Rattle.plan.specs.PlanClaims.{claims_in};
-ghost use Rattle.plan.specs.PlanText.{plan_of};
-ghost use Rattle.plan.specs.Written.{rewritten};
+ghost use Rattle.plan_text.specs.Taped.{HasClaims};
 ghost use Rattle.cert_search.specs.Answers.{rule_in, AreAnswersOf};
 ghost use Rattle.commands.specs.Answers.{AnswersOf, file_of};
 ghost use Rattle.commands.specs.Searched.{AreFitted, IsLineWith, IsRoom, SearchesTo, TellsSearch, claims_of, found_answer};
@@ -77,8 +76,7 @@ fn plan_line(
     text: &TapedPlan<'_>,
     certificates: &[Option<Certificate<Global>>],
 ) -> Result<Vec<u8>, Stop<'static>>
-    requires plan { plan_of text.now ≡ Ok (plan_data plan.now) }
-    requires claims { HasClaims text.now (length certificates.now) }
+    requires { HasClaims text.now (length certificates.now) }
     ensures line { IfOk result (λ line. IsLineWith text.now (map rule_in certificates.now) line.items) }
     ensures stop { IfErr result (λ stop. stop ≡ NoMemory) }
 {
@@ -104,8 +102,7 @@ fn nothing(alloc: Global, places: usize) -> Result<Vec<Option<Certificate<Global
 
 /// Returns the bytes that the line of a text's plan without certificates leaves for them.
 fn room_beside(alloc: Global, text: &TapedPlan<'_>, places: usize) -> Result<u32, Stop<'static>>
-    requires plan { plan_of text.now ≡ Ok (plan_data plan.now) }
-    requires claims { HasClaims text.now places }
+    requires { HasClaims text.now places }
     ensures room { IfOk result (IsRoom text.now places) }
     ensures stop { IfErr result (λ stop. stop ≡ NoMemory) }
 {
@@ -121,8 +118,7 @@ fn fitting_line(
     text: &TapedPlan<'_>,
     certificates: &mut Vec<Option<Certificate<Global>>>,
 ) -> Result<Vec<u8>, Stop<'static>>
-    requires plan { plan_of text.now ≡ Ok (plan_data plan.now) }
-    requires claims { HasClaims text.now (length certificates.old.items) }
+    requires { HasClaims text.now (length certificates.old.items) }
     ensures line { IfOk result (λ line. IsLineWith text.now (map rule_in certificates.new.items) line.items) }
     ensures fitted { IfOk result (λ _. AreFitted text.now (map rule_in certificates.old.items) (map rule_in certificates.new.items)) }
     ensures stop { IfErr result (λ stop. stop ≡ NoMemory) }
@@ -193,6 +189,34 @@ fn has_gap(certificates: &[Option<Certificate<Global>>]) -> bool
     certificates.iter().any(|certificate| certificate.is_none())
 }
 
+/// Returns the answer of a search over the plan of a tape.
+fn searched_tape<H: Threads + Wait + Sync>(
+    rt: &H,
+    alloc: Global,
+    text: &TapedPlan<'_>,
+    workers: u8,
+) -> Result<Found, Stop<'static>>
+    requires { (0 < workers) × (workers ≤ 16) }
+    ensures told { IfOk result (λ found. TellsSearch text.now found.status found.plan.items (string_bytes found.unfound)) }
+    ensures stop { IfErr result (StopsBy (λ fault. claims_of text.now ≡ Err fault)) }
+{
+    shown_claims_certify();
+    let plan = plan_of_tape(alloc, text)?;
+    let claims = claims_of(alloc, &plan)?;
+    let mut certificates = answers(rt, alloc, &plan, workers)?;
+    let line = fitting_line(alloc, text, &mut certificates)?;
+    let unfound = unfound(alloc, &claims, &certificates)?;
+    let status = u8::from(has_gap(&certificates));
+    leave(certificates);
+    leave(claims);
+    leave(plan);
+    Ok(Found {
+        status,
+        plan: line,
+        unfound,
+    })
+}
+
 /// Returns the answer of a search over a text's plan.
 fn searched<H: Threads + Wait + Sync>(
     rt: &H,
@@ -204,23 +228,11 @@ fn searched<H: Threads + Wait + Sync>(
     ensures told { IfOk result (λ found. TellsSearch text.now found.status found.plan.items (string_bytes found.unfound)) }
     ensures stop { IfErr result (StopsBy (λ fault. claims_of text.now ≡ Err fault)) }
 {
-    shown_claims_certify();
     let mut scratch = Scratch::new(alloc);
-    let text = taped(alloc, text, &mut scratch)?;
-    let plan = plan_of_tape(alloc, &text)?;
-    let claims = claims_of(alloc, &plan)?;
-    let mut certificates = answers(rt, alloc, &plan, workers)?;
-    let line = fitting_line(alloc, &text, &mut certificates)?;
-    let unfound = unfound(alloc, &claims, &certificates)?;
-    let status = u8::from(has_gap(&certificates));
-    leave(certificates);
-    leave(claims);
-    leave(plan);
-    Ok(Found {
-        status,
-        plan: line,
-        unfound,
-    })
+    match taped(alloc, text, &mut scratch) {
+        Ok(text) => searched_tape(rt, alloc, &text, workers),
+        Err(stop) => Err(stop),
+    }
 }
 
 /// Returns the answer of `search`.
