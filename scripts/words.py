@@ -53,6 +53,8 @@ def faults(file):
 
 def main():
     files = [file for kind in ("*.rt", "*.antt") for file in sorted((TOP / "crates").rglob(kind)) if "out" not in file.parts]
+    # The help is text that the program prints.
+    files = [file for file in files if file.name != "help.rt"]
     wrong = [(file.relative_to(TOP), *fault) for file in files for fault in faults(file)]
     for file, number, fault in wrong:
         print(f"{file}:{number}: {fault}")

@@ -15,14 +15,14 @@ use Rattle.script.specs.declared.reading.Script.{Script}
 use Rattle.script.specs.declared.reading.ScriptFault.{ScriptFault}
 use Rattle.script.specs.declared.reading.ScriptFault.TheVariants as scripts
 use Rattle.commands.specs.Answer.{Answer, IsSaid, fault_answer, printed}
-use Rattle.commands.specs.Answers.{AnswersOf, BothAnswer, ChecksTo, File, IsBadScript, PlanAnswers, ScriptAnswers, TellsFleetOf, TellsOrders, TellsScript}
+use Rattle.commands.specs.Answers.{AnswersOf, BothAnswer, ChecksTo, File, IsBadScript, PlanAnswers, ScriptAnswers, PrintsFleetOf, PrintsOrders, PrintsScript}
 use Rattle.commands.specs.Answers.AnswersOf.{read, unread, unmade}
 use Rattle.commands.specs.Answers.PlanAnswers.{faulty, certified}
 use Rattle.commands.specs.Read.{IsPlanOf, IsRead, IsScriptOf}
-use Rattle.commands.specs.Searched.{SearchesTo, TellsSearch, claims_of, found_answer}
+use Rattle.commands.specs.Searched.{SearchesTo, PrintsSearch, claims_of, found_answer}
 use Rattle.commands.specs.Stops.{StopsAtLine, StopsBy, answer_of, script_stop, stop_answer}
-use Rattle.commands.specs.Told.{plan_line}
-use Rattle.commands.specs.ToldFleet.{TellsFleet}
+use Rattle.commands.specs.RunText.{plan_line}
+use Rattle.commands.specs.FleetText.{PrintsFleet}
 use Rattle.commands.specs.Verdict.{IsCertifiedText, text_fault}
 use Rattle.commands.specs.declared.inputs.PlanAndScript.{PlanAndScript}
 use Rattle.commands.specs.declared.reply.Found.{Found}
@@ -71,11 +71,11 @@ text_stops file items text (Err stop) h e s =
     fault_due (λ fault. text_fault text ≡ Some fault) (λ t. PlanAnswers t (λ _ _. ⊥)) file
     (record { text = h.text; whole = h.whole; is_text = h.is_text; is_so = λ fault is. faulty fault (ap text_fault (sym (e ∙ h.is_so)) ∙ is) refl }) stop s
 
--- what is told of a checked plan
-pub plan_tells : (file : File) (plan : CheckedPlan) (r : Result Reply Stop) → IsRead file (λ text. IsPlanOf text plan) → IfOk r (λ reply. reply.status ≡ 0) → IfOk r (λ reply. string_bytes reply.text ≡ plan_line (checked_model plan))
+-- the result of a checked plan
+pub plan_prints : (file : File) (plan : CheckedPlan) (r : Result Reply Stop) → IsRead file (λ text. IsPlanOf text plan) → IfOk r (λ reply. reply.status ≡ 0) → IfOk r (λ reply. string_bytes reply.text ≡ plan_line (checked_model plan))
     → IfErr r (λ stop. stop ≡ stops.NoMemory) → AnswersOf file ChecksTo (answer_of r)
-plan_tells file plan (Ok reply) h zero line none = read h.text h.whole h.is_text (certified (whole_text h.text plan h.is_so) (ap₂ printed zero line))
-plan_tells file plan (Err stop) h zero line memory = memory_out ChecksTo file stop memory
+plan_prints file plan (Ok reply) h zero line none = read h.text h.whole h.is_text (certified (whole_text h.text plan h.is_so) (ap₂ printed zero line))
+plan_prints file plan (Err stop) h zero line memory = memory_out ChecksTo file stop memory
 
 -- ---- a script over a plan
 
@@ -95,71 +95,71 @@ pub script_stops : (file : File) (items text : List ℕ) (r : Result Script Stop
 script_stops file items text (Ok script) h e s = tt
 script_stops file items text (Err stop) h e s = line_due file text (record { text = h.text; whole = h.whole; is_text = h.is_text; is_so = e ∙ h.is_so }) stop s
 
--- what tells of a script
-abbrev pub Telling : Type 1
-Telling = List ℕ → ℕ → List ℕ → Type 0
+-- what is printed of a script
+abbrev pub LineResult : Type 1
+LineResult = List ℕ → ℕ → List ℕ → Type 0
 
 -- the same over a plan
-abbrev pub PlanTelling : Type 1
-PlanTelling = model.Plan → Telling
+abbrev pub PlanPrinting : Type 1
+PlanPrinting = model.Plan → LineResult
 
--- nothing tells of it
-abbrev pub untold : PlanTelling
-untold plan script status text = ⊥
+-- nothing is printed of it
+abbrev pub unreported : PlanPrinting
+unreported plan script status text = ⊥
 
 -- the plan of a file, and the bad line of a script
 pub bad_script : (file script : File) (plan : CheckedPlan) (r : Result PlanAndScript Stop) → IsRead file (λ text. IsPlanOf text plan) → IfErr r (λ stop. AnswersOf script IsBadScript (stop_answer stop))
-    → IfErr r (λ stop. AnswersOf file (BothAnswer untold script) (stop_answer stop))
+    → IfErr r (λ stop. AnswersOf file (BothAnswer unreported script) (stop_answer stop))
 bad_script file script plan (Ok both) h bad = tt
 bad_script file script plan (Err stop) h bad =
-    read h.text h.whole h.is_text (certified (whole_text h.text plan h.is_so) (weaker_file IsBadScript (ScriptAnswers (untold (checked_model plan))) script (stop_answer stop) (λ text b. inl b) bad))
+    read h.text h.whole h.is_text (certified (whole_text h.text plan h.is_so) (weaker_file IsBadScript (ScriptAnswers (unreported (checked_model plan))) script (stop_answer stop) (λ text b. inl b) bad))
 
--- where nothing is told, anything else is told as well
-never_script : (T : Telling) (script : List ℕ) (a : Answer) → ScriptAnswers (λ _ _ _. ⊥) script a → ScriptAnswers T script a
+-- where nothing is printed, anything else follows
+never_script : (T : LineResult) (script : List ℕ) (a : Answer) → ScriptAnswers (λ _ _ _. ⊥) script a → ScriptAnswers T script a
 never_script T script a (inl bad) = inl bad
 never_script T script a (inr (none, e)) = absurd none
 
-never_both : (T : PlanTelling) (script : File) (text : List ℕ) (a : Answer) → BothAnswer untold script text a → BothAnswer T script text a
+never_both : (T : PlanPrinting) (script : File) (text : List ℕ) (a : Answer) → BothAnswer unreported script text a → BothAnswer T script text a
 never_both T script text a (faulty fault is said) = faulty fault is said
 never_both T script text a (certified whole h) =
     certified whole (weaker_file (ScriptAnswers (λ _ _ _. ⊥)) (ScriptAnswers (T (model_of whole.plan))) script a (λ t b. never_script (T (model_of whole.plan)) t a b) h)
 
-pub never_told : (T : PlanTelling) (script file : File) (a : Answer) → AnswersOf file (BothAnswer untold script) a → AnswersOf file (BothAnswer T script) a
-never_told T script file a h = weaker_file (BothAnswer untold script) (BothAnswer T script) file a (λ text p. never_both T script text a p) h
+pub never_reported : (T : PlanPrinting) (script file : File) (a : Answer) → AnswersOf file (BothAnswer unreported script) a → AnswersOf file (BothAnswer T script) a
+never_reported T script file a h = weaker_file (BothAnswer unreported script) (BothAnswer T script) file a (λ text p. never_both T script text a p) h
 
--- what is told of the script of a file
-script_told : (T : Telling) (file : File) (script : Script) (r : Result Reply Stop) → IsRead file (λ text. IsScriptOf text script)
+-- the result of the script of a file
+script_reported : (T : LineResult) (file : File) (script : Script) (r : Result Reply Stop) → IsRead file (λ text. IsScriptOf text script)
     → ((text : List ℕ) → IsScriptOf text script → IfOk r (λ reply. T text reply.status (string_bytes reply.text))) → IfErr r (λ stop. stop ≡ stops.NoMemory) → AnswersOf file (ScriptAnswers T) (answer_of r)
-script_told T file script (Ok reply) h told none = read h.text h.whole h.is_text (inr (told h.text h.is_so, refl))
-script_told T file script (Err stop) h told memory = memory_out (ScriptAnswers T) file stop memory
+script_reported T file script (Ok reply) h reported none = read h.text h.whole h.is_text (inr (reported h.text h.is_so, refl))
+script_reported T file script (Err stop) h reported memory = memory_out (ScriptAnswers T) file stop memory
 
 -- the same, over the plan of a file
-pub both_told : (T : PlanTelling) (file file' : File) (plan : CheckedPlan) (script : Script) (r : Result Reply Stop) → IsRead file (λ text. IsPlanOf text plan) → IsRead file' (λ text. IsScriptOf text script)
+pub both_reported : (T : PlanPrinting) (file file' : File) (plan : CheckedPlan) (script : Script) (r : Result Reply Stop) → IsRead file (λ text. IsPlanOf text plan) → IsRead file' (λ text. IsScriptOf text script)
     → ((text : List ℕ) → IsScriptOf text script → IfOk r (λ reply. T (checked_model plan) text reply.status (string_bytes reply.text))) → IfErr r (λ stop. stop ≡ stops.NoMemory) → AnswersOf file (BothAnswer T file') (answer_of r)
-both_told T file file' plan script r p h told memory =
-    read p.text p.whole p.is_text (certified (whole_text p.text plan p.is_so) (script_told (T (checked_model plan)) file' script r h told memory))
+both_reported T file file' plan script r p h reported memory =
+    read p.text p.whole p.is_text (certified (whole_text p.text plan p.is_so) (script_reported (T (checked_model plan)) file' script r h reported memory))
 
--- what is told of the run of a script's orders
-pub run_told : (plan : model.Plan) (script : Script) (r : Result Reply Stop) → IfOk r (λ reply. TellsOrders plan script.steps.items script.orders.items reply.status (string_bytes reply.text))
-    → (text : List ℕ) → IsScriptOf text script → IfOk r (λ reply. TellsScript plan text reply.status (string_bytes reply.text))
-run_told plan script (Ok reply) told text is =
+-- the result of the run of a script's orders
+pub run_reported : (plan : model.Plan) (script : Script) (r : Result Reply Stop) → IfOk r (λ reply. PrintsOrders plan script.steps.items script.orders.items reply.status (string_bytes reply.text))
+    → (text : List ℕ) → IsScriptOf text script → IfOk r (λ reply. PrintsScript plan text reply.status (string_bytes reply.text))
+run_reported plan script (Ok reply) reported text is =
     record {
       actions = is.actions;
       spelled = is.spelled;
       orders = script.orders.items;
       asked = is.keeps.orders_are;
-      told = subst (λ steps. TellsOrders plan steps script.orders.items reply.status (string_bytes reply.text)) is.keeps.steps_are told;
+      reported = subst (λ steps. PrintsOrders plan steps script.orders.items reply.status (string_bytes reply.text)) is.keeps.steps_are reported;
     }
-run_told plan script (Err stop) told text is = tt
+run_reported plan script (Err stop) reported text is = tt
 
--- what is told of a run of as many orders on threads
-pub fleet_told : (plan : model.Plan) (script : Script) (r : Result Reply Stop) → IfOk r (λ reply. TellsFleet plan (vec_len script.orders) reply.status (string_bytes reply.text))
-    → (text : List ℕ) → IsScriptOf text script → IfOk r (λ reply. TellsFleetOf plan text reply.status (string_bytes reply.text))
-fleet_told plan script (Ok reply) told text is =
+-- the result of a run of as many orders on threads
+pub fleet_reported : (plan : model.Plan) (script : Script) (r : Result Reply Stop) → IfOk r (λ reply. PrintsFleet plan (vec_len script.orders) reply.status (string_bytes reply.text))
+    → (text : List ℕ) → IsScriptOf text script → IfOk r (λ reply. PrintsFleetOf plan text reply.status (string_bytes reply.text))
+fleet_reported plan script (Ok reply) reported text is =
     let len : vec_len script.orders ≡ length script.orders.items = omega (arith, script.orders.ok.0) in
     let counted = len ∙ sym (length-map script.orders.items asked_by) ∙ ap length is.keeps.orders_are in
-    record { actions = is.actions; spelled = is.spelled; told = subst (λ n. TellsFleet plan n reply.status (string_bytes reply.text)) counted told }
-fleet_told plan script (Err stop) told text is = tt
+    record { actions = is.actions; spelled = is.spelled; reported = subst (λ n. PrintsFleet plan n reply.status (string_bytes reply.text)) counted reported }
+fleet_reported plan script (Err stop) reported text is = tt
 
 -- ---- a search
 
@@ -170,17 +170,17 @@ plan_stops text (stops.Plan fault) is = ap (λ r. r >=> claims_in) is
 plan_stops text (stops.Line number) bad = absurd bad
 plan_stops text stops.NoMemory h = tt
 
-pub search_tells : (file : File) (items text : List ℕ) (r : Result Found Stop) → IsRead file (λ t. items ≡ t) → text ≡ items
-    → IfOk r (λ found. TellsSearch text found.status found.plan.items (string_bytes found.unfound)) → IfErr r (StopsBy (λ fault. claims_of text ≡ Err fault)) → AnswersOf file SearchesTo (found_answer r)
-search_tells file items text (Ok found) h e told stop =
-    read h.text h.whole h.is_text (inr (subst (λ t. TellsSearch t found.status found.plan.items (string_bytes found.unfound)) (e ∙ h.is_so) told))
-search_tells file items text (Err stop) h e told s =
+pub search_prints : (file : File) (items text : List ℕ) (r : Result Found Stop) → IsRead file (λ t. items ≡ t) → text ≡ items
+    → IfOk r (λ found. PrintsSearch text found.status found.plan.items (string_bytes found.unfound)) → IfErr r (StopsBy (λ fault. claims_of text ≡ Err fault)) → AnswersOf file SearchesTo (found_answer r)
+search_prints file items text (Ok found) h e reported stop =
+    read h.text h.whole h.is_text (inr (subst (λ t. PrintsSearch t found.status found.plan.items (string_bytes found.unfound)) (e ∙ h.is_so) reported))
+search_prints file items text (Err stop) h e reported s =
     fault_due (λ fault. claims_of text ≡ Err fault) SearchesTo file
     (record { text = h.text; whole = h.whole; is_text = h.is_text; is_so = λ fault is. inl (fault, ap claims_of (sym (e ∙ h.is_so)) ∙ is, refl) }) stop s
 
 -- ---- what is said
 
--- an answer, or want of memory
+-- an answer, or running out of memory
 pub said_due : (E : List ℕ → Answer → Type 0) (file : File) (a said : Answer) → AnswersOf file E a → IsSaid a said → AnswersOf file E said
 said_due E file a said h (inl e) = subst (λ b. AnswersOf file E b) (sym e) h
 said_due E file a said h (inr e) = unmade e

@@ -18,7 +18,7 @@ gets_both contents old mid new xs ys g h = record {
   untouched = λ e. let empty = both_empty xs ys e in h.untouched empty.1 ∙ g.untouched empty.0;
 }
 
--- what is told, and then what is printed
+-- the result, and then what is printed
 pub delivered : {O E : Type 0} (out : O → Option (List ℕ)) (err : E → Option (List ℕ)) (answer : Answer) (status : ℕ) (out_old out_new : Output O) (err_old mid err_new : Output E)
     → Gets err err_old mid answer.err → HasPrinted out err answer.status answer.out status out_old out_new mid err_new → Delivers out err answer status out_old out_new err_old err_new
 delivered out err answer status out_old out_new err_old mid err_new g (inl (is, gets, same)) = given is gets (subst (λ e. Gets err err_old e answer.err) (sym same) g)

@@ -9,4 +9,4 @@ pub mod Fitting
 pub mod Given
 pub mod Says
 pub mod Searching
-pub mod Telling
+pub mod Printing

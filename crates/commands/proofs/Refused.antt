@@ -17,7 +17,7 @@ is_right (Err (Words error)) found words e h = absurd h
 is_right (Err (Missing what)) found words e h = λ j named. h j (subst (λ (o : Option (Text × List Row)). IsJob o j) (sym e) named)
 is_right (Err (Memory error)) found words e h = absurd h
 
--- a refusal of clap's that isn't want of memory is of words that it doesn't take
+-- a refusal of clap's that isn't running out of memory is of words that it doesn't take
 pub is_refused : (error : Error) (said : Usage) (words : List Text) → IsRefusal error said → (takes tool words ≡ true → kind_of error ≡ OutOfMemory) → IsRightFor words said
 is_refused error (Words e) words h k = λ taken. h.1 (k taken)
 is_refused error (Missing what) words h k = absurd h

@@ -7,7 +7,7 @@ use Rattle.commands.specs.Answers.AnswersOf.{read, unread, unmade}
 use Rattle.commands.specs.Answers.PlanAnswers.{faulty, certified}
 use Rattle.commands.specs.Searched.{SearchesTo}
 use Rattle.commands.specs.Streams.{Delivers, Ends, Gets, IsTextOf}
-use Rattle.commands.specs.Streams.Delivers.{given, untold, unprinted}
+use Rattle.commands.specs.Streams.Delivers.{given, unreported, unprinted}
 use Rattle.commands.specs.Verdict.{IsFaultyText}
 use Rattle.commands.specs.declared.outputs.Output.{Output}
 use Rattle.commands.proofs.Searching.{is_quiet}
@@ -28,8 +28,8 @@ not_no a line e one = let two = ap (λ (b : Answer). b.status) e in absurd (omeg
 -- an answer below 2 was given
 was_given : {O E : Type 0} (out : O → Option (List ℕ)) (err : E → Option (List ℕ)) (a : Answer) (status : ℕ) (out_old out_new : Output O) (err_old err_new : Output E)
     → Delivers out err a status out_old out_new err_old err_new → status < 2 → (status ≡ a.status) × Gets err err_old err_new a.err
-was_given out err a status out_old out_new err_old err_new (given is printed told) small = (is, told)
-was_given out err a status out_old out_new err_old err_new (untold is broken same) small = absurd (omega arith)
+was_given out err a status out_old out_new err_old err_new (given is printed reported) small = (is, reported)
+was_given out err a status out_old out_new err_old err_new (unreported is broken same) small = absurd (omega arith)
 was_given out err a status out_old out_new err_old err_new (unprinted is broken line) small = absurd (omega arith)
 
 -- a status below 2 is that of the answer, and what it says to standard error was written
@@ -49,6 +49,6 @@ no_due file a (unmade said) one = absurd (not_no a _ said one)
 -- the answer 0 of a search says nothing to standard error
 pub search_silent : (file : File) (a : Answer) → AnswersOf file SearchesTo a → a.status ≡ 0 → a.err ≡ []
 search_silent file a (read text whole is (inl (fault, bad, said))) zero = absurd (not_yes a (is_input fault) _ said zero)
-search_silent file a (read text whole is (inr told)) zero = is_quiet text a.status a.out a.err told zero
+search_silent file a (read text whole is (inr reported)) zero = is_quiet text a.status a.out a.err reported zero
 search_silent file a (unread failed said) zero = absurd (not_yes a true _ said zero)
 search_silent file a (unmade said) zero = absurd (not_yes a true _ said zero)

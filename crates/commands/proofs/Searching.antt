@@ -14,7 +14,7 @@ use Rattle.plan.specs.PlanClaims.{PlacedClaim}
 use Rattle.plan_text.specs.Taped.{HasClaims}
 use Rattle.cert_search.specs.Answers.{rule_in}
 use Rattle.cert_search.specs.Kept.{AreKept}
-use Rattle.commands.specs.Searched.{TellsSearch}
+use Rattle.commands.specs.Searched.{PrintsSearch}
 use Rattle.commands.specs.Unfound.{found_status, unfound_line, unfound_lines}
 
 -- an Ok has a value
@@ -93,8 +93,8 @@ all_found (c ∷ cs) (None ∷ rules) h = absurd cc
 all_found (c ∷ cs) (Some r ∷ rules) h = all_found cs rules h
 
 -- with the status 0 there is no line
-pub is_quiet : (plan : List ℕ) (status : ℕ) (text notes : List ℕ) → TellsSearch plan status text notes → status ≡ 0 → notes ≡ []
-is_quiet plan status text notes told none = told.notes_are ∙ all_found told.claims told.rules (no_gap told.rules (sym told.status_is ∙ none))
+pub is_quiet : (plan : List ℕ) (status : ℕ) (text notes : List ℕ) → PrintsSearch plan status text notes → status ≡ 0 → notes ≡ []
+is_quiet plan status text notes reported none = reported.notes_are ∙ all_found reported.claims reported.rules (no_gap reported.rules (sym reported.status_is ∙ none))
 
 -- places without a certificate have no rule
 pub none_ruled : (places : ℕ) → map rule_in (replicate places None) ≡ replicate places None

@@ -11,8 +11,8 @@ pub record Answer : Type 0 where
   pub out : List ℕ
   pub err : List ℕ
 
--- The answer of one line: to an input that can't be used it is 2, and the line is written to standard error; else it is 1, and the
--- line is written to standard output.
+-- The answer of one line: to an input that can't be used it is 2, and the line is written to standard error; else it is
+-- 1, and the line is written to standard output.
 abbrev pub line_answer : Bool → List ℕ → Answer
 line_answer true line = record { status = 2; out = []; err = line }
 line_answer false line = record { status = 1; out = line; err = [] }

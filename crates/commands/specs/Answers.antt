@@ -14,8 +14,8 @@ use Rattle.script.specs.Seen.{asked_by}
 use Rattle.script.specs.declared.reading.Step.{Step}
 use Rattle.commands.specs.Answer.{Answer, bad_line, fault_answer, no_memory, printed, unreadable}
 use Rattle.commands.specs.Streams.{IsTextOf, is_unread, left_of}
-use Rattle.commands.specs.Told.{TellsOf, plan_line}
-use Rattle.commands.specs.ToldFleet.{TellsFleet}
+use Rattle.commands.specs.RunText.{PrintsRun, plan_line}
+use Rattle.commands.specs.FleetText.{PrintsFleet}
 use Rattle.commands.specs.Verdict.{IsCertifiedText, text_fault}
 use Rattle.commands.specs.declared.files.Source.{Source}
 
@@ -30,7 +30,8 @@ pub record File : Type 0 where
 abbrev pub file_of : {R : Type 0} → (R → Option (List ℕ)) → List ℕ → Source R → Source R → File
 file_of remaining name old new = record { name = name; known = left_of remaining old; failed = is_unread new }
 
--- What is answered of a file: what is due to its text; or that it can't be read, where a read of it failed; or that memory ran out.
+-- What is answered of a file: what is due to its text; or that it can't be read, where a read of it failed; or that
+-- memory ran out.
 pub data AnswersOf (file : File) (Due : List ℕ → Answer → Type 0) (answer : Answer) : Type 0 where
   read : (text : List ℕ) → file.failed ≡ false → IsTextOf file.known text → Due text answer → AnswersOf file Due answer
   unread : file.failed ≡ true → answer ≡ unreadable file.name → AnswersOf file Due answer
@@ -38,7 +39,8 @@ pub data AnswersOf (file : File) (Due : List ℕ → Answer → Type 0) (answer 
 
 -- What is answered of a plan's text: its first fault; or it has none, and what is due to its plan.
 pub data PlanAnswers (text : List ℕ) (Due : PlanData → Answer → Type 0) (answer : Answer) : Type 0 where
-  faulty : (fault : PlanFault) → text_fault text ≡ Some fault → answer ≡ fault_answer fault → PlanAnswers text Due answer
+  faulty : (fault : PlanFault) → text_fault text ≡ Some fault → answer ≡ fault_answer fault → PlanAnswers text Due
+      answer
   certified : (whole : IsCertifiedText text) → Due whole.plan answer → PlanAnswers text Due answer
 
 -- ---- a check
@@ -55,47 +57,51 @@ pub record IsBadScript (script : List ℕ) (answer : Answer) : Type 0 where
   pub first : IsFirstBad script number
   pub answered : answer ≡ bad_line number
 
--- what is answered to a script's text: its first bad line, or what tells of it
+-- what is answered to a script's text: its first bad line, or what is printed of it
 abbrev pub ScriptAnswers : (List ℕ → ℕ → List ℕ → Type 0) → List ℕ → Answer → Type 0
-ScriptAnswers Tells script answer = IsBadScript script answer ⊎ (Tells script answer.status answer.out × (answer.err ≡ []))
+ScriptAnswers Prints script answer = IsBadScript script answer ⊎ (Prints script answer.status answer.out
+    × (answer.err ≡ []))
 
--- What is answered to a plan's text and a script's file: the plan's first fault; or, over the plan, the script's first bad line, or what
--- tells of the script.
+-- What is answered to a plan's text and a script's file: the plan's first fault; or, over the plan, the script's first
+-- bad line, or what is printed of the script.
 abbrev pub BothAnswer : (model.Plan → List ℕ → ℕ → List ℕ → Type 0) → File → List ℕ → Answer → Type 0
-BothAnswer Tells script text answer = PlanAnswers text (λ plan. AnswersOf script (ScriptAnswers (Tells (model_of plan)))) answer
+BothAnswer Prints script text answer = PlanAnswers text
+    (λ plan. AnswersOf script (ScriptAnswers (Prints (model_of plan)))) answer
 
 -- ---- a run
 
--- A status and a text tell of the model's run of these orders over a plan: what is told of each event for the steps that have
--- one, and the opened writers and the recoveries that have cut of the world after them.
-abbrev pub TellsOrders : model.Plan → List Step → List Order → ℕ → List ℕ → Type 0
-TellsOrders plan steps orders status text =
+-- A status and a text tell of the model's run of these orders over a plan: the result of each event for the steps that
+-- have one, and the opened writers and the recoveries that have cut of the world after them.
+abbrev pub PrintsOrders : model.Plan → List Step → List Order → ℕ → List ℕ → Type 0
+PrintsOrders plan steps orders status text =
     let events = events_from plan (opening plan) [] orders in
-    TellsOf steps (results plan (opening plan) events) (writers_in (run plan (opening plan) events)) (finds_in (run plan (opening plan) events)) status text
+    PrintsRun steps (results plan (opening plan) events) (writers_in (run plan (opening plan) events))
+    (finds_in (run plan (opening plan) events)) status text
 
--- The same of a script's text: it is a script, whose lines do these deeds, and the orders are those that the deeds ask for.
-pub record TellsScript (plan : model.Plan) (script : List ℕ) (status : ℕ) (text : List ℕ) : Type 0 where
+-- The same of a script's text: it is a script, whose lines do these actions, and the orders are those that the actions
+-- ask for.
+pub record PrintsScript (plan : model.Plan) (script : List ℕ) (status : ℕ) (text : List ℕ) : Type 0 where
   pub actions : List LineAction
   pub spelled : IsScript script actions
   pub orders : List Order
   pub asked : map asked_by orders ≡ (kept_of actions).asked
-  pub told : TellsOrders plan (kept_of actions).steps orders status text
+  pub reported : PrintsOrders plan (kept_of actions).steps orders status text
 
 -- what a run answers to a plan's text and a script's file
 abbrev pub RunsTo : File → List ℕ → Answer → Type 0
-RunsTo = BothAnswer TellsScript
+RunsTo = BothAnswer PrintsScript
 
 -- ---- a run on threads
 
--- The text is a script, whose lines do these deeds, and a fleet's run of as many orders as they ask for is told.
-pub record TellsFleetOf (plan : model.Plan) (script : List ℕ) (status : ℕ) (text : List ℕ) : Type 0 where
+-- The text is a script, whose lines do these actions, and a fleet's run of as many orders as they ask for is printed.
+pub record PrintsFleetOf (plan : model.Plan) (script : List ℕ) (status : ℕ) (text : List ℕ) : Type 0 where
   pub actions : List LineAction
   pub spelled : IsScript script actions
-  pub told : TellsFleet plan (length (kept_of actions).asked) status text
+  pub reported : PrintsFleet plan (length (kept_of actions).asked) status text
 
 -- what a fleet answers to a plan's text and a script's file
 abbrev pub FleetsTo : File → List ℕ → Answer → Type 0
-FleetsTo = BothAnswer TellsFleetOf
+FleetsTo = BothAnswer PrintsFleetOf
 
 -- the name of a job's script, empty where there is none
 abbrev pub script_name : Job → List ℕ

@@ -39,7 +39,7 @@ pub record IsLeaf (a : App) (c : Command) : Type 0 where
   pub app : app_of c ≡ a
   pub local : (out-Command c).has_globals ≡ false
 
--- the program before its subcommands: one is asked for, and it tells its version
+-- the program before its subcommands: one is asked for, and it prints its version
 abbrev pub program : App
 program = on_top (λ s. record s { has_version = true; subcommand_required = true }) (new_app (codes "plan_tool"))
 

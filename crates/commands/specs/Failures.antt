@@ -10,7 +10,8 @@ pub record ReadFails {R : Type 0} (answers : R → Result ℕ Error → Type 0) 
   pub answered : answers reader (Err error)
 
 -- A write of these bytes to a writer was answered so.
-pub record WasAnswered {W : Type 0} (answers : W → List ℕ → Result ℕ Error → Type 0) (bytes : List ℕ) (answer : Result ℕ Error) : Type 0 where
+pub record WasAnswered {W : Type 0} (answers : W → List ℕ → Result ℕ Error → Type 0) (bytes : List ℕ)
+    (answer : Result ℕ Error) : Type 0 where
   pub writer : W
   pub answered : answers writer bytes answer
 

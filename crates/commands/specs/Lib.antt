@@ -6,9 +6,9 @@ pub mod Stops
 pub mod Failures
 pub mod Streams
 pub mod Verdict
-pub mod Told
-pub mod ToldLines
-pub mod ToldFleet
+pub mod RunText
+pub mod RunLines
+pub mod FleetText
 pub mod Answers
 pub mod Read
 pub mod Unfound

@@ -36,20 +36,22 @@ IsLineWith text rules line = (plan : PlanData) × (rewritten text rules ≡ Ok p
 
 -- the room for certificates that the line of a text's plan without any leaves in 16,777,216 bytes
 abbrev pub IsRoom : List ℕ → ℕ → ℕ → Type 0
-IsRoom text places room = (line : List ℕ) × IsLineWith text (replicate places None) line × (room ≡ 16777216 - length line)
+IsRoom text places room = (line : List ℕ) × IsLineWith text (replicate places None) line
+    × (room ≡ 16777216 - length line)
 
--- All certificates stay where the line of a text's plan with them has at most 16,777,216 bytes; else the shortest do, as many as the line without any has
--- room for.
+-- All certificates stay where the line of a text's plan with them has at most 16,777,216 bytes; else the shortest do,
+-- as many as the line without any has room for.
 abbrev pub AreFitted : List ℕ → List (Option Rule) → List (Option Rule) → Type 0
 AreFitted text found kept =
     ((line : List ℕ) × IsLineWith text found line × (length line ≤ 16777216) × (kept ≡ found))
-    ⊎ ((line : List ℕ) × (room : ℕ) × IsLineWith text found line × (16777216 < length line) × IsRoom text (length found) room × AreKept room found kept)
+    ⊎ ((line : List ℕ) × (room : ℕ) × IsLineWith text found line × (16777216 < length line) × IsRoom text (length found)
+    room × AreKept room found kept)
 
 -- The plan's text spells a plan that has claims. What is printed is a line that spells this plan, its expressions as
 -- that text spells them, with what was found for its claims with a budget of 100,000 and fits; and a line for each
 -- claim for which nothing was found or doesn't fit. The status is 0 exactly where there is no such line, and then the
 -- printed plan has no fault.
-pub record TellsSearch (plan : List ℕ) (status : ℕ) (text notes : List ℕ) : Type 0 where
+pub record PrintsSearch (plan : List ℕ) (status : ℕ) (text notes : List ℕ) : Type 0 where
   pub data_of : PlanData
   pub spelled : plan_of plan ≡ Ok data_of
   pub claims : List PlacedClaim
@@ -65,7 +67,8 @@ pub record TellsSearch (plan : List ℕ) (status : ℕ) (text notes : List ℕ) 
 
 -- what a search answers to a plan's text: the first fault of the text or of its claims, or what the search found
 abbrev pub SearchesTo : List ℕ → Answer → Type 0
-SearchesTo text answer = ((fault : PlanFault) × (claims_of text ≡ Err fault) × (answer ≡ fault_answer fault)) ⊎ TellsSearch text answer.status answer.out answer.err
+SearchesTo text answer = ((fault : PlanFault) × (claims_of text ≡ Err fault) × (answer ≡ fault_answer fault))
+    ⊎ PrintsSearch text answer.status answer.out answer.err
 
 -- what was found, as an answer
 abbrev pub found_answer : Result Found Stop → Answer

@@ -65,20 +65,28 @@ abbrev pub unwritten_line : List ℕ
 unwritten_line = codes "output: cannot write\n"
 
 -- This is printed, or standard output fails: then the status is 2, and standard error gets a line, unless it fails too.
-abbrev pub HasPrinted : {O E : Type 0} → (O → Option (List ℕ)) → (E → Option (List ℕ)) → ℕ → List ℕ → ℕ → Output O → Output O → Output E → Output E → Type 0
+abbrev pub HasPrinted : {O E : Type 0} → (O → Option (List ℕ)) → (E → Option (List ℕ)) → ℕ → List ℕ → ℕ → Output O
+    → Output O → Output E → Output E → Type 0
 HasPrinted out err wanted text status out_old out_new err_old err_new =
     ((status ≡ wanted) × Gets out out_old out_new text × (err_new ≡ err_old))
-    ⊎ ((status ≡ 2) × (is_broken out_new ≡ true) × (Gets err err_old err_new unwritten_line ⊎ (is_broken err_new ≡ true)))
+    ⊎ ((status ≡ 2) × (is_broken out_new ≡ true) × (Gets err err_old err_new unwritten_line
+    ⊎ (is_broken err_new ≡ true)))
 
--- An answer is given, first to standard error, and then to standard output. Where one of them fails the status is 2: where it is standard
--- error, nothing is printed; where it is standard output, standard error gets a line more, unless it fails too.
-pub data Delivers {O E : Type 0} (out : O → Option (List ℕ)) (err : E → Option (List ℕ)) (answer : Answer) (status : ℕ) (out_old out_new : Output O) (err_old err_new : Output E) : Type 0 where
-  given : status ≡ answer.status → Gets out out_old out_new answer.out → Gets err err_old err_new answer.err → Delivers out err answer status out_old out_new err_old err_new
-  untold : status ≡ 2 → is_broken err_new ≡ true → out_new ≡ out_old → Delivers out err answer status out_old out_new err_old err_new
-  unprinted : status ≡ 2 → is_broken out_new ≡ true → (Gets err err_old err_new (answer.err ++ unwritten_line) ⊎ (is_broken err_new ≡ true)) → Delivers out err answer status out_old out_new err_old err_new
+-- An answer is given, first to standard error, and then to standard output. Where one of them fails the status is 2:
+-- where it is standard error, nothing is printed; where it is standard output, standard error gets a line more, unless
+-- it fails too.
+pub data Delivers {O E : Type 0} (out : O → Option (List ℕ)) (err : E → Option (List ℕ)) (answer : Answer) (status : ℕ)
+    (out_old out_new : Output O) (err_old err_new : Output E) : Type 0 where
+  given : status ≡ answer.status → Gets out out_old out_new answer.out → Gets err err_old err_new answer.err
+      → Delivers out err answer status out_old out_new err_old err_new
+  unreported : status ≡ 2 → is_broken err_new ≡ true → out_new ≡ out_old → Delivers out err answer status out_old
+      out_new err_old err_new
+  unprinted : status ≡ 2 → is_broken out_new ≡ true → (Gets err err_old err_new (answer.err ++ unwritten_line)
+      ⊎ (is_broken err_new ≡ true)) → Delivers out err answer status out_old out_new err_old err_new
 
 -- An answer that is due is given.
-pub record Ends {O E : Type 0} (out : O → Option (List ℕ)) (err : E → Option (List ℕ)) (Due : Answer → Type 0) (status : ℕ) (out_old out_new : Output O) (err_old err_new : Output E) : Type 0 where
+pub record Ends {O E : Type 0} (out : O → Option (List ℕ)) (err : E → Option (List ℕ)) (Due : Answer → Type 0)
+    (status : ℕ) (out_old out_new : Output O) (err_old err_new : Output E) : Type 0 where
   pub answer : Answer
   pub due : Due answer
   pub given : Delivers out err answer status out_old out_new err_old err_new

@@ -9,7 +9,8 @@ use Rattle.plan.specs.PlanClaims.{PlacedClaim}
 -- the line of a claim without a certificate
 abbrev pub claim_line : PlacedClaim → List ℕ
 claim_line claim =
-    codes "unfound: group " ++ decimal claim.group ++ codes " configuration " ++ decimal claim.configuration ++ codes " " ++ claim_text claim.step ++ codes "\n"
+    codes "unfound: group " ++ decimal claim.group ++ codes " configuration " ++ decimal claim.configuration
+    ++ codes " " ++ claim_text claim.step ++ codes "\n"
 
 -- this line, and nothing for a claim that has a certificate
 abbrev pub unfound_line : PlacedClaim → Option Rule → List ℕ

@@ -27,8 +27,8 @@ IsMissing found (Words error) = ⊥
 IsMissing found (Missing what) = (j : Job) → IsJob found j → ⊥
 IsMissing found (Memory error) = ⊥
 
--- It is said for a reason: a refusal of clap's only where clap doesn't take the words, and that a subcommand or a file is missing
--- only where clap's reading of the words names no job.
+-- It is said for a reason: a refusal of clap's only where clap doesn't take the words, and that a subcommand or a file
+-- is missing only where clap's reading of the words names no job.
 abbrev pub IsRightFor : List Text → Usage → Type 0
 IsRightFor words (Words error) = takes tool words ≢ true
 IsRightFor words (Missing what) = IsMissing (subcommand_of tool words) (Missing what)

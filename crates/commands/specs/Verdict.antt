@@ -15,7 +15,8 @@ first_fault (Err fault) = Some fault
 abbrev pub text_fault : List ℕ → Option PlanFault
 text_fault text = first_fault (plan_of text)
 
--- The text spells a plan without a fault; in each of its configurations read sets meet write sets, and each step is one.
+-- The text spells a plan without a fault; in each of its configurations read sets meet write sets, and each step is
+-- one.
 pub record IsCertifiedText (text : List ℕ) : Type 0 where
   pub plan : PlanData
   pub spelled : plan_of text ≡ Ok plan

@@ -126,7 +126,8 @@ fn read_more<R: FallibleRead>(
 ) -> Result<bool, ReadFault>
     requires chunk { 0 < length chunk.old }
     requires within { vec_len all.old ≤ most }
-    ensures grows { OnOk result (GrowsBy (R.remaining reader.old) (R.remaining reader.new) all.old.items all.new.items) }
+    ensures grows { OnOk result (GrowsBy (R.remaining reader.old) (R.remaining reader.new) all.old.items
+        all.new.items) }
     ensures within { OnOk result (vec_len all.new ≤ most) }
     ensures more { result ≡ Ok true → vec_len all.old < vec_len all.new }
     ensures end { result ≡ Ok false → IsAtEnd (R.remaining reader.new) ⊎ (vec_len all.new ≡ most) }

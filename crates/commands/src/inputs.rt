@@ -33,8 +33,10 @@ pub fn contents<'a, R: FallibleRead>(
     name: &'a str,
     file: &mut Source<R>,
 ) -> Result<Vec<u8>, Stop<'a>>
-    ensures read { IfOk result (λ v. IsRead (file_of R.remaining name.entry.now file.old file.new) (λ text. v.items ≡ text)) }
-    ensures stop { IfErr result (λ stop. AnswersOf (file_of R.remaining name.entry.now file.old file.new) (λ _ _. ⊥) (stop_answer stop)) }
+    ensures read { IfOk result (λ v. IsRead (file_of R.remaining name.entry.now file.old file.new)
+        (λ text. v.items ≡ text)) }
+    ensures stop { IfErr result (λ stop. AnswersOf (file_of R.remaining name.entry.now file.old file.new)
+        (λ _ _. ⊥) (stop_answer stop)) }
     ensures reason { FailsByRead R.answers file.old file.new }
 {
     match file.read_all(alloc, FILE_BYTES) {
@@ -113,8 +115,10 @@ pub fn checked<'a, P: FallibleRead>(
     name: &'a str,
     plan: &mut Source<P>,
 ) -> Result<CheckedPlan, Stop<'a>>
-    ensures plan { IfOk result (λ checked. IsRead (file_of P.remaining name.entry.now plan.old plan.new) (λ text. IsPlanOf text checked)) }
-    ensures stop { IfErr result (λ stop. AnswersOf (file_of P.remaining name.entry.now plan.old plan.new) (λ text. PlanAnswers text (λ _ _. ⊥)) (stop_answer stop)) }
+    ensures plan { IfOk result (λ checked. IsRead (file_of P.remaining name.entry.now plan.old plan.new)
+        (λ text. IsPlanOf text checked)) }
+    ensures stop { IfErr result (λ stop. AnswersOf (file_of P.remaining name.entry.now plan.old plan.new)
+        (λ text. PlanAnswers text (λ _ _. ⊥)) (stop_answer stop)) }
     ensures reason { FailsByRead P.answers plan.old plan.new }
 {
     let text = contents(alloc, name, plan)?;
@@ -138,8 +142,10 @@ fn script_of<'a, S: FallibleRead>(
     name: &'a str,
     script: &mut Source<S>,
 ) -> Result<Script, Stop<'a>>
-    ensures script { IfOk result (λ read. IsRead (file_of S.remaining name.entry.now script.old script.new) (λ text. IsScriptOf text read)) }
-    ensures stop { IfErr result (λ stop. AnswersOf (file_of S.remaining name.entry.now script.old script.new) IsBadScript (stop_answer stop)) }
+    ensures script { IfOk result (λ read. IsRead (file_of S.remaining name.entry.now script.old script.new)
+        (λ text. IsScriptOf text read)) }
+    ensures stop { IfErr result (λ stop. AnswersOf (file_of S.remaining name.entry.now script.old script.new)
+        IsBadScript (stop_answer stop)) }
     ensures reason { FailsByRead S.answers script.old script.new }
 {
     let text = contents(alloc, name, script)?;
@@ -171,8 +177,10 @@ fn with_script<'a, S: FallibleRead>(
     script: &mut Source<S>,
 ) -> Result<PlanAndScript, Stop<'a>>
     ensures plan { IfOk result (λ both. arc_value both.plan ≡ plan) }
-    ensures script { IfOk result (λ both. IsRead (file_of S.remaining (script_name job.now) script.old script.new) (λ text. IsScriptOf text both.script)) }
-    ensures stop { IfErr result (λ stop. AnswersOf (file_of S.remaining (script_name job.now) script.old script.new) IsBadScript (stop_answer stop)) }
+    ensures script { IfOk result (λ both. IsRead (file_of S.remaining (script_name job.now) script.old script.new)
+        (λ text. IsScriptOf text both.script)) }
+    ensures stop { IfErr result (λ stop. AnswersOf (file_of S.remaining (script_name job.now) script.old script.new)
+        IsBadScript (stop_answer stop)) }
     ensures reason { FailsByRead S.answers script.old script.new }
 {
     let plan = Arc::new(alloc, plan)?;
@@ -187,9 +195,13 @@ pub fn plan_and_script<'a, P: FallibleRead, S: FallibleRead>(
     plan: &mut Source<P>,
     script: &mut Source<S>,
 ) -> Result<PlanAndScript, Stop<'a>>
-    ensures plan { IfOk result (λ both. IsRead (file_of P.remaining job.now.plan.now plan.old plan.new) (λ text. IsPlanOf text (arc_value both.plan))) }
-    ensures script { IfOk result (λ both. IsRead (file_of S.remaining (script_name job.now) script.old script.new) (λ text. IsScriptOf text both.script)) }
-    ensures stop { IfErr result (λ stop. AnswersOf (file_of P.remaining job.now.plan.now plan.old plan.new) (BothAnswer (λ _ _ _ _. ⊥) (file_of S.remaining (script_name job.now) script.old script.new)) (stop_answer stop)) }
+    ensures plan { IfOk result (λ both. IsRead (file_of P.remaining job.now.plan.now plan.old plan.new)
+        (λ text. IsPlanOf text (arc_value both.plan))) }
+    ensures script { IfOk result (λ both. IsRead (file_of S.remaining (script_name job.now) script.old script.new)
+        (λ text. IsScriptOf text both.script)) }
+    ensures stop { IfErr result (λ stop. AnswersOf (file_of P.remaining job.now.plan.now plan.old plan.new)
+        (BothAnswer (λ _ _ _ _. ⊥) (file_of S.remaining (script_name job.now) script.old script.new))
+        (stop_answer stop)) }
     ensures plan_read { FailsByRead P.answers plan.old plan.new }
     ensures script_read { FailsByRead S.answers script.old script.new }
 {

@@ -8,14 +8,14 @@ mod fallible;
 mod files;
 mod help;
 mod inputs;
-mod leaving;
+mod leaking;
 mod outputs;
 mod performing;
 mod reply;
+mod run_text;
 mod running;
 mod search;
 mod subcommands;
-mod told;
 mod usage;
 mod words;
 

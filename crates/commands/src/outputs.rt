@@ -67,7 +67,8 @@ fn write_on<W: FallibleWrite>(writer: &mut W, bytes: &[u8]) -> io::Result<usize>
 fn write_part<W: FallibleWrite>(writer: &mut W, bytes: &[u8]) -> Result<usize, WriteFailed>
     requires { 0 < length bytes.now }
     ensures taken { IfOk result (λ count. (0 < count) × (count ≤ length bytes.now)) }
-    ensures bytes { IfOk result (λ count. Appends (W.contents writer.old) (W.contents writer.new) (take count bytes.now)) }
+    ensures bytes { IfOk result (λ count. Appends (W.contents writer.old) (W.contents writer.new)
+        (take count bytes.now)) }
     ensures failed { OnErr result (WriteFails W.answers) }
 {
     let Ok(count) = write_on(writer, bytes) else {
@@ -146,19 +147,20 @@ fn print<O: FallibleWrite, E: FallibleWrite>(
 pub fn deliver<O: FallibleWrite, E: FallibleWrite>(
     status: u8,
     printed: &[u8],
-    told: &[u8],
+    reported: &[u8],
     out: &mut Output<O>,
     err: &mut Output<E>,
 ) -> u8
     requires { status ≤ 2 }
     ensures status { result ≤ 2 }
-    ensures delivers { Delivers O.contents E.contents (record { status = status; out = printed.now; err = told.now }) result out.old out.new err.old err.new }
+    ensures delivers { Delivers O.contents E.contents
+        (record { status = status; out = printed.now; err = reported.now }) result out.old out.new err.old err.new }
 
     // An output has failed only where a write to it has.
     ensures out_written { FailsByWrite O.answers out.old out.new }
     ensures err_written { FailsByWrite E.answers err.old err.new }
 {
-    match err.emit(told) {
+    match err.emit(reported) {
         Ok(()) => print(status, printed, out, err),
         Err(_) => 2,
     }

@@ -8,19 +8,19 @@ ghost use Rattle.commands.specs.Answers.{AnswersOf, ChecksTo, FleetsTo, RunsTo, 
 ghost use Rattle.commands.specs.Searched.{SearchesTo};
 ghost use Rattle.commands.specs.Stops.{answer_of, stop_answer};
 ghost use Rattle.commands.specs.Streams.{Ends, FailsByRead, FailsByWrite, left_of};
-ghost use Rattle.commands.specs.Told.{plan_line};
+ghost use Rattle.commands.specs.RunText.{plan_line};
 ghost use Rattle.commands.specs.Verdict.{IsCertifiedText, IsFaultyText};
 ghost use Rattle.commands.specs.declared.reply.Stop.TheVariants.{NoMemory};
 
 use crate::fallible::{FallibleRead, FallibleWrite};
 use crate::files::Source;
 use crate::inputs::checked;
-use crate::leaving::leave;
+use crate::leaking::leak;
 use crate::outputs::{Output, deliver};
 use crate::reply::{Reply, Stop};
+use crate::run_text::checked_line;
 use crate::running::{fleet, run};
 use crate::search::search;
-use crate::told::checked_line;
 use crate::{Action, Job};
 use plan::CheckedPlan;
 use std::alloc::Global;
@@ -28,7 +28,7 @@ use std::sync::Wait;
 use std::thread::Threads;
 
 /// Returns the answer to the check of a plan without a fault.
-fn plan_told(alloc: Global, plan: &CheckedPlan) -> Result<Reply, Stop<'static>>
+fn plan_reported(alloc: Global, plan: &CheckedPlan) -> Result<Reply, Stop<'static>>
     ensures yes { IfOk result (λ reply. reply.status ≡ 0) }
     ensures line { IfOk result (λ reply. string_bytes reply.text ≡ plan_line (checked_model plan.now)) }
     ensures stop { IfErr result (λ stop. stop ≡ NoMemory) }
@@ -48,9 +48,9 @@ fn check<'a, P: FallibleRead>(
 {
     match checked(alloc, name, plan) {
         Ok(plan) => {
-            let told = plan_told(alloc, &plan);
-            leave(plan);
-            told
+            let reported = plan_reported(alloc, &plan);
+            leak(plan);
+            reported
         }
         Err(stop) => Err(stop),
     }
@@ -105,7 +105,8 @@ fn perform_check<P: FallibleRead, O: FallibleWrite, E: FallibleWrite>(
     ensures yes { result ≡ 0 → IfSome (left_of P.remaining plan.old) (λ bytes. IsCertifiedText (take 16777217 bytes)) }
     ensures no { result ≡ 1 → IfSome (left_of P.remaining plan.old) (λ bytes. IsFaultyText (take 16777217 bytes)) }
     ensures quiet { result < 2 → err.new ≡ err.old }
-    ensures ends { Ends O.contents E.contents (AnswersOf (file_of P.remaining job.now.plan.now plan.old plan.new) ChecksTo) result out.old out.new err.old err.new }
+    ensures ends { Ends O.contents E.contents (AnswersOf (file_of P.remaining job.now.plan.now plan.old plan.new)
+        ChecksTo) result out.old out.new err.old err.new }
     ensures plan_read { FailsByRead P.answers plan.old plan.new }
     ensures out_written { FailsByWrite O.answers out.old out.new }
     ensures err_written { FailsByWrite E.answers err.old err.new }
@@ -126,7 +127,9 @@ fn perform_run<P: FallibleRead, S: FallibleRead, O: FallibleWrite, E: FallibleWr
     ensures status { result ≤ 2 }
     ensures yes { result ≡ 0 → IfSome (left_of P.remaining plan.old) (λ bytes. IsCertifiedText (take 16777217 bytes)) }
     ensures quiet { result < 2 → err.new ≡ err.old }
-    ensures ends { Ends O.contents E.contents (AnswersOf (file_of P.remaining job.now.plan.now plan.old plan.new) (RunsTo (file_of S.remaining (script_name job.now) script.old script.new))) result out.old out.new err.old err.new }
+    ensures ends { Ends O.contents E.contents (AnswersOf (file_of P.remaining job.now.plan.now plan.old plan.new)
+        (RunsTo (file_of S.remaining (script_name job.now) script.old script.new))) result out.old out.new err.old
+        err.new }
     ensures plan_read { FailsByRead P.answers plan.old plan.new }
     ensures script_read { FailsByRead S.answers script.old script.new }
     ensures out_written { FailsByWrite O.answers out.old out.new }
@@ -155,7 +158,9 @@ fn perform_fleet<
     ensures status { result ≤ 2 }
     ensures yes { result ≡ 0 → IfSome (left_of P.remaining plan.old) (λ bytes. IsCertifiedText (take 16777217 bytes)) }
     ensures quiet { result < 2 → err.new ≡ err.old }
-    ensures ends { Ends O.contents E.contents (AnswersOf (file_of P.remaining job.now.plan.now plan.old plan.new) (FleetsTo (file_of S.remaining (script_name job.now) script.old script.new))) result out.old out.new err.old err.new }
+    ensures ends { Ends O.contents E.contents (AnswersOf (file_of P.remaining job.now.plan.now plan.old plan.new)
+        (FleetsTo (file_of S.remaining (script_name job.now) script.old script.new))) result out.old out.new err.old
+        err.new }
     ensures plan_read { FailsByRead P.answers plan.old plan.new }
     ensures script_read { FailsByRead S.answers script.old script.new }
     ensures out_written { FailsByWrite O.answers out.old out.new }
@@ -176,7 +181,8 @@ fn perform_search<H: Threads + Wait + Sync, P: FallibleRead, O: FallibleWrite, E
 ) -> u8
     ensures status { result ≤ 2 }
     ensures silent { result ≡ 0 → err.new ≡ err.old }
-    ensures ends { Ends O.contents E.contents (AnswersOf (file_of P.remaining job.now.plan.now plan.old plan.new) SearchesTo) result out.old out.new err.old err.new }
+    ensures ends { Ends O.contents E.contents (AnswersOf (file_of P.remaining job.now.plan.now plan.old plan.new)
+        SearchesTo) result out.old out.new err.old err.new }
     ensures plan_read { FailsByRead P.answers plan.old plan.new }
     ensures out_written { FailsByWrite O.answers out.old out.new }
     ensures err_written { FailsByWrite E.answers err.old err.new }
@@ -215,30 +221,42 @@ pub fn perform<
     ensures status { result ≤ 2 }
 
     // The status 0 of a check, a run or a fleet says that the plan's text spells a plan without a fault, whose quorums all meet.
-    ensures yes { job.now.action ≢ Search → result ≡ 0 → IfSome (left_of P.remaining plan.old) (λ bytes. IsCertifiedText (take 16777217 bytes)) }
+    ensures yes { job.now.action ≢ Search → result ≡ 0 → IfSome (left_of P.remaining plan.old)
+        (λ bytes. IsCertifiedText (take 16777217 bytes)) }
 
     // A check answers 1 only where the text has a fault.
-    ensures no { job.now.action ≡ Check → result ≡ 1 → IfSome (left_of P.remaining plan.old) (λ bytes. IsFaultyText (take 16777217 bytes)) }
+    ensures no { job.now.action ≡ Check → result ≡ 1 → IfSome (left_of P.remaining plan.old)
+        (λ bytes. IsFaultyText (take 16777217 bytes)) }
     ensures quiet { job.now.action ≢ Search → result < 2 → err.new ≡ err.old }
 
     // With the status 0 nothing is written to `err`, by a search neither.
     ensures silent { result ≡ 0 → err.new ≡ err.old }
 
     // What a check answers and writes is due to the text of its file: the line of the plan that the text spells, or of its first fault.
-    ensures checks { job.now.action ≡ Check → Ends O.contents E.contents (AnswersOf (file_of P.remaining job.now.plan.now plan.old plan.new) ChecksTo) result out.old out.new err.old err.new }
+    ensures checks { job.now.action ≡ Check → Ends O.contents E.contents
+        (AnswersOf (file_of P.remaining job.now.plan.now plan.old plan.new) ChecksTo) result out.old out.new err.old
+        err.new }
 
     // What a run answers and writes is due to the texts of its files: the line of the plan's first fault; or, over the plan that it spells,
-    // the number of the script's first bad line, or what the model's run of the script tells.
-    ensures runs { job.now.action ≡ Run → Ends O.contents E.contents (AnswersOf (file_of P.remaining job.now.plan.now plan.old plan.new) (RunsTo (file_of S.remaining (script_name job.now) script.old script.new))) result out.old out.new err.old err.new }
+    // the number of the script's first bad line, or what the model's run of the script prints.
+    ensures runs { job.now.action ≡ Run → Ends O.contents E.contents
+        (AnswersOf (file_of P.remaining job.now.plan.now plan.old plan.new)
+        (RunsTo (file_of S.remaining (script_name job.now) script.old script.new))) result out.old out.new err.old
+        err.new }
 
     // What a fleet answers and writes is due to the texts of its files: the line of the plan's first fault; or, over the plan that it spells,
-    // the number of the script's first bad line, or what tells of the threads' run of as many events as the script has.
-    ensures fleets { job.now.action ≡ Fleet → Ends O.contents E.contents (AnswersOf (file_of P.remaining job.now.plan.now plan.old plan.new) (FleetsTo (file_of S.remaining (script_name job.now) script.old script.new))) result out.old out.new err.old err.new }
+    // the number of the script's first bad line, or what comes of the threads' run of as many events as the script has.
+    ensures fleets { job.now.action ≡ Fleet → Ends O.contents E.contents
+        (AnswersOf (file_of P.remaining job.now.plan.now plan.old plan.new)
+        (FleetsTo (file_of S.remaining (script_name job.now) script.old script.new))) result out.old out.new err.old
+        err.new }
 
     // What a search answers and writes is due to the text of its file: the line of the first fault of the plan or of
     // its claims; or the plan that the text spells with what was found for its claims, each expression as the text
     // spells it, and the claims for which nothing was found.
-    ensures searches { job.now.action ≡ Search → Ends O.contents E.contents (AnswersOf (file_of P.remaining job.now.plan.now plan.old plan.new) SearchesTo) result out.old out.new err.old err.new }
+    ensures searches { job.now.action ≡ Search → Ends O.contents E.contents
+        (AnswersOf (file_of P.remaining job.now.plan.now plan.old plan.new) SearchesTo) result out.old out.new err.old
+        err.new }
 
     // A file is said to be one that can't be read only where it couldn't be opened, or a read of it failed; and an output one that can't be
     // written only where a write to it failed, or took none of its bytes.

@@ -87,7 +87,7 @@ impl Stop<'_> {
     /// Returns the stop of a plan's fault.
     pub fn of_plan(fault: PlanFault) -> Self
         ensures exact { result ≡ plan_stop fault }
-        ensures told { StopsBy (λ told. (told ≡ fault) × (fault ≢ Text NoMemory)) result }
+        ensures reported { StopsBy (λ reported. (reported ≡ fault) × (fault ≢ Text NoMemory)) result }
     {
         if let PlanFault::Text(Fault::NoMemory) = &fault {
             return Stop::NoMemory;

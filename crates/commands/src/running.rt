@@ -3,19 +3,19 @@
 ghost use Rattle.std.specs.Prelude.{◌≡◌, ◌≤◌, IfErr, IfOk, string_bytes, vec_len};
 ghost use Rattle.std.specs.Arc.{arc_value};
 ghost use Rattle.plan.specs.CheckedModel.{checked_model};
-ghost use Rattle.commands.specs.Answers.{AnswersOf, FleetsTo, RunsTo, TellsOrders, file_of, script_name};
+ghost use Rattle.commands.specs.Answers.{AnswersOf, FleetsTo, RunsTo, PrintsOrders, file_of, script_name};
 ghost use Rattle.commands.specs.Stops.{answer_of};
 ghost use Rattle.commands.specs.Streams.{FailsByRead};
-ghost use Rattle.commands.specs.ToldFleet.{TellsFleet};
+ghost use Rattle.commands.specs.FleetText.{PrintsFleet};
 ghost use Rattle.commands.specs.declared.reply.Stop.TheVariants.{NoMemory};
 
 use crate::Job;
 use crate::fallible::FallibleRead;
 use crate::files::Source;
 use crate::inputs::{PlanAndScript, plan_and_script};
-use crate::leaving::leave;
+use crate::leaking::leak;
 use crate::reply::{Reply, Stop};
-use crate::told::{fleet_lines, run_lines};
+use crate::run_text::{fleet_lines, run_lines};
 use drivers::drive;
 use plan::CheckedPlan;
 use script::Script;
@@ -26,18 +26,19 @@ use world::run_orders;
 
 /// Returns the answer of a script's run over a plan.
 fn ran(alloc: Global, both: PlanAndScript) -> Result<Reply, Stop<'static>>
-    ensures told { IfOk result (λ reply. TellsOrders (checked_model (arc_value both.plan)) both.script.steps.items both.script.orders.items reply.status (string_bytes reply.text)) }
+    ensures reported { IfOk result (λ reply. PrintsOrders (checked_model (arc_value both.plan)) both.script.steps.items
+        both.script.orders.items reply.status (string_bytes reply.text)) }
     ensures stop { IfErr result (λ stop. stop ≡ NoMemory) }
 {
     let PlanAndScript { plan, script } = both;
     let Script { steps, orders } = script;
     match run_orders(alloc, &plan, orders) {
         Ok(outcome) => {
-            let told = run_lines(alloc, steps.as_slice(), &outcome)?;
-            leave(outcome);
-            leave(steps);
-            leave(plan);
-            Ok(told)
+            let reported = run_lines(alloc, steps.as_slice(), &outcome)?;
+            leak(outcome);
+            leak(steps);
+            leak(plan);
+            Ok(reported)
         }
         Err(_) => Err(Stop::NoMemory),
     }
@@ -50,7 +51,8 @@ pub fn run<'a, P: FallibleRead, S: FallibleRead>(
     plan: &mut Source<P>,
     script: &mut Source<S>,
 ) -> Result<Reply, Stop<'a>>
-    ensures answers { AnswersOf (file_of P.remaining job.now.plan.now plan.old plan.new) (RunsTo (file_of S.remaining (script_name job.now) script.old script.new)) (answer_of result) }
+    ensures answers { AnswersOf (file_of P.remaining job.now.plan.now plan.old plan.new)
+        (RunsTo (file_of S.remaining (script_name job.now) script.old script.new)) (answer_of result) }
     ensures plan_read { FailsByRead P.answers plan.old plan.new }
     ensures script_read { FailsByRead S.answers script.old script.new }
 {
@@ -69,14 +71,15 @@ fn driven<H: Threads + Wait + Sync>(
     workers: u8,
 ) -> Result<Reply, Stop<'static>>
     requires { (1 ≤ workers) × (workers ≤ 16) }
-    ensures told { IfOk result (λ reply. TellsFleet (checked_model (arc_value plan.now)) (vec_len script.now.orders) reply.status (string_bytes reply.text)) }
+    ensures reported { IfOk result (λ reply. PrintsFleet (checked_model (arc_value plan.now))
+        (vec_len script.now.orders) reply.status (string_bytes reply.text)) }
     ensures stop { IfErr result (λ stop. stop ≡ NoMemory) }
 {
     match drive(rt, alloc, plan, script, workers) {
         Ok(driven) => {
-            let told = fleet_lines(alloc, &driven)?;
-            leave(driven);
-            Ok(told)
+            let reported = fleet_lines(alloc, &driven)?;
+            leak(driven);
+            Ok(reported)
         }
         Err(_) => Err(Stop::NoMemory),
     }
@@ -90,7 +93,8 @@ pub fn fleet<'a, H: Threads + Wait + Sync, P: FallibleRead, S: FallibleRead>(
     plan: &mut Source<P>,
     script: &mut Source<S>,
 ) -> Result<Reply, Stop<'a>>
-    ensures answers { AnswersOf (file_of P.remaining job.now.plan.now plan.old plan.new) (FleetsTo (file_of S.remaining (script_name job.now) script.old script.new)) (answer_of result) }
+    ensures answers { AnswersOf (file_of P.remaining job.now.plan.now plan.old plan.new)
+        (FleetsTo (file_of S.remaining (script_name job.now) script.old script.new)) (answer_of result) }
     ensures plan_read { FailsByRead P.answers plan.old plan.new }
     ensures script_read { FailsByRead S.answers script.old script.new }
 {

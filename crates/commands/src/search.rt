@@ -9,7 +9,7 @@ ghost use Rattle.plan.specs.PlanClaims.{claims_in};
 ghost use Rattle.plan_text.specs.Taped.{HasClaims};
 ghost use Rattle.cert_search.specs.Answers.{rule_in, AreAnswersOf};
 ghost use Rattle.commands.specs.Answers.{AnswersOf, file_of};
-ghost use Rattle.commands.specs.Searched.{AreFitted, IsLineWith, IsRoom, SearchesTo, TellsSearch, claims_of, found_answer};
+ghost use Rattle.commands.specs.Searched.{AreFitted, IsLineWith, IsRoom, SearchesTo, PrintsSearch, claims_of, found_answer};
 ghost use Rattle.commands.specs.Stops.{StopsBy};
 ghost use Rattle.commands.specs.Streams.{FailsByRead};
 ghost use Rattle.commands.specs.Unfound.{claim_line, unfound_line, unfound_lines};
@@ -19,7 +19,7 @@ use crate::Job;
 use crate::fallible::FallibleRead;
 use crate::files::Source;
 use crate::inputs::{contents, plan_of_tape, taped};
-use crate::leaving::leave;
+use crate::leaking::leak;
 use crate::reply::{Found, Stop};
 use cert_search::{Gate, PLAN_BYTES, keep_shortest, search_all};
 use json::Scratch;
@@ -120,7 +120,8 @@ fn fitting_line(
 ) -> Result<Vec<u8>, Stop<'static>>
     requires { HasClaims text.now (length certificates.old.items) }
     ensures line { IfOk result (λ line. IsLineWith text.now (map rule_in certificates.new.items) line.items) }
-    ensures fitted { IfOk result (λ _. AreFitted text.now (map rule_in certificates.old.items) (map rule_in certificates.new.items)) }
+    ensures fitted { IfOk result (λ _. AreFitted text.now (map rule_in certificates.old.items)
+        (map rule_in certificates.new.items)) }
     ensures stop { IfErr result (λ stop. stop ≡ NoMemory) }
 {
     let line = plan_line(alloc, text, certificates)?;
@@ -154,7 +155,8 @@ fn add_unfound(
     claim: &ClaimRef<'_>,
     certificate: &Option<Certificate<Global>>,
 ) -> Result<(), AllocError>
-    ensures { OnOk result (string_bytes text.new ≡ string_bytes text.old ++ unfound_line (lent_placed claim.now) (option_map certificate_rule certificate.now)) }
+    ensures { OnOk result (string_bytes text.new ≡ string_bytes text.old ++ unfound_line (lent_placed claim.now)
+        (option_map certificate_rule certificate.now)) }
 {
     match certificate {
         None => add_claim(text, claim),
@@ -168,7 +170,8 @@ fn unfound(
     claims: &[ClaimRef<'_>],
     certificates: &[Option<Certificate<Global>>],
 ) -> Result<String, AllocError>
-    ensures { IfOk result (λ text. string_bytes text ≡ unfound_lines (all_lent claims.now) (map (option_map certificate_rule) certificates.now)) }
+    ensures { IfOk result (λ text. string_bytes text ≡ unfound_lines (all_lent claims.now)
+        (map (option_map certificate_rule) certificates.now)) }
 {
     let mut text = String::new(alloc);
     let mut left = certificates;
@@ -197,7 +200,8 @@ fn searched_tape<H: Threads + Wait + Sync>(
     workers: u8,
 ) -> Result<Found, Stop<'static>>
     requires { (0 < workers) × (workers ≤ 16) }
-    ensures told { IfOk result (λ found. TellsSearch text.now found.status found.plan.items (string_bytes found.unfound)) }
+    ensures reported { IfOk result (λ found. PrintsSearch text.now found.status found.plan.items
+        (string_bytes found.unfound)) }
     ensures stop { IfErr result (StopsBy (λ fault. claims_of text.now ≡ Err fault)) }
 {
     shown_claims_certify();
@@ -207,9 +211,9 @@ fn searched_tape<H: Threads + Wait + Sync>(
     let line = fitting_line(alloc, text, &mut certificates)?;
     let unfound = unfound(alloc, &claims, &certificates)?;
     let status = u8::from(has_gap(&certificates));
-    leave(certificates);
-    leave(claims);
-    leave(plan);
+    leak(certificates);
+    leak(claims);
+    leak(plan);
     Ok(Found {
         status,
         plan: line,
@@ -225,7 +229,8 @@ fn searched<H: Threads + Wait + Sync>(
     workers: u8,
 ) -> Result<Found, Stop<'static>>
     requires { (0 < workers) × (workers ≤ 16) }
-    ensures told { IfOk result (λ found. TellsSearch text.now found.status found.plan.items (string_bytes found.unfound)) }
+    ensures reported { IfOk result (λ found. PrintsSearch text.now found.status found.plan.items
+        (string_bytes found.unfound)) }
     ensures stop { IfErr result (StopsBy (λ fault. claims_of text.now ≡ Err fault)) }
 {
     let mut scratch = Scratch::new(alloc);
@@ -242,7 +247,8 @@ pub fn search<'a, H: Threads + Wait + Sync, P: FallibleRead>(
     job: &Job<'a>,
     plan: &mut Source<P>,
 ) -> Result<Found, Stop<'a>>
-    ensures answers { AnswersOf (file_of P.remaining job.now.plan.now plan.old plan.new) SearchesTo (found_answer result) }
+    ensures answers { AnswersOf (file_of P.remaining job.now.plan.now plan.old plan.new) SearchesTo
+        (found_answer result) }
     ensures reason { FailsByRead P.answers plan.old plan.new }
 {
     let text = contents(alloc, job.plan, plan)?;

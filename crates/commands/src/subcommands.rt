@@ -46,7 +46,7 @@ fn of_file<'a>(
         .arg(file(alloc, "plan", "The plan's file: a JSON text"))
 }
 
-/// The option of how many workers there are.
+/// Returns the option of how many workers there are.
 fn workers<'a>(alloc: Global, about: &'a str) -> Arg<'a>
     ensures rule { rule_of result ≡ workers_rule }
     ensures local { result.global ≡ false }

@@ -33,7 +33,7 @@ pub fn job<'a>(alloc: Global, words: &'a [&'a str]) -> Result<Job<'a>, Usage>
     }
 }
 
-/// Why clap refused the words.
+/// Returns why clap refused the words.
 fn refusal(error: clap::Error) -> Usage
     ensures { IsRefusal error result }
 {
@@ -66,7 +66,8 @@ fn action_of(name: &str) -> Option<Action>
 /// Returns the number that the option of workers spells, 4 where there is none.
 fn number_of(matches: &ArgMatches<'_>) -> Option<u8>
     ensures number { IfSome result (IsNumberOf (one_of (codes "workers") (rows_of (found_of matches.now)))) }
-    ensures none { IfNone result ((n : ℕ) → n < 2 ^ 8 → IsNumberOf (one_of (codes "workers") (rows_of (found_of matches.now))) n → ⊥) }
+    ensures none { IfNone result ((n : ℕ) → n < 2 ^ 8
+        → IsNumberOf (one_of (codes "workers") (rows_of (found_of matches.now))) n → ⊥) }
 {
     match matches.try_get_one::<u8>("workers") {
         Ok(None) => Some(4),
@@ -79,7 +80,8 @@ fn number_of(matches: &ArgMatches<'_>) -> Option<u8>
 fn workers_of(matches: &ArgMatches<'_>) -> Option<u8>
     ensures number { IfSome result (IsNumberOf (one_of (codes "workers") (rows_of (found_of matches.now)))) }
     ensures range { IfSome result (λ n. (1 ≤ n) × (n ≤ 16)) }
-    ensures none { IfNone result ((n : ℕ) → 1 ≤ n → n ≤ 16 → IsNumberOf (one_of (codes "workers") (rows_of (found_of matches.now))) n → ⊥) }
+    ensures none { IfNone result ((n : ℕ) → 1 ≤ n → n ≤ 16
+        → IsNumberOf (one_of (codes "workers") (rows_of (found_of matches.now))) n → ⊥) }
 {
     match number_of(matches) {
         Some(number) if 1 <= number && number <= 16 => Some(number),

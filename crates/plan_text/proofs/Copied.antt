@@ -29,7 +29,7 @@ array-data (string s) ds h = absurd (cc)
 array-data (array es) ds h = let same : ds ≡ es = cc in ap array (sym same)
 array-data (object ms) ds h = absurd (cc)
 
--- An array was begun, and has all items of d but for the rest.
+-- An array was begun, and has all items of d except the rest.
 pub record Copies (d : Data) (start now : Written) (rest : Items) : Type 0 where
   pub ds : List Data
   pub lists : Lists ds start now

@@ -40,7 +40,7 @@ items-joined : (ds : List Data) → items_of ds ≡ joined ds no_items
 items-joined [] = refl
 items-joined (d ∷ ds) = ap (item d) (items-joined ds)
 
--- A list was begun, and has all values that are made but for the rest.
+-- A list was begun, and has all values that are made except the rest.
 pub record Makes (all rest : Result (List Data) Fault) (start now : Written) : Type 0 where
   pub ds : List Data
   pub lists : Lists ds start now

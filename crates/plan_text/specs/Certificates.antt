@@ -29,7 +29,8 @@ pub record IsReadBack (certificate : Option Rule) : Type 0 where
 
 -- the members of a pick before its branches
 abbrev pub pick_members : Side → ℕ → List ℕ → Members
-pick_members side item children = member (codes "children") (array (numbers_data children)) (side_members (codes "pick") side item)
+pick_members side item children = member (codes "children") (array (numbers_data children))
+    (side_members (codes "pick") side item)
 
 -- those of a match
 abbrev pub match_members : ℕ → ℕ → List (ℕ × ℕ) → Members

@@ -10,8 +10,10 @@ rule_first name rest = member (codes "rule") (string name) rest
 
 -- an item on a side, of a rule with a name
 abbrev pub side_members : List ℕ → Side → ℕ → Members
-side_members name side item = member (codes "item") (number_data item) (rule_first name (member (codes "side") (string (side_text side)) no_members))
+side_members name side item = member (codes "item") (number_data item)
+    (rule_first name (member (codes "side") (string (side_text side)) no_members))
 
 -- an item on either side, of a rule with a name
 abbrev pub item_members : List ℕ → ℕ → ℕ → Members
-item_members name left right = member (codes "left") (number_data left) (member (codes "right") (number_data right) (rule_first name no_members))
+item_members name left right = member (codes "left") (number_data left) (member (codes "right") (number_data right)
+    (rule_first name no_members))

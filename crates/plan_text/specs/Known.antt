@@ -16,4 +16,5 @@ pub record OpensThreshold (d : Data) (start now : Written) : Type 0 where
 
 -- An object of so many keys that was begun so was put to its end.
 abbrev pub EndsThreshold : ℕ → Data → Written → Written → Type 0
-EndsThreshold keys d old new = (start : Written) → OpensThreshold d start old → Some keys ≡ keys_up_to 4 d → Puts d start new
+EndsThreshold keys d old new = (start : Written) → OpensThreshold d start old → Some keys ≡ keys_up_to 4 d
+    → Puts d start new

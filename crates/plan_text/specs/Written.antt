@@ -42,7 +42,8 @@ born_members Growing born = member (codes "born") (number_data born) no_members
 
 -- This was put into an object that was begun.
 abbrev pub PutsBorn : Format → ℕ → Written → Written → Type 0
-PutsBorn format born old new = (start : Written) → Opens no_members start old → Opens (born_members format born) start new
+PutsBorn format born old new = (start : Written) → Opens no_members start old → Opens (born_members format born) start
+    new
 
 -- The bytes are the text of a value: it is read back, and they are its text without spaces where it has no float.
 pub record IsTextOf (d : Data) (bytes : List ℕ) : Type 0 where

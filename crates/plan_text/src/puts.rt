@@ -9,56 +9,56 @@ ghost use Rattle.plan_text.specs.Puts.{Puts, PutsMember, PutsToken};
 
 use json::Writer;
 
-/// A key.
+/// Writes a key.
 pub(crate) fn put_key(writer: &mut Writer, name: &str) -> Option<()>
     ensures { OnSome result (PutsToken (token.key name.now) writer.old writer.new) }
 {
     writer.key(name).ok()
 }
 
-/// The beginning of an object.
+/// Writes the beginning of an object.
 pub(crate) fn open_object(writer: &mut Writer) -> Option<()>
     ensures { OnSome result (PutsToken token.begin_object writer.old writer.new) }
 {
     writer.begin_object().ok()
 }
 
-/// The end of an object.
+/// Writes the end of an object.
 pub(crate) fn close_object(writer: &mut Writer) -> Option<()>
     ensures { OnSome result (PutsToken token.end_object writer.old writer.new) }
 {
     writer.end_object().ok()
 }
 
-/// The beginning of a list.
+/// Writes the beginning of a list.
 pub(crate) fn open_array(writer: &mut Writer) -> Option<()>
     ensures { OnSome result (PutsToken token.begin_array writer.old writer.new) }
 {
     writer.begin_array().ok()
 }
 
-/// The end of a list.
+/// Writes the end of a list.
 pub(crate) fn close_array(writer: &mut Writer) -> Option<()>
     ensures { OnSome result (PutsToken token.end_array writer.old writer.new) }
 {
     writer.end_array().ok()
 }
 
-/// A null.
+/// Writes a null.
 pub(crate) fn put_null(writer: &mut Writer) -> Option<()>
     ensures { OnSome result (Puts null writer.old writer.new) }
 {
     writer.null().ok()
 }
 
-/// A text.
+/// Writes a text.
 pub(crate) fn put_text(writer: &mut Writer, text: &str) -> Option<()>
     ensures { OnSome result (Puts (string text.now) writer.old writer.new) }
 {
     writer.string(text).ok()
 }
 
-/// How a number of one digit is written.
+/// Returns how a number of one digit is written.
 fn digit_text(number: u64) -> Option<&'static str>
     ensures { IfSome result (λ s. s.now ≡ decimal number) }
 {
@@ -77,7 +77,7 @@ fn digit_text(number: u64) -> Option<&'static str>
     }
 }
 
-/// A whole number.
+/// Writes a whole number.
 pub(crate) fn put_number(writer: &mut Writer, number: u64) -> Option<()>
     ensures { OnSome result (Puts (number_data number) writer.old writer.new) }
 {
@@ -87,7 +87,7 @@ pub(crate) fn put_number(writer: &mut Writer, number: u64) -> Option<()>
     }
 }
 
-/// A key and a text.
+/// Writes a key and a text.
 pub(crate) fn put_text_at(writer: &mut Writer, name: &str, text: &str) -> Option<()>
     ensures { OnSome result (PutsMember name.now (string text.now) writer.old writer.new) }
 {
@@ -95,7 +95,7 @@ pub(crate) fn put_text_at(writer: &mut Writer, name: &str, text: &str) -> Option
     put_text(writer, text)
 }
 
-/// A key and a whole number.
+/// Writes a key and a whole number.
 pub(crate) fn put_number_at(writer: &mut Writer, name: &str, number: u64) -> Option<()>
     ensures { OnSome result (PutsMember name.now (number_data number) writer.old writer.new) }
 {
@@ -103,7 +103,7 @@ pub(crate) fn put_number_at(writer: &mut Writer, name: &str, number: u64) -> Opt
     put_number(writer, number)
 }
 
-/// A list of whole numbers.
+/// Writes a list of whole numbers.
 pub(crate) fn put_numbers(writer: &mut Writer, numbers: &[u8]) -> Option<()>
     ensures { OnSome result (Puts (array (numbers_data numbers.now)) writer.old writer.new) }
 {
@@ -114,7 +114,7 @@ pub(crate) fn put_numbers(writer: &mut Writer, numbers: &[u8]) -> Option<()>
     close_array(writer)
 }
 
-/// Two whole numbers.
+/// Writes two whole numbers.
 fn put_pair(writer: &mut Writer, pair: (u8, u8)) -> Option<()>
     ensures { OnSome result (Puts (pair_data pair) writer.old writer.new) }
 {
@@ -124,7 +124,7 @@ fn put_pair(writer: &mut Writer, pair: (u8, u8)) -> Option<()>
     close_array(writer)
 }
 
-/// A list of pairs of whole numbers.
+/// Writes a list of pairs of whole numbers.
 pub(crate) fn put_pairs(writer: &mut Writer, pairs: &[(u8, u8)]) -> Option<()>
     ensures { OnSome result (Puts (array (pairs_data pairs.now)) writer.old writer.new) }
 {

@@ -22,7 +22,7 @@ const CHILD_BYTES: usize = 4;
 /// The bytes of a pair of children's numbers beside these, with a comma.
 const PAIR_BYTES: usize = 4;
 
-/// How many digits a number has.
+/// Returns how many digits a number has.
 fn digits(number: u16) -> usize
     ensures { result ≤ 5 }
 {
@@ -35,21 +35,21 @@ fn digits(number: u16) -> usize
     }
 }
 
-/// Room for an item's number too.
+/// Returns the room for an item's number too.
 fn with_item(room: usize, item: u16) -> usize
     ensures { item ≤ 65535 }
 {
     room.saturating_add(digits(item))
 }
 
-/// Room for children's numbers too.
+/// Returns the room for children's numbers too.
 fn with_children(room: usize, children: &[u8]) -> usize
     ensures { All (λ n. n ≤ 255) children.now }
 {
     room.saturating_add(children.len().saturating_mul(CHILD_BYTES))
 }
 
-/// Room for a pair of children's numbers too.
+/// Returns the room for a pair of children's numbers too.
 fn with_pair(room: usize, pair: (u8, u8)) -> usize
     ensures { IsPairInRange pair }
 {
@@ -57,7 +57,7 @@ fn with_pair(room: usize, pair: (u8, u8)) -> usize
     room.saturating_add(PAIR_BYTES + both)
 }
 
-/// Room for pairs of children's numbers too.
+/// Returns the room for pairs of children's numbers too.
 fn with_pairs(room: usize, pairs: &[(u8, u8)]) -> usize
     ensures { All IsPairInRange pairs.now }
 {
@@ -68,7 +68,7 @@ fn with_pairs(room: usize, pairs: &[(u8, u8)]) -> usize
     room
 }
 
-/// Room for a rule and its branches too.
+/// Returns the room for a rule and its branches too.
 #[cycle(size)]
 fn with_rule<A: Allocator>(room: usize, rule: &Refutation<A>) -> usize
     ensures { HasRanges (rule_of rule.now) }
@@ -97,7 +97,7 @@ fn with_rule<A: Allocator>(room: usize, rule: &Refutation<A>) -> usize
     }
 }
 
-/// Room for branches too.
+/// Returns the room for branches too.
 #[cycle(size)]
 fn with_branches<A: Allocator>(room: usize, then: &[Refutation<A>]) -> usize
     ensures { EachInRange then.now }
@@ -109,7 +109,7 @@ fn with_branches<A: Allocator>(room: usize, then: &[Refutation<A>]) -> usize
     room
 }
 
-/// Room for a certificate too, or for a null.
+/// Returns the room for a certificate too, or for a null.
 fn with_certificate(room: usize, certificate: &Option<Certificate<Global>>) -> usize
     ensures { IsReadBack (option_map certificate_rule certificate.now) }
 {
@@ -119,8 +119,8 @@ fn with_certificate(room: usize, certificate: &Option<Certificate<Global>>) -> u
     }
 }
 
-/// The bytes that the texts of certificates take, at most. Each of these is read back, as all of its numbers are in
-/// their ranges.
+/// Returns the bytes that the texts of certificates take, at most. Each of these is read back, as all of its numbers
+/// are in their ranges.
 pub(crate) fn room_for(certificates: &[Option<Certificate<Global>>]) -> usize
     ensures { All (λ c. IsReadBack (option_map certificate_rule c)) certificates.now }
 {

@@ -53,7 +53,9 @@ fn put_fields(
     certificates: &[Option<Certificate<Global>>],
 ) -> Option<()>
     requires { number < 64 }
-    ensures { OnSome result (Puts (fields_object (fields_data data_of fields.now) (meets_value number (certificate_values certificates.now)) (step_value number (certificate_values certificates.now))) writer.old writer.new) }
+    ensures { OnSome result
+        (Puts (fields_object (fields_data data_of fields.now) (meets_value number (certificate_values certificates.now))
+        (step_value number (certificate_values certificates.now))) writer.old writer.new) }
 {
     open_object(writer)?;
     put_key(writer, "full")?;
@@ -81,7 +83,9 @@ fn put_configuration(
     certificates: &[Option<Certificate<Global>>],
 ) -> Option<()>
     requires { number < 64 }
-    ensures { OnSome result (PutsMade (configuration_written number (data_of node.now) (certificate_values certificates.now)) writer.old writer.new) }
+    ensures { OnSome result
+        (PutsMade (configuration_written number (data_of node.now) (certificate_values certificates.now)) writer.old
+        writer.new) }
 {
     match fields_at(node) {
         Ok(fields) => put_fields(writer, &fields, number, certificates),
@@ -95,7 +99,9 @@ fn put_configurations(
     list: &TapeNode<'_, '_>,
     certificates: &[Option<Certificate<Global>>],
 ) -> Option<()>
-    ensures { OnSome result (PutsMade (configurations_array (items_in (data_of list.now)) (certificate_values certificates.now)) writer.old writer.new) }
+    ensures { OnSome result
+        (PutsMade (configurations_array (items_in (data_of list.now)) (certificate_values certificates.now)) writer.old
+        writer.new) }
 {
     let mut rest = list.items()?;
     open_array(writer)?;
@@ -116,7 +122,9 @@ fn put_group(
     list: &TapeNode<'_, '_>,
     certificates: &[Option<Certificate<Global>>],
 ) -> Option<()>
-    ensures { OnSome result (PutsMade (group_written (items_in (data_of list.now)) (certificate_values certificates.now)) writer.old writer.new) }
+    ensures { OnSome result
+        (PutsMade (group_written (items_in (data_of list.now)) (certificate_values certificates.now)) writer.old
+        writer.new) }
 {
     open_object(writer)?;
     put_key(writer, "configurations")?;
@@ -144,7 +152,8 @@ fn put_groups(
     list: &TapeNode<'_, '_>,
     certificates: &[Option<Certificate<Global>>],
 ) -> Option<()>
-    ensures { OnSome result (PutsMade (groups_array (items_in (data_of list.now)) (certificate_values certificates.now)) writer.old writer.new) }
+    ensures { OnSome result (PutsMade (groups_array (items_in (data_of list.now)) (certificate_values certificates.now))
+        writer.old writer.new) }
 {
     let mut rest = list.items()?;
     open_array(writer)?;
@@ -175,7 +184,8 @@ pub(crate) fn put_plan(
     node: &TapeNode<'_, '_>,
     certificates: &[Option<Certificate<Global>>],
 ) -> Option<()>
-    ensures { OnSome result (PutsMade (plan_written (data_of node.now) (certificate_values certificates.now)) writer.old writer.new) }
+    ensures { OnSome result (PutsMade (plan_written (data_of node.now) (certificate_values certificates.now)) writer.old
+        writer.new) }
 {
     let Ok(header) = header(node) else {
         return None;

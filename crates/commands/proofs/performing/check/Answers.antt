@@ -3,13 +3,13 @@ use Rattle.plan.specs.PlanData.{model_of}
 use Rattle.commands.specs.Answer.{printed}
 use Rattle.commands.specs.Answers.{file_of}
 use Rattle.commands.specs.Stops.{stop_answer}
-use Rattle.commands.specs.Told.{plan_line}
-use Rattle.commands.proofs.Due.{never_certified, plan_tells}
+use Rattle.commands.specs.RunText.{plan_line}
+use Rattle.commands.proofs.Due.{never_certified, plan_prints}
 use Rattle.commands.proofs.performing.check.Goals as goal
 
 pub returns-in-Ok-clause-answers : goal.returns-in-Ok-clause-answers
 returns-in-Ok-clause-answers g c =
-    plan_tells (file_of g.P.Read.remaining c.args.name.now c.args.plan.now c.checked.new.plan) c.in-Ok.plan c.plan_told-told.result c.in-Ok.ensures.plan c.plan_told-told.ensures.yes c.plan_told-told.ensures.line c.plan_told-told.ensures.stop
+    plan_prints (file_of g.P.Read.remaining c.args.name.now c.args.plan.now c.checked.new.plan) c.in-Ok.plan c.plan_reported-reported.result c.in-Ok.ensures.plan c.plan_reported-reported.ensures.yes c.plan_reported-reported.ensures.line c.plan_reported-reported.ensures.stop
 
 pub returns-in-Err-clause-answers : goal.returns-in-Err-clause-answers
 returns-in-Err-clause-answers g c =

@@ -1,18 +1,18 @@
 use Rattle.std.specs.Arc.{arc_value}
 use Rattle.plan.specs.CheckedModel.{checked_model}
-use Rattle.commands.specs.Answers.{TellsFleetOf, file_of, script_name}
+use Rattle.commands.specs.Answers.{PrintsFleetOf, file_of, script_name}
 use Rattle.commands.specs.Stops.{stop_answer}
-use Rattle.commands.proofs.Due.{both_told, fleet_told, never_told}
+use Rattle.commands.proofs.Due.{both_reported, fleet_reported, never_reported}
 use Rattle.commands.proofs.running.fleet.Goals as goal
 
 pub returns-in-Ok-clause-answers : goal.returns-in-Ok-clause-answers
 returns-in-Ok-clause-answers g c =
     let both = c.in-Ok.both in
     let plan = arc_value both.plan in
-    both_told TellsFleetOf (file_of g.P.Read.remaining c.args.job.now.plan.now c.args.plan.now c.plan_and_script.new.plan) (file_of g.S.Read.remaining (script_name c.args.job.now) c.args.script.now c.plan_and_script.new.script)
-    plan both.script c.driven.result c.in-Ok.ensures.plan c.in-Ok.ensures.script (fleet_told (checked_model plan) both.script c.driven.result c.driven.ensures.told) c.driven.ensures.stop
+    both_reported PrintsFleetOf (file_of g.P.Read.remaining c.args.job.now.plan.now c.args.plan.now c.plan_and_script.new.plan) (file_of g.S.Read.remaining (script_name c.args.job.now) c.args.script.now c.plan_and_script.new.script)
+    plan both.script c.driven.result c.in-Ok.ensures.plan c.in-Ok.ensures.script (fleet_reported (checked_model plan) both.script c.driven.result c.driven.ensures.reported) c.driven.ensures.stop
 
 pub returns-in-Err-clause-answers : goal.returns-in-Err-clause-answers
 returns-in-Err-clause-answers g c =
-    never_told TellsFleetOf (file_of g.S.Read.remaining (script_name c.args.job.now) c.args.script.now c.plan_and_script.new.script) (file_of g.P.Read.remaining c.args.job.now.plan.now c.args.plan.now c.plan_and_script.new.plan)
+    never_reported PrintsFleetOf (file_of g.S.Read.remaining (script_name c.args.job.now) c.args.script.now c.plan_and_script.new.script) (file_of g.P.Read.remaining c.args.job.now.plan.now c.args.plan.now c.plan_and_script.new.plan)
     (stop_answer c.in-Err.stop) c.in-Err.ensures.stop

@@ -18,8 +18,8 @@ use Rattle.commands.proofs.Findings.{all_shown, rewritten-is}
 use Rattle.commands.proofs.Searching.{gap-map, no_gap, status_by, status-is}
 use Rattle.commands.proofs.search.searched_tape.Goals as goal
 
-pub returns-clause-told : goal.returns-clause-told
-returns-clause-told g c =
+pub returns-clause-reported : goal.returns-clause-reported
+returns-clause-reported g c =
     let text = c.args.text.now in
     let plan = plan_data c.in_ok-plan.plan in
     let claims = all_lent c.in_ok-claims.claims.items in

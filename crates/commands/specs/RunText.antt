@@ -11,45 +11,48 @@ use Rattle.volume_model.specs.Redo.{last_lsn}
 use Rattle.script.specs.declared.reading.Step.{Step}
 use Rattle.plan.specs.Sums.{sum_below}
 
--- what is told of an event: the number of messages that it made, or why it was refused
-abbrev pub Told : Type 0
-Told = Result ℕ Fault
+-- the result of an event: the number of messages that it made, or why it was refused
+abbrev pub EventResult : Type 0
+EventResult = Result ℕ Fault
 
--- a line's number, and what is told of its event, if it has one
-pub record Telling : Type 0 where
+-- a line's number, and the result of its event, if it has one
+pub record LineResult : Type 0 where
   pub line : ℕ
-  pub told : Option Told
+  pub reported : Option EventResult
 
 -- the line of a refusal
 abbrev pub refused_line : ℕ → Fault → List ℕ
 refused_line line fault = decimal line ++ codes " refused " ++ fault_text fault ++ codes "\n"
 
 -- A line of what is printed: its number and the messages made, or its number and the refusal's number and name.
-abbrev pub IsLineOf : ℕ → Option Told → List ℕ → Type 0
+abbrev pub IsLineOf : ℕ → Option EventResult → List ℕ → Type 0
 IsLineOf line None text = text ≡ decimal line ++ codes " ok 0\n"
 IsLineOf line (Some (Ok made)) text = text ≡ decimal line ++ codes " ok " ++ decimal made ++ codes "\n"
 IsLineOf line (Some (Err fault)) text = text ≡ refused_line line fault
 
 -- the text has a line for each telling, in order
-pub data AreLinesOf : List Telling → List ℕ → Type 0 where
+pub data AreLinesOf : List LineResult → List ℕ → Type 0 where
   none : AreLinesOf [] []
-  more : (tellings : List Telling) (telling : Telling) (text line : List ℕ) → AreLinesOf tellings text → IsLineOf telling.line telling.told line → AreLinesOf (tellings ++ telling ∷ []) (text ++ line)
+  more : (line_results : List LineResult) (line_result : LineResult) (text line : List ℕ) → AreLinesOf line_results text
+      → IsLineOf line_result.line line_result.reported line → AreLinesOf (line_results ++ line_result ∷ [])
+      (text ++ line)
 
--- the first of what is told, for a step that has an event, and the rest
-abbrev pub first_if : Bool → List Told → Option Told
-first_if true (told ∷ later) = Some told
+-- the first of the result, for a step that has an event, and the rest
+abbrev pub first_if : Bool → List EventResult → Option EventResult
+first_if true (reported ∷ later) = Some reported
 first_if true [] = None
 first_if false all = None
 
-abbrev pub rest_if : Bool → List Told → List Told
-rest_if true (told ∷ later) = later
+abbrev pub rest_if : Bool → List EventResult → List EventResult
+rest_if true (reported ∷ later) = later
 rest_if true [] = []
 rest_if false all = all
 
--- What is told of each step: the results are those of the steps that have an event, in order.
-abbrev pub tellings : List Step → List Told → List Telling
-tellings [] results = []
-tellings (step ∷ steps) results = (record { line = step.line; told = first_if step.has_event results }) ∷ tellings steps (rest_if step.has_event results)
+-- The result of each step: the results are those of the steps that have an event, in order.
+abbrev pub line_results : List Step → List EventResult → List LineResult
+line_results [] results = []
+line_results (step ∷ steps) results = (record { line = step.line; reported = first_if step.has_event results }) ∷
+    line_results steps (rest_if step.has_event results)
 
 -- the LSN after the greater of the log's last and the start of the writer's span, or the greatest number there is
 abbrev pub next_lsn : Opened → ℕ
@@ -58,12 +61,14 @@ next_lsn opened = min (max (last_lsn opened.log) opened.start + 1) 1844674407370
 -- the line of an opened writer
 abbrev pub writer_line : Opened → List ℕ
 writer_line opened =
-    codes "writer " ++ decimal opened.volume ++ codes " durable " ++ decimal opened.durable ++ codes " next " ++ decimal (next_lsn opened) ++ codes "\n"
+    codes "writer " ++ decimal opened.volume ++ codes " durable " ++ decimal opened.durable ++ codes " next "
+    ++ decimal (next_lsn opened) ++ codes "\n"
 
 -- the line of a recovery that has cut
 abbrev pub find_line : Find → List ℕ
 find_line find =
-    codes "recovery " ++ decimal find.volume ++ codes " cut " ++ decimal find.cut ++ codes " start " ++ decimal (last_start find.lineage) ++ codes "\n"
+    codes "recovery " ++ decimal find.volume ++ codes " cut " ++ decimal find.cut ++ codes " start "
+    ++ decimal (last_start find.lineage) ++ codes "\n"
 
 -- a line for each, in order
 abbrev pub each_line : {A : Type 0} → (A → List ℕ) → List A → List ℕ
@@ -71,21 +76,23 @@ each_line line [] = []
 each_line line (x ∷ later) = line x ++ each_line line later
 
 -- 1 where an event was refused
-abbrev pub status_of : List Told → ℕ
-status_of results = if list_any (λ told. is_err told) results then 1 else 0
+abbrev pub status_of : List EventResult → ℕ
+status_of results = if list_any (λ reported. is_err reported) results then 1 else 0
 
--- A status and a text tell of these steps, results, opened writers and recoveries that have cut: a line for each step, for each writer
--- and for each recovery, and whether an event was refused.
-pub record TellsOf (steps : List Step) (results : List Told) (writers : List Opened) (finds : List Find) (status : ℕ) (text : List ℕ) : Type 0 where
+-- A status and a text tell of these steps, results, opened writers and recoveries that have cut: a line for each step,
+-- for each writer and for each recovery, and whether an event was refused.
+pub record PrintsRun (steps : List Step) (results : List EventResult) (writers : List Opened) (finds : List Find)
+    (status : ℕ) (text : List ℕ) : Type 0 where
   pub lines : List ℕ
-  pub lines_are : AreLinesOf (tellings steps results) lines
+  pub lines_are : AreLinesOf (line_results steps results) lines
   pub text_is : text ≡ (lines ++ each_line writer_line writers) ++ each_line find_line finds
   pub status_is : status ≡ status_of results
 
 -- the line of a plan without a fault that has so many groups, configurations and certificates
 abbrev pub counts_line : ℕ → ℕ → ℕ → List ℕ
 counts_line groups configurations certificates =
-    codes "yes: " ++ decimal groups ++ codes " groups, " ++ decimal configurations ++ codes " configurations, " ++ decimal certificates ++ codes " certificates\n"
+    codes "yes: " ++ decimal groups ++ codes " groups, " ++ decimal configurations ++ codes " configurations, "
+    ++ decimal certificates ++ codes " certificates\n"
 
 -- The line of a plan without a fault: it has a certificate a configuration, and one more for each that isn't a root.
 abbrev pub plan_line : Plan → List ℕ

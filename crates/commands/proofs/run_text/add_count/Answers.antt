@@ -1,7 +1,7 @@
 use Rattle.std.proofs.Common.{◌≡◌, ◌∙◌, ap, codes, decimal, if◌then◌else◌, List, OnOk, Result, Ok, Err, refl, string_bytes, ◌++◌, ℕ}
 use Rattle.std.specs.Fmt.{digits}
 use Rattle.std.specs.Result.{is_ok}
-use Rattle.commands.proofs.told.add_count.Goals as goal
+use Rattle.commands.proofs.run_text.add_count.Goals as goal
 
 -- bytes were added that are other ones too
 added : {E : Type 0} (r : Result (Unit {0}) E) (old new bytes other : List ℕ) → bytes ≡ other → new ≡ (if is_ok r then old ++ bytes else old) → OnOk r (new ≡ old ++ other)

@@ -8,7 +8,7 @@ use Rattle.volume_model.specs.World.{opening, run}
 use Rattle.world.specs.Outcomes.{KeepsPromises, find_of, opened_of}
 use Rattle.drivers.specs.Driven.{replays}
 use Rattle.drivers.specs.declared.driving.Driven.{Driven}
-use Rattle.commands.specs.Told.{each_line, find_line, writer_line}
+use Rattle.commands.specs.RunText.{each_line, find_line, writer_line}
 
 -- the lines of how many events were made and refused
 abbrev pub numbers_lines : ℕ → ℕ → List ℕ
@@ -21,27 +21,30 @@ journal_line false = codes "journal no\n"
 
 -- the two numbers, a line for each opened writer and for each recovery that has cut, and the journal's line
 abbrev pub fleet_text : ℕ → ℕ → List Opened → List Find → Bool → List ℕ
-fleet_text steps refused writers finds agrees = ((numbers_lines steps refused ++ each_line writer_line writers) ++ each_line find_line finds) ++ journal_line agrees
+fleet_text steps refused writers finds agrees = ((numbers_lines steps refused ++ each_line writer_line writers)
+    ++ each_line find_line finds) ++ journal_line agrees
 
 -- 0 where no event was refused and the journal agrees, else 1
 abbrev pub fleet_status : ℕ → Bool → ℕ
 fleet_status refused agrees = if (refused == 0) && agrees then 0 else 1
 
 -- A status and a text tell of what threads have left.
-pub record TellsDriven (driven : Driven) (status : ℕ) (text : List ℕ) : Type 0 where
-  pub text_is : text ≡ fleet_text driven.steps driven.refused (map opened_of driven.outcome.writers.items) (map find_of driven.outcome.finds.items) driven.agrees
+pub record PrintsDriven (driven : Driven) (status : ℕ) (text : List ℕ) : Type 0 where
+  pub text_is : text ≡ fleet_text driven.steps driven.refused (map opened_of driven.outcome.writers.items)
+      (map find_of driven.outcome.finds.items) driven.agrees
   pub status_is : status ≡ fleet_status driven.refused driven.agrees
 
--- A status and a text tell of a fleet's run of so many orders over a plan. Its threads left a journal, a run of the model over the plan, of
--- which every promise of the volume holds; each order was made or refused. Told are the two numbers, the opened writers and the
--- recoveries that have cut of the world after the journal's events, and whether the journal agrees. The status is 0 exactly where
--- nothing was refused and it does.
-pub record TellsFleet (plan : Plan) (orders : ℕ) (status : ℕ) (text : List ℕ) : Type 0 where
+-- A status and a text tell of a fleet's run of so many orders over a plan. Its threads left a journal, a run of the
+-- model over the plan, of which every promise of the volume holds; each order was made or refused. Told are the two
+-- numbers, the opened writers and the recoveries that have cut of the world after the journal's events, and whether the
+-- journal agrees. The status is 0 exactly where nothing was refused and it does.
+pub record PrintsFleet (plan : Plan) (orders : ℕ) (status : ℕ) (text : List ℕ) : Type 0 where
   pub entries : List Entry
   pub runs : IsRun plan entries
   pub promises : KeepsPromises plan (events entries)
   pub steps : ℕ
   pub refused : ℕ
   pub counted : steps + refused ≡ orders
-  pub text_is : text ≡ fleet_text steps refused (writers_in (run plan (opening plan) (events entries))) (finds_in (run plan (opening plan) (events entries))) (replays plan (events entries) steps)
+  pub text_is : text ≡ fleet_text steps refused (writers_in (run plan (opening plan) (events entries)))
+      (finds_in (run plan (opening plan) (events entries))) (replays plan (events entries) steps)
   pub status_is : status ≡ fleet_status refused (replays plan (events entries) steps)

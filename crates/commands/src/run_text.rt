@@ -6,9 +6,9 @@ ghost use Rattle.std.specs.Option.{option_copied};
 ghost use Rattle.plan.specs.CheckedModel.{checked_model};
 ghost use Rattle.world.specs.Outcomes.{find_of, opened_of};
 ghost use Rattle.plan.specs.Sums.{sum_below};
-ghost use Rattle.commands.specs.Told.{TellsOf, counts_line, each_line, find_line, first_if, next_lsn, plan_line, refused_line, rest_if, writer_line};
-ghost use Rattle.commands.specs.ToldFleet.{TellsDriven, journal_line, numbers_lines};
-ghost use Rattle.commands.specs.ToldLines.{AppendsLine, AppendsLines};
+ghost use Rattle.commands.specs.RunText.{PrintsRun, counts_line, each_line, find_line, first_if, next_lsn, plan_line, refused_line, rest_if, writer_line};
+ghost use Rattle.commands.specs.FleetText.{PrintsDriven, journal_line, numbers_lines};
+ghost use Rattle.commands.specs.RunLines.{AppendsLine, AppendsLines};
 
 use crate::reply::Reply;
 use drivers::Driven;
@@ -73,13 +73,13 @@ fn counts_line(
 
 /// Returns whether an event was refused.
 fn has_refusal(results: &[Result<u32, Fault>]) -> bool
-    ensures { result ≡ list_any (λ told. is_err told) results.now }
+    ensures { result ≡ list_any (λ reported. is_err reported) results.now }
 {
-    results.iter().any(|told| told.is_err())
+    results.iter().any(|reported| reported.is_err())
 }
 
 /// Returns the result of a step's event, if it has one, and the results of the later ones.
-fn first_told(
+fn first_result(
     has_event: bool,
     results: &[Result<u32, Fault>],
 ) -> (Option<&Result<u32, Fault>>, &[Result<u32, Fault>])
@@ -112,7 +112,8 @@ fn add_number(text: &mut String, number: u64) -> Result<(), AllocError>
 
 /// Appends how many messages an event made.
 fn add_count(text: &mut String, made: u64) -> Result<(), AllocError>
-    ensures { OnOk result (string_bytes text.new ≡ string_bytes text.old ++ (codes " ok " ++ decimal made ++ codes "\n")) }
+    ensures { OnOk result (string_bytes text.new ≡ string_bytes text.old
+        ++ (codes " ok " ++ decimal made ++ codes "\n")) }
 {
     match made {
         // Most events make one message or none.
@@ -128,7 +129,8 @@ fn add_count(text: &mut String, made: u64) -> Result<(), AllocError>
 
 /// Appends the line of a step whose event made this many messages.
 fn add_made(text: &mut String, line: u32, made: u64) -> Result<(), AllocError>
-    ensures { OnOk result (string_bytes text.new ≡ string_bytes text.old ++ (decimal line ++ codes " ok " ++ decimal made ++ codes "\n")) }
+    ensures { OnOk result (string_bytes text.new ≡ string_bytes text.old
+        ++ (decimal line ++ codes " ok " ++ decimal made ++ codes "\n")) }
 {
     add_number(text, u64::from(line))?;
     add_count(text, made)
@@ -143,10 +145,10 @@ fn add_wait(text: &mut String, line: u32) -> Result<(), AllocError>
 }
 
 /// Appends the line of a step's event.
-fn add_told(text: &mut String, line: u32, told: &Result<u32, Fault>) -> Result<(), AllocError>
-    ensures { OnOk result (AppendsLine line (Some told.now) (string_bytes text.old) (string_bytes text.new)) }
+fn add_result(text: &mut String, line: u32, reported: &Result<u32, Fault>) -> Result<(), AllocError>
+    ensures { OnOk result (AppendsLine line (Some reported.now) (string_bytes text.old) (string_bytes text.new)) }
 {
-    match told {
+    match reported {
         Ok(made) => add_made(text, line, u64::from(*made)),
         Err(fault) => add_refusal(text, line, *fault),
     }
@@ -156,13 +158,14 @@ fn add_told(text: &mut String, line: u32, told: &Result<u32, Fault>) -> Result<(
 fn add_step(
     text: &mut String,
     line: u32,
-    told: Option<&Result<u32, Fault>>,
+    reported: Option<&Result<u32, Fault>>,
 ) -> Result<(), AllocError>
-    ensures { OnOk result (AppendsLine line (option_copied told.entry) (string_bytes text.old) (string_bytes text.new)) }
+    ensures { OnOk result (AppendsLine line (option_copied reported.entry) (string_bytes text.old)
+        (string_bytes text.new)) }
 {
-    match told {
+    match reported {
         None => add_wait(text, line),
-        Some(told) => add_told(text, line, told),
+        Some(reported) => add_result(text, line, reported),
     }
 }
 
@@ -176,8 +179,8 @@ fn add_steps(
 {
     let mut left = results;
     for step in steps {
-        let (told, later) = first_told(step.has_event, left);
-        add_step(text, step.line, told)?;
+        let (reported, later) = first_result(step.has_event, left);
+        add_step(text, step.line, reported)?;
         left = later;
     }
     Ok(())
@@ -213,7 +216,8 @@ fn add_find(text: &mut String, find: &RecoveryOutcome) -> Result<(), AllocError>
 
 /// Appends a line for each recovery that has cut.
 fn add_finds(text: &mut String, finds: &[RecoveryOutcome]) -> Result<(), AllocError>
-    ensures { OnOk result (string_bytes text.new ≡ string_bytes text.old ++ each_line find_line (map find_of finds.now)) }
+    ensures { OnOk result (string_bytes text.new ≡ string_bytes text.old ++ each_line find_line
+        (map find_of finds.now)) }
 {
     for find in finds {
         add_find(text, find)?;
@@ -223,7 +227,8 @@ fn add_finds(text: &mut String, finds: &[RecoveryOutcome]) -> Result<(), AllocEr
 
 /// Appends a line for each opened writer.
 fn add_writers(text: &mut String, writers: &[WriterOutcome]) -> Result<(), AllocError>
-    ensures { OnOk result (string_bytes text.new ≡ string_bytes text.old ++ each_line writer_line (map opened_of writers.now)) }
+    ensures { OnOk result (string_bytes text.new ≡ string_bytes text.old ++ each_line writer_line
+        (map opened_of writers.now)) }
 {
     for writer in writers {
         add_writer(text, writer)?;
@@ -234,7 +239,9 @@ fn add_writers(text: &mut String, writers: &[WriterOutcome]) -> Result<(), Alloc
 /// Returns a line for each step of a script, for each opened writer, and for each recovery that has cut. The status
 /// is 1 if a step was refused.
 pub fn run_lines(alloc: Global, steps: &[Step], outcome: &Outcome) -> Result<Reply, AllocError>
-    ensures { IfOk result (λ reply. TellsOf steps.now outcome.now.results.items (map opened_of outcome.now.writers.items) (map find_of outcome.now.finds.items) reply.status (string_bytes reply.text)) }
+    ensures { IfOk result (λ reply. PrintsRun steps.now outcome.now.results.items
+        (map opened_of outcome.now.writers.items) (map find_of outcome.now.finds.items) reply.status
+        (string_bytes reply.text)) }
 {
     let ends = outcome.writers.len().saturating_add(outcome.finds.len());
     let mut text = String::with_capacity(alloc, room_for(steps.len(), ends))?;
@@ -269,7 +276,7 @@ fn journal_line(agrees: bool) -> &'static str
 /// writer and each recovery that has cut, and whether the journal agrees. The status is 0 if no event was refused and
 /// it agrees, else 1.
 pub fn fleet_lines(alloc: Global, driven: &Driven) -> Result<Reply, AllocError>
-    ensures { IfOk result (λ reply. TellsDriven driven.now reply.status (string_bytes reply.text)) }
+    ensures { IfOk result (λ reply. PrintsDriven driven.now reply.status (string_bytes reply.text)) }
 {
     let mut text = numbers(alloc, driven.steps, driven.refused)?;
     add_writers(&mut text, driven.outcome.writers.as_slice())?;
