@@ -1,0 +1,6 @@
+mod Disjoint
+mod Split
+mod Named
+mod Complete
+mod Apart
+mod Decided

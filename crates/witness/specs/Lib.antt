@@ -1,0 +1,4 @@
+pub mod Witness
+pub mod Naming
+pub mod Cases
+pub mod Decision
