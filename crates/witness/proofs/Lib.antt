@@ -4,3 +4,4 @@ mod Named
 mod Complete
 mod Apart
 mod Decided
+mod Losses

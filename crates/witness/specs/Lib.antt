@@ -2,3 +2,4 @@ pub mod Witness
 pub mod Naming
 pub mod Cases
 pub mod Decision
+pub mod Tolerance

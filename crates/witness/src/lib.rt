@@ -5,7 +5,9 @@ mod cases;
 mod deciding;
 mod naming;
 mod showing;
+mod tolerance;
 
 pub use deciding::{Decision, decide, find_witness};
 pub use naming::members_named;
 pub use showing::{Witness, no_certificate, shows};
+pub use tolerance::{stopping_members, stopping_set};
