@@ -8,7 +8,8 @@ use Rattle.explain.specs.declared.claims.ClaimAnswer.TheVariants.{Certified, Unc
 abbrev pub IsRefuted : State → Type 0
 IsRefuted state = (rule : Rule) × Refutes rule state
 
--- Where it is said that the claim is certified or uncertified, some rule refutes it, so it holds; where it is said that it fails, none does.
+-- Where it is said that the claim is certified or uncertified, some rule refutes it, so it holds; where it is said that
+-- it fails, none does.
 abbrev pub IsClaimAnswer : State → ClaimAnswer → Type 0
 IsClaimAnswer state Certified = IsRefuted state
 IsClaimAnswer state Uncertified = IsRefuted state

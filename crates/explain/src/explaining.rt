@@ -57,7 +57,7 @@ fn add_part(
 }
 
 /// Returns a plan in words: of each group and configuration its members, what its expressions ask for and survive, its
-/// step, and whether each claim is certified, or by which two sets it fails. All claims are told, not only the first
+/// step, and whether each claim is certified, or by which two sets it fails. All claims are printed, not only the first
 /// without a certificate.
 ///
 /// # Errors

@@ -19,7 +19,8 @@ present absent = contains (difference all_members absent)
 
 -- a side that can't hold ends them
 abbrev pub ends : Formula → Formula → FinSet nat_cmp → FinSet nat_cmp → Cases → Cases
-ends f g a b rest = if sat f (present a) then (if sat g (present b) then rest else refuted (dead Right 0)) else refuted (dead Left 0)
+ends f g a b rest = if sat f (present a) then (if sat g (present b) then rest else refuted (dead Right 0)) else refuted
+    (dead Left 0)
 
 -- members below 64
 abbrev pub AreSmall : List ℕ → Type 0

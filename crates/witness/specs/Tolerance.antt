@@ -41,7 +41,8 @@ takes loss (x ∷ xs) y = (nat_eq y x && loss x) || takes loss xs y
 abbrev pub left_of : Members → List ℕ → FinSet nat_cmp → Members
 left_of loss rest members y = contains members y && not (takes loss rest y)
 
--- Where so many are gone, each loss of these members that stays below the size found leaves the formula satisfied; and that size is at most the best one known.
+-- Where so many are gone, each loss of these members that stays below the size found leaves the formula satisfied; and
+-- that size is at most the best one known.
 pub record IsLeastAfter (f : Formula) (left : FinSet nat_cmp) (rest : List ℕ) (gone best size : ℕ) : Type 0 where
   pub better : size ≤ best
   pub least : (loss : Members) → gone + taken loss rest < size → sat f (left_of loss rest left) ≡ true

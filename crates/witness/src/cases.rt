@@ -37,7 +37,8 @@ fn join(
     left: Refutation<Global>,
     right: Refutation<Global>,
 ) -> Result<Ended, Fault>
-    ensures joined { IfOk result (λ ended. cases_of ended ≡ refuted (rules.split member (rule_of left) (rule_of right))) }
+    ensures joined { IfOk result
+        (λ ended. cases_of ended ≡ refuted (rules.split member (rule_of left) (rule_of right))) }
     ensures memory { IfErr result (λ e. e ≡ NoMemory) }
 {
     let left = Box::new(alloc, left)?;
@@ -58,7 +59,8 @@ pub(crate) fn split<A: Allocator>(
     absent_right: MemberSet,
 ) -> Result<Ended, Fault>
     requires { AreSmall members.now }
-    ensures cases { IfOk result (λ ended. cases_of ended ≡ cases members.now (formula_of claim.now.left) (formula_of claim.now.right) absent_left absent_right) }
+    ensures cases { IfOk result (λ ended. cases_of ended ≡ cases members.now (formula_of claim.now.left)
+        (formula_of claim.now.right) absent_left absent_right) }
     ensures memory { IfErr result (λ e. e ≡ NoMemory) }
 {
     if !holds(&claim.left, absent_left.complement()) {

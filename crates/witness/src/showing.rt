@@ -55,7 +55,8 @@ pub fn shows<A: Allocator>(claim: &Claim<A>, witness: &Witness) -> bool
 
 /// A claim that has a witness has no certificate.
 pub fn no_certificate()
-    ensures { (rule : Rule) (left right : Formula) (clear : FinSet nat_cmp) (w : Witness) → IsWitness left right clear w → Refutes rule (claim_state left right clear) → ⊥ }
+    ensures { (rule : Rule) (left right : Formula) (clear : FinSet nat_cmp) (w : Witness) → IsWitness left right clear w
+        → Refutes rule (claim_state left right clear) → ⊥ }
 {
     refuted_claim_meets();
 }

@@ -70,7 +70,8 @@ fn smallest<A: Allocator>(
     requires gone { count_of gone.now.gone ≤ gone.now.size }
     requires best { IsLoss (formula_of expr.now) members best.gone best.size }
     ensures loss { IfSome result (λ r. IsLoss (formula_of expr.now) members r.gone r.size) }
-    ensures least { IfSome result (λ r. IsLeastAfter (formula_of expr.now) (difference members gone.now.gone) rest.now gone.now.size best.size r.size) }
+    ensures least { IfSome result (λ r. IsLeastAfter (formula_of expr.now) (difference members gone.now.gone) rest.now
+        gone.now.size best.size r.size) }
     ensures spent { IfSome result (λ r. steps.old ≤ steps.new + evaluations (length rest.now)) }
     ensures stuck { IfNone result (steps.old < evaluations (length rest.now)) }
 {
@@ -108,7 +109,8 @@ pub fn stopping_set<A: Allocator>(
     budget: u64,
 ) -> Result<Option<MemberSet>, Fault>
     ensures least { IfOk result (λ found. IfSome found (IsLeastLoss (formula_of expr.now) members)) }
-    ensures known { expression_fault (formula_of expr.now) ≡ None → evaluations (count_of members) ≤ budget → IfOk result (λ found. IsSome found) }
+    ensures known { expression_fault (formula_of expr.now) ≡ None → evaluations (count_of members) ≤ budget
+        → IfOk result (λ found. IsSome found) }
     ensures memory { IfErr result (λ e. e ≡ NoMemory) }
 {
     // (its contract says that each member is below 64)
