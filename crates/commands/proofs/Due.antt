@@ -4,8 +4,6 @@ use Rattle.std.proofs.lemmas.List.{length-map}
 use Rattle.volume_model.specs.Plan as model
 use Rattle.plan.specs.CheckedModel.{checked_model}
 use Rattle.plan.specs.Plan.{plan_data}
-use Rattle.plan.specs.PlanClaims.{claims_in}
-use Rattle.plan.specs.PlanText.{◌>=>◌, plan_of}
 use Rattle.plan.specs.PlanData.{PlanData, model_of}
 use Rattle.plan.specs.declared.checked.CheckedPlan.{CheckedPlan}
 use Rattle.plan.specs.declared.fault.PlanFault.{PlanFault}
@@ -162,13 +160,6 @@ fleet_reported plan script (Ok reply) reported text is =
 fleet_reported plan script (Err stop) reported text is = tt
 
 -- ---- a search
-
--- why a text's plan isn't read is why its claims aren't
-pub plan_stops : (text : List ℕ) (stop : Stop) → StopsBy (λ fault. plan_of text ≡ Err fault) stop → StopsBy (λ fault. claims_of text ≡ Err fault) stop
-plan_stops text (stops.Unreadable name) bad = absurd bad
-plan_stops text (stops.Plan fault) is = ap (λ r. r >=> claims_in) is
-plan_stops text (stops.Line number) bad = absurd bad
-plan_stops text stops.NoMemory h = tt
 
 pub search_prints : (file : File) (items text : List ℕ) (r : Result Found Stop) → IsRead file (λ t. items ≡ t) → text ≡ items
     → IfOk r (λ found. PrintsSearch text found.status found.plan.items (string_bytes found.unfound)) → IfErr r (StopsBy (λ fault. claims_of text ≡ Err fault)) → AnswersOf file SearchesTo (found_answer r)
