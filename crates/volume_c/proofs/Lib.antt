@@ -1,0 +1,5 @@
+pub mod AsBox
+pub mod Left
+pub mod Statuses
+pub mod Did
+pub mod Back
