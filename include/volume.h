@@ -75,7 +75,7 @@ enum volume_status {
     VOLUME_BAD_PIECE = 59, /* No piece that can be one, or one of another number of pieces than those that are kept. */
     VOLUME_TAIL_SEGMENT = 60, /* The member keeps no whole pages. */
     VOLUME_POINT_AHEAD = 61, /* The segment isn't complete up to the point. */
-    VOLUME_SERIES_SPENT = 62, /* The node has told as many copies as it may. */
+    VOLUME_SERIES_SPENT = 62, /* The node has made as many copies as it may. */
     VOLUME_NOT_OPEN = 70, /* The client isn't an open writer. */
     VOLUME_LIMIT_REACHED = 71, /* The log would run too far ahead of the durable point. */
     VOLUME_BAD_TRANSACTION = 72, /* No transaction of 1 to 32 good changes. */
@@ -255,7 +255,7 @@ uint8_t volume_writer_points(struct volume_handle *writer, struct volume_points 
  * Refused 70 of a recovery, 42 where the writer knows no such group. */
 uint8_t volume_writer_group_point(struct volume_handle *writer, uint8_t group, uint64_t *point);
 
-/* Tells whether the commit at an LSN is durable: the LSN is that of a consistency point of the log, and not above the
+/* Says whether the commit at an LSN is durable: the LSN is that of a consistency point of the log, and not above the
  * durable point. No recovery will lose it then.
  *
  * Refused 70 of a recovery. */

@@ -1,6 +1,6 @@
 -- What a status says of a call.
 use Rattle.std.proofs.Common.{◌≡◌, ◌≢◌, ◌<◌, ◌≤◌, ℕ, Bool, List, [], Option, Some, None, Result, Ok, Err, refl, arith}
-use Rattle.volume_model.specs.Answer.{AnswersLate, Fails}
+use Rattle.volume_model.specs.Answer.{AnswersAfterGrowth, Fails}
 use Rattle.volume_model.specs.Numbers.{number_of}
 use Rattle.volume_model.specs.Message as model
 use Rattle.volume_model.specs.declared.fault.Fault.{Fault}
@@ -19,7 +19,7 @@ number-few NoMemory = omega arith
 number-few fault = omega arith
 
 -- a refused answer is the refusal that is defined, and leaves the actor as it was
-pub failed : {R S T : Type 0} (late : Fault → Bool) (step : R → S → T) (fault : Fault) (defined : Result T Fault) (old new : S) → AnswersLate late step defined old (Err fault) new → Fails fault defined × (new ≡ old)
+pub failed : {R S T : Type 0} (late : Fault → Bool) (step : R → S → T) (fault : Fault) (defined : Result T Fault) (old new : S) → AnswersAfterGrowth late step defined old (Err fault) new → Fails fault defined × (new ≡ old)
 failed late step NoMemory defined old new h = (tt, h.1)
 failed late step fault defined old new h = h
 

@@ -20,7 +20,8 @@ opening_step = of_plan (λ plan. authority_made plan (Ok (opening plan).authorit
 
 -- the authority that was saved
 abbrev pub resumed_step : List ℕ → View → Step
-resumed_step bytes view = with_value (authority_in bytes) (λ authority. of_plan (λ plan. authority_made plan (resumed plan authority)) view)
+resumed_step bytes view = with_value (authority_in bytes)
+    (λ authority. of_plan (λ plan. authority_made plan (resumed plan authority)) view)
 
 -- the bytes of the snapshot
 abbrev pub snapshot_value : View → Value (List ℕ)

@@ -19,7 +19,8 @@ first_step = of_plan (λ plan. Ok ([], AClient plan 1 (first_writer plan)))
 
 -- the recovery that a View makes
 abbrev pub birth_step : List ℕ → View → Step
-birth_step bytes view = with_message bytes (λ m. of_plan (λ plan. client_step plan (view_volume m) (birth_of plan m)) view)
+birth_step bytes view = with_message bytes (λ m. of_plan (λ plan. client_step plan (view_volume m) (birth_of plan m))
+    view)
 
 -- the complete point, the durable point, the start and the last number
 abbrev pub Points : Type 0
@@ -33,10 +34,17 @@ abbrev pub if_open : {A : Type 0} → Client → Result A Fault → Result A Fau
 if_open client rest = refuse_if (not (is_open client.stage)) NotOpen rest
 
 abbrev pub points_value : View → Value Points
-points_value = of_client (λ plan volume client. if_open client (Ok (complete_point client, durable_point client, last_start client.lineage, last_lsn client.log)))
+points_value = of_client
+    (λ plan volume client. if_open client (Ok (
+      complete_point client,
+      durable_point client,
+      last_start client.lineage,
+      last_lsn client.log,
+    )))
 
 abbrev pub point_value : ℕ → View → Value ℕ
-point_value group = of_client (λ plan volume client. if_open client (refuse_if (nat_le (length client.groups) group) NoGroup (Ok (group_point_of client.groups group))))
+point_value group = of_client (λ plan volume client. if_open client (refuse_if (nat_le (length client.groups) group)
+    NoGroup (Ok (group_point_of client.groups group))))
 
 abbrev pub acknowledged_value : ℕ → View → Value Bool
 acknowledged_value lsn = of_client (λ plan volume client. if_open client (Ok (acknowledged client lsn)))

@@ -11,7 +11,8 @@ use Rattle.volume_c.specs.View.{APlan, seen}
 
 -- it is the plan that the text spells, and it has no fault
 abbrev pub HoldsPlan : List ℕ → Option Held → Type 0
-HoldsPlan text held = (plan : CheckedPlan) × (seen held ≡ APlan (checked_model plan)) × (plan_of text ≡ Ok (plan_data plan.plan)) × (plan_fault (plan_data plan.plan) ≡ None)
+HoldsPlan text held = (plan : CheckedPlan) × (seen held ≡ APlan (checked_model plan))
+    × (plan_of text ≡ Ok (plan_data plan.plan)) × (plan_fault (plan_data plan.plan) ≡ None)
 
 -- Status 0: such a plan is held where nothing was. Else the handle holds what it held.
 abbrev pub ReadsPlan : List ℕ → ℕ → Option Held → Option Held → Type 0

@@ -38,11 +38,24 @@ segment_in bytes = do
   whole ← flag_at place.1
   copied ← number_at w64 whole.1
   c ← contents_at copied.1
-  ended (record { volume = volume.0; place = place.0; whole = whole.0; contents = c.0; copies = []; install = None; copied = copied.0 }, c.1)
+  ended (
+    record {
+      volume = volume.0;
+      place = place.0;
+      whole = whole.0;
+      contents = c.0;
+      copies = [];
+      install = None;
+      copied = copied.0;
+    },
+    c.1,
+  )
 
 -- the bytes of a node's snapshot
 abbrev pub segment_spelled : Node → List ℕ
-segment_spelled n = (1 ∷ 129 ∷ []) ++ (to_be_bytes w32 n.volume ++ (place_spelled n.place ++ (flag_spelled n.whole ∷ (to_be_bytes w64 n.copied ++ contents_spelled n.contents))))
+segment_spelled n = (1 ∷ 129 ∷ [])
+    ++ (to_be_bytes w32 n.volume
+    ++ (place_spelled n.place ++ (flag_spelled n.whole ∷ (to_be_bytes w64 n.copied ++ contents_spelled n.contents))))
 
 -- the authority that a snapshot's bytes spell, or the first fault
 unfoldable pub authority_in : List ℕ → Result Authority Fault

@@ -22,7 +22,8 @@ born_step group member = of_plan (λ plan. node_made plan group member (born pla
 
 -- the node that was saved
 abbrev pub resumed_step : List ℕ → ℕ → ℕ → View → Step
-resumed_step bytes group member view = with_value (segment_in bytes) (λ node. of_plan (λ plan. node_made plan group member (resumed plan group member node)) view)
+resumed_step bytes group member view = with_value (segment_in bytes)
+    (λ node. of_plan (λ plan. node_made plan group member (resumed plan group member node)) view)
 
 -- a page at a point
 abbrev pub page_value : ℕ → ℕ → View → Value (List ℕ)

@@ -1,8 +1,8 @@
 //! What actors do, of those that a handle holds.
 
 ghost use Rattle.std.specs.Prelude.{◌≡◌, Some};
-ghost use Rattle.volume_model.specs.Answer.{AnswersLate};
-ghost use Rattle.segment_core.specs.Acts.{acted, act_late};
+ghost use Rattle.volume_model.specs.Answer.{AnswersAfterGrowth};
+ghost use Rattle.segment_core.specs.Acts.{acted, act_after_growth};
 ghost use Rattle.segment_core.specs.Segment.{node_of, act_of, answered, IsSameActor};
 ghost use Rattle.world.specs.Acts.{authority_acted, client_acted};
 ghost use Rattle.volume_c.specs.View.{seen};
@@ -20,7 +20,8 @@ use world::{AuthorityAct, ClientAct};
 
 /// Performs an action of a segment. On error the segment is unchanged.
 fn segment_act(alloc: Global, segment: &mut Segment, act: NodeAct<'_>) -> Result<Messages, Fault>
-    ensures answers { AnswersLate (act_late act.entry) answered (act_of segment.old act.entry) (node_of segment.old) result (node_of segment.new) }
+    ensures answers { AnswersAfterGrowth (act_after_growth act.entry) answered (act_of segment.old act.entry)
+        (node_of segment.old) result (node_of segment.new) }
     ensures actor { IsSameActor segment.old segment.new }
 {
     let prepared = segment.prepare_act(alloc, act)?;
@@ -48,7 +49,8 @@ fn segment_acts(alloc: Global, held: &mut Held, act: NodeAct<'_>) -> u8
 
 /// Performs an action of the client that is held.
 fn client_acts(alloc: Global, held: &mut Held, act: ClientAct<'_>) -> u8
-    ensures { Does (client_does (client_acted act.entry) (seen (Some held.old))) result (Some held.old) (Some held.new) }
+    ensures { Does (client_does (client_acted act.entry) (seen (Some held.old))) result (Some held.old)
+        (Some held.new) }
 {
     if !held.outbox.is_empty() {
         return UNSENT;
@@ -86,7 +88,8 @@ fn client_opening(held: &mut Held) -> u8
 
 /// Performs an action of the authority that is held.
 fn authority_acts(alloc: Global, held: &mut Held, act: AuthorityAct) -> u8
-    ensures { Does (authority_does (λ plan authority. authority_acted plan authority act) (seen (Some held.old))) result (Some held.old) (Some held.new) }
+    ensures { Does (authority_does (λ plan authority. authority_acted plan authority act) (seen (Some held.old))) result
+        (Some held.old) (Some held.new) }
 {
     if !held.outbox.is_empty() {
         return UNSENT;
@@ -109,7 +112,8 @@ fn authority_acts(alloc: Global, held: &mut Held, act: AuthorityAct) -> u8
 
 /// Performs an action of a handle's segment.
 pub fn segment_step(alloc: Global, handle: &mut Handle, act: NodeAct<'_>) -> u8
-    ensures { Does (node_does (acted act.entry) (seen handle.old.seal.held)) result handle.old.seal.held handle.new.seal.held }
+    ensures { Does (node_does (acted act.entry) (seen handle.old.seal.held)) result handle.old.seal.held
+        handle.new.seal.held }
 {
     let Some(mut held) = handle.take(alloc) else {
         return WRONG_HANDLE;
@@ -121,7 +125,8 @@ pub fn segment_step(alloc: Global, handle: &mut Handle, act: NodeAct<'_>) -> u8
 
 /// Performs an action of a handle's client.
 pub fn client_step(alloc: Global, handle: &mut Handle, act: ClientAct<'_>) -> u8
-    ensures { Does (client_does (client_acted act.entry) (seen handle.old.seal.held)) result handle.old.seal.held handle.new.seal.held }
+    ensures { Does (client_does (client_acted act.entry) (seen handle.old.seal.held)) result handle.old.seal.held
+        handle.new.seal.held }
 {
     let Some(mut held) = handle.take(alloc) else {
         return WRONG_HANDLE;
@@ -145,7 +150,8 @@ pub fn opening_step(alloc: Global, handle: &mut Handle) -> u8
 
 /// Performs an action of a handle's authority.
 pub fn authority_step(alloc: Global, handle: &mut Handle, act: AuthorityAct) -> u8
-    ensures { Does (authority_does (λ plan authority. authority_acted plan authority act) (seen handle.old.seal.held)) result handle.old.seal.held handle.new.seal.held }
+    ensures { Does (authority_does (λ plan authority. authority_acted plan authority act) (seen handle.old.seal.held))
+        result handle.old.seal.held handle.new.seal.held }
 {
     let Some(mut held) = handle.take(alloc) else {
         return WRONG_HANDLE;

@@ -64,7 +64,8 @@ pub extern "C" fn volume_authority_resume(
     out: &mut Handle,
 ) -> u8
     ensures plan { plan.new.seal.held ≡ plan.old.seal.held }
-    ensures makes { Makes (resumed_step bytes.now (seen plan.old.seal.held)) result out.old.seal.held out.new.seal.held }
+    ensures makes { Makes (resumed_step bytes.now (seen plan.old.seal.held)) result out.old.seal.held
+        out.new.seal.held }
 {
     if out.is_live() {
         return WRONG_HANDLE;
@@ -89,7 +90,8 @@ pub extern "C" fn volume_authority_resume(
 /// Refused 43 where no volume epoch is left.
 #[unsafe(no_mangle)]
 pub extern "C" fn volume_authority_assign(alloc: Global, authority: &mut Handle) -> u8
-    ensures { Does (authority_does assigned (seen authority.old.seal.held)) result authority.old.seal.held authority.new.seal.held }
+    ensures { Does (authority_does assigned (seen authority.old.seal.held)) result authority.old.seal.held
+        authority.new.seal.held }
 {
     authority_step(alloc, authority, AuthorityAct::Assign)
 }
@@ -106,7 +108,8 @@ pub extern "C" fn volume_authority_advance(
     group: u8,
     configuration: u32,
 ) -> u8
-    ensures { Does (authority_does (λ plan authority. advanced plan authority group configuration) (seen authority.old.seal.held)) result authority.old.seal.held authority.new.seal.held }
+    ensures { Does (authority_does (λ plan authority. advanced plan authority group configuration)
+        (seen authority.old.seal.held)) result authority.old.seal.held authority.new.seal.held }
 {
     authority_step(
         alloc,
@@ -124,7 +127,8 @@ pub extern "C" fn volume_authority_advance(
 /// Refused 40 for any other volume epoch.
 #[unsafe(no_mangle)]
 pub extern "C" fn volume_authority_refresh(alloc: Global, authority: &mut Handle, volume: u32) -> u8
-    ensures { Does (authority_does (λ plan authority. refreshed plan authority volume) (seen authority.old.seal.held)) result authority.old.seal.held authority.new.seal.held }
+    ensures { Does (authority_does (λ plan authority. refreshed plan authority volume) (seen authority.old.seal.held))
+        result authority.old.seal.held authority.new.seal.held }
 {
     authority_step(alloc, authority, AuthorityAct::Refresh { volume })
 }
@@ -135,14 +139,16 @@ pub extern "C" fn volume_authority_refresh(alloc: Global, authority: &mut Handle
 /// Refused 44 where every group of the plan has joined.
 #[unsafe(no_mangle)]
 pub extern "C" fn volume_authority_grow(alloc: Global, authority: &mut Handle) -> u8
-    ensures { Does (authority_does grown (seen authority.old.seal.held)) result authority.old.seal.held authority.new.seal.held }
+    ensures { Does (authority_does grown (seen authority.old.seal.held)) result authority.old.seal.held
+        authority.new.seal.held }
 {
     authority_step(alloc, authority, AuthorityAct::Grow)
 }
 
 /// Writes the snapshot of what is held.
 fn snapshot_of_held(alloc: Global, held: &Held, out: &mut [u8], needed: &mut usize) -> u8
-    ensures reads { Reads (snapshot_value (seen (Some held.now))) (take needed.new out.new) result (Some held.now) (Some held.now) }
+    ensures reads { Reads (snapshot_value (seen (Some held.now))) (take needed.new out.new) result (Some held.now)
+        (Some held.now) }
     ensures out { result ≢ 0 → out.new ≡ out.old }
 {
     match &held.actor {
@@ -163,7 +169,8 @@ pub extern "C" fn volume_authority_snapshot(
     out: &mut [u8],
     needed: &mut usize,
 ) -> u8
-    ensures reads { Reads (snapshot_value (seen authority.old.seal.held)) (take needed.new out.new) result authority.old.seal.held authority.new.seal.held }
+    ensures reads { Reads (snapshot_value (seen authority.old.seal.held)) (take needed.new out.new) result
+        authority.old.seal.held authority.new.seal.held }
     ensures out { result ≢ 0 → out.new ≡ out.old }
 {
     *needed = 0;

@@ -119,7 +119,8 @@ pub extern "C" fn volume_recovery_new(
 /// places aren't the plan's; 91 while there are messages to hand out.
 #[unsafe(no_mangle)]
 pub extern "C" fn volume_client_take(alloc: Global, client: &mut Handle, bytes: &[u8]) -> u8
-    ensures { Does (with_message bytes.now (λ m. client_does (λ plan volume client. taken plan volume client m) (seen client.old.seal.held))) result client.old.seal.held client.new.seal.held }
+    ensures { Does (with_message bytes.now (λ m. client_does (λ plan volume client. taken plan volume client m)
+        (seen client.old.seal.held))) result client.old.seal.held client.new.seal.held }
 {
     let message = match decode(alloc, bytes) {
         Ok(message) => message,
@@ -134,7 +135,8 @@ pub extern "C" fn volume_client_take(alloc: Global, client: &mut Handle, bytes: 
 /// where no LSNs are left.
 #[unsafe(no_mangle)]
 pub extern "C" fn volume_recovery_cut(alloc: Global, recovery: &mut Handle) -> u8
-    ensures { Does (client_does cut_client (seen recovery.old.seal.held)) result recovery.old.seal.held recovery.new.seal.held }
+    ensures { Does (client_does cut_client (seen recovery.old.seal.held)) result recovery.old.seal.held
+        recovery.new.seal.held }
 {
     client_step(alloc, recovery, ClientAct::Cut)
 }
@@ -162,7 +164,8 @@ pub extern "C" fn volume_writer_issue(
     writer: &mut Handle,
     given: &[VolumeChange],
 ) -> u8
-    ensures { Does (client_does (λ plan volume client. issued plan volume client (map given_change given.now)) (seen writer.old.seal.held)) result writer.old.seal.held writer.new.seal.held }
+    ensures { Does (client_does (λ plan volume client. issued plan volume client (map given_change given.now))
+        (seen writer.old.seal.held)) result writer.old.seal.held writer.new.seal.held }
 {
     let changes = match changes(alloc, given) {
         Ok(changes) => changes,
@@ -176,7 +179,8 @@ pub extern "C" fn volume_writer_issue(
 /// Refused 70 of a recovery, 76 where the log has no record with this LSN.
 #[unsafe(no_mangle)]
 pub extern "C" fn volume_writer_resend(alloc: Global, writer: &mut Handle, lsn: u64) -> u8
-    ensures { Does (client_does (λ plan volume client. resent volume client lsn) (seen writer.old.seal.held)) result writer.old.seal.held writer.new.seal.held }
+    ensures { Does (client_does (λ plan volume client. resent volume client lsn) (seen writer.old.seal.held)) result
+        writer.old.seal.held writer.new.seal.held }
 {
     client_step(alloc, writer, ClientAct::Resend { lsn })
 }
@@ -191,7 +195,8 @@ pub extern "C" fn volume_writer_read(
     group: u8,
     block: u32,
 ) -> u8
-    ensures { Does (client_does (λ plan volume client. page_asked volume client group block) (seen writer.old.seal.held)) result writer.old.seal.held writer.new.seal.held }
+    ensures { Does (client_does (λ plan volume client. page_asked volume client group block)
+        (seen writer.old.seal.held)) result writer.old.seal.held writer.new.seal.held }
 {
     client_step(alloc, writer, ClientAct::Read { group, block })
 }
@@ -209,7 +214,8 @@ fn writer_of(held: &Held) -> Result<&Writer, u8> {
 
 /// Reads the points of the writer that is held.
 fn points_of_held(held: &Held, points: &mut VolumePoints) -> u8
-    ensures reads { Reads (points_value (seen (Some held.now))) (points_of points.new) result (Some held.now) (Some held.now) }
+    ensures reads { Reads (points_value (seen (Some held.now))) (points_of points.new) result (Some held.now)
+        (Some held.now) }
     ensures points { result ≢ 0 → points.new ≡ points.old }
 {
     match writer_of(held) {
@@ -235,7 +241,8 @@ pub extern "C" fn volume_writer_points(
     writer: &mut Handle,
     points: &mut VolumePoints,
 ) -> u8
-    ensures reads { Reads (points_value (seen writer.old.seal.held)) (points_of points.new) result writer.old.seal.held writer.new.seal.held }
+    ensures reads { Reads (points_value (seen writer.old.seal.held)) (points_of points.new) result writer.old.seal.held
+        writer.new.seal.held }
     ensures points { result ≢ 0 → points.new ≡ points.old }
 {
     let Some(held) = writer.take(alloc) else {
@@ -273,7 +280,8 @@ pub extern "C" fn volume_writer_group_point(
     group: u8,
     point: &mut u64,
 ) -> u8
-    ensures reads { Reads (point_value group (seen writer.old.seal.held)) point.new result writer.old.seal.held writer.new.seal.held }
+    ensures reads { Reads (point_value group (seen writer.old.seal.held)) point.new result writer.old.seal.held
+        writer.new.seal.held }
     ensures point { result ≢ 0 → point.new ≡ point.old }
 {
     let Some(held) = writer.take(alloc) else {
@@ -286,7 +294,8 @@ pub extern "C" fn volume_writer_group_point(
 
 /// Reads whether the commit at an LSN is acknowledged.
 fn acknowledged_of_held(held: &Held, lsn: u64, acknowledged: &mut bool) -> u8
-    ensures reads { Reads (acknowledged_value lsn (seen (Some held.now))) acknowledged.new result (Some held.now) (Some held.now) }
+    ensures reads { Reads (acknowledged_value lsn (seen (Some held.now))) acknowledged.new result (Some held.now)
+        (Some held.now) }
     ensures acknowledged { result ≢ 0 → acknowledged.new ≡ acknowledged.old }
 {
     match writer_of(held) {
@@ -298,7 +307,7 @@ fn acknowledged_of_held(held: &Held, lsn: u64, acknowledged: &mut bool) -> u8
     }
 }
 
-/// Tells whether the commit at an LSN is durable: the LSN is that of a consistency point of the log, and not above the
+/// Says whether the commit at an LSN is durable: the LSN is that of a consistency point of the log, and not above the
 /// durable point. No recovery will lose it then.
 ///
 /// Refused 70 of a recovery.
@@ -309,7 +318,8 @@ pub extern "C" fn volume_writer_acknowledged(
     lsn: u64,
     acknowledged: &mut bool,
 ) -> u8
-    ensures reads { Reads (acknowledged_value lsn (seen writer.old.seal.held)) acknowledged.new result writer.old.seal.held writer.new.seal.held }
+    ensures reads { Reads (acknowledged_value lsn (seen writer.old.seal.held)) acknowledged.new result
+        writer.old.seal.held writer.new.seal.held }
     ensures acknowledged { result ≢ 0 → acknowledged.new ≡ acknowledged.old }
 {
     let Some(held) = writer.take(alloc) else {

@@ -47,7 +47,8 @@ pub extern "C" fn volume_segment_new(
     out: &mut Handle,
 ) -> u8
     ensures plan { plan.new.seal.held ≡ plan.old.seal.held }
-    ensures makes { Makes (born_step group member (seen plan.old.seal.held)) result out.old.seal.held out.new.seal.held }
+    ensures makes { Makes (born_step group member (seen plan.old.seal.held)) result out.old.seal.held
+        out.new.seal.held }
 {
     if out.is_live() {
         return WRONG_HANDLE;
@@ -77,7 +78,8 @@ pub extern "C" fn volume_segment_resume(
     out: &mut Handle,
 ) -> u8
     ensures plan { plan.new.seal.held ≡ plan.old.seal.held }
-    ensures makes { Makes (resumed_step bytes.now group member (seen plan.old.seal.held)) result out.old.seal.held out.new.seal.held }
+    ensures makes { Makes (resumed_step bytes.now group member (seen plan.old.seal.held)) result out.old.seal.held
+        out.new.seal.held }
 {
     if out.is_live() {
         return WRONG_HANDLE;
@@ -105,7 +107,8 @@ pub extern "C" fn volume_segment_resume(
 /// are messages to hand out.
 #[unsafe(no_mangle)]
 pub extern "C" fn volume_segment_take(alloc: Global, segment: &mut Handle, bytes: &[u8]) -> u8
-    ensures { Does (with_message bytes.now (λ m. node_does (λ plan group member node. reaction plan group member node m) (seen segment.old.seal.held))) result segment.old.seal.held segment.new.seal.held }
+    ensures { Does (with_message bytes.now (λ m. node_does (λ plan group member node. reaction plan group member node m)
+        (seen segment.old.seal.held))) result segment.old.seal.held segment.new.seal.held }
 {
     let message = match decode(alloc, bytes) {
         Ok(message) => message,
@@ -121,7 +124,8 @@ pub extern "C" fn volume_segment_take(alloc: Global, segment: &mut Handle, bytes
 /// than a segment may.
 #[unsafe(no_mangle)]
 pub extern "C" fn volume_segment_hydrate(alloc: Global, segment: &mut Handle) -> u8
-    ensures { Does (node_does hydrated (seen segment.old.seal.held)) result segment.old.seal.held segment.new.seal.held }
+    ensures { Does (node_does hydrated (seen segment.old.seal.held)) result segment.old.seal.held
+        segment.new.seal.held }
 {
     segment_step(alloc, segment, NodeAct::Hydrate)
 }
@@ -132,7 +136,8 @@ pub extern "C" fn volume_segment_hydrate(alloc: Global, segment: &mut Handle) ->
 /// where it holds no such record.
 #[unsafe(no_mangle)]
 pub extern "C" fn volume_segment_offer(alloc: Global, segment: &mut Handle, lsn: u64) -> u8
-    ensures { Does (node_does (λ plan group member node. offered group node lsn) (seen segment.old.seal.held)) result segment.old.seal.held segment.new.seal.held }
+    ensures { Does (node_does (λ plan group member node. offered group node lsn) (seen segment.old.seal.held)) result
+        segment.old.seal.held segment.new.seal.held }
 {
     segment_step(alloc, segment, NodeAct::Offer { lsn })
 }
@@ -146,7 +151,8 @@ fn page_of_held(
     page: &mut [u8],
     needed: &mut usize,
 ) -> u8
-    ensures reads { Reads (page_value block point (seen (Some held.old))) (take 512 page.new) result (Some held.old) (Some held.new) }
+    ensures reads { Reads (page_value block point (seen (Some held.old))) (take 512 page.new) result (Some held.old)
+        (Some held.new) }
     ensures page { result ≢ 0 → page.new ≡ page.old }
 {
     match &mut held.actor {
@@ -171,7 +177,8 @@ pub extern "C" fn volume_segment_page(
     point: u64,
     page: &mut [u8],
 ) -> u8
-    ensures reads { Reads (page_value block point (seen segment.old.seal.held)) (take 512 page.new) result segment.old.seal.held segment.new.seal.held }
+    ensures reads { Reads (page_value block point (seen segment.old.seal.held)) (take 512 page.new) result
+        segment.old.seal.held segment.new.seal.held }
     ensures page { result ≢ 0 → page.new ≡ page.old }
 {
     if page.len() < BLOCK {
@@ -203,7 +210,8 @@ fn scl_of_held(held: &Held, scl: &mut u64) -> u8
 /// Gives the segment complete point (SCL): the greatest LSN up to which the segment holds all records of its group.
 #[unsafe(no_mangle)]
 pub extern "C" fn volume_segment_scl(alloc: Global, segment: &mut Handle, scl: &mut u64) -> u8
-    ensures reads { Reads (scl_value (seen segment.old.seal.held)) scl.new result segment.old.seal.held segment.new.seal.held }
+    ensures reads { Reads (scl_value (seen segment.old.seal.held)) scl.new result segment.old.seal.held
+        segment.new.seal.held }
     ensures scl { result ≢ 0 → scl.new ≡ scl.old }
 {
     let Some(held) = segment.take(alloc) else {
@@ -216,7 +224,8 @@ pub extern "C" fn volume_segment_scl(alloc: Global, segment: &mut Handle, scl: &
 
 /// Writes the snapshot of what is held.
 fn snapshot_of_held(alloc: Global, held: &mut Held, out: &mut [u8], needed: &mut usize) -> u8
-    ensures reads { Reads (snapshot_value (seen (Some held.old))) (take needed.new out.new) result (Some held.old) (Some held.new) }
+    ensures reads { Reads (snapshot_value (seen (Some held.old))) (take needed.new out.new) result (Some held.old)
+        (Some held.new) }
     ensures out { result ≢ 0 → out.new ≡ out.old }
 {
     match &mut held.actor {
@@ -238,7 +247,8 @@ pub extern "C" fn volume_segment_snapshot(
     out: &mut [u8],
     needed: &mut usize,
 ) -> u8
-    ensures reads { Reads (snapshot_value (seen segment.old.seal.held)) (take needed.new out.new) result segment.old.seal.held segment.new.seal.held }
+    ensures reads { Reads (snapshot_value (seen segment.old.seal.held)) (take needed.new out.new) result
+        segment.old.seal.held segment.new.seal.held }
     ensures out { result ≢ 0 → out.new ≡ out.old }
 {
     *needed = 0;

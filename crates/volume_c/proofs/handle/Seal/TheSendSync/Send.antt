@@ -17,7 +17,7 @@ use Rattle.redo_record.proofs.record.Record.TheSendSync as record_type
 use Rattle.redo_record.proofs.shared_record.SharedRecord.TheSendSync as shared_record_type
 use Rattle.lineage.proofs.lineage.Lineage.TheSendSync as lineage_type
 use Rattle.segment_core.proofs.assembly.Assembly.TheSendSync as assembly
-use Rattle.segment_core.proofs.held.Held.TheSendSync as held
+use Rattle.segment_core.proofs.segment_state.SegmentState.TheSendSync as held
 use Rattle.segment_core.proofs.records.Records.TheSendSync as records
 use Rattle.hydration.proofs.hydration.Hydration.TheSendSync as hydration_type
 use Rattle.hydration.proofs.copied.Copied.TheSendSync as copied
