@@ -5,7 +5,7 @@ use Rattle.journal.specs.Entries.{entries_of}
 use Rattle.journal.specs.Tokens.{shown}
 use Rattle.fleet_actors.proofs.client.ClientActor.act.Goals as goal
 
-pub step-2-requires-clause-found : goal.step-2-requires-clause-found
-step-2-requires-clause-found g c =
+pub step-requires-2-clause-found : goal.step-requires-2-clause-found
+step-requires-2-clause-found g c =
     let plan = g.L.Site.plan in
-    (refl, ap (λ (l : List Entry). numbered (world_at plan l).messages c.message) (ap (λ ts. entries_of (shown ts.items)) c.seek.ensures.log.0) ∙ c.in-Some.ensures.is ∙ c.message-found.ensures)
+    (refl, ap (λ (l : List Entry). numbered (world_at plan l).messages c.in-Take.message) (ap (λ ts. entries_of (shown ts.items)) c.seek.ensures.log.0) ∙ c.in-Some.ensures.is ∙ c.message-found.ensures)
