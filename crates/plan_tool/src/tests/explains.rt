@@ -1,5 +1,7 @@
 //! What is said of plans: expected values worked by hand, and by brute force.
 
+ghost use Rattle.std.specs.Prelude.{◌<◌};
+
 use explain::explain;
 use plan::read_plan;
 use quorum_expr::{Expr, MemberSet, holds};
@@ -53,29 +55,32 @@ fn three_of_six(rt: HostRuntime) {
 }
 
 /// Returns the next number below a bound.
-fn next(state: &mut u64, below: u64) -> u64 {
+fn next(state: &mut u64, below: u8) -> u8
+    requires { 0 < below }
+    ensures { result < below }
+{
     *state = state
         .wrapping_mul(6_364_136_223_846_793_005)
         .wrapping_add(1_442_695_040_888_963_407);
-    (*state >> 33) % below.max(1)
+    let number = (*state >> 33) % u64::from(below);
+    number as u8
 }
 
 /// Returns an expression over the members below 7.
 fn any_expr(alloc: Global, state: &mut u64, levels: u8) -> Result<Expr<Global>, AllocError> {
     if levels == 0 || next(state, 3) == 0 {
-        return Ok(Expr::Member(next(state, 7) as u8));
+        return Ok(Expr::Member(next(state, 7)));
     }
     let mut of = Vec::new(alloc);
-    let mut all = 0u64;
-    for _ in 0..next(state, 4) + 1 {
-        let weight = next(state, 2) + 1;
+    let mut all = 0u8;
+    for _ in 0..next(state, 4).saturating_add(1) {
+        let weight = next(state, 2).saturating_add(1);
         all = all.saturating_add(weight);
-        of.push((weight as u8, any_expr(alloc, state, levels - 1)?))?;
+        of.push((weight, any_expr(alloc, state, levels - 1)?))?;
     }
-    Ok(Expr::KOf {
-        k: (next(state, all) + 1) as u16,
-        of,
-    })
+    let most = if all == 0 { 1 } else { all };
+    let k = u16::from(next(state, most)).saturating_add(1);
+    Ok(Expr::KOf { k, of })
 }
 
 /// Returns the set of the members below 7 whose bits are 1.
