@@ -92,9 +92,9 @@ with_value (Err fault) step = Some (Err fault)
 abbrev pub with_message : List ℕ → (model.Message → Step) → Step
 with_message bytes step = with_value (message_in bytes) step
 
--- the status is the number of the fault that is defined, or of want of memory
+-- the status is the number of the fault that is defined, or 9, where memory ran out
 abbrev pub IsRefusal : {A : Type 0} → ℕ → Value A → Type 0
-IsRefusal status None = ⊥
+IsRefusal status None = status ≡ 9
 IsRefusal status (Some result) = (fault : Fault) × (status ≡ number_of fault) × Fails fault result
 
 -- a status from 1 to 89 is the number of the refusal that is defined
