@@ -3,3 +3,4 @@ pub mod Left
 pub mod Statuses
 pub mod Did
 pub mod Back
+pub mod Made

@@ -19,8 +19,7 @@ use Rattle.message_bytes.specs.Spelling.{message_spelled}
 use Rattle.volume_c.specs.declared.actor.Held.{Held}
 use Rattle.volume_c.specs.View.{View, Nothing, APlan, ANode, AClient, AnAuthority, seen, unsent}
 
--- what a call is to do: the messages that it makes and what the actor is then, or its refusal; nothing where the handle
--- holds no such actor
+-- what a call is to do: the messages that it makes and what the actor is then, or its refusal; nothing where the handle holds no such actor
 abbrev pub Step : Type 0
 Step = Option (Result (List model.Message × View) Fault)
 
@@ -93,17 +92,17 @@ with_value (Err fault) step = Some (Err fault)
 abbrev pub with_message : List ℕ → (model.Message → Step) → Step
 with_message bytes step = with_value (message_in bytes) step
 
--- the status is the number of the fault that is defined, or of a lack of memory
+-- the status is the number of the fault that is defined, or 9, where memory ran out
 abbrev pub IsRefusal : {A : Type 0} → ℕ → Value A → Type 0
-IsRefusal status None = ⊥
+IsRefusal status None = status ≡ 9
 IsRefusal status (Some result) = (fault : Fault) × (status ≡ number_of fault) × Fails fault result
 
 -- a status from 1 to 89 is the number of the refusal that is defined
 abbrev pub Refuses : {A : Type 0} → Value A → ℕ → Type 0
 Refuses defined status = status ≢ 0 → status < 90 → IsRefusal status defined
 
--- A call of an actor. Status 0: it did the step that is defined, and its messages wait to be taken, where all earlier
--- ones had been. Else nothing has changed.
+-- A call of an actor. Status 0: it did the step that is defined, and its messages wait to be taken, where all earlier ones had been. Else
+-- nothing has changed.
 pub record Does (defined : Step) (status : ℕ) (old new : Option Held) : Type 0 where
   pub ok : status ≡ 0 → (defined ≡ Some (Ok (unsent new, seen new))) × (unsent old ≡ [])
   pub unchanged : status ≢ 0 → (seen new ≡ seen old) × (unsent new ≡ unsent old)

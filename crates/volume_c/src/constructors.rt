@@ -1,6 +1,6 @@
 //! Handles that are filled.
 
-ghost use Rattle.std.specs.Prelude.{◌≡◌, ◌≢◌, None, Some, IfOk};
+ghost use Rattle.std.specs.Prelude.{◌≡◌, ◌≢◌, ◌⊎◌, None, Some, IfOk, IfErr};
 ghost use Rattle.std.specs.Arc.{arc_value};
 ghost use Rattle.plan.specs.CheckedModel.{checked_model};
 ghost use Rattle.volume_c.specs.declared.actor.Held.{Held};
@@ -31,7 +31,8 @@ pub fn hold(alloc: Global, held: Held, out: &mut Handle) -> u8
 
 /// Returns the plan of what is held, or a status.
 fn plan_of_held(held: &Held) -> Result<Arc<CheckedPlan>, u8>
-    ensures { IfOk result (λ plan. seen (Some held.now) ≡ APlan (checked_model (arc_value plan))) }
+    ensures plan { IfOk result (λ plan. seen (Some held.now) ≡ APlan (checked_model (arc_value plan))) }
+    ensures err { IfErr result (λ status. (status ≡ 90) ⊎ (status ≡ 9)) }
 {
     match &held.actor {
         Actor::Plan(plan) => match plan.clone() {
@@ -46,6 +47,7 @@ fn plan_of_held(held: &Held) -> Result<Arc<CheckedPlan>, u8>
 pub fn plan_in(alloc: Global, handle: &mut Handle) -> Result<Arc<CheckedPlan>, u8>
     ensures same { handle.new.seal.held ≡ handle.old.seal.held }
     ensures plan { IfOk result (λ plan. seen handle.old.seal.held ≡ APlan (checked_model (arc_value plan))) }
+    ensures err { IfErr result (λ status. (status ≡ 90) ⊎ (status ≡ 9)) }
 {
     let Some(held) = handle.take(alloc) else {
         return Err(WRONG_HANDLE);
