@@ -7,7 +7,7 @@ ghost use Rattle.plan.specs.LentClaims.{all_lent};
 ghost use Rattle.plan.specs.Plan.{plan_data};
 ghost use Rattle.plan.specs.PlanClaims.{claims_in};
 ghost use Rattle.plan.specs.PlanText.{plan_of};
-ghost use Rattle.plan_tokens.specs.Rewritten.{HasClaims};
+ghost use Rattle.plan_text.specs.Taped.{HasClaims};
 ghost use Rattle.cert_search.specs.Answers.{rule_in, AreAnswersOf};
 
 use crate::Told;
@@ -16,7 +16,8 @@ use cert_search::{Gate, search_all, search_one};
 use plan::{
     CheckedPlan, Configuration, ClaimRef, NamedClaim, Plan, PlanFault, check_plan, claims, lent_claims,
 };
-use plan_tokens::{Spelling, read_spelled};
+use json::Scratch;
+use plan_text::TapedPlan;
 use quorum_checker::{Claim, FaultAt, check};
 use quorum_expr::{Expr, MemberSet, copy_in, dual_in, holds, valid};
 use refutation::Certificate;
@@ -31,7 +32,7 @@ const BUDGET: u64 = 100_000;
 /// Which calls are made over the plans.
 #[derive(Clone, Copy)]
 enum Part {
-    /// `read_plan`, by tokens and by a JSON value.
+    /// `TapedPlan::parse` and `plan`, and `plan::read_plan`.
     Reading,
     /// `lent_claims` and `claims`.
     Claims,
@@ -41,7 +42,7 @@ enum Part {
     Copying,
     /// `search_one`, and `search_all` by so many workers.
     Searching(u8),
-    /// `write_plan`, by tokens and by a JSON value.
+    /// `TapedPlan::write`, and `plan::write_plan` by a JSON value.
     Writing,
 }
 
@@ -55,23 +56,48 @@ impl Gate for Blind {
     fn finished(&self, _claim: usize) {}
 }
 
-/// A plan that is read, once more where memory ran out; so all calls below.
-fn read(alloc: Global, text: &[u8]) -> Result<Plan, PlanFault>
+/// The plan of a tape, read once more where memory ran out; so all calls below.
+fn planned(alloc: Global, text: &TapedPlan<'_>) -> Result<Plan, PlanFault>
     ensures { IfOk result (λ plan. plan_of text.now ≡ Ok (plan_data plan)) }
 {
-    match plan_tokens::read_plan(alloc, text) {
+    match text.plan(alloc) {
         Ok(plan) => Ok(plan),
         Err(fault) => {
             if fault.kind() != Fault::NoMemory {
                 return Err(fault);
             }
-            plan_tokens::read_plan(alloc, text)
+            text.plan(alloc)
         }
     }
 }
 
-/// The same by a JSON value.
-fn read_by_value(alloc: Global, text: &[u8]) -> Result<Plan, PlanFault> {
+/// The plan of a text, by a tape that is made here.
+fn read_once(alloc: Global, text: &[u8]) -> Result<Plan, PlanFault>
+    ensures { IfOk result (λ plan. plan_of text.now ≡ Ok (plan_data plan)) }
+{
+    let mut scratch = Scratch::new(alloc);
+    match TapedPlan::parse(alloc, text, &mut scratch) {
+        Ok(taped) => planned(alloc, &taped),
+        Err(fault) => Err(fault),
+    }
+}
+
+fn read(alloc: Global, text: &[u8]) -> Result<Plan, PlanFault>
+    ensures { IfOk result (λ plan. plan_of text.now ≡ Ok (plan_data plan)) }
+{
+    match read_once(alloc, text) {
+        Ok(plan) => Ok(plan),
+        Err(fault) => {
+            if fault.kind() != Fault::NoMemory {
+                return Err(fault);
+            }
+            read_once(alloc, text)
+        }
+    }
+}
+
+/// The same by `plan` itself.
+fn read_by_plan(alloc: Global, text: &[u8]) -> Result<Plan, PlanFault> {
     match plan::read_plan(alloc, text) {
         Ok(plan) => Ok(plan),
         Err(fault) => {
@@ -211,18 +237,18 @@ fn searched_one(
     }
 }
 
-/// The plan that a text spells, and how, read once more where memory ran out.
-fn spelled(alloc: Global, text: &[u8]) -> Result<(Plan, Option<Spelling>), PlanFault>
-    ensures { IfOk result (λ read. plan_of text.now ≡ Ok (plan_data read.0)) }
+fn written_once(
+    alloc: Global,
+    text: &[u8],
+    certificates: &[Option<Certificate<Global>>],
+) -> Result<Vec<u8>, PlanFault>
+    requires { HasClaims text.now (length certificates.now) }
 {
-    match read_spelled(alloc, text) {
-        Ok(read) => Ok(read),
-        Err(fault) => {
-            if fault.kind() != Fault::NoMemory {
-                return Err(fault);
-            }
-            read_spelled(alloc, text)
-        }
+    let mut scratch = Scratch::new(alloc);
+    let text = TapedPlan::parse(alloc, text, &mut scratch)?;
+    match text.write(alloc, certificates) {
+        Ok(line) => Ok(line),
+        Err(_) => Ok(text.write(alloc, certificates)?),
     }
 }
 
@@ -233,10 +259,9 @@ fn written(
 ) -> Result<Vec<u8>, PlanFault>
     requires { HasClaims text.now (length certificates.now) }
 {
-    let (plan, spelling) = spelled(alloc, text)?;
-    match plan_tokens::write_plan(alloc, text, &plan, &spelling, certificates) {
+    match written_once(alloc, text, certificates) {
         Ok(line) => Ok(line),
-        Err(_) => Ok(plan_tokens::write_plan(alloc, text, &plan, &spelling, certificates)?),
+        Err(_) => written_once(alloc, text, certificates),
     }
 }
 
@@ -322,7 +347,7 @@ fn reading(alloc: Global, text: &[u8], story: &mut String) -> Result<(), AllocEr
         Ok(plan) => of_plan(&plan, story)?,
         Err(fault) => write!(story, "{fault};")?,
     }
-    match read_by_value(alloc, text) {
+    match read_by_plan(alloc, text) {
         Ok(plan) => of_plan(&plan, story),
         Err(fault) => write!(story, "{fault};"),
     }

@@ -11,8 +11,8 @@ text; `run` and `fleet` of two scripts, one that writes three bytes and one in w
 memory, or with status 2, nothing on standard output, and `input: 9 NoMemory` on standard error.
 
 With `--calls`, then the calls of the library, by two small programs that are built in folders of their own, each in some two minutes, with no
-proof and with the checks at run time that `rt try` puts in. Each tells a story twice. `core_stories.py` tells what `read_plan`, `lent_claims`, `claims`, `check`,
-`check_plan`, `copy_in`, `search_one`, `search_all` by one worker and by three, and `write_plan` answer, over plans of every format, with
+proof and with the checks at run time that `rt try` puts in. Each tells a story twice. `core_stories.py` tells what `TapedPlan`'s calls, `read_plan`, `lent_claims`,
+`claims`, `check`, `check_plan`, `copy_in`, `search_one`, `search_all` by one worker and by three, and `write_plan` answer, over plans of every format, with
 full members and such as keep the log alone, with weights, with certificates of each rule, and over texts with faults; `fleet_stories.py`
 what a fleet's calls give by one pass or three, each step's numbers, the closed journal and how the world's run of it ends, of the same two
 scripts, and compares its answers with those of a run where a member restarts between lines and between the pieces of a copy. A growth is
@@ -129,7 +129,7 @@ fn main(rt: HostRuntime) -> ExitCode {
 }
 """
 
-CORE_CRATES = ["volume_model", "quorum_expr", "refutation", "quorum_checker", "plan", "plan_tokens", "cert_search"]
+CORE_CRATES = ["volume_model", "quorum_expr", "refutation", "quorum_checker", "plan", "plan_text", "cert_search", "json"]
 
 FLEET_CRATES = ["volume_model", "plan", "redo_record", "wire", "epochs", "writer_core", "recovery", "world", "board", "journal", "fleet_actors", "node_fleet"]
 

@@ -1,12 +1,11 @@
 -- Branches of rules, put together.
-use Rattle.std.proofs.Common.{◌≡◌, List, [], ◌∷◌, ◌++◌, map, refl, ap, sym, subst}
+use Rattle.std.proofs.Common.{◌≡◌, List, [], ◌∷◌, map, refl, ap}
 use Rattle.serde_json.specs.Data.{no_items, item}
 use Rattle.refutation.specs.declared.Refutation.{Refutation}
 use Rattle.refutation.specs.Rule.{branches_of}
 use Rattle.refutation.specs.Refutation.{rule_of}
-use Rattle.refutation.specs.Ranges.{HasRanges}
 use Rattle.refutation.specs.Writing.{branches_data}
-use Rattle.plan_text.specs.Rules.{rule_data, EachInRange}
+use Rattle.plan_text.specs.Rules.{rule_data}
 use Rattle.plan_text.proofs.Joined.{joined}
 
 pub joined-rules : {A : Type 0} (rs : List (Refutation A)) → joined (map rule_data rs) no_items ≡ branches_data (branches_of (map rule_of rs))

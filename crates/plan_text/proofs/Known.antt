@@ -1,16 +1,12 @@
 -- Thresholds by the values at their keys.
-use Rattle.std.proofs.Common.{◌≡◌, ℕ, [], ◌∷◌, length, min, Option, Some, refl, sym, ap, ◌∙◌, subst, arith}
+use Rattle.std.proofs.Common.{◌≡◌, ℕ, [], ◌∷◌, min, Option, Some, refl, sym, ap, arith}
 use Rattle.std.specs.Prelude.{codes}
-use Rattle.json.specs.Token.{end_object}
-use Rattle.json.specs.Written.{Written}
 use Rattle.serde_json.specs.Data.{Data, null, boolean, number, string, array, object, Members, no_members, member}
 use Rattle.serde_json.specs.Events.{members_len}
 use Rattle.serde_json.specs.Find.{get}
 use Rattle.json_node.specs.Nodes.{keys_up_to}
 use Rattle.json_node.proofs.Exact.{exact}
 use Rattle.json_node.proofs.Sorted.{IsInOrder}
-use Rattle.plan_text.specs.Puts.{Puts, PutsToken, PutsMember, Opens}
-use Rattle.plan_text.proofs.Putting.{one_more, closed}
 
 abbrev pub two_keys : Data → Data → Members
 two_keys k of = member (codes "k") k (member (codes "of") of no_members)

@@ -7,3 +7,4 @@ pub mod Texts
 pub mod Copied
 pub mod Known
 pub mod Made
+pub mod TapeTexts

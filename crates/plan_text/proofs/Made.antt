@@ -1,6 +1,6 @@
 -- Values that a definition gives one after another, put in a list.
-use Rattle.std.proofs.Common.{◌≡◌, ℕ, ◌+◌, ◌-◌, ◌*◌, List, [], ◌∷◌, ◌++◌, drop, map, refl, ap, sym, subst, ◌∙◌, append_assoc, append-nil, Result, Ok, Err}
-use Rattle.std.specs.Prelude.{codes, if◌then◌else◌, ◌==◌, true, false}
+use Rattle.std.proofs.Common.{◌≡◌, ℕ, ◌+◌, ◌-◌, ◌*◌, List, [], ◌∷◌, ◌++◌, drop, refl, ap, sym, subst, ◌∙◌, append_assoc, append-nil, Result, Ok, Err}
+use Rattle.std.specs.Prelude.{codes}
 use Rattle.json.specs.Token.{begin_array, end_array, end_object}
 use Rattle.json.specs.Written.{Written}
 use Rattle.std.specs.Prelude.{Option, option_map}

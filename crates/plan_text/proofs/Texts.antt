@@ -1,6 +1,6 @@
 -- Texts that were put token by token, and certificates that are read back.
-use Rattle.std.proofs.Common.{◌≡◌, ℕ, zero, suc, ◌≤◌, List, [], ◌∷◌, ◌++◌, map, refl, ap, sym, subst, ◌∙◌, arith, append-nil, Option, Some, None, Ok}
-use Rattle.std.specs.Prelude.{All, drop, option_and_then, option_map, slice_index_or}
+use Rattle.std.proofs.Common.{◌≡◌, ℕ, zero, suc, ◌≤◌, List, [], ◌∷◌, ◌++◌, refl, ap, sym, subst, ◌∙◌, arith, append-nil, Option, Some, Ok}
+use Rattle.std.specs.Prelude.{All, drop, option_and_then, option_map}
 use Rattle.std.specs.declared.alloc.Global.{Global}
 use Rattle.std.specs.Str.{IsUtf8}
 use Rattle.std.proofs.lemmas.List.Elements.{All-head, All-tail}
@@ -23,7 +23,7 @@ use Rattle.plan.specs.Rewriting.{value_or_null}
 use Rattle.plan.specs.WithCertificates.{certificate_at}
 use Rattle.plan.specs.Written.{spelt, IsCompact}
 use Rattle.plan.proofs.Text.{is_json}
-use Rattle.plan_text.specs.Certificates.{certificate_values, certificate_value, IsReadBack}
+use Rattle.plan_text.specs.Certificates.{certificate_values, IsReadBack}
 use Rattle.plan_text.specs.Written.{rules_in, IsTextOf}
 
 -- ---- texts

@@ -40,7 +40,7 @@ fn kept_copy(
 }
 
 /// The certificates of a plan in order of its claims, or none in the place of each.
-fn own_certificates(
+pub fn own_certificates(
     alloc: Global,
     plan: &Plan,
     kept: bool,

@@ -1,5 +1,4 @@
-use Rattle.std.proofs.Common.{◌≡◌, ◌∙◌, ap, sym, subst, refl, Some, arith}
-use Rattle.json_node.specs.Nodes.{keys_up_to}
+use Rattle.std.proofs.Common.{◌≡◌, ◌∙◌, ap, sym, subst, Some, arith}
 use Rattle.json_node.specs.Tapes.{data_of}
 use Rattle.json_node.proofs.Sorted.{here_in_order}
 use Rattle.plan_text.specs.Known.{EndsThreshold}

@@ -1,6 +1,5 @@
 use Rattle.std.proofs.Common.{sym, subst, refl}
 use Rattle.std.specs.Prelude.{codes}
-use Rattle.serde_json.specs.Data.{no_members, member}
 use Rattle.json_node.specs.Tapes.{data_of}
 use Rattle.json_node.proofs.Sorted.{here_in_order}
 use Rattle.plan_text.specs.Puts.{Puts}

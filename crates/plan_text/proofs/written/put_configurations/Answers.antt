@@ -1,4 +1,4 @@
-use Rattle.std.proofs.Common.{◌≡◌, ◌+◌, ◌∙◌, ap, subst, arith}
+use Rattle.std.proofs.Common.{◌+◌, ◌∙◌, ap, subst, arith}
 use Rattle.json_node.specs.Nodes.{items_in}
 use Rattle.json_node.specs.Placed.{items_at, or_none}
 use Rattle.json_node.specs.Tapes.{data_of}
