@@ -50,6 +50,9 @@ with_runs = with_subcommand (with_subcommand program (file_leaf (codes "check"))
 abbrev pub with_fleet : App
 with_fleet = with_subcommand with_runs (fleet_leaf (codes "fleet")).top
 
--- check FILE, run PLAN SCRIPT, fleet PLAN SCRIPT -w N, search FILE -w N
+abbrev pub with_search : App
+with_search = with_subcommand with_fleet (workers_leaf (codes "search")).top
+
+-- check FILE, run PLAN SCRIPT, fleet PLAN SCRIPT -w N, search FILE -w N, explain FILE
 abbrev pub tool : App
-tool = with_subcommand with_fleet (workers_leaf (codes "search")).top
+tool = with_subcommand with_search (file_leaf (codes "explain")).top

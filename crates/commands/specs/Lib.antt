@@ -14,3 +14,4 @@ pub mod Read
 pub mod Unfound
 pub mod Searched
 pub mod Explained
+pub mod Explains

@@ -13,6 +13,8 @@ pub enum Action {
     Fleet,
     /// Search for the certificates of a plan.
     Search,
+    /// Say what a plan is, in words.
+    Explain,
 }
 
 /// An action, the files that it is done on, by their names as given, and by how many workers.

@@ -45,6 +45,16 @@ file can't be read, its text isn't a plan's or a script's, or memory or a thread
 
 Example: plan_tool fleet examples/six_copies.json examples/three_bytes_written.script -w 3";
 
+/// Of `explain`.
+pub const EXPLAIN: &str = "\
+Reads the plan, and says of each configuration its members, what its expressions ask for and how many members they can
+lose, the step from its parent, and of each claim whether it is certified, or which two sets show that it fails.
+
+Exit status: 0 where `check` says yes; 1 for a fault; 2 where the file can't be read or its text isn't a plan's (told on
+standard error).
+
+Example: plan_tool explain examples/six_copies.json";
+
 /// Of `search`.
 pub const SEARCH: &str = "\
 Reads the plan, and prints it with the certificates that are found for its claims; tells on standard error of each claim

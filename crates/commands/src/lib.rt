@@ -3,6 +3,7 @@
 #![tactic(auto)]
 
 mod action;
+mod explained_plan;
 mod explaining;
 mod fallible;
 mod files;

@@ -2,9 +2,10 @@
 
 ghost use Rattle.std.specs.Prelude.{◌≡◌, ◌≢◌, ◌≤◌, ◌<◌, IfErr, IfOk, IfSome, string_bytes, take};
 ghost use Rattle.plan.specs.CheckedModel.{checked_model};
-ghost use Rattle.commands.specs.declared.action.Action.TheVariants.{Check, Fleet, Run, Search};
+ghost use Rattle.commands.specs.declared.action.Action.TheVariants.{Check, Explain, Fleet, Run, Search};
 ghost use Rattle.commands.specs.Answer.{IsSaid};
 ghost use Rattle.commands.specs.Answers.{AnswersOf, ChecksTo, FleetsTo, RunsTo, file_of, script_name};
+ghost use Rattle.commands.specs.Explains.{ExplainsTo};
 ghost use Rattle.commands.specs.Searched.{SearchesTo};
 ghost use Rattle.commands.specs.Stops.{answer_of, stop_answer};
 ghost use Rattle.commands.specs.Streams.{Ends, FailsByRead, FailsByWrite, left_of};
@@ -12,6 +13,7 @@ ghost use Rattle.commands.specs.Told.{plan_line};
 ghost use Rattle.commands.specs.Verdict.{IsCertifiedText, IsFaultyText};
 ghost use Rattle.commands.specs.declared.reply.Stop.TheVariants.{NoMemory};
 
+use crate::explained_plan::explained;
 use crate::fallible::{FallibleRead, FallibleWrite};
 use crate::files::Source;
 use crate::inputs::checked;
@@ -193,6 +195,27 @@ fn perform_search<H: Threads + Wait + Sync, P: FallibleRead, O: FallibleWrite, E
     }
 }
 
+/// Performs an explanation, as [`perform`] does.
+fn perform_explain<P: FallibleRead, O: FallibleWrite, E: FallibleWrite>(
+    alloc: Global,
+    job: &Job<'_>,
+    plan: &mut Source<P>,
+    out: &mut Output<O>,
+    err: &mut Output<E>,
+) -> u8
+    ensures status { result ≤ 2 }
+    ensures yes { result ≡ 0 → IfSome (left_of P.remaining plan.old) (λ bytes. IsCertifiedText (take 16777217 bytes)) }
+    ensures no { result ≡ 1 → IfSome (left_of P.remaining plan.old) (λ bytes. IsFaultyText (take 16777217 bytes)) }
+    ensures quiet { result < 2 → err.new ≡ err.old }
+    ensures ends { Ends O.contents E.contents (AnswersOf (file_of P.remaining job.now.plan.now plan.old plan.new) ExplainsTo) result out.old out.new err.old err.new }
+    ensures plan_read { FailsByRead P.answers plan.old plan.new }
+    ensures out_written { FailsByWrite O.answers out.old out.new }
+    ensures err_written { FailsByWrite E.answers err.old err.new }
+{
+    let answer = explained(alloc, job.plan, plan);
+    finish(alloc, &answer, out, err)
+}
+
 /// Performs a job on the contents of its files, prints its answer, and returns the exit status: 0 for yes, 1 for a
 /// refusal, 2 for an input that can't be used (printed to `err` alone) or an output that can't be written. Only `run`
 /// and `fleet` read the script; only `fleet` and `search` start threads. It may leak memory to the end of the
@@ -239,6 +262,9 @@ pub fn perform<
     // that the text spells with what was found for its claims, and the claims for which nothing was.
     ensures searches { job.now.action ≡ Search → Ends O.contents E.contents (AnswersOf (file_of P.remaining job.now.plan.now plan.old plan.new) SearchesTo) result out.old out.new err.old err.new }
 
+    // What an explanation answers is due to the text of its file: 0 where the text spells a plan without a fault, else 1 or 2.
+    ensures explains { job.now.action ≡ Explain → Ends O.contents E.contents (AnswersOf (file_of P.remaining job.now.plan.now plan.old plan.new) ExplainsTo) result out.old out.new err.old err.new }
+
     // A file is said to be one that can't be read only where it couldn't be opened, or a read of it failed; and an output one that can't be
     // written only where a write to it failed, or took none of its bytes.
     ensures plan_read { FailsByRead P.answers plan.old plan.new }
@@ -251,5 +277,6 @@ pub fn perform<
         Action::Run => perform_run(alloc, job, plan, script, out, err),
         Action::Fleet => perform_fleet(rt, alloc, job, plan, script, out, err),
         Action::Search => perform_search(rt, alloc, job, plan, out, err),
+        Action::Explain => perform_explain(alloc, job, plan, out, err),
     }
 }

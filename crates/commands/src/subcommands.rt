@@ -135,5 +135,12 @@ pub fn command_line<'a>(alloc: Global) -> Result<Command<'a>, AllocError>
         "Writes a plan with certificates for its claims",
         help::SEARCH,
     )?;
-    add(command, search)
+    let command = add(command, search)?;
+    let explain = of_file(
+        alloc,
+        "explain",
+        "Says what a plan survives, and why a claim of it fails",
+        help::EXPLAIN,
+    )?;
+    add(command, explain)
 }
