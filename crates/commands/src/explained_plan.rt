@@ -14,7 +14,7 @@ use crate::files::Source;
 use crate::inputs::{contents, plan_of_tape, taped};
 use crate::leaving::leave;
 use crate::reply::{Reply, Stop};
-use explain::explain;
+use explain::explain as explain_plan;
 use json::Scratch;
 use plan::{Plan, check_plan};
 use std::alloc::Global;
@@ -22,7 +22,7 @@ use volume_model::Fault;
 
 /// Returns the explanation of a plan, with the status 0 if it has no fault, else 1.
 fn explained_plan(alloc: Global, plan: Plan) -> Result<Reply, Stop<'static>> {
-    let text = match explain(alloc, &plan) {
+    let text = match explain_plan(alloc, &plan) {
         Ok(explanation) => explanation.text,
         Err(fault) => return Err(Stop::of_plan(fault)),
     };

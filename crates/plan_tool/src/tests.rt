@@ -1,3 +1,4 @@
+mod explains;
 mod expressions;
 mod files;
 mod fleet_lines;

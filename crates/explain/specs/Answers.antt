@@ -1,0 +1,16 @@
+-- What is said of a claim.
+use Rattle.refutation.specs.Rule.{Rule}
+use Rattle.quorum_checker.specs.Refutes.{Refutes, State}
+use Rattle.explain.specs.declared.claims.ClaimAnswer.{ClaimAnswer}
+use Rattle.explain.specs.declared.claims.ClaimAnswer.TheVariants.{Certified, Uncertified, Fails, Unknown}
+
+-- a rule refutes the claim
+abbrev pub IsRefuted : State → Type 0
+IsRefuted state = (rule : Rule) × Refutes rule state
+
+-- Where it is said that the claim is certified or uncertified, some rule refutes it, so it holds; where it is said that it fails, none does.
+abbrev pub IsClaimAnswer : State → ClaimAnswer → Type 0
+IsClaimAnswer state Certified = IsRefuted state
+IsClaimAnswer state Uncertified = IsRefuted state
+IsClaimAnswer state (Fails witness) = IsRefuted state → ⊥
+IsClaimAnswer state Unknown = Unit {0}

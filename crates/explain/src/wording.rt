@@ -1,0 +1,119 @@
+//! Members and expressions in words.
+
+ghost use Rattle.std.specs.Prelude.{◌≤◌};
+
+use quorum_expr::{Expr, MEMBERS, MemberSet};
+use std::alloc::{AllocError, Global};
+
+/// Returns the last member of the run of members that begins with this one.
+fn last_of_run(members: MemberSet, first: u8) -> u8 {
+    let mut last = first;
+    for member in first..MEMBERS {
+        if !members.contains(member) {
+            return last;
+        }
+        last = member;
+    }
+    last
+}
+
+/// Returns whether a run of members begins with this one.
+fn begins_run(members: MemberSet, member: u8) -> bool {
+    members.contains(member) && (member == 0 || !members.contains(member.saturating_sub(1)))
+}
+
+/// Appends the members of a set in growing order, runs as `0-5`.
+pub fn add_members(text: &mut String, members: MemberSet) -> Result<(), AllocError> {
+    let mut is_first = true;
+    for member in 0..MEMBERS {
+        if begins_run(members, member) {
+            if !is_first {
+                text.push_str(" ")?;
+            }
+            is_first = false;
+            let last = last_of_run(members, member);
+            if last == member {
+                write!(text, "{member}")?;
+            } else {
+                write!(text, "{member}-{last}")?;
+            }
+        }
+    }
+    Ok(())
+}
+
+/// Appends the members of a set in braces, one by one.
+pub fn add_set(text: &mut String, members: MemberSet) -> Result<(), AllocError> {
+    text.push_str("{")?;
+    let mut is_first = true;
+    for member in 0..MEMBERS {
+        if members.contains(member) {
+            if !is_first {
+                text.push_str(" ")?;
+            }
+            is_first = false;
+            write!(text, "{member}")?;
+        }
+    }
+    text.push_str("}")
+}
+
+/// Returns the set of a list of different members that weigh one each, and nothing for any other list.
+fn plain_members(of: &[(u8, Expr<Global>)]) -> Option<MemberSet> {
+    let mut members = MemberSet::empty();
+    for (weight, child) in of {
+        match child {
+            Expr::Member(member) if *weight == 1 && *member < MEMBERS => {
+                if members.contains(*member) {
+                    return None;
+                }
+                members = members.with(*member);
+            }
+            _ => return None,
+        }
+    }
+    Some(members)
+}
+
+/// Returns how many members and thresholds an expression has, at least one.
+pub fn nodes(expr: &Expr<Global>) -> u64
+    ensures { 1 ≤ result }
+{
+    match expr {
+        Expr::Member(_) => 1,
+        Expr::KOf { of, .. } => {
+            let mut count = 1u64;
+            for (_, child) in of {
+                count = count.saturating_add(nodes(child));
+            }
+            count
+        }
+    }
+}
+
+/// Appends an expression: `any 3 of 0-5`, or `2 of {any 2 of 0-2, any 2 of 3-5}`, each child with its weight if it
+/// isn't one.
+pub fn add_expr(text: &mut String, expr: &Expr<Global>) -> Result<(), AllocError> {
+    match expr {
+        Expr::Member(member) => write!(text, "{member}"),
+        Expr::KOf { k, of } => {
+            if let Some(members) = plain_members(of) {
+                write!(text, "any {k} of ")?;
+                return add_members(text, members);
+            }
+            write!(text, "{k} of {{")?;
+            let mut is_first = true;
+            for (weight, child) in of {
+                if !is_first {
+                    text.push_str(", ")?;
+                }
+                is_first = false;
+                add_expr(text, child)?;
+                if *weight != 1 {
+                    write!(text, " (weight {weight})")?;
+                }
+            }
+            text.push_str("}")
+        }
+    }
+}
