@@ -36,6 +36,14 @@ fn explained_plan(alloc: Global, plan: Plan) -> Result<Reply, Stop<'static>> {
     }
 }
 
+/// Returns the explanation of the plan of a text.
+fn explained_text(alloc: Global, text: &[u8]) -> Result<Reply, Stop<'static>> {
+    let mut scratch = Scratch::new(alloc);
+    let taped = taped(alloc, text, &mut scratch)?;
+    let plan = plan_of_tape(alloc, &taped)?;
+    explained_plan(alloc, plan)
+}
+
 /// Returns the answer of `explain`.
 pub fn explained<'a, P: FallibleRead>(
     alloc: Global,
@@ -46,8 +54,5 @@ pub fn explained<'a, P: FallibleRead>(
     ensures reason { FailsByRead P.answers plan.old plan.new }
 {
     let text = contents(alloc, name, plan)?;
-    let mut scratch = Scratch::new(alloc);
-    let taped = taped(alloc, text.as_slice(), &mut scratch)?;
-    let plan = plan_of_tape(alloc, &taped)?;
-    explained_plan(alloc, plan)
+    explained_text(alloc, text.as_slice())
 }
