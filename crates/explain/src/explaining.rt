@@ -9,7 +9,7 @@ use plan::{ClaimRef, Plan, PlanFault, lent_claims};
 use std::alloc::{AllocError, Global};
 use volume_model::Fault;
 
-/// How many members and thresholds are looked at to find what the expressions of a plan survive.
+/// How many members and thresholds are looked at to find what the expressions of a plan survive, and whether its claims hold.
 const LOOKS: u64 = 400_000_000;
 
 /// A plan in words.
@@ -43,13 +43,13 @@ fn add_part(
         None => {
             add_group(alloc, page, claim)?;
             add_configuration(alloc, page, claim.configuration, this, budget)?;
-            let answer = answer_claim(alloc, claim, this.meets.as_ref())?;
+            let answer = answer_claim(alloc, claim, this.meets.as_ref(), budget)?;
             add_claim(alloc, page, false, &answer)?;
             Ok(answer)
         }
         Some(parent) => {
             add_step(alloc, page, this, parent)?;
-            let answer = answer_claim(alloc, claim, this.step.as_ref())?;
+            let answer = answer_claim(alloc, claim, this.step.as_ref(), budget)?;
             add_claim(alloc, page, true, &answer)?;
             Ok(answer)
         }
