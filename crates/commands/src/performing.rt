@@ -232,28 +232,28 @@ pub fn perform<
     // With the status 0 nothing is written to `err`, by a search neither.
     ensures silent { result ≡ 0 → err.new ≡ err.old }
 
-    // What a check answers and writes is due to the text of its file: the line of the plan that the text spells, or of its first fault.
+    // A check prints one line, which the text of its file determines: that of a plan without a fault, or that of the
+    // text's first fault.
     ensures checks { job.now.action ≡ Check → Ends O.contents E.contents
         (AnswersOf (file_of P.remaining job.now.plan.now plan.old plan.new) ChecksTo) result out.old out.new err.old
         err.new }
 
-    // What a run answers and writes is due to the texts of its files: the line of the plan's first fault; or, over the plan that it spells,
-    // the number of the script's first bad line, or what the model's run of the script prints.
+    // The texts of its files determine what a run prints: the line of the plan's first fault; else the number of the
+    // script's first bad line; else the lines of the model's run of the script over the plan.
     ensures runs { job.now.action ≡ Run → Ends O.contents E.contents
         (AnswersOf (file_of P.remaining job.now.plan.now plan.old plan.new)
         (RunsTo (file_of S.remaining (script_name job.now) script.old script.new))) result out.old out.new err.old
         err.new }
 
-    // What a fleet answers and writes is due to the texts of its files: the line of the plan's first fault; or, over the plan that it spells,
-    // the number of the script's first bad line, or what comes of the threads' run of as many events as the script has.
+    // A fleet prints the line of the plan's first fault; else the number of the script's first bad line; else the lines
+    // of a run on threads of as many events as the script has.
     ensures fleets { job.now.action ≡ Fleet → Ends O.contents E.contents
         (AnswersOf (file_of P.remaining job.now.plan.now plan.old plan.new)
         (FleetsTo (file_of S.remaining (script_name job.now) script.old script.new))) result out.old out.new err.old
         err.new }
 
-    // What a search answers and writes is due to the text of its file: the line of the first fault of the plan or of
-    // its claims; or the plan that the text spells with what was found for its claims, each expression as the text
-    // spells it, and the claims for which nothing was found.
+    // A search prints the line of the first fault of the plan or of its claims; else the plan with the certificates that
+    // were found, each expression as the text of the file spells it, and a line for each claim without a certificate.
     ensures searches { job.now.action ≡ Search → Ends O.contents E.contents
         (AnswersOf (file_of P.remaining job.now.plan.now plan.old plan.new) SearchesTo) result out.old out.new err.old
         err.new }

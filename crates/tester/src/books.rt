@@ -1,4 +1,4 @@
-//! Books of cases: jobs of the program, each with the answer that is due.
+//! Case files: commands of the program, each with its expected answer.
 
 mod book;
 mod case;

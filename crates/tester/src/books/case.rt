@@ -1,4 +1,4 @@
-//! What a book asks for, and what is due.
+//! The commands of a case file and their expected answers.
 
 use std::alloc::{AllocError, Global};
 
@@ -9,14 +9,14 @@ pub struct Edit<'b> {
     pub new: &'b str,
 }
 
-/// Jobs to each of which the same answer is due.
+/// Commands that have the same expected answer.
 #[derive(Drop)]
 pub struct Question<'b> {
     /// The words of each job, without the program's name.
     pub commands: Vec<&'b str>,
     /// Whether something of the answer is known.
     pub is_answered: bool,
-    /// The exit status that is due.
+    /// The expected exit status.
     pub status: u8,
     /// What is to be printed; where `checked` is known that is asked of a check of what is printed.
     pub printed: String,
@@ -27,7 +27,7 @@ pub struct Question<'b> {
 }
 
 impl<'b> Question<'b> {
-    /// Returns a question that asks for nothing yet, and to which nothing is due.
+    /// Makes a question without commands and without an expected answer.
     pub fn new(alloc: Global) -> Question<'b> {
         Question {
             commands: Vec::new(alloc),

@@ -20,7 +20,7 @@ struct Texts<'t> {
     script: &'t str,
 }
 
-/// Returns whether what is printed is what is due: the text, or a plan of which a check says what is due.
+/// Returns whether a command printed the expected text, or a plan for which `check` prints the expected line.
 fn prints<H: Threads + Wait + Sync>(
     threads: &H,
     alloc: Global,
@@ -142,7 +142,7 @@ fn try_question<H: Threads + Wait + Sync>(
 /// Tries each question of a case.
 ///
 /// # Errors
-/// The first answer that isn't what is due; or what is wrong with the case.
+/// Returns the first answer that isn't the expected one, or what is wrong with the case.
 pub fn try_case<H: Threads + Wait + Sync>(
     rt: &HostRuntime,
     threads: &H,
