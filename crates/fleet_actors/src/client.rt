@@ -26,7 +26,8 @@ pub struct ClientActor<L: Site> {
     client: Client,
     ghost who: { marked cursor ≡ Actor.Client (client_volume client) } by { Prim.hlevel props },
     ghost plan: { client_plan client ≡ L.plan } by { Prim.hlevel (props, Plan-set) },
-    ghost state: { seen_client client ≡ (world_at L.plan (seen_at cursor)).clients (client_volume client) } by { Prim.hlevel props },
+    ghost state: { seen_client client
+        ≡ (world_at L.plan (seen_at cursor)).clients (client_volume client) } by { Prim.hlevel props },
 }
 
 impl<L: Site> ClientActor<L> {

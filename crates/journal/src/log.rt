@@ -48,7 +48,8 @@ pub struct Log<'a, L: Site> {
     ghost run: { IsRun L.plan (entries_of (shown entries.items)) } by { Prim.hlevel props },
     ghost firsts_are: { firsts.items ≡ map (λ e. e.first) (shown entries.items) },
     ghost messages_are: { messages ≡ length (world_at L.plan (entries_of (shown entries.items))).messages },
-    ghost newest: { (actor : Actor) → last_known lasts actor ≡ last_of actor (entries_of (shown entries.items)) } by { Prim.hlevel props },
+    ghost newest: { (actor : Actor) → last_known lasts actor
+        ≡ last_of actor (entries_of (shown entries.items)) } by { Prim.hlevel props },
     ghost joined_are: { joined ≡ groups_joined (world_at L.plan (entries_of (shown entries.items))).authority },
     ghost counted: { book.total ≡ vec_len entries },
 }

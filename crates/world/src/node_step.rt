@@ -47,22 +47,6 @@ fn take(
     Ok(enter(messages, made))
 }
 
-/// Does what [`act`] says.
-#[inline(always)]
-fn act_as(
-    alloc: Global,
-    segment: &mut Segment,
-    messages: &mut Vec<Message>,
-    order: NodeOrder<'_>,
-) -> Result<u64, Fault>
-    ensures moves { SegmentMoves order.entry segment.old segment.new messages.old.items messages.new.items result }
-    ensures actor { IsSameActor segment.old segment.new }
-{
-    let act = act_of(order, messages.as_slice())?;
-    let prepared = segment.prepare_act(alloc, act)?;
-    take(segment, messages, prepared)
-}
-
 /// Does what [`act`] says, out of line so that the write path keeps a small stack frame.
 #[inline(never)]
 fn act_any(
@@ -74,7 +58,9 @@ fn act_any(
     ensures moves { SegmentMoves order.entry segment.old segment.new messages.old.items messages.new.items result }
     ensures actor { IsSameActor segment.old segment.new }
 {
-    act_as(alloc, segment, messages, order)
+    let act = act_of(order, messages.as_slice())?;
+    let prepared = segment.prepare_act(alloc, act)?;
+    take(segment, messages, prepared)
 }
 
 /// Performs a segment's action and appends its messages, for which it makes room before the segment changes. On error
@@ -90,8 +76,10 @@ pub fn act(
 {
     // Most orders deliver a Write: compiled on their own, they take a tenth fewer instructions.
     if let NodeOrder::Deliver { message } = order {
-        if let Message::Write(_) = named(messages.as_slice(), message)? {
-            return act_as(alloc, segment, messages, order);
+        let message = named(messages.as_slice(), message)?;
+        if let Message::Write(_) = message {
+            let prepared = segment.prepare(alloc, message)?;
+            return take(segment, messages, prepared);
         }
     }
     act_any(alloc, segment, messages, order)

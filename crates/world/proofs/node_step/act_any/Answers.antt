@@ -8,7 +8,7 @@ use Rattle.segment_core.specs.Prepared.{step_of}
 use Rattle.segment_core.specs.Segment.{node_of, segment_plan, segment_group, segment_member}
 use Rattle.world.specs.Acts.{node_after_growth, node_ordered, IsNodeOrderOf}
 use Rattle.world.proofs.Moving.{ready_moves}
-use Rattle.world.proofs.node_step.act_as.Goals as goal
+use Rattle.world.proofs.node_step.act_any.Goals as goal
 
 pub returns-clause-moves : goal.returns-clause-moves
 returns-clause-moves c =
