@@ -73,17 +73,17 @@ fn add(list: &mut [i32; 65], place: usize, number: i32) {
     }
 }
 
-/// How far a search for a mate has come: the columns that it has been at, and for each other one the least that it costs
-/// more, and from which column.
+/// The state of a search for an augmenting path: the columns that were visited, and for each other column the least
+/// extra cost of a path to it, and the column before it.
 #[derive(Drop)]
-struct Reach {
+struct PathSearch {
     seen: u64,
     least: [i32; 65],
     from: [u8; 65],
 }
 
-impl Reach {
-    /// Returns the column that costs the least more, of this many, where the search hasn't been.
+impl PathSearch {
+    /// Returns the unvisited column of least extra cost, among the first `columns`, and that cost.
     fn next(&self, columns: usize) -> (usize, i32) {
         let mut best = (START, i32::MAX);
         for column in 0..columns.min(64) {
@@ -110,7 +110,7 @@ impl<'e> Heaviest<'e> {
         i32::from(smaller)
     }
 
-    /// Returns what a pair costs more than its prices.
+    /// Returns a pair's cost above the sum of its prices.
     fn excess(&self, left: u8, right: usize) -> i32 {
         let prices = at(&self.left_prices, usize::from(left)).wrapping_add(at(
             &self.right_prices,
@@ -125,15 +125,15 @@ impl<'e> Heaviest<'e> {
         self.mates.get(column).copied().unwrap_or(NOBODY)
     }
 
-    /// Looks on from a column.
-    fn look(&self, reach: &mut Reach, column: usize) {
+    /// Lowers the cost of each unvisited column to that of a path through a column.
+    fn relax(&self, search: &mut PathSearch, column: usize) {
         let left = self.mate(column);
         for right in 0..self.columns.min(64) {
             let more = self.excess(left, right);
-            if (reach.seen >> right) & 1 == 0 && more < at(&reach.least, right) {
+            if (search.seen >> right) & 1 == 0 && more < at(&search.least, right) {
                 if let (Some(least), Some(from)) = (
-                    reach.least.get_mut(right),
-                    reach.from.get_mut(right),
+                    search.least.get_mut(right),
+                    search.from.get_mut(right),
                 ) {
                     *least = more;
                     *from = column.min(START) as u8;
@@ -142,28 +142,28 @@ impl<'e> Heaviest<'e> {
         }
     }
 
-    /// Changes the prices by what the next column costs more.
-    fn raise(&mut self, reach: &mut Reach, by: i32) {
+    /// Changes the prices by the next column's extra cost.
+    fn update_prices(&mut self, search: &mut PathSearch, by: i32) {
         let first = self.mate(START);
         add(&mut self.left_prices, usize::from(first), by);
         for column in 0..self.columns.min(64) {
-            if (reach.seen >> column) & 1 == 1 {
+            if (search.seen >> column) & 1 == 1 {
                 let left = self.mate(column);
                 add(&mut self.left_prices, usize::from(left), by);
                 add(&mut self.right_prices, column, 0i32.wrapping_sub(by));
             } else {
-                add(&mut reach.least, column, 0i32.wrapping_sub(by));
+                add(&mut search.least, column, 0i32.wrapping_sub(by));
             }
         }
     }
 
-    /// Gives each column on the way back the mate of the one before it.
-    fn turn(&mut self, reach: &Reach, mut column: usize) {
+    /// Gives each column of the path the mate of the column before it.
+    fn flip_path(&mut self, search: &PathSearch, mut column: usize) {
         for _ in 0..65 {
             if column == START {
                 break;
             }
-            let before = usize::from(reach.from.get(column).copied().unwrap_or(64)).min(START);
+            let before = usize::from(search.from.get(column).copied().unwrap_or(64)).min(START);
             let mate = self.mate(before);
             if let Some(place) = self.mates.get_mut(column) {
                 *place = mate;
@@ -172,28 +172,28 @@ impl<'e> Heaviest<'e> {
         }
     }
 
-    /// Finds a mate for a left child, by the way that costs the least more.
+    /// Finds a mate for a left child by the augmenting path of least cost.
     fn place(&mut self, left: u8) {
         if let Some(start) = self.mates.get_mut(START) {
             *start = left;
         }
-        let mut reach = Reach {
+        let mut search = PathSearch {
             seen: 0,
             least: [i32::MAX; 65],
             from: [64; 65],
         };
         let mut column = START;
         for _ in 0..65 {
-            self.look(&mut reach, column);
-            let (next, more) = reach.next(self.columns);
+            self.relax(&mut search, column);
+            let (next, more) = search.next(self.columns);
             if next >= START {
                 return;
             }
-            self.raise(&mut reach, more);
-            reach.seen |= 1u64 << next;
+            self.update_prices(&mut search, more);
+            search.seen |= 1u64 << next;
             column = next;
             if self.mate(column) == NOBODY {
-                self.turn(&reach, column);
+                self.flip_path(&search, column);
                 return;
             }
         }
