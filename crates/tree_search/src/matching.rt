@@ -3,8 +3,8 @@
 /// No left child.
 const NOBODY: u8 = u8::MAX;
 
-/// Returns how many steps a matching of this many children takes at most: one for each pair, or where they don't all
-/// weigh 1, as many times as there are children on the longer side.
+/// Returns a bound on the steps of a matching of this many children: one for each pair, and if weights other than 1
+/// occur, that many for each child of the longer side.
 pub fn steps_of(lefts: usize, rights: usize, is_of_ones: bool) -> u64 {
     let pairs = (lefts as u64).saturating_mul(rights as u64);
     if is_of_ones {
@@ -14,13 +14,13 @@ pub fn steps_of(lefts: usize, rights: usize, is_of_ones: bool) -> u64 {
     }
 }
 
-/// For each right child the left child that it is matched with.
+/// A matching: for each right child its left child.
 #[derive(Drop)]
 pub struct Mates {
     mates: [u8; 64],
 }
 
-/// Finds a mate for a left child among the right children that were not yet tried, moving others to further ones.
+/// Finds a mate for a left child among the right children that weren't tried yet, and moves their mates if need be.
 fn augment(edges: &[u64], left: u8, tried: &mut u64, mates: &mut [u8; 64], depth: u8) -> bool {
     if depth == 0 {
         return false;
@@ -47,14 +47,14 @@ fn augment(edges: &[u64], left: u8, tried: &mut u64, mates: &mut [u8; 64], depth
 /// No right child: the column from which a search for a mate starts.
 const START: usize = 64;
 
-/// A heaviest matching in the making: for each right child the left one that it is matched with, and prices by which the
-/// pairs of the matching are the cheapest of all. A pair costs what it doesn't weigh.
+/// A matching of greatest weight under construction (the Hungarian method): for each right child its left child, and
+/// prices under which the pairs of the matching are the cheapest. A pair's cost is the negative of its weight.
 #[derive(Drop)]
 struct Heaviest<'e> {
     edges: &'e [u64],
     lefts: &'e [u8; 64],
     rights: &'e [u8; 64],
-    /// How many columns there are: no fewer than children on either side.
+    /// The number of columns, at least that of the children on either side.
     columns: usize,
     mates: [u8; 65],
     left_prices: [i32; 65],
@@ -97,7 +97,7 @@ impl PathSearch {
 }
 
 impl<'e> Heaviest<'e> {
-    /// Returns what a pair weighs: the smaller of its two weights where it closes.
+    /// Returns the weight of a pair: the smaller of its two weights if it closes, else 0.
     fn weight(&self, left: u8, right: usize) -> i32 {
         let (edges, lefts, rights) = (self.edges, self.lefts, self.rights);
         let edge = edges.get(usize::from(left)).copied().unwrap_or(0);
@@ -200,7 +200,7 @@ impl<'e> Heaviest<'e> {
     }
 }
 
-/// Returns what those children weigh that close with some other.
+/// Returns the weight of the children that close with some child of the other side.
 fn weight_of_closed(edges: &[u64], lefts: &[u8; 64]) -> usize {
     let mut weight = 0usize;
     for (edge, left) in edges.iter().zip(lefts) {
@@ -211,8 +211,8 @@ fn weight_of_closed(edges: &[u64], lefts: &[u8; 64]) -> usize {
     weight
 }
 
-/// Returns how many columns a search for mates takes: one for each left child, and for each right one that closes
-/// with some other.
+/// Returns the number of columns of the matching: one for each left child, and for each right one that closes with some
+/// left child.
 fn columns_of(edges: &[u64]) -> usize {
     let mut closed = 0u64;
     for edge in edges {
@@ -224,8 +224,8 @@ fn columns_of(edges: &[u64]) -> usize {
 }
 
 impl Mates {
-    /// Returns a matching of pairs that close and weigh so much, where there is one. A pair weighs the smaller of its
-    /// two weights; `edges` has for each left child a bit for each right child with which it closes.
+    /// Returns a matching of closing pairs of at least a weight, if there is one. A pair's weight is the smaller of its
+    /// two weights; `edges` has for each left child a bit for each right child that closes with it.
     pub fn heaviest(
         edges: &[u64],
         lefts: &[u8; 64],
@@ -260,8 +260,8 @@ impl Mates {
         (weight >= wanted).then_some(Mates { mates })
     }
 
-    /// Returns a matching of this many pairs that can close, where there is one: `edges` has for each left child a
-    /// bit for each right child with which it closes.
+    /// Returns a matching of this many closing pairs, if there is one. `edges` has for each left child a bit for each
+    /// right child that closes with it.
     pub fn find(edges: &[u64], wanted: usize) -> Option<Mates> {
         let mut mates = [NOBODY; 64];
         let mut pairs = 0usize;
