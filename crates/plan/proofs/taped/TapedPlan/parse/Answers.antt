@@ -6,8 +6,8 @@ use Rattle.plan.specs.PlanText.{plan_of}
 use Rattle.plan.proofs.Text.{text-bad, text-long}
 use Rattle.plan.proofs.taped.TapedPlan.parse.Goals as goal
 
-pub returns-then-text-gt-MAX_TEXT-clause-fault : goal.returns-then-text-gt-MAX_TEXT-clause-fault
-returns-then-text-gt-MAX_TEXT-clause-fault c = λ other. text-long c.args.text.now (omega arith)
+pub returns-then-text-clause-fault : goal.returns-then-text-clause-fault
+returns-then-text-clause-fault c = λ other. text-long c.args.text.now (omega arith)
 
 pub returns-in-Ok-clause-text : goal.returns-in-Ok-clause-text
 returns-in-Ok-clause-text c = subst (λ t. IfOk c.tape_of.result (λ (taped : List ℕ). taped ≡ t)) c.in-Ok.ensures.0 c.tape_of.ensures.text
