@@ -1,6 +1,6 @@
 //! Whether a claim is certified, and why it fails.
 
-ghost use Rattle.std.specs.Prelude.{IfOk};
+ghost use Rattle.std.specs.Prelude.{◌≤◌, IfOk};
 ghost use Rattle.plan.specs.LentClaims.{lent_state};
 ghost use Rattle.explain.specs.Answers.{IsClaimAnswer};
 
@@ -86,6 +86,35 @@ pub fn answer_claim(
     }
 }
 
+/// How far to the right the lines of a claim stand: those of `meets` below a configuration, those of `step` below its
+/// step.
+fn indent_of(is_step: bool) -> usize
+    ensures { result ≤ 6 }
+{
+    if is_step { 6 } else { 4 }
+}
+
+/// Appends the two sets that show that a step fails, and what to do.
+fn add_step_witness(text: &mut String, witness: &Witness) -> Result<&'static str, AllocError> {
+    text.push_str("step fails: read ")?;
+    add_set(text, witness.left)?;
+    text.push_str(" contains no read set of the parent, each of which has one of ")?;
+    add_set(text, witness.right)?;
+    Ok(
+        "do: step to a joint configuration first, whose writes satisfy the old and the new expression",
+    )
+}
+
+/// Appends the two sets that show that read sets don't meet write sets, and what to do.
+fn add_meets_witness(text: &mut String, witness: &Witness) -> Result<&'static str, AllocError> {
+    text.push_str("meets fails: read ")?;
+    add_set(text, witness.left)?;
+    text.push_str(" and write ")?;
+    add_set(text, witness.right)?;
+    text.push_str(" are disjoint")?;
+    Ok("do: ask for more members in `write` or in `read`")
+}
+
 /// Appends the two sets that show that a claim fails, and what to do.
 fn add_witness(
     alloc: Global,
@@ -94,27 +123,14 @@ fn add_witness(
     witness: &Witness,
 ) -> Result<(), AllocError> {
     let mut text = String::new(alloc);
-    if is_step {
-        write!(text, "step fails: read ")?;
-        add_set(&mut text, witness.left)?;
-        write!(
-            text,
-            " has no member that each read set of the parent has one of: "
-        )?;
-        add_set(&mut text, witness.right)?;
-        page.add(6, text.as_str())?;
-        return page.add(
-            8,
-            "do: step to a joint configuration first, whose writes satisfy the old and the new expression",
-        );
-    }
-    write!(text, "meets fails: read ")?;
-    add_set(&mut text, witness.left)?;
-    write!(text, " and write ")?;
-    add_set(&mut text, witness.right)?;
-    write!(text, " are disjoint")?;
-    page.add(6, text.as_str())?;
-    page.add(8, "do: ask for more members in `write` or in `read`")
+    let advice = if is_step {
+        add_step_witness(&mut text, witness)?
+    } else {
+        add_meets_witness(&mut text, witness)?
+    };
+    let indent = indent_of(is_step);
+    page.add(indent, text.as_str())?;
+    page.add(indent + 2, advice)
 }
 
 /// Appends what is known of a claim.
@@ -125,17 +141,12 @@ pub fn add_claim(
     answer: &ClaimAnswer,
 ) -> Result<(), AllocError> {
     let name = claim_name(is_step);
-    let mut text = String::new(alloc);
-    match answer {
-        ClaimAnswer::Certified => write!(text, "{name} certified")?,
-        ClaimAnswer::Uncertified => {
-            write!(
-                text,
-                "{name} holds, but no certificate shows it: let `search` find one"
-            )?;
-        }
+    let words = match answer {
+        ClaimAnswer::Certified => "certified",
+        ClaimAnswer::Uncertified => "holds, but no certificate shows it: let `search` find one",
         ClaimAnswer::Fails(witness) => return add_witness(alloc, page, is_step, witness),
-        ClaimAnswer::Unknown => write!(text, "{name} not certified: whether it holds is unknown")?,
-    }
-    page.add(6, text.as_str())
+        ClaimAnswer::Unknown => "not certified: whether it holds is unknown",
+    };
+    let text = format!(in alloc; "{name} {words}")?;
+    page.add(indent_of(is_step), text.as_str())
 }

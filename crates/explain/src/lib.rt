@@ -1,15 +1,23 @@
 //! What a plan says, in words: what each configuration survives, and why a claim fails.
 #![tactic(auto)]
 
+mod certificate_place;
 mod claims;
 mod configurations;
 mod explaining;
+mod expression_place;
+mod faults;
 mod page;
+mod plan_place;
 mod survival;
+mod text_place;
+mod trail;
 mod wording;
 
 pub use claims::{ClaimAnswer, answer_claim};
 pub use explaining::{Explanation, explain};
+pub use faults::{FaultWords, fault_lines, fault_words};
 pub use page::{COLUMNS, Page};
 pub use survival::{Survival, survival_of};
+pub use text_place::{FaultPlace, fault_place};
 pub use wording::{add_expr, add_members};

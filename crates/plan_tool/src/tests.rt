@@ -1,5 +1,6 @@
 mod explains;
 mod expressions;
+mod fault_places;
 mod files;
 mod fleet_lines;
 mod fleet_runs;

@@ -1,0 +1,185 @@
+//! The place of a fault in a plan's text.
+
+use crate::plan_place::plan_fault;
+use crate::trail::{Step, Trail, add_path};
+use json::{Reader, Scratch, Tape, Token};
+use json_node::tape_root;
+use plan::PLAN_BYTES;
+use std::alloc::{AllocError, Global};
+
+/// The most levels of arrays and objects.
+const LEVELS: usize = 127;
+
+/// The place of a fault in a plan's text.
+#[derive(Drop)]
+pub struct FaultPlace {
+    /// The line, from 1.
+    pub line: usize,
+    /// The column, from 1, in bytes.
+    pub column: usize,
+    /// The path of keys and items, as `groups[0].configurations[1].read`; empty for the whole text.
+    pub path: String,
+    /// What is expected there.
+    pub expected: &'static str,
+}
+
+/// Returns the number of blanks at the beginning of a text.
+fn blanks(text: &str) -> usize {
+    let mut count = 0usize;
+    for byte in text.as_bytes() {
+        match byte {
+            b' ' | b'\t' | b'\n' | b'\r' => count = count.saturating_add(1),
+            _ => return count,
+        }
+    }
+    count
+}
+
+/// Returns the offset of the value at a key of the object that a text begins with: of the last one, if the key is repeated.
+fn offset_of_key(
+    text: &str,
+    key: &str,
+    scratch: &mut Scratch,
+) -> Result<Option<usize>, AllocError> {
+    let mut reader = Reader::new(text, scratch)?;
+    let mut found = None;
+    let _ = reader.next();
+    for _ in 0..text.len() {
+        let Ok(Some(name)) = reader.next_key() else {
+            return Ok(found);
+        };
+        if name == key {
+            found = Some(reader.offset());
+        }
+        if reader.skip_value(LEVELS).is_err() {
+            return Ok(found);
+        }
+    }
+    Ok(found)
+}
+
+/// Returns the offset of an item of the array that a text begins with.
+fn offset_of_item(
+    text: &str,
+    item: usize,
+    scratch: &mut Scratch,
+) -> Result<Option<usize>, AllocError> {
+    let mut reader = Reader::new(text, scratch)?;
+    let _ = reader.next();
+    for _ in 0..item {
+        if reader.skip_value(LEVELS).is_err() {
+            return Ok(None);
+        }
+    }
+    Ok(Some(reader.offset()))
+}
+
+/// Returns the offset of the value at a path of a text, or of the last value on the path that is there.
+fn offset_of(text: &str, steps: &[Step], scratch: &mut Scratch) -> Result<usize, AllocError> {
+    let mut at = blanks(text);
+    for step in steps {
+        let Some(rest) = text.get(at..) else {
+            return Ok(at);
+        };
+        let found = match step {
+            Step::Key(key) => offset_of_key(rest, key, scratch)?,
+            Step::Item(item) => offset_of_item(rest, *item, scratch)?,
+        };
+        let Some(offset) = found else {
+            return Ok(at);
+        };
+        at = at.saturating_add(offset);
+        at = at.saturating_add(blanks(text.get(at..).unwrap_or("")));
+    }
+    Ok(at)
+}
+
+/// Returns the place at an offset of a text.
+fn place_at(alloc: Global, text: &[u8], offset: usize, expected: &'static str) -> FaultPlace {
+    let (mut line, mut column) = (1usize, 1usize);
+    for byte in text.iter().take(offset) {
+        if *byte == b'\n' {
+            line = line.saturating_add(1);
+            column = 1;
+        } else {
+            column = column.saturating_add(1);
+        }
+    }
+    FaultPlace {
+        line,
+        column,
+        path: String::new(alloc),
+        expected,
+    }
+}
+
+/// Returns the place at which a text ceases to be JSON.
+fn syntax_place(
+    alloc: Global,
+    text: &str,
+    scratch: &mut Scratch,
+) -> Result<FaultPlace, AllocError> {
+    let mut reader = Reader::new(text, scratch)?;
+    let is_value = reader.skip_value(LEVELS).is_ok();
+    let offset = reader.offset();
+    let offset = offset.saturating_add(blanks(text.get(offset..).unwrap_or("")));
+    let expected = if is_value {
+        "nothing after the plan"
+    } else if offset >= text.len() {
+        "the rest of the plan: the text ends here"
+    } else {
+        "JSON: a value, a key in quotes, `:`, `,` or a closing bracket"
+    };
+    Ok(place_at(alloc, text.as_bytes(), offset, expected))
+}
+
+/// Returns the place of the first fault of a text that is JSON, `None` if it is a plan.
+fn value_place(
+    alloc: Global,
+    text: &str,
+    tape: &Tape<'_>,
+) -> Result<Option<FaultPlace>, AllocError> {
+    let Some(root) = tape_root(tape) else {
+        return Ok(Some(place_at(
+            alloc,
+            text.as_bytes(),
+            0,
+            "numbers within the range of 64-bit floats, and at most 127 levels",
+        )));
+    };
+    let mut trail = Trail {
+        steps: Vec::new(alloc),
+        expected: "",
+    };
+    if !plan_fault(&root, &mut trail)? {
+        return Ok(None);
+    }
+    let mut scratch = Scratch::new(alloc);
+    let offset = offset_of(text, &trail.steps, &mut scratch)?;
+    let mut place = place_at(alloc, text.as_bytes(), offset, trail.expected);
+    add_path(&mut place.path, &trail.steps)?;
+    Ok(Some(place))
+}
+
+/// Returns the place of the first fault of a plan's text, `None` if the text spells a plan.
+///
+/// # Errors
+/// Memory ran out.
+pub fn fault_place(alloc: Global, text: &[u8]) -> Result<Option<FaultPlace>, AllocError> {
+    if text.len() > PLAN_BYTES as usize {
+        return Ok(Some(place_at(alloc, text, 0, "at most 16,777,216 bytes")));
+    }
+    let text = match simdutf8::compat::from_utf8(text) {
+        Ok(text) => text,
+        Err(error) => return Ok(Some(place_at(alloc, text, error.valid_up_to(), "text in UTF-8"))),
+    };
+    let mut scratch = Scratch::new(alloc);
+    match Tape::parse(text, &mut scratch, Vec::new(alloc)) {
+        Ok(tape) => value_place(alloc, text, &tape),
+        Err(json::Error::OutOfMemory) => Err(AllocError),
+        Err(_) => {
+            let mut scratch = Scratch::new(alloc);
+            Ok(Some(syntax_place(alloc, text, &mut scratch)?))
+        }
+    }
+}
