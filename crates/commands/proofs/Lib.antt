@@ -3,7 +3,9 @@ pub mod Numbers
 pub mod Refused
 pub mod Calls
 pub mod Due
+pub mod ExplainedPlans
 pub mod Failing
+pub mod FaultQueries
 pub mod Findings
 pub mod Fitting
 pub mod Given

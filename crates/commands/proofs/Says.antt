@@ -8,7 +8,7 @@ use Rattle.commands.specs.Answers.PlanAnswers.{faulty, certified}
 use Rattle.commands.specs.Searched.{SearchesTo}
 use Rattle.commands.specs.Streams.{Delivers, Ends, Gets, IsTextOf}
 use Rattle.commands.specs.Streams.Delivers.{given, unreported, unprinted}
-use Rattle.commands.specs.Verdict.{IsFaultyText}
+use Rattle.commands.specs.Verdict.{IsCertifiedText, IsFaultyText}
 use Rattle.commands.specs.declared.outputs.Output.{Output}
 use Rattle.commands.proofs.Searching.{is_quiet}
 
@@ -38,6 +38,25 @@ pub ends_below : {O E : Type 0} (out : O → Option (List ℕ)) (err : E → Opt
 ends_below out err Due status out_old out_new err_old err_new h small =
     let was = was_given out err h.answer status out_old out_new err_old err_new h.given small in
     (h.answer, h.due, was.0, was.1)
+
+-- a line with a status below 2 is no input's, so that nothing is written to standard error
+line_quiet : (a : Answer) (input : Bool) (line : List ℕ) → a ≡ line_answer input line → a.status < 2 → a.err ≡ []
+line_quiet a true line e small = let two = ap (λ (b : Answer). b.status) e in absurd (omega arith)
+line_quiet a false line e small = ap (λ (b : Answer). b.err) e
+
+-- the answer 0 of a check
+pub yes_due : (file : File) (a : Answer) → AnswersOf file ChecksTo a → a.status ≡ 0 → IfSome file.known (λ bytes. IsCertifiedText (take 16777217 bytes))
+yes_due file a (read text whole is (faulty fault bad said)) zero = absurd (not_yes a (is_input fault) _ said zero)
+yes_due file a (read text whole is (certified h said)) zero = known IsCertifiedText file.known text is h
+yes_due file a (unread failed said) zero = absurd (not_yes a true _ said zero)
+yes_due file a (unmade said) zero = absurd (not_yes a true _ said zero)
+
+-- an answer below 2 of a check says nothing to standard error
+pub quiet_due : (file : File) (a : Answer) → AnswersOf file ChecksTo a → a.status < 2 → a.err ≡ []
+quiet_due file a (read text whole is (faulty fault bad said)) small = line_quiet a (is_input fault) _ said small
+quiet_due file a (read text whole is (certified h said)) small = ap (λ (b : Answer). b.err) said
+quiet_due file a (unread failed said) small = line_quiet a true _ said small
+quiet_due file a (unmade said) small = line_quiet a true _ said small
 
 -- the answer 1 of a check
 pub no_due : (file : File) (a : Answer) → AnswersOf file ChecksTo a → a.status ≡ 1 → IfSome file.known (λ bytes. IsFaultyText (take 16777217 bytes))

@@ -43,13 +43,16 @@ pub record IsLeaf (a : App) (c : Command) : Type 0 where
 abbrev pub program : App
 program = on_top (λ s. record s { has_version = true; subcommand_required = true }) (new_app (codes "plan_tool"))
 
--- the program with its first two subcommands, and with its third
+-- the program with its first two subcommands, with its third, and with its fourth
 abbrev pub with_runs : App
 with_runs = with_subcommand (with_subcommand program (file_leaf (codes "check")).top) (script_leaf (codes "run")).top
 
 abbrev pub with_fleet : App
 with_fleet = with_subcommand with_runs (fleet_leaf (codes "fleet")).top
 
--- check FILE, run PLAN SCRIPT, fleet PLAN SCRIPT -w N, search FILE -w N
+abbrev pub with_search : App
+with_search = with_subcommand with_fleet (workers_leaf (codes "search")).top
+
+-- check FILE, run PLAN SCRIPT, fleet PLAN SCRIPT -w N, search FILE -w N, explain FILE
 abbrev pub tool : App
-tool = with_subcommand with_fleet (workers_leaf (codes "search")).top
+tool = with_subcommand with_search (file_leaf (codes "explain")).top

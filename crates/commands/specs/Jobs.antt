@@ -3,7 +3,7 @@ use Rattle.std.specs.Prelude.{◌≡◌, ℕ, List, Option, Some, None, codes, o
 use Rattle.std.specs.Str.Parse.{IsNumeral, digits_value, without_leading_plus}
 use Rattle.clap.specs.Words.{Row, Text, first_of, one_of}
 use Rattle.commands.specs.declared.action.Action.{Action}
-use Rattle.commands.specs.declared.action.Action.TheVariants.{Check, Run, Fleet, Search}
+use Rattle.commands.specs.declared.action.Action.TheVariants.{Check, Run, Fleet, Search, Explain}
 use Rattle.commands.specs.declared.action.Job.{Job}
 
 -- the subcommand of an action
@@ -12,6 +12,7 @@ name_of Check = codes "check"
 name_of Run = codes "run"
 name_of Fleet = codes "fleet"
 name_of Search = codes "search"
+name_of Explain = codes "explain"
 
 -- the number that a text spells, and 4 where there is no text
 abbrev pub IsNumberOf : Option Text → ℕ → Type 0

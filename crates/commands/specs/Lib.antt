@@ -13,4 +13,7 @@ pub mod Answers
 pub mod Read
 pub mod Unfound
 pub mod Searched
-pub mod Explained
+pub mod UsageText
+pub mod Explains
+pub mod ShownName
+pub mod FaultQuery

@@ -13,6 +13,8 @@ pub enum Action {
     Fleet,
     /// Search for the certificates of a plan.
     Search,
+    /// Say what a plan is, in words.
+    Explain,
 }
 
 /// An action, the files that it is done on, by their names as given, and by how many workers.
@@ -28,4 +30,11 @@ pub struct Job<'a> {
     pub workers: u8,
     ghost some: { 1 ≤ workers },
     ghost few: { workers ≤ 16 },
+}
+
+impl Job<'_> {
+    /// Returns whether the plan is read from standard input: that of `explain -`.
+    pub fn reads_stdin(&self) -> bool {
+        self.action == Action::Explain && self.plan == "-"
+    }
 }

@@ -72,7 +72,7 @@ pub fn plan_of_tape(alloc: Global, text: &TapedPlan<'_>) -> Result<Plan, Stop<'s
 }
 
 /// Reads the plan of a text.
-fn plan_in(alloc: Global, text: &[u8]) -> Result<Plan, Stop<'static>>
+pub fn plan_in(alloc: Global, text: &[u8]) -> Result<Plan, Stop<'static>>
     ensures plan { IfOk result (λ plan. plan_of text.now ≡ Ok (plan_data plan)) }
     ensures stop { IfErr result (StopsBy (λ fault. plan_of text.now ≡ Err fault)) }
 {
@@ -84,7 +84,7 @@ fn plan_in(alloc: Global, text: &[u8]) -> Result<Plan, Stop<'static>>
 }
 
 /// Checks a plan.
-fn checked_plan(alloc: Global, plan: Plan) -> Result<CheckedPlan, Stop<'static>>
+pub fn checked_plan(alloc: Global, plan: Plan) -> Result<CheckedPlan, Stop<'static>>
     ensures plan { IfOk result (λ checked. checked.plan ≡ plan) }
     ensures faultless { IfOk result (λ checked. plan_fault (plan_data plan) ≡ None) }
     ensures certified { IfOk result (λ checked. IsCertified (checked_model checked)) }

@@ -5,10 +5,12 @@
 mod action;
 mod explaining;
 mod fallible;
+mod fault_query;
 mod files;
 mod help;
 mod inputs;
 mod leaking;
+mod names;
 mod outputs;
 mod performing;
 mod reply;
@@ -17,13 +19,14 @@ mod running;
 mod search;
 mod subcommands;
 mod usage;
+mod usage_text;
 mod words;
 
 pub use action::{Action, Job};
-pub use explaining::{NO_MEMORY, explain};
 pub use fallible::{FallibleRead, FallibleWrite};
 pub use files::{ReadFault, Source, opened};
 pub use outputs::{Output, WriteFailed, deliver};
 pub use performing::perform;
 pub use usage::Usage;
+pub use usage_text::{NO_MEMORY, print_usage};
 pub use words::job;

@@ -2,20 +2,26 @@
 
 ghost use Rattle.std.specs.Prelude.{◌≡◌, ◌≢◌, ◌≤◌, ◌<◌, IfErr, IfOk, IfSome, string_bytes, take};
 ghost use Rattle.plan.specs.CheckedModel.{checked_model};
-ghost use Rattle.commands.specs.declared.action.Action.TheVariants.{Check, Fleet, Run, Search};
+ghost use Rattle.commands.specs.declared.action.Action.TheVariants.{Check, Explain, Fleet, Run, Search};
 ghost use Rattle.commands.specs.Answer.{IsSaid};
 ghost use Rattle.commands.specs.Answers.{AnswersOf, ChecksTo, FleetsTo, RunsTo, file_of, script_name};
+ghost use Rattle.commands.specs.Explains.{ExplainsTo};
+ghost use Rattle.commands.specs.FaultQuery.{ExplainsJob, HasFile, IsFileName};
 ghost use Rattle.commands.specs.Searched.{SearchesTo};
+ghost use Rattle.commands.specs.ShownName.{shown_name};
 ghost use Rattle.commands.specs.Stops.{answer_of, stop_answer};
 ghost use Rattle.commands.specs.Streams.{Ends, FailsByRead, FailsByWrite, left_of};
 ghost use Rattle.commands.specs.RunText.{plan_line};
 ghost use Rattle.commands.specs.Verdict.{IsCertifiedText, IsFaultyText};
 ghost use Rattle.commands.specs.declared.reply.Stop.TheVariants.{NoMemory};
 
+use crate::explaining::explain;
 use crate::fallible::{FallibleRead, FallibleWrite};
+use crate::fault_query::{explain_number, number_in};
 use crate::files::Source;
 use crate::inputs::checked;
 use crate::leaking::leak;
+use crate::names::shown_name;
 use crate::outputs::{Output, deliver};
 use crate::reply::{Reply, Stop};
 use crate::run_text::checked_line;
@@ -199,6 +205,77 @@ fn perform_search<H: Threads + Wait + Sync, P: FallibleRead, O: FallibleWrite, E
     }
 }
 
+/// Performs an explanation of a plan, whose file is printed with this name.
+fn perform_explain_plan<P: FallibleRead, O: FallibleWrite, E: FallibleWrite>(
+    alloc: Global,
+    name: &str,
+    plan: &mut Source<P>,
+    out: &mut Output<O>,
+    err: &mut Output<E>,
+) -> u8
+    ensures status { result ≤ 2 }
+    ensures yes { result ≡ 0 → IfSome (left_of P.remaining plan.old) (λ bytes. IsCertifiedText (take 16777217 bytes)) }
+    ensures quiet { result < 2 → err.new ≡ err.old }
+    ensures ends { Ends O.contents E.contents (AnswersOf (file_of P.remaining name.now plan.old plan.new)
+        ExplainsTo) result out.old out.new err.old err.new }
+    ensures plan_read { FailsByRead P.answers plan.old plan.new }
+    ensures out_written { FailsByWrite O.answers out.old out.new }
+    ensures err_written { FailsByWrite E.answers err.old err.new }
+{
+    let answer = explain(alloc, name, plan);
+    finish(alloc, &answer, out, err)
+}
+
+/// Performs an explanation of a plan's file with this name.
+fn perform_explain_file<P: FallibleRead, O: FallibleWrite, E: FallibleWrite>(
+    alloc: Global,
+    name: &str,
+    plan: &mut Source<P>,
+    out: &mut Output<O>,
+    err: &mut Output<E>,
+) -> u8
+    ensures status { result ≤ 2 }
+    ensures yes { result ≡ 0 → IfSome (left_of P.remaining plan.old) (λ bytes. IsCertifiedText (take 16777217 bytes)) }
+    ensures quiet { result < 2 → err.new ≡ err.old }
+    ensures ends { Ends O.contents E.contents (AnswersOf (file_of P.remaining (shown_name name.now) plan.old plan.new)
+        ExplainsTo) result out.old out.new err.old err.new }
+    ensures plan_read { FailsByRead P.answers plan.old plan.new }
+    ensures out_written { FailsByWrite O.answers out.old out.new }
+    ensures err_written { FailsByWrite E.answers err.old err.new }
+{
+    match shown_name(alloc, name) {
+        Ok(shown) => perform_explain_plan(alloc, shown.as_str(), plan, out, err),
+        Err(_) => refuse(alloc, &Stop::NoMemory, out, err),
+    }
+}
+
+/// Performs an explanation, as [`perform`] does.
+fn perform_explain<P: FallibleRead, O: FallibleWrite, E: FallibleWrite>(
+    alloc: Global,
+    job: &Job<'_>,
+    plan: &mut Source<P>,
+    out: &mut Output<O>,
+    err: &mut Output<E>,
+) -> u8
+    ensures status { result ≤ 2 }
+    ensures yes { IsFileName job.now.plan.now → result ≡ 0 → IfSome (left_of P.remaining plan.old)
+        (λ bytes. IsCertifiedText (take 16777217 bytes)) }
+    ensures quiet { result < 2 → err.new ≡ err.old }
+    ensures ends { Ends O.contents E.contents (ExplainsJob P.remaining job.now.plan.now plan.old plan.new) result out.old
+        out.new err.old err.new }
+    ensures plan_read { FailsByRead P.answers plan.old plan.new }
+    ensures out_written { FailsByWrite O.answers out.old out.new }
+    ensures err_written { FailsByWrite E.answers err.old err.new }
+{
+    match number_in(job.plan) {
+        Some(number) => {
+            let answer = explain_number(alloc, number);
+            finish(alloc, &answer, out, err)
+        }
+        None => perform_explain_file(alloc, job.plan, plan, out, err),
+    }
+}
+
 /// Performs a job on the contents of its files, prints its answer, and returns the exit status: 0 for yes, 1 for a
 /// refusal, 2 for an input that can't be used (printed to `err` alone) or an output that can't be written. Only `run`
 /// and `fleet` read the script; only `fleet` and `search` start threads. It may leak memory to the end of the
@@ -220,8 +297,8 @@ pub fn perform<
 ) -> u8
     ensures status { result ≤ 2 }
 
-    // The status 0 of a check, a run or a fleet says that the plan's text spells a plan without a fault, whose quorums all meet.
-    ensures yes { job.now.action ≢ Search → result ≡ 0 → IfSome (left_of P.remaining plan.old)
+    // The status 0 of a check, an explanation of a plan, a run or a fleet says that the plan's text spells a plan without a fault, whose quorums all meet.
+    ensures yes { job.now.action ≢ Search → HasFile job.now → result ≡ 0 → IfSome (left_of P.remaining plan.old)
         (λ bytes. IsCertifiedText (take 16777217 bytes)) }
 
     // A check answers 1 only where the text has a fault.
@@ -258,6 +335,11 @@ pub fn perform<
         (AnswersOf (file_of P.remaining job.now.plan.now plan.old plan.new) SearchesTo) result out.old out.new err.old
         err.new }
 
+    // An explanation of a plan answers what a check does, and prints the plan in words above that; one of a number prints
+    // the refusal with that number in words.
+    ensures explains { job.now.action ≡ Explain → Ends O.contents E.contents
+        (ExplainsJob P.remaining job.now.plan.now plan.old plan.new) result out.old out.new err.old err.new }
+
     // A file is said to be one that can't be read only where it couldn't be opened, or a read of it failed; and an output one that can't be
     // written only where a write to it failed, or took none of its bytes.
     ensures plan_read { FailsByRead P.answers plan.old plan.new }
@@ -270,5 +352,6 @@ pub fn perform<
         Action::Run => perform_run(alloc, job, plan, script, out, err),
         Action::Fleet => perform_fleet(rt, alloc, job, plan, script, out, err),
         Action::Search => perform_search(rt, alloc, job, plan, out, err),
+        Action::Explain => perform_explain(alloc, job, plan, out, err),
     }
 }

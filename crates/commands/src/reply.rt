@@ -35,6 +35,8 @@ pub enum Stop<'a> {
     Plan(PlanFault),
     /// The script's line with this number is bad.
     Line(usize),
+    /// No refusal has this number.
+    Number(u8),
     /// Memory ran out.
     NoMemory,
 }
@@ -51,6 +53,7 @@ impl fmt::Display for Stop<'_> {
             Stop::Unreadable(name) => write!(f, "input: cannot read {name}\n"),
             Stop::Plan(fault) => write!(f, "{fault}\n"),
             Stop::Line(line) => write!(f, "input: line {line}\n"),
+            Stop::Number(number) => { write!(f, "input: no refusal has the number {number}\n") }
             Stop::NoMemory => f.write_str("input: 9 NoMemory\n"),
         }
     }

@@ -135,5 +135,12 @@ pub fn command_line<'a>(alloc: Global) -> Result<Command<'a>, AllocError>
         "Writes a plan with certificates for its claims",
         help::SEARCH,
     )?;
-    add(command, search)
+    let command = add(command, search)?;
+    let explain = of_file(
+        alloc,
+        "explain",
+        "Says what a plan survives and why its claims fail, or what a refusal means",
+        help::EXPLAIN,
+    )?;
+    add(command, explain)
 }

@@ -59,6 +59,7 @@ fn action_of(name: &str) -> Option<Action>
         "run" => Some(Action::Run),
         "fleet" => Some(Action::Fleet),
         "search" => Some(Action::Search),
+        "explain" => Some(Action::Explain),
         _ => None,
     }
 }

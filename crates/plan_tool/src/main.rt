@@ -6,7 +6,7 @@ ghost use Rattle.std.specs.Prelude.{◌≤◌};
 #[cfg(test)]
 mod tests;
 
-use commands::{NO_MEMORY, Output, deliver, explain, job, opened, perform};
+use commands::{NO_MEMORY, Output, Source, deliver, job, opened, perform, print_usage};
 use std::alloc::{AllocError, Global};
 use std::io::ErrorKind;
 use std::process::ExitCode;
@@ -47,6 +47,19 @@ fn run<H: Threads + Wait + Sync>(rt: &HostRuntime, threads: &H) -> u8
         return deliver(2, b"", NO_MEMORY.as_bytes(), &mut out, &mut err);
     };
     match job(alloc, words.as_slice()) {
+        Ok(job) if job.reads_stdin() => {
+            let mut plan = Source::new(Ok(rt.stdin()));
+            let mut script = opened(rt, None);
+            perform(
+                threads,
+                alloc,
+                &job,
+                &mut plan,
+                &mut script,
+                &mut out,
+                &mut err,
+            )
+        }
         Ok(job) => {
             let mut plan = opened(rt, Some(job.plan));
             let mut script = opened(rt, job.script);
@@ -60,7 +73,7 @@ fn run<H: Threads + Wait + Sync>(rt: &HostRuntime, threads: &H) -> u8
                 &mut err,
             )
         }
-        Err(usage) => explain(alloc, &usage, &mut out, &mut err),
+        Err(usage) => print_usage(alloc, &usage, &mut out, &mut err),
     }
 }
 

@@ -24,8 +24,8 @@ group 0
       survives the loss of any 3 members; the loss of {0 1 2 3} stops it
     write any 3 of 0-5
       survives the loss of any 3 members; the loss of {0 1 2 3} stops it
-      meets fails: read {0 1 2} and write {3 4 5} are disjoint
-        do: ask for more members in `write` or in `read`
+    meets fails: read {0 1 2} and write {3 4 5} are disjoint
+      do: ask for more members in `write` or in `read`
   configuration 1
     members 0-3 6, full 0-3, tail 6
     read 2 of {any 1 of 0-1, any 2 of 2-3 6}
@@ -34,7 +34,7 @@ group 0
       doesn't survive the loss of the whole block {2 3 6}
     write any 4 of 0-3 6
       survives the loss of any 1 member; the loss of {0 1} stops it
-      meets holds, but no certificate shows it: let `search` find one
+    meets holds, but no certificate shows it: let `search` find one
     step from configuration 0, adds 6, drops 4-5
       step holds, but no certificate shows it: let `search` find one
 ";

@@ -20,6 +20,7 @@ const TAKEN: &[(&[&str], Action, Option<&str>, u8)] = &[
         Some("s"),
         16,
     ),
+    (&["plan_tool", "explain", "p"], Action::Explain, None, 4),
     (&["plan_tool", "search", "p"], Action::Search, None, 4),
     (
         &["plan_tool", "search", "p", "-w", "16"],
@@ -59,6 +60,8 @@ const UNTAKEN: &[(&[&str], bool)] = &[
     (&["plan_tool", "run", "p"], false),
     (&["plan_tool", "check", "p", "s"], false),
     (&["plan_tool", "check", "p", "-w", "4"], false),
+    (&["plan_tool", "explain"], false),
+    (&["plan_tool", "explain", "p", "-w", "4"], false),
     (&["plan_tool", "search"], false),
     (&["plan_tool", "search", "p", "-w"], false),
     (&["plan_tool", "search", "p", "-w", "1", "-w", "1"], false),
@@ -69,6 +72,7 @@ const UNTAKEN: &[(&[&str], bool)] = &[
     (&["plan_tool", "--help"], true),
     (&["plan_tool", "fleet", "--help"], true),
     (&["plan_tool", "search", "--help"], true),
+    (&["plan_tool", "explain", "--help"], true),
     (&["plan_tool", "--version"], true),
 ];
 

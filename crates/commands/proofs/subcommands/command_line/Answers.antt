@@ -9,4 +9,5 @@ returns c =
     let one = c.in_ok-command.ensures ∙ ap₂ with_subcommand c.program-command.ensures (ap top c.in_ok-check.ensures.app) in
     let two = c.in_ok-command-2.ensures ∙ ap₂ with_subcommand one (ap top c.in_ok-run.ensures.app) in
     let three = c.in_ok-command-3.ensures ∙ ap₂ with_subcommand two (ap top c.in_ok-fleet.ensures.app) in
-    IfOk-weaker c.add-4.result _ _ (λ r h. h ∙ ap₂ with_subcommand three (ap top c.in_ok-search.ensures.app)) c.add-4.ensures
+    let four = c.in_ok-command-4.ensures ∙ ap₂ with_subcommand three (ap top c.in_ok-search.ensures.app) in
+    IfOk-weaker c.add-5.result _ _ (λ r h. h ∙ ap₂ with_subcommand four (ap top c.in_ok-explain.ensures.app)) c.add-5.ensures
