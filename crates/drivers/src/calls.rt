@@ -1,7 +1,8 @@
 //! Events as calls of the fleet.
 
-use fleet_actors::{ClientAction, NodeAction};
+use fleet_actors::ClientAction;
 use node_fleet::{Fleet, FleetSite, Pass, Receipt};
+use segment_core::NodeAction;
 use std::alloc::AllocError;
 use std::sync::Wait;
 use volume_model::Fault;

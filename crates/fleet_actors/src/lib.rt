@@ -14,7 +14,6 @@ mod node;
 mod reaction;
 mod step;
 
-pub use action::NodeAction;
 pub use authority::AuthorityActor;
 pub use client::ClientActor;
 pub use client_action::ClientAction;

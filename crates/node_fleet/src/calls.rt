@@ -4,16 +4,17 @@ ghost use Rattle.std.specs.Prelude.{◌≡◌, IfErr, IfOk, OnErr};
 ghost use Rattle.volume_model.specs.World.Event.{Deliver};
 ghost use Rattle.fleet_actors.specs.Acts as acts;
 ghost use Rattle.fleet_actors.specs.Actions as actions;
-ghost use Rattle.fleet_actors.specs.Nodes as nodes;
+ghost use Rattle.world.specs.Acts.{node_event};
 ghost use Rattle.node_fleet.specs.Calls.{NamesElse, RaisesBy, Unmade};
 ghost use Rattle.node_fleet.specs.Passes.{notes_of, seat_of, steps_of, IsEntrySame, IsMailSame, Records};
 
 use crate::fleet::Fleet;
 use crate::pass::Pass;
 use crate::site::FleetSite;
-use fleet_actors::{ClientAction, NodeAction, StepGate};
+use fleet_actors::{ClientAction, StepGate};
 use journal::Receipt;
 use mailbox::Letter;
+use segment_core::NodeAction;
 use std::sync::Wait;
 use volume_model::Fault;
 use world::AuthorityAct;
@@ -134,7 +135,7 @@ impl<'a, L: FleetSite> Fleet<'a, L> {
         member: u8,
         action: NodeAction,
     ) -> Result<Receipt, Fault>
-        ensures recorded { Records (nodes.event_by group member action) result pass.old pass.new }
+        ensures recorded { Records (node_event group member action) result pass.old pass.new }
         ensures found { IfErr result (λ fault. fault ≢ NoMessage) }
         ensures seat { seat_of pass.new ≡ seat_of pass.old }
         ensures mail { IsMailSame pass.old pass.new }

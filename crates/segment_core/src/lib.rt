@@ -1,7 +1,7 @@
 //! A segment of a protection group: the records that it holds, and what it answers.
 #![tactic(auto)]
 
-mod act;
+mod action;
 mod assembly;
 mod block_list;
 mod block_places;
@@ -16,7 +16,7 @@ mod segment;
 mod segment_state;
 mod snapshot;
 
-pub use act::NodeAct;
+pub use action::NodeAction;
 pub use prepared::Prepared;
 pub use segment::Segment;
 pub use snapshot::SegmentSnapshot;

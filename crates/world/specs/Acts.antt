@@ -5,32 +5,37 @@ use Rattle.volume_model.specs.Answer.{never_after_growth}
 use Rattle.volume_model.specs.Lists.{added, numbered}
 use Rattle.volume_model.specs.Plan.{Plan}
 use Rattle.volume_model.specs.Message as model
-use Rattle.volume_model.specs.Node.{Node, NodeAnswer}
+use Rattle.volume_model.specs.Node.{NodeAnswer}
 use Rattle.volume_model.specs.declared.fault.Fault.TheVariants.{NoMessage}
 use Rattle.volume_model.specs.Client.{Client, ClientAnswer}
 use Rattle.volume_model.specs.ClientWriter.{issued, page_asked, resent}
 use Rattle.volume_model.specs.ClientRecovery.{cut_client}
 use Rattle.volume_model.specs.ClientMessages.{taken}
 use Rattle.wire.specs.Message.{message_of, messages_of}
-use Rattle.volume_model.specs.World.{Authority, AuthorityStep, assigned, advanced, refreshed, grown, deliver, take}
+use Rattle.volume_model.specs.World.{Authority, AuthorityStep, Event, assigned, advanced, refreshed, grown, deliver, take}
 use Rattle.wire.specs.declared.message.Message.{Message}
 use Rattle.epochs.specs.Authority.{grew, announced}
-use Rattle.segment_core.specs.declared.act.NodeAct.{NodeAct}
-use Rattle.segment_core.specs.Acts.{act_after_growth, acted}
+use Rattle.segment_core.specs.declared.action.NodeAction.{NodeAction}
+use Rattle.segment_core.specs.declared.action.NodeAction.TheVariants as node
+use Rattle.segment_core.specs.Actions.{action_after_growth}
 use Rattle.segment_core.specs.declared.segment.Segment.{Segment}
-use Rattle.segment_core.specs.Segment.{node_of, segment_plan, segment_group, segment_member}
+use Rattle.segment_core.specs.Segment.{action_of, node_of, segment_plan, segment_group, segment_member}
 use Rattle.recovery.specs.Finds.{is_spent}
 use Rattle.volume_model.specs.Few.{Few}
 use Rattle.writer_core.specs.Changes.{changes_of}
 use Rattle.world.specs.Moves.{NodeMoves}
 use Rattle.world.specs.declared.acts.AuthorityAct.{AuthorityAct}
 use Rattle.world.specs.declared.acts.AuthorityAct.TheVariants as authority
-use Rattle.world.specs.declared.acts.NodeOrder.{NodeOrder}
-use Rattle.world.specs.declared.acts.NodeOrder.TheVariants as node
 use Rattle.world.specs.declared.acts.ClientAct.{ClientAct}
 use Rattle.world.specs.declared.acts.ClientAct.TheVariants as client
 use Rattle.world.specs.declared.acts.ClientOrder.{ClientOrder}
 use Rattle.world.specs.declared.acts.ClientOrder.TheVariants as order
+
+-- the event that a member of a group performs an action
+abbrev pub node_event : ℕ → ℕ → NodeAction → Event
+node_event group member node.Hydrate = Event.Hydrate group member
+node_event group member node.Restart = Event.Restart group member
+node_event group member (node.Offer lsn) = Event.Offer group member lsn
 
 -- what the authority of a plan does
 abbrev pub authority_acted : Plan → Authority → AuthorityAct → Result AuthorityStep Fault
@@ -50,16 +55,6 @@ OfAdvance authority.Grow P = Unit {0}
 abbrev pub spoken : Option Message → Authority → AuthorityStep
 spoken None now = grew tt now
 spoken (Some message) now = announced message now
-
--- what the node of a member of a group does, where these messages were made and it may be asked for one
-abbrev pub node_ordered : List model.Message → NodeOrder → Plan → ℕ → ℕ → Node → NodeAnswer
-node_ordered made (node.Deliver message) plan group member now = deliver plan group member now (numbered made message)
-node_ordered made (node.Act act) plan group member now = acted act plan group member now
-
--- the order names a message that wasn't made
-abbrev pub IsRefusedNodeOrder : List model.Message → NodeOrder → Type 0
-IsRefusedNodeOrder made order = (plan : Plan) (group member : ℕ) (now : Node) → node_ordered made order plan group
-    member now ≡ Err NoMessage
 
 -- what the client of a volume epoch does, except becoming a writer
 abbrev pub client_acted : ClientAct → Plan → ℕ → Client → ClientAnswer
@@ -110,22 +105,19 @@ pub record IsOrderOf (made : List model.Message) (order : ClientOrder) (act : Cl
       plan volume now
   pub late : order_after_growth order ≡ client_after_growth act
 
--- the refusals of a node that may come after a growth was refused
-abbrev pub node_after_growth : NodeOrder → Fault → Bool
-node_after_growth (node.Deliver message) = never_after_growth
-node_after_growth (node.Act act) = act_after_growth act
+-- A segment takes a step that is defined, and its messages are added to those kept; or it and they are as they were.
+abbrev pub SegmentMoves : (Fault → Bool) → NodeAnswer → Segment → Segment → List Message → List Message
+    → Result ℕ Fault → Type 0
+SegmentMoves late defined old new kept now result = NodeMoves late defined (node_of old) (added (messages_of kept) [])
+    result (node_of new) (added (messages_of now) [])
 
--- the order asks a node for this act, where these messages were made
-pub record IsNodeOrderOf (made : List model.Message) (order : NodeOrder) (act : NodeAct) : Type 0 where
-  pub does : (plan : Plan) (group member : ℕ) (now : Node) → node_ordered made order plan group member now
-      ≡ acted act plan group member now
-  pub late : node_after_growth order ≡ act_after_growth act
+-- the step is the reaction to the message with this number
+abbrev pub Delivers : ℕ → Segment → Segment → List Message → List Message → Result ℕ Fault → Type 0
+Delivers number old new kept now result = SegmentMoves never_after_growth
+    (deliver (segment_plan old) (segment_group old) (segment_member old) (node_of old)
+    (numbered (added (messages_of kept) []) number)) old new kept now result
 
--- A segment does what an order asks for, among these messages, to which it adds its own; or it and they are as they
--- were.
-abbrev pub SegmentMoves : NodeOrder → Segment → Segment → List Message → List Message → Result ℕ Fault → Type 0
-SegmentMoves order old new kept now result =
-    let made : List model.Message = added (messages_of kept) [] in
-    NodeMoves (node_after_growth order) (node_ordered made order (segment_plan old) (segment_group old)
-    (segment_member old) (node_of old)) (node_of old) made result
-    (node_of new) (added (messages_of now) [])
+-- the step is that of the action
+abbrev pub SegmentActs : NodeAction → Segment → Segment → List Message → List Message → Result ℕ Fault → Type 0
+SegmentActs action old new kept now result = SegmentMoves (action_after_growth action) (action_of old action) old new
+    kept now result

@@ -1,6 +1,6 @@
 //! All actors, and all messages ever made.
 
-use crate::acts::{AuthorityAct, ClientAct, ClientOrder, NodeOrder};
+use crate::acts::{AuthorityAct, ClientAct, ClientOrder};
 use crate::client::Client;
 use crate::client_step::act_of;
 use crate::clients::keep;
@@ -10,7 +10,7 @@ use crate::numbering::enter;
 use crate::{authority_step, birth, client_step, node_step};
 use epochs::Authority;
 use plan::CheckedPlan;
-use segment_core::{NodeAct, Segment};
+use segment_core::{NodeAction, Segment};
 use std::alloc::{AllocError, Global};
 use std::sync::Arc;
 use volume_model::Fault;
@@ -40,7 +40,8 @@ impl Actors {
     ghost use Rattle.plan.specs.CheckedModel.{checked_model};
     ghost use Rattle.volume_model.specs.Answer.{never_after_growth};
     ghost use Rattle.world.specs.Actors.{event_after_growth, plan_of, world_of, messages_in, AreActors, Steps};
-    ghost use Rattle.world.specs.Acts.{authority_acted, client_ordered, node_after_growth, node_ordered, order_after_growth};
+    ghost use Rattle.segment_core.specs.Actions.{acted, action_after_growth};
+    ghost use Rattle.world.specs.Acts.{authority_acted, client_ordered, order_after_growth};
     ghost use Rattle.world.specs.Clients.{client_in};
     ghost use Rattle.world.specs.Events.{event_of};
 
@@ -74,19 +75,19 @@ impl Actors {
         authority_step::act(alloc, &mut self.authority, &mut self.messages, act)
     }
 
-    /// Lets a node act. `NoActor` if its group hasn't joined, or the plan doesn't name it.
+    /// Performs a node's action. `NoActor` if its group hasn't joined, or the plan doesn't name it.
     fn node_step(
         &mut self,
         alloc: Global,
         group: u8,
         member: u8,
-        order: NodeOrder<'_>,
+        action: NodeAction,
     ) -> Result<u64, Fault>
         requires { AreActors self.old }
-        ensures steps { Steps (node_after_growth order.entry) (of_node (world_of self.old) group member
+        ensures steps { Steps (action_after_growth action) (of_node (world_of self.old) group member
             (if_there (plan_of self.old) (groups_joined (world_of self.old).authority) group member
-            (node_ordered (messages_in self.old) order.entry (plan_of self.old) group member
-            ((world_of self.old).nodes group member)))) (world_of self.old) result (world_of self.new) }
+            (acted action (plan_of self.old) group member ((world_of self.old).nodes group member))))
+            (world_of self.old) result (world_of self.new) }
         ensures good { AreActors self.new }
         ensures plan { plan_of self.new ≡ plan_of self.old }
     {
@@ -98,7 +99,34 @@ impl Actors {
         };
         match &mut self.nodes[slot] {
             None => Err(Fault::NoActor),
-            Some(segment) => node_step::act(alloc, segment, &mut self.messages, order),
+            Some(segment) => node_step::act(alloc, segment, &mut self.messages, action),
+        }
+    }
+
+    /// Delivers the message with this number to a node. `NoActor` if its group hasn't joined, or the plan doesn't name
+    /// it.
+    pub(crate) fn deliver(
+        &mut self,
+        alloc: Global,
+        group: u8,
+        member: u8,
+        message: u64,
+    ) -> Result<u64, Fault>
+        requires { AreActors self.old }
+        ensures steps { Steps never_after_growth (step (plan_of self.old) (world_of self.old)
+            (model.Event.Deliver group member message)) (world_of self.old) result (world_of self.new) }
+        ensures good { AreActors self.new }
+        ensures plan { plan_of self.new ≡ plan_of self.old }
+    {
+        if group >= self.authority.joined() {
+            return Err(Fault::NoActor);
+        }
+        let Some(slot) = slot(self.nodes.len(), group, member) else {
+            return Err(Fault::NoActor);
+        };
+        match &mut self.nodes[slot] {
+            None => Err(Fault::NoActor),
+            Some(segment) => node_step::deliver(alloc, segment, &mut self.messages, message),
         }
     }
 
@@ -172,24 +200,6 @@ impl Actors {
         }
     }
 
-    /// Lets a node take the message with this number.
-    #[inline(always)]
-    pub(crate) fn deliver(
-        &mut self,
-        alloc: Global,
-        group: u8,
-        member: u8,
-        message: u64,
-    ) -> Result<u64, Fault>
-        requires { AreActors self.old }
-        ensures steps { Steps never_after_growth (step (plan_of self.old) (world_of self.old)
-            (model.Event.Deliver group member message)) (world_of self.old) result (world_of self.new) }
-        ensures good { AreActors self.new }
-        ensures plan { plan_of self.new ≡ plan_of self.old }
-    {
-        self.node_step(alloc, group, member, NodeOrder::Deliver { message })
-    }
-
     /// Lets a client take the message with this number.
     #[inline(always)]
     pub(crate) fn take(&mut self, alloc: Global, volume: u32, message: u64) -> Result<u64, Fault>
@@ -250,7 +260,7 @@ impl Actors {
                 self.client_step(alloc, *volume, ClientOrder::Act(act))
             }
             Event::Hydrate { group, member } => {
-                self.node_step(alloc, *group, *member, NodeOrder::Act(NodeAct::Hydrate))
+                self.node_step(alloc, *group, *member, NodeAction::Hydrate)
             }
             Event::Deliver {
                 group,
@@ -258,11 +268,11 @@ impl Actors {
                 message,
             } => self.deliver(alloc, *group, *member, *message),
             Event::Restart { group, member } => {
-                self.node_step(alloc, *group, *member, NodeOrder::Act(NodeAct::Restart))
+                self.node_step(alloc, *group, *member, NodeAction::Restart)
             }
             Event::Offer { group, member, lsn } => {
-                let act = NodeAct::Offer { lsn: *lsn };
-                self.node_step(alloc, *group, *member, NodeOrder::Act(act))
+                let action = NodeAction::Offer { lsn: *lsn };
+                self.node_step(alloc, *group, *member, action)
             }
         }
     }

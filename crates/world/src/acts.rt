@@ -1,6 +1,5 @@
 //! What an actor may be asked to do.
 
-use segment_core::NodeAct;
 use wire::Message;
 use writer_core::Change;
 
@@ -15,15 +14,6 @@ pub enum AuthorityAct {
     Refresh { volume: u32 },
     /// It lets the next group join.
     Grow,
-}
-
-/// What a node is asked to do, of a message by its number.
-#[derive(Clone, Copy)]
-pub enum NodeOrder<'a> {
-    /// Takes the message with this number.
-    Deliver { message: u64 },
-    /// It acts otherwise.
-    Act(NodeAct<'a>),
 }
 
 /// What a client does, except becoming a writer.

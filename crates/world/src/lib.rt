@@ -18,6 +18,7 @@ mod orders;
 mod outcome;
 mod recovering;
 mod running;
+mod split;
 mod writing;
 
 pub use acts::{AuthorityAct, ClientAct};

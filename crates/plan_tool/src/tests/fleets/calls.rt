@@ -1,8 +1,9 @@
 //! Calls of a fleet, as tables give them.
 
 use super::looks::{Lent, Look};
-use fleet_actors::{ClientAction, NodeAction};
+use fleet_actors::ClientAction;
 use node_fleet::{Fleet, FleetSite, Pass, Receipt};
+use segment_core::NodeAction;
 use std::alloc::{AllocError, Global};
 use std::sync::Wait;
 use volume_model::Fault;

@@ -4,7 +4,7 @@ use super::super::texts::{SIX, TWO_GROUPS};
 use super::calls::{Call, Step};
 use super::drive::run_table;
 use super::looks::Look;
-use fleet_actors::NodeAction;
+use segment_core::NodeAction;
 use std::test::*;
 use volume_model::Fault;
 use world::AuthorityAct;
