@@ -26,7 +26,7 @@ use Rattle.segment_core.specs.Prepared.{step_of}
 use Rattle.segment_core.specs.Segment.{action_of, node_of, IsSameActor, IsSegmentOf}
 use Rattle.wire.specs.declared.message.Message as wire
 use Rattle.wire.specs.Message.{message_of}
-use Rattle.world.specs.Acts.{node_event}
+use Rattle.world.specs.Actions.{node_event}
 
 -- a node that the plan names, and whose group has joined, isn't refused for that
 there_is : (plan : Plan) (joined g m : ℕ) (answer : NodeAnswer) → nat_lt g joined ≡ true → is_named plan g m ≡ true → if_there plan joined g m answer ≡ answer

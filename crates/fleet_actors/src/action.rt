@@ -15,7 +15,7 @@ use world::Event;
 impl<L: Site> NodeActor<L> {
     ghost use Rattle.std.specs.Prelude.{length, ◌≢◌, Err, IfErr, OnErr, OnOk};
     ghost use Rattle.volume_model.specs.declared.fault.Fault.TheVariants.{NoMessage};
-    ghost use Rattle.world.specs.Acts.{node_event};
+    ghost use Rattle.world.specs.Actions.{node_event};
     ghost use Rattle.journal.specs.Passes.{journal_of, seat_of, world_of};
     ghost use Rattle.fleet_actors.specs.declared.halt.Halt.TheVariants.{Refused, StaleCursor};
     ghost use Rattle.fleet_actors.specs.RecordsAttempt.{Enters, IsExact, PassRecords};
@@ -37,8 +37,8 @@ impl<L: Site> NodeActor<L> {
         pass: &mut Pass<'a, L>,
         action: NodeAction,
     ) -> Result<Receipt, Halt>
-        ensures recorded { PassRecords (node_event (actor_group self.old) (actor_member self.old) action) result pass.old
-            pass.new }
+        ensures recorded { PassRecords (node_event (actor_group self.old) (actor_member self.old) action) result
+            pass.old pass.new }
         ensures exact { IsExact L.plan L.slots (length L.cells) (journal_of log.old)
             (node_event (actor_group self.old) (actor_member self.old) action) result }
         ensures entered { Enters (node_event (actor_group self.old) (actor_member self.old) action) (journal_of log.old)

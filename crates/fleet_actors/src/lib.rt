@@ -5,7 +5,6 @@ mod action;
 mod authority;
 mod authority_attempt;
 mod client;
-mod client_action;
 mod client_attempt;
 mod gate;
 mod halt;
@@ -16,7 +15,6 @@ mod step;
 
 pub use authority::AuthorityActor;
 pub use client::ClientActor;
-pub use client_action::ClientAction;
 pub use client_attempt::try_step;
 pub use gate::StepGate;
 pub use halt::Halt;

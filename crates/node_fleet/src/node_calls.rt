@@ -7,7 +7,7 @@ ghost use Rattle.volume_model.specs.World.Event.{Deliver};
 ghost use Rattle.journal.specs.Passes.{journal_of, message_ref_number, notes_of, seat_of, steps_of, world_of};
 ghost use Rattle.world.specs.Events.{event_of};
 ghost use Rattle.fleet_actors.specs.RecordsAttempt.{AddsNote, PassRecords};
-ghost use Rattle.world.specs.Acts.{node_event};
+ghost use Rattle.world.specs.Actions.{node_event};
 ghost use Rattle.node_fleet.specs.Calls.{IsOfNone, PassRecordsCall, Unmade};
 
 use crate::fleet::Fleet;

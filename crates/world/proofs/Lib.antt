@@ -9,3 +9,4 @@ pub mod Moving
 pub mod Returned
 pub mod Few
 pub mod NodeSlot
+pub mod ActorSteps

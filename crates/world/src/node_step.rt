@@ -6,7 +6,7 @@ ghost use Rattle.volume_model.specs.declared.fault.Fault.{Fault as FaultName};
 ghost use Rattle.wire.specs.Message.{messages_of};
 ghost use Rattle.segment_core.specs.Prepared.{step_of};
 ghost use Rattle.segment_core.specs.Segment.{node_of, IsReady, IsSameActor};
-ghost use Rattle.world.specs.Acts.{Delivers, SegmentActs};
+ghost use Rattle.world.specs.Actions.{Delivers, SegmentActs};
 ghost use Rattle.world.specs.Moves.{NodeMoves};
 
 use crate::numbering::{enter, named};

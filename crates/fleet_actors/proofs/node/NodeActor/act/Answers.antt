@@ -14,7 +14,7 @@ use Rattle.journal.specs.Passes.{journal_of, marked, seen_at}
 use Rattle.fleet_actors.specs.declared.halt.Halt.{Halt}
 use Rattle.fleet_actors.specs.RecordsAttempt.{IsExact}
 use Rattle.segment_core.specs.Actions.{acted}
-use Rattle.world.specs.Acts.{node_event}
+use Rattle.world.specs.Actions.{node_event}
 use Rattle.fleet_actors.proofs.NodeSteps.{action_actor, action_fails, action_own, action_steps, denies, done, grants, not_joined, not_lost, same_of, there_joined, makes_step, unjoined_action}
 use Rattle.fleet_actors.proofs.node.NodeActor.act.Goals as goal
 
@@ -23,7 +23,7 @@ refused-requires-clause-exact g c =
     let plan = g.L.Site.plan in
     let node = c.args.self.now in
     let now = world_at plan (journal_of c.catch_up_and_reserve.new.log) in
-    ap (λ (e : Event). refusal (step plan now e)) c.event-event.ensures
+    ap (λ (e : Event). refusal (step plan now e)) c.of_node-event.ensures
     ∙ unjoined_action plan now node.group node.member c.args.action (not_joined now node.group c.from.result c.joined.result c.joined.ensures c.from.ensures c.if-from-joined.true)
 
 pub refused-requires-in-Err-clause-exact : goal.refused-requires-in-Err-clause-exact
@@ -33,7 +33,7 @@ refused-requires-in-Err-clause-exact g c =
     let cells = length g.L.Site.cells in
     let node = c.args.self.now in
     let es = journal_of c.catch_up_and_reserve.new.log in
-    subst (λ (e : Event). Exact plan slots cells es e c.in-Err.fault) (sym c.event-event.ensures)
+    subst (λ (e : Event). Exact plan slots cells es e c.in-Err.fault) (sym c.of_node-event.ensures)
     (denies plan slots cells es (world_at plan (seen_at node.cursor)) (marked node.cursor) node.group node.member (node_of node.segment) node.who node.named node.state c.in_ok-catch_up_and_reserve.ensures.agree (there_joined (world_at plan es) node.group c.from.result c.joined.result c.joined.ensures c.from.ensures c.if-from-joined.false)
     c.args.action c.in-Err.fault (action_fails plan node.group node.member node.segment node.of c.args.action c.in-Err.fault c.in-Err.ensures.step))
 
@@ -43,7 +43,7 @@ enter-requires-clause-goes g c =
     let node = c.args.self.now in
     let es = journal_of c.catch_up_and_reserve.new.log in
     let made : NodeStep = step_of c.in-Ok.prepared (node_of node.segment) in
-    ap (λ (e : Event). makes (step plan (world_at plan es) e)) c.event-event.ensures
+    ap (λ (e : Event). makes (step plan (world_at plan es) e)) c.of_node-event.ensures
     ∙ makes_step plan g.L.Site.slots 0 es (world_at plan (seen_at node.cursor)) (marked node.cursor) node.group node.member (node_of node.segment) node.who node.named node.state c.in_ok-catch_up_and_reserve.ensures.agree (there_joined (world_at plan es) node.group c.from.result c.joined.result c.joined.ensures c.from.ensures c.if-from-joined.false)
     c.args.action made (action_steps plan node.group node.member node.segment node.of c.args.action made c.in-Ok.ensures.step)
     (messages_of (listed c.apply-made.result)) (ap messages_of c.apply-made.ensures.answers)
@@ -51,7 +51,7 @@ enter-requires-clause-goes g c =
 pub enter-requires-clause-who : goal.enter-requires-clause-who
 enter-requires-clause-who g c =
     let node = c.args.self.now in
-    ap actor_of c.event-event.ensures ∙ action_actor node.group node.member c.args.action ∙ sym node.who ∙ sym c.catch_up_and_reserve.ensures.cursor.0
+    ap actor_of c.of_node-event.ensures ∙ action_actor node.group node.member c.args.action ∙ sym node.who ∙ sym c.catch_up_and_reserve.ensures.cursor.0
 
 pub refused-requires-then-is_full-clause-exact : goal.refused-requires-then-is_full-clause-exact
 refused-requires-then-is_full-clause-exact g c =
@@ -62,7 +62,7 @@ refused-requires-then-is_full-clause-exact g c =
     let goes =
     grants plan g.L.Site.slots 0 es (world_at plan (seen_at node.cursor)) (marked node.cursor) node.group node.member (node_of node.segment) node.who node.named node.state c.in_ok-catch_up_and_reserve.ensures.agree (there_joined (world_at plan es) node.group c.from.result c.joined.result c.joined.ensures c.from.ensures c.if-from-joined.false)
     c.args.action made (action_steps plan node.group node.member node.segment node.of c.args.action made c.in-Ok.ensures.step) in
-    (ap (λ (e : Event). refusal (step plan (world_at plan es) e)) c.event-event.ensures ∙ goes, c.if-is_full.ensures)
+    (ap (λ (e : Event). refusal (step plan (world_at plan es) e)) c.of_node-event.ensures ∙ goes, c.if-is_full.ensures)
 
 pub returns-then-from-joined-clause-exact : goal.returns-then-from-joined-clause-exact
 returns-then-from-joined-clause-exact g c =
@@ -123,7 +123,7 @@ invariant_of-self-2 g c =
     let now =
     done plan g.L.Site.slots 0 es (world_at plan (seen_at node.cursor)) (marked node.cursor) node.group node.member (node_of node.segment) node.who node.named node.state c.in_ok-catch_up_and_reserve.ensures.agree (there_joined (world_at plan es) node.group c.from.result c.joined.result c.joined.ensures c.from.ensures c.if-from-joined.false)
     c.args.action made (action_steps plan node.group node.member node.segment node.of c.args.action made c.in-Ok.ensures.step) in
-    let left = ap (λ (e : Event). (after plan (world_at plan es) e).nodes node.group node.member) c.event-event.ensures ∙ now in
+    let left = ap (λ (e : Event). (after plan (world_at plan es) e).nodes node.group node.member) c.of_node-event.ensures ∙ now in
     record {
       who = c.enter.ensures.cursor.0 ∙ c.catch_up_and_reserve.ensures.cursor.0 ∙ node.who;
       of = same_of plan node.group node.member node.segment c.apply-made.new.self node.of c.apply-made.ensures.actor;

@@ -1,5 +1,5 @@
 use Rattle.journal.specs.Passes.{notes_of, steps_of}
-use Rattle.world.specs.Acts.{node_event}
+use Rattle.world.specs.Actions.{node_event}
 use Rattle.node_fleet.proofs.Calling.{lost_halt, records_refused}
 use Rattle.node_fleet.proofs.fleet.Fleet.enter_node.Goals as goal
 
