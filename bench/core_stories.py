@@ -7,17 +7,17 @@ ghost use Rattle.plan.specs.LentClaims.{all_lent};
 ghost use Rattle.plan.specs.Plan.{plan_data};
 ghost use Rattle.plan.specs.PlanClaims.{claims_in};
 ghost use Rattle.plan.specs.PlanText.{plan_of};
-ghost use Rattle.plan_text.specs.Taped.{HasClaims};
+ghost use Rattle.plan.specs.Taped.{HasClaims};
 ghost use Rattle.cert_search.specs.Answers.{rule_in, AreAnswersOf};
 
 use crate::Told;
 use crate::texts::PLANS;
 use cert_search::{Gate, search_all, search_one};
 use plan::{
-    CheckedPlan, Configuration, ClaimRef, NamedClaim, Plan, PlanFault, check_plan, claims, lent_claims,
+    CheckedPlan, Configuration, ClaimRef, NamedClaim, Plan, PlanFault, TapedPlan, check_plan, claims,
+    lent_claims,
 };
 use json::Scratch;
-use plan_text::TapedPlan;
 use quorum_checker::{Claim, FaultAt, check};
 use quorum_expr::{Expr, MemberSet, copy_in, dual_in, holds, valid};
 use refutation::Certificate;
@@ -42,7 +42,7 @@ enum Part {
     Copying,
     /// `search_one`, and `search_all` by so many workers.
     Searching(u8),
-    /// `TapedPlan::write`, and `plan::write_plan` by a JSON value.
+    /// `TapedPlan::write` and `plan::write_plan`.
     Writing,
 }
 
@@ -265,7 +265,7 @@ fn written(
     }
 }
 
-fn written_by_value(
+fn written_from_text(
     alloc: Global,
     text: &[u8],
     certificates: &[Option<Certificate<Global>>],
@@ -545,7 +545,7 @@ fn of_written(
         Ok(line) => of_bytes(line.as_slice(), story)?,
         Err(fault) => write!(story, "{fault};")?,
     }
-    match written_by_value(alloc, text, found) {
+    match written_from_text(alloc, text, found) {
         Ok(line) => of_bytes(line.as_slice(), story),
         Err(fault) => write!(story, "{fault};"),
     }

@@ -129,7 +129,7 @@ fn main(rt: HostRuntime) -> ExitCode {
 }
 """
 
-CORE_CRATES = ["volume_model", "quorum_expr", "refutation", "quorum_checker", "plan", "plan_text", "cert_search", "json"]
+CORE_CRATES = ["volume_model", "quorum_expr", "refutation", "quorum_checker", "plan", "cert_search", "json"]
 
 FLEET_CRATES = ["volume_model", "plan", "redo_record", "wire", "epochs", "writer_core", "recovery", "world", "board", "journal", "fleet_actors", "node_fleet"]
 

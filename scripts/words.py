@@ -19,7 +19,7 @@ NAMES = {
     "Lasts": "LastLsns", "Entrant": "PendingInsert", "Desk": "CompletionTable", "Tally": "RunCounts", "Crew": "Workers", "FindEnd": "RecoveryOutcome",
     "WriterEnd": "WriterOutcome", "ClientDeed": "ClientAction", "NodeDeed": "NodeAction", "deed": "action", "Deed": "LineAction",
     "LentClaim": "ClaimRef", "AnswersLate": "AnswersAfterGrowth", "act_late": "act_after_growth", "Halts": "RecordsAttempt",
-    "conclude": "commit_or_note", "leave": "leak",
+    "conclude": "commit_or_note", "leave": "leak", "Reach": "StealHandle", "Turn": "Assignment",
 }
 # Where a word of the list means something else: (crate, word).
 OTHER = {("volume_model", "Lasts"), ("writer_core", "leave")}

@@ -6,11 +6,9 @@ ghost use Rattle.refutation.specs.Refutation.{rule_of};
 ghost use Rattle.refutation.specs.Certificate.{certificate_rule};
 ghost use Rattle.cert_search.specs.Lengths.{branches_length, digits, head_length, length_of, name_length, numbers_length, pairs_length, rule_length};
 
+use plan::PLAN_BYTES;
 use refutation::{Certificate, Refutation, Side};
 use std::alloc::Allocator;
-
-/// The most bytes of a plan's text.
-pub const PLAN_BYTES: u32 = 16_777_216;
 
 /// Returns how many digits a number has.
 fn digits(number: u16) -> u32

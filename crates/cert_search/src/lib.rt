@@ -23,7 +23,6 @@ pub use dealing::deal;
 pub use fitting::keep_shortest;
 pub use gate::Gate;
 pub use hand::Hand;
-pub use lengths::PLAN_BYTES;
 pub use one::{search_in, search_one};
 pub use searching::search_all;
 pub use settling::settle;

@@ -11,7 +11,7 @@ use Rattle.refutation.specs.Rule.{Rule}
 use Rattle.plan.specs.declared.lent.ClaimRef.{ClaimRef}
 use Rattle.plan.specs.LentClaims.{all_lent, lent_placed}
 use Rattle.plan.specs.PlanClaims.{PlacedClaim}
-use Rattle.plan_text.specs.Taped.{HasClaims}
+use Rattle.plan.specs.Taped.{HasClaims}
 use Rattle.cert_search.specs.Answers.{rule_in}
 use Rattle.cert_search.specs.Kept.{AreKept}
 use Rattle.commands.specs.Searched.{PrintsSearch}

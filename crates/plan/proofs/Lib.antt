@@ -20,3 +20,13 @@ pub mod Certifies
 pub mod Admitted
 pub mod KeptValues
 pub mod Arrays
+pub mod Branches
+pub mod Copied
+pub mod Joined
+pub mod Known
+pub mod Made
+pub mod PutRules
+pub mod Putting
+pub mod Rooms
+pub mod TapeTexts
+pub mod Texts

@@ -20,3 +20,10 @@ pub mod Sums
 pub mod Shown
 pub mod Shapes
 pub mod Kept
+pub mod Certificates
+pub mod Heads
+pub mod Known
+pub mod PutPlans
+pub mod Puts
+pub mod Rules
+pub mod Taped

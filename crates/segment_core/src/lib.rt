@@ -1,4 +1,4 @@
-//! A segment of a protection group: the records that it holds, and what it answers.
+//! A segment of a protection group: the records that it holds, its complete point, and what it answers.
 #![tactic(auto)]
 
 mod action;
@@ -6,17 +6,31 @@ mod assembly;
 mod block_list;
 mod block_places;
 mod blocks;
+mod chains;
+mod earlier;
+mod numbers;
 mod one_chain;
 mod ordered;
 mod page_index;
 mod pending_insert;
+mod pending_record;
+mod pending_records;
+mod place;
 mod prepared;
+mod recent;
 mod records;
+mod run;
+mod runs;
+mod search;
 mod segment;
 mod segment_state;
 mod snapshot;
+mod waiters;
 
+pub use crate::chains::Chains;
+pub use crate::runs::Runs;
 pub use action::NodeAction;
+pub use place::Place;
 pub use prepared::Prepared;
 pub use segment::Segment;
 pub use snapshot::SegmentSnapshot;

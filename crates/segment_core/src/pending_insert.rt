@@ -1,8 +1,8 @@
 //! Records that are prepared to enter.
 
-use chains::Chains;
+use crate::chains::Chains;
+use crate::place::Place;
 use redo_record::SharedRecord;
-use runs::Place;
 
 /// What a record that enters does to the chains.
 #[derive(Drop)]
@@ -38,7 +38,7 @@ impl Link {
     ghost use Rattle.volume_model.specs.Redo.{Redo, scl, with_record};
     ghost use Rattle.volume_model.specs.Grounded.{GroupLinksFall};
     ghost use Rattle.redo_record.specs.SharedRecord.{shared_redo};
-    ghost use Rattle.chains.specs.Chains.{AreChainsOf};
+    ghost use Rattle.segment_core.specs.Chains.{AreChainsOf};
     ghost use Rattle.segment_core.specs.Link.{CanTie, IsLinkOf};
 
     /// Returns the complete point with the record.

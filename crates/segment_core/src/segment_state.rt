@@ -7,11 +7,11 @@ ghost use Rattle.segment_core.specs.Records.{records_of};
 ghost use Rattle.segment_core.specs.Reported.{IsReported, contents_with};
 
 use crate::pending_insert::PendingInsert;
+use crate::place::Place;
 use crate::records::Records;
 use lineage::Lineage;
 use pages::BLOCK;
 use redo_record::SharedRecord;
-use runs::Place;
 use std::alloc::{AllocError, Global};
 use std::sync::Arc;
 use wire::Contents;

@@ -7,8 +7,8 @@ use quorum_expr::MEMBERS;
 use refutation::{Refutation, Side};
 use std::alloc::{AllocError, Allocator};
 
-/// Returns what refutes a state by the cases of these members, where it is found in trees of this many levels. Only
-/// the side that lost a member last is looked at for an item that can't hold.
+/// Refutes a state by splitting on these members, in a tree of at most `levels` levels. Only the side that lost a member
+/// last is searched for an item that can't hold.
 pub fn split<A: Allocator, B: Allocator + Clone>(
     search: &mut Search<B>,
     state: &State<'_, A>,

@@ -7,7 +7,7 @@ use crate::spending::Search;
 use refutation::{Refutation, Side};
 use std::alloc::{AllocError, Allocator};
 
-/// Returns what refutes the state whose only items are these, where it is found in trees of this many levels.
+/// Refutes the state whose only items are these, in a tree of at most that many levels.
 #[cycle(closed)]
 pub fn closed<B: Allocator + Clone, C: Allocator>(
     search: &mut Search<B>,
@@ -28,7 +28,7 @@ pub fn closed<B: Allocator + Clone, C: Allocator>(
     }
 }
 
-/// Returns both sides, with a child in the place of the one.
+/// Returns both sides with one of them replaced by a child.
 fn pair<'p>(side: Side, both: (&'p Part, &'p Part), child: &'p Part) -> (&'p Part, &'p Part) {
     match side {
         Side::Left => (child, both.1),
@@ -36,8 +36,7 @@ fn pair<'p>(side: Side, both: (&'p Part, &'p Part), child: &'p Part) -> (&'p Par
     }
 }
 
-/// Returns a bit for each of the first of these children of a side that close with the other side, of so much weight
-/// together.
+/// Returns a bit for each of a side's first children that close with the other side and together reach a weight.
 fn chosen<C: Allocator>(
     closing: &Closing<C>,
     side: Side,
@@ -62,8 +61,7 @@ fn chosen<C: Allocator>(
     chosen
 }
 
-/// Returns the pick of those children of a side's only item that close with that of the other side, of as much weight
-/// as is needed.
+/// Returns the pick of children of a side's only item that close with the other side's, of enough weight.
 #[cycle(closed)]
 fn picked<B: Allocator + Clone, C: Allocator>(
     search: &mut Search<B>,
@@ -102,7 +100,7 @@ fn picked<B: Allocator + Clone, C: Allocator>(
     }))
 }
 
-/// Returns the match of children of the only items that close.
+/// Returns the match of closing pairs of children of the only items.
 #[cycle(closed)]
 fn matched<B: Allocator + Clone, C: Allocator>(
     search: &mut Search<B>,

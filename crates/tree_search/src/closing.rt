@@ -1,5 +1,6 @@
-//! Which pairs of subexpressions of the two sides can be closed, each pair on its own: the one can't hold, they are one member, two
-//! choices have enough pairs of children that close, or a choice has enough children that close with the other.
+//! The pairs of subexpressions of the two sides that close, that is, of which no two disjoint sets satisfy one each:
+//! one can't hold, both are the same member, two choices have enough closing pairs of children, or one choice has enough
+//! children that close with the other.
 
 use crate::grid::Grid;
 use crate::matching::{Mates, steps_of};
@@ -9,7 +10,7 @@ use crate::spending::Search;
 use refutation::Side;
 use std::alloc::{AllocError, Allocator};
 
-/// How many steps it takes to see how a pair is closed that has a member, or thresholds over members alone.
+/// The steps that deciding a pair takes if one is a member or both are thresholds over members alone.
 const FLAT_STEPS: u64 = 4;
 
 /// How a pair is closed.
@@ -21,8 +22,8 @@ pub enum Way {
     Pick(Side),
 }
 
-/// The subexpressions of both sides, and for each left choice a bit for each right one with which it closes. Whether a member closes
-/// with another subexpression follows from what that needs.
+/// The subexpressions of both sides, and for each left choice a bit for each right one that closes with it. Whether a
+/// member closes with another subexpression follows from the members that the other one requires.
 #[derive(Drop)]
 pub struct Closing<B: Allocator> {
     lefts: Parts<B>,
@@ -30,7 +31,7 @@ pub struct Closing<B: Allocator> {
     grid: Grid<B>,
 }
 
-/// Returns what the pairs of a match of two choices weigh at least.
+/// Returns the least weight of the pairs of a match of two choices.
 pub fn wanted(of: &Choice, others: &Choice) -> usize {
     (of.needed().saturating_add(others.needed())).saturating_sub(1)
 }
@@ -40,7 +41,7 @@ fn count(members: u64) -> usize {
     members.count_ones() as usize
 }
 
-/// Returns how many children of a choice over members can't hold.
+/// Returns the number of children of a choice over members that can't hold.
 fn dead(choice: &Choice, part: &Part) -> usize {
     choice.len().saturating_sub(count(part.members))
 }
@@ -74,8 +75,8 @@ impl<B: Allocator> Closing<B> {
         self.rights.at(at)
     }
 
-    /// Goes through all pairs of choices, those of children before those of their parents, as far as the search may.
-    /// `None` if it may not even make room for them.
+    /// Decides all pairs of choices, children before parents, within the budget. `None` if the budget doesn't allow for
+    /// the table.
     pub fn new(
         search: &mut Search<B>,
         lefts: Parts<B>,
@@ -100,7 +101,7 @@ impl<B: Allocator> Closing<B> {
         Ok(Some(closing))
     }
 
-    /// Returns the members that matter on both sides, in the order in which their cases are tried.
+    /// Returns the members that matter on both sides, in the order of splitting.
     pub fn members(&self, arena: &B) -> Result<Vec<u8, B>, AllocError>
     where
         B: Clone,
@@ -113,7 +114,7 @@ impl<B: Allocator> Closing<B> {
         self.lefts.len().saturating_add(self.rights.len())
     }
 
-    /// Goes through the pairs of a left choice. Nobody asks for the pair of the two whole expressions, which are no children.
+    /// Decides the pairs of a left choice, except that of the two whole expressions, which are no children.
     fn close_row(&mut self, search: &mut Search<B>, row: usize) {
         for column in (0..self.rights.choices.len()).rev() {
             if (row, column) != (0, 0) && self.choices_close(search, row, column) {
@@ -122,8 +123,7 @@ impl<B: Allocator> Closing<B> {
         }
     }
 
-    /// Returns whether a pair of choices closes, where the pairs of children are known and the search may look at
-    /// these.
+    /// Returns whether a pair of choices closes, by the pairs of children and within the budget.
     fn choices_close(&self, search: &mut Search<B>, row: usize, column: usize) -> bool {
         match (self.lefts.choice(row), self.rights.choice(column)) {
             (Some(one), Some(other)) => {
@@ -133,7 +133,7 @@ impl<B: Allocator> Closing<B> {
         }
     }
 
-    /// Returns how many steps it takes at most to see how a pair is closed.
+    /// Returns a bound on the steps of deciding a pair.
     pub fn steps(&self, one: &Part, other: &Part) -> u64 {
         match (&one.form, &other.form) {
             (Form::KOf(of), Form::KOf(others)) if !of.is_flat || !others.is_flat => {
@@ -159,7 +159,7 @@ impl<B: Allocator> Closing<B> {
         }
     }
 
-    /// Returns how a pair is closed, where the pairs of children are known.
+    /// Returns how a pair closes, by the pairs of children.
     pub fn way(&self, one: &Part, other: &Part) -> Option<Way> {
         if !one.is_live {
             return Some(Way::Dead(Side::Left));
@@ -178,7 +178,7 @@ impl<B: Allocator> Closing<B> {
         }
     }
 
-    /// Returns how a pair of choices is closed.
+    /// Returns how a pair of choices closes.
     fn two_choices(&self, one: &Part, of: &Choice, other: &Part, others: &Choice) -> Option<Way> {
         if self.match_closes(one, of, other, others) {
             return Some(Way::Match);
@@ -192,7 +192,7 @@ impl<B: Allocator> Closing<B> {
         }
     }
 
-    /// Returns a pick of a left choice's children, where enough of them close with the right side.
+    /// Returns a pick of a left choice's children, if enough of them close with the right side.
     fn pick_left(&self, one: &Part, of: &Choice, other: &Part) -> Option<Way> {
         let weight = if of.is_flat {
             dead(of, one).saturating_add(count(one.members & other.needs))
@@ -202,7 +202,7 @@ impl<B: Allocator> Closing<B> {
         (weight >= of.needed()).then_some(Way::Pick(Side::Left))
     }
 
-    /// Returns a pick of a right choice's children, where enough of them close with the left side.
+    /// Returns a pick of a right choice's children, if enough of them close with the left side.
     fn pick_right(&self, one: &Part, other: &Part, others: &Choice) -> Option<Way> {
         let weight = if others.is_flat {
             dead(others, other).saturating_add(count(one.needs & other.members))
@@ -212,7 +212,7 @@ impl<B: Allocator> Closing<B> {
         (weight >= others.needed()).then_some(Way::Pick(Side::Right))
     }
 
-    /// Returns what those children of a left choice weigh that close with the right side.
+    /// Returns the weight of a left choice's children that close with the right side.
     fn left_weight_with(&self, of: &Choice, other: &Part) -> usize {
         let mut weight = 0usize;
         for child in self.lefts.children(of) {
@@ -223,7 +223,7 @@ impl<B: Allocator> Closing<B> {
         weight
     }
 
-    /// Returns what those children of a right choice weigh that close with the left side.
+    /// Returns the weight of a right choice's children that close with the left side.
     fn right_weight_with(&self, one: &Part, others: &Choice) -> usize {
         let mut weight = 0usize;
         for child in self.rights.children(others) {
@@ -234,8 +234,8 @@ impl<B: Allocator> Closing<B> {
         weight
     }
 
-    /// Returns whether pairs of children that close weigh as much as a match of two choices takes. Of members, those
-    /// are the equal ones and as many as can't hold.
+    /// Returns whether the closing pairs of children have the weight that a match of two choices takes. Of members, these
+    /// are the equal ones and those that can't hold.
     fn match_closes(&self, one: &Part, of: &Choice, other: &Part, others: &Choice) -> bool {
         if of.is_flat && others.is_flat {
             let pairs = count(one.members & other.members)
@@ -261,7 +261,7 @@ impl<B: Allocator> Closing<B> {
         edge
     }
 
-    /// Pairs of children that close, of as much weight as a match of two choices takes.
+    /// Returns closing pairs of children of the weight that a match of two choices takes.
     pub fn mates(&self, of: &Choice, others: &Choice) -> Option<Mates> {
         let wanted = wanted(of, others);
         if wanted > usize::from(of.total.min(others.total)) {

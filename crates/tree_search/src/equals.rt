@@ -5,14 +5,14 @@ use crate::parts::Part;
 use refutation::Refutation;
 use std::alloc::{AllocError, Allocator};
 
-/// The first children of some members: these members, a bit for each, and at the place of each the number of its child.
+/// The first child of each of some members: a bit for each member, and at its place the number of the child.
 #[derive(Drop)]
 struct Chosen {
     members: u64,
     numbers: [u8; 64],
 }
 
-/// Returns the first so many of some children that are one of these members each.
+/// Returns the first `count` children that are one of these members each.
 fn first_of(of: &[Part], members: u64, count: usize) -> Chosen {
     let mut chosen = Chosen {
         members: 0,
@@ -33,8 +33,8 @@ fn first_of(of: &[Part], members: u64, count: usize) -> Chosen {
     chosen
 }
 
-/// Returns the match of this many pairs of equal members, which are among these, of the children of the only items:
-/// members that differ.
+/// Returns the match of this many pairs of equal members among these. The children of the only items are distinct
+/// members.
 pub fn equal_match<B: Allocator + Clone>(
     arena: &B,
     of: &[Part],

@@ -13,22 +13,22 @@ use quorum_expr::MemberSet;
 use refutation::{MAX_DEPTH, MAX_NODES, Refutation, Side};
 use std::alloc::{AllocError, Allocator, Global};
 
-/// How many steps a search may take for each node that it may try.
+/// The steps that a search may take for each node of its budget.
 const NODE_STEPS: u64 = 2_000;
 
-/// How many times the rules that look at items look at each subexpression of a state: once with and once without each member, on either side.
+/// How often the rules over items visit each subexpression of a state: with and without each member, on either side.
 const ITEM_LOOKS: u64 = 128;
 
-/// A tree that was found, and where it lies.
+/// A tree that was found, and the memory that holds it.
 #[derive(Drop)]
 pub enum Tree<B: Allocator> {
-    /// Where it may stay.
+    /// In memory of its own.
     Kept(Refutation<Global>),
     /// In the arena of the search.
     InArena(Refutation<B>),
 }
 
-/// Returns the pairs of subexpressions of a claim that close. They take half of the steps at most.
+/// Returns the closing pairs of subexpressions of a claim, by at most half of the steps.
 fn closing_of<A: Allocator, B: Allocator + Clone>(
     search: &mut Search<B>,
     claim: &Claim<A>,
@@ -46,7 +46,7 @@ fn closing_of<A: Allocator, B: Allocator + Clone>(
     Ok(closing)
 }
 
-/// Returns what refutes a claim whose two expressions close on their own.
+/// Refutes a claim whose two expressions close as a pair.
 fn whole<B: Allocator>(
     search: &mut Search<Global>,
     closing: &Closing<B>,
@@ -57,8 +57,8 @@ fn whole<B: Allocator>(
     }
 }
 
-/// Returns what refutes a claim that isn't closed by pairs: by the rules that look at items, then by the cases of
-/// members. Half of the nodes and of the steps are for the first, and what is left of all for the second.
+/// Refutes a claim whose pair of expressions doesn't close: by the rules over items, within half of the nodes and
+/// steps, then by cases of members, within the rest.
 fn searched<A: Allocator, B: Allocator + Clone>(
     search: &mut Search<B>,
     claim: &Claim<A>,
@@ -88,13 +88,12 @@ fn searched<A: Allocator, B: Allocator + Clone>(
     split(search, &state, Side::Left, members.as_slice(), MAX_DEPTH)
 }
 
-/// Returns a tree that is to refute a claim, or none where the search gave up: first by the pairs of its
-/// subexpressions that close, each on its own, then by the rules that look at items and by the cases of members. The
-/// budget bounds how many nodes are tried, and with them the steps, and so the time and the memory of all of it.
-/// Tables and items lie in the arena, and so does a tree that isn't read off the pairs.
+/// Returns a tree that should refute a claim, or `None` if the search gave up: by closing pairs of subexpressions, then
+/// by the rules over items, then by cases of members. The budget bounds the nodes that are tried, and by them the steps
+/// and so time and memory. Tables and items lie in the arena, as does a tree that isn't read off the pairs.
 ///
 /// # Errors
-/// [`AllocError`] where memory runs out.
+/// [`AllocError`] if memory runs out.
 pub fn find_tree<A: Allocator, B: Allocator + Clone>(
     alloc: Global,
     arena: &B,

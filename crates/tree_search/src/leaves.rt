@@ -1,4 +1,4 @@
-//! Where a search ends: a state that is refuted at once, and one with two disjoint sets that satisfy its sides.
+//! The leaves of a search: a state that is refuted at once, and one whose sides two disjoint sets satisfy.
 
 use crate::members::common;
 use crate::state::State;
@@ -6,7 +6,7 @@ use quorum_expr::{Expr, MEMBERS};
 use refutation::{Refutation, Side};
 use std::alloc::Allocator;
 
-/// Returns the item of a side that can't hold, as a refutation.
+/// Refutes a state by an item of a side that can't hold.
 pub fn dead_on<A: Allocator, B: Allocator>(
     state: &State<'_, A>,
     side: Side,
@@ -16,7 +16,7 @@ pub fn dead_on<A: Allocator, B: Allocator>(
     Some(Refutation::Dead { side, item })
 }
 
-/// Returns an item that can't hold, as a refutation.
+/// Refutes a state by an item that can't hold.
 fn dead<A: Allocator, B: Allocator>(state: &State<'_, A>) -> Option<Refutation<B>> {
     match dead_on(state, Side::Left) {
         Some(tree) => Some(tree),
@@ -24,7 +24,7 @@ fn dead<A: Allocator, B: Allocator>(state: &State<'_, A>) -> Option<Refutation<B
     }
 }
 
-/// Returns two items that are the same member, as a refutation.
+/// Refutes a state by two items that are the same member.
 fn clash<A: Allocator, B: Allocator>(state: &State<'_, A>) -> Option<Refutation<B>> {
     let rights = state.right.members();
     for (i, item) in state.left.items.iter().enumerate() {
@@ -39,7 +39,7 @@ fn clash<A: Allocator, B: Allocator>(state: &State<'_, A>) -> Option<Refutation<
     None
 }
 
-/// Returns what refutes a state without branches.
+/// Refutes a state without branches.
 pub fn leaf<A: Allocator, B: Allocator>(state: &State<'_, A>) -> Option<Refutation<B>> {
     match dead(state) {
         Some(tree) => Some(tree),
@@ -47,8 +47,8 @@ pub fn leaf<A: Allocator, B: Allocator>(state: &State<'_, A>) -> Option<Refutati
     }
 }
 
-/// Returns whether two disjoint sets that satisfy all items of both sides are found by giving each common member to
-/// the right side, where the left one can do without it, and else to the left.
+/// Returns whether two disjoint sets satisfy all items of both sides, where each common member goes to the right side if
+/// the left one holds without it, and else to the left.
 fn leaves_enough<A: Allocator>(state: &State<'_, A>) -> bool {
     let mut left = state.left.absent.complement();
     let mut right = state.right.absent.complement();
@@ -66,7 +66,7 @@ fn leaves_enough<A: Allocator>(state: &State<'_, A>) -> bool {
     state.right.hold(right)
 }
 
-/// Returns whether two disjoint sets that satisfy all items of both sides are found. No item is dead.
+/// Returns whether two disjoint sets that satisfy all items of both sides are found. Each item can hold.
 pub fn has_counterexample<A: Allocator>(state: &State<'_, A>) -> bool {
     leaves_enough(state) || leaves_enough(&state.turned())
 }

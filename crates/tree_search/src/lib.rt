@@ -1,6 +1,5 @@
-//! The search for a tree that refutes a claim: by the pairs of subexpressions that close, by the rules that look at items, and by the
-//! cases of members. Nobody trusts what it finds: that each call is safe and ends is all that is promised, and who asks for a tree
-//! has it judged.
+//! The search for a tree that refutes a claim: by closing pairs of subexpressions, by the rules over items, and by cases
+//! of members. What it finds isn't trusted: each call is safe and ends, and the caller has the tree checked.
 #![tactic(auto)]
 
 mod cases;

@@ -3,8 +3,8 @@
 /// No left child.
 const NOBODY: u8 = u8::MAX;
 
-/// Returns how many steps a matching of this many children takes at most: one for each pair, or where they don't all
-/// weigh 1, as many times as there are children on the longer side.
+/// Returns a bound on the steps of a matching of this many children: one for each pair, and if weights other than 1
+/// occur, that many for each child of the longer side.
 pub fn steps_of(lefts: usize, rights: usize, is_of_ones: bool) -> u64 {
     let pairs = (lefts as u64).saturating_mul(rights as u64);
     if is_of_ones {
@@ -14,13 +14,13 @@ pub fn steps_of(lefts: usize, rights: usize, is_of_ones: bool) -> u64 {
     }
 }
 
-/// For each right child the left child that it is matched with.
+/// A matching: for each right child its left child.
 #[derive(Drop)]
 pub struct Mates {
     mates: [u8; 64],
 }
 
-/// Finds a mate for a left child among the right children that were not yet tried, moving others to further ones.
+/// Finds a mate for a left child among the right children that weren't tried yet, and moves their mates if need be.
 fn augment(edges: &[u64], left: u8, tried: &mut u64, mates: &mut [u8; 64], depth: u8) -> bool {
     if depth == 0 {
         return false;
@@ -47,14 +47,14 @@ fn augment(edges: &[u64], left: u8, tried: &mut u64, mates: &mut [u8; 64], depth
 /// No right child: the column from which a search for a mate starts.
 const START: usize = 64;
 
-/// A heaviest matching in the making: for each right child the left one that it is matched with, and prices by which the
-/// pairs of the matching are the cheapest of all. A pair costs what it doesn't weigh.
+/// A matching of greatest weight under construction (the Hungarian method): for each right child its left child, and
+/// prices under which the pairs of the matching are the cheapest. A pair's cost is the negative of its weight.
 #[derive(Drop)]
 struct Heaviest<'e> {
     edges: &'e [u64],
     lefts: &'e [u8; 64],
     rights: &'e [u8; 64],
-    /// How many columns there are: no fewer than children on either side.
+    /// The number of columns, at least that of the children on either side.
     columns: usize,
     mates: [u8; 65],
     left_prices: [i32; 65],
@@ -73,17 +73,17 @@ fn add(list: &mut [i32; 65], place: usize, number: i32) {
     }
 }
 
-/// How far a search for a mate has come: the columns that it has been at, and for each other one the least that it costs
-/// more, and from which column.
+/// The state of a search for an augmenting path: the columns that were visited, and for each other column the least
+/// extra cost of a path to it, and the column before it.
 #[derive(Drop)]
-struct Reach {
+struct PathSearch {
     seen: u64,
     least: [i32; 65],
     from: [u8; 65],
 }
 
-impl Reach {
-    /// Returns the column that costs the least more, of this many, where the search hasn't been.
+impl PathSearch {
+    /// Returns the unvisited column of least extra cost, among the first `columns`, and that cost.
     fn next(&self, columns: usize) -> (usize, i32) {
         let mut best = (START, i32::MAX);
         for column in 0..columns.min(64) {
@@ -97,7 +97,7 @@ impl Reach {
 }
 
 impl<'e> Heaviest<'e> {
-    /// Returns what a pair weighs: the smaller of its two weights where it closes.
+    /// Returns the weight of a pair: the smaller of its two weights if it closes, else 0.
     fn weight(&self, left: u8, right: usize) -> i32 {
         let (edges, lefts, rights) = (self.edges, self.lefts, self.rights);
         let edge = edges.get(usize::from(left)).copied().unwrap_or(0);
@@ -110,7 +110,7 @@ impl<'e> Heaviest<'e> {
         i32::from(smaller)
     }
 
-    /// Returns what a pair costs more than its prices.
+    /// Returns a pair's cost above the sum of its prices.
     fn excess(&self, left: u8, right: usize) -> i32 {
         let prices = at(&self.left_prices, usize::from(left)).wrapping_add(at(
             &self.right_prices,
@@ -125,15 +125,15 @@ impl<'e> Heaviest<'e> {
         self.mates.get(column).copied().unwrap_or(NOBODY)
     }
 
-    /// Looks on from a column.
-    fn look(&self, reach: &mut Reach, column: usize) {
+    /// Lowers the cost of each unvisited column to that of a path through a column.
+    fn relax(&self, search: &mut PathSearch, column: usize) {
         let left = self.mate(column);
         for right in 0..self.columns.min(64) {
             let more = self.excess(left, right);
-            if (reach.seen >> right) & 1 == 0 && more < at(&reach.least, right) {
+            if (search.seen >> right) & 1 == 0 && more < at(&search.least, right) {
                 if let (Some(least), Some(from)) = (
-                    reach.least.get_mut(right),
-                    reach.from.get_mut(right),
+                    search.least.get_mut(right),
+                    search.from.get_mut(right),
                 ) {
                     *least = more;
                     *from = column.min(START) as u8;
@@ -142,28 +142,28 @@ impl<'e> Heaviest<'e> {
         }
     }
 
-    /// Changes the prices by what the next column costs more.
-    fn raise(&mut self, reach: &mut Reach, by: i32) {
+    /// Changes the prices by the next column's extra cost.
+    fn update_prices(&mut self, search: &mut PathSearch, by: i32) {
         let first = self.mate(START);
         add(&mut self.left_prices, usize::from(first), by);
         for column in 0..self.columns.min(64) {
-            if (reach.seen >> column) & 1 == 1 {
+            if (search.seen >> column) & 1 == 1 {
                 let left = self.mate(column);
                 add(&mut self.left_prices, usize::from(left), by);
                 add(&mut self.right_prices, column, 0i32.wrapping_sub(by));
             } else {
-                add(&mut reach.least, column, 0i32.wrapping_sub(by));
+                add(&mut search.least, column, 0i32.wrapping_sub(by));
             }
         }
     }
 
-    /// Gives each column on the way back the mate of the one before it.
-    fn turn(&mut self, reach: &Reach, mut column: usize) {
+    /// Gives each column of the path the mate of the column before it.
+    fn flip_path(&mut self, search: &PathSearch, mut column: usize) {
         for _ in 0..65 {
             if column == START {
                 break;
             }
-            let before = usize::from(reach.from.get(column).copied().unwrap_or(64)).min(START);
+            let before = usize::from(search.from.get(column).copied().unwrap_or(64)).min(START);
             let mate = self.mate(before);
             if let Some(place) = self.mates.get_mut(column) {
                 *place = mate;
@@ -172,35 +172,35 @@ impl<'e> Heaviest<'e> {
         }
     }
 
-    /// Finds a mate for a left child, by the way that costs the least more.
+    /// Finds a mate for a left child by the augmenting path of least cost.
     fn place(&mut self, left: u8) {
         if let Some(start) = self.mates.get_mut(START) {
             *start = left;
         }
-        let mut reach = Reach {
+        let mut search = PathSearch {
             seen: 0,
             least: [i32::MAX; 65],
             from: [64; 65],
         };
         let mut column = START;
         for _ in 0..65 {
-            self.look(&mut reach, column);
-            let (next, more) = reach.next(self.columns);
+            self.relax(&mut search, column);
+            let (next, more) = search.next(self.columns);
             if next >= START {
                 return;
             }
-            self.raise(&mut reach, more);
-            reach.seen |= 1u64 << next;
+            self.update_prices(&mut search, more);
+            search.seen |= 1u64 << next;
             column = next;
             if self.mate(column) == NOBODY {
-                self.turn(&reach, column);
+                self.flip_path(&search, column);
                 return;
             }
         }
     }
 }
 
-/// Returns what those children weigh that close with some other.
+/// Returns the weight of the children that close with some child of the other side.
 fn weight_of_closed(edges: &[u64], lefts: &[u8; 64]) -> usize {
     let mut weight = 0usize;
     for (edge, left) in edges.iter().zip(lefts) {
@@ -211,8 +211,8 @@ fn weight_of_closed(edges: &[u64], lefts: &[u8; 64]) -> usize {
     weight
 }
 
-/// Returns how many columns a search for mates takes: one for each left child, and for each right one that closes
-/// with some other.
+/// Returns the number of columns of the matching: one for each left child, and for each right one that closes with some
+/// left child.
 fn columns_of(edges: &[u64]) -> usize {
     let mut closed = 0u64;
     for edge in edges {
@@ -224,8 +224,8 @@ fn columns_of(edges: &[u64]) -> usize {
 }
 
 impl Mates {
-    /// Returns a matching of pairs that close and weigh so much, where there is one. A pair weighs the smaller of its
-    /// two weights; `edges` has for each left child a bit for each right child with which it closes.
+    /// Returns a matching of closing pairs of at least a weight, if there is one. A pair's weight is the smaller of its
+    /// two weights; `edges` has for each left child a bit for each right child that closes with it.
     pub fn heaviest(
         edges: &[u64],
         lefts: &[u8; 64],
@@ -260,8 +260,8 @@ impl Mates {
         (weight >= wanted).then_some(Mates { mates })
     }
 
-    /// Returns a matching of this many pairs that can close, where there is one: `edges` has for each left child a
-    /// bit for each right child with which it closes.
+    /// Returns a matching of this many closing pairs, if there is one. `edges` has for each left child a bit for each
+    /// right child that closes with it.
     pub fn find(edges: &[u64], wanted: usize) -> Option<Mates> {
         let mut mates = [NOBODY; 64];
         let mut pairs = 0usize;

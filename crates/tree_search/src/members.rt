@@ -1,10 +1,10 @@
-//! The members that expressions speak of.
+//! The members that expressions name.
 
 use crate::state::{Row, State};
 use quorum_expr::{Expr, MEMBERS, MemberSet};
 use std::alloc::Allocator;
 
-/// Returns the members that an expression speaks of.
+/// Returns the members that an expression names.
 fn members_of<A: Allocator>(expr: &Expr<A>) -> MemberSet {
     match expr {
         Expr::Member(member) => {
@@ -24,7 +24,7 @@ fn members_of<A: Allocator>(expr: &Expr<A>) -> MemberSet {
     }
 }
 
-/// Returns the members that may be there and that an item speaks of.
+/// Returns the members that an item names and that aren't absent.
 fn members_in<A: Allocator>(row: &Row<'_, A>) -> MemberSet {
     let mut members = MemberSet::empty();
     for item in row.items {

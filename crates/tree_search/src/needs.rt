@@ -1,4 +1,4 @@
-//! What is known of a choice by what is known of its children.
+//! What follows for a choice from its children: whether it can hold, and the members that it requires.
 
 use crate::parts::{Choice, Form, Part};
 
@@ -11,7 +11,7 @@ pub struct Known {
     pub needs: u64,
 }
 
-/// Returns whether the children are members of weight 1, of which those that may be there differ.
+/// Returns whether the children are members of weight 1, of which those that aren't absent are distinct.
 fn are_flat(children: &[Part]) -> bool {
     let mut members = 0u64;
     for child in children {
@@ -27,7 +27,7 @@ fn are_flat(children: &[Part]) -> bool {
     true
 }
 
-/// Returns what those children weigh that may hold, and don't without these members.
+/// Returns the weight of the children that can hold, but not without these members.
 fn weight_of(children: &[Part], members: u64) -> usize {
     let mut weight = 0usize;
     for child in children {
@@ -38,7 +38,7 @@ fn weight_of(children: &[Part], members: u64) -> usize {
     weight
 }
 
-/// Returns the members of which each is needed by children of so much weight that may hold.
+/// Returns the members of which each is required by children of at least a weight that can hold.
 fn needed_by(children: &[Part], needed: usize) -> u64 {
     let mut sure = 0u64;
     let mut some = 0u64;

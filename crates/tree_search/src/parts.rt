@@ -7,29 +7,29 @@ use quorum_expr::{Expr, MemberSet};
 use std::alloc::{AllocError, Allocator};
 use std::ops::Range;
 
-/// How many subexpressions are numbered at most: as many as a valid expression may have.
+/// The most subexpressions that are numbered: as many as a valid expression may have.
 const MOST: usize = 4096;
 
-/// How many subexpressions there is room for at first, and how many choices.
+/// The initial room for subexpressions and for choices.
 const ROOM: usize = 64;
 
 const CHOICES: usize = 16;
 
-/// How many steps it takes to list a subexpression and to see what it needs.
+/// The steps of listing a subexpression and of finding the members that it requires.
 const PART_STEPS: u64 = 16;
 
-/// At least so much of what the subexpressions from a number on weigh.
+/// A threshold over the subexpressions from a number on.
 #[derive(Clone, Copy)]
 pub struct Choice {
     /// The weight that has to hold.
     pub k: u16,
-    /// What all children weigh.
+    /// The weight of all children.
     pub total: u16,
     pub first: u16,
     pub count: u16,
     /// Its number among the choices.
     pub number: u16,
-    /// Whether its children are members of weight 1, of which those that may be there differ.
+    /// Whether its children are members of weight 1, of which those that aren't absent are distinct.
     pub is_flat: bool,
 }
 
@@ -44,13 +44,13 @@ pub enum Form {
 #[derive(Clone, Copy)]
 pub struct Part {
     pub form: Form,
-    /// What it weighs as a child.
+    /// Its weight as a child.
     pub weight: u8,
-    /// Whether it holds in all members that may be there.
+    /// Whether it holds in the set of all members that aren't absent.
     pub is_live: bool,
-    /// The members that it speaks of and that may be there, a bit for each.
+    /// The members that it names and that aren't absent, a bit for each.
     pub members: u64,
-    /// The members without any of which it doesn't hold, a bit for each.
+    /// The members that it requires, a bit for each.
     pub needs: u64,
 }
 
@@ -74,18 +74,18 @@ impl Choice {
         usize::from(self.count)
     }
 
-    /// Returns what children weigh of which one holds at least: one more than what it can do without.
+    /// Returns the least weight of children of which at least one must hold: one more than the choice can spare.
     pub fn needed(&self) -> usize {
         (usize::from(self.total) + 1).saturating_sub(usize::from(self.k))
     }
 
-    /// Returns whether each child weighs 1.
+    /// Returns whether each child has weight 1.
     pub fn is_of_ones(&self) -> bool {
         self.total == self.count
     }
 }
 
-/// Returns what all children weigh.
+/// Returns the weight of all children.
 pub fn total<A: Allocator>(of: &[(u8, Expr<A>)]) -> usize {
     let mut total = 0usize;
     for (weight, _) in of {
@@ -94,12 +94,12 @@ pub fn total<A: Allocator>(of: &[(u8, Expr<A>)]) -> usize {
     total
 }
 
-/// Returns a number of up to 16 bits, as all are of an expression whose subexpressions aren't too many.
+/// Returns a number of up to 16 bits, as all are if an expression has at most 65,536 subexpressions.
 fn short(number: usize) -> u16 {
     u16::try_from(number).unwrap_or(u16::MAX)
 }
 
-/// Returns a member, where it may be there.
+/// Returns the part of a member, which can hold if it isn't absent.
 fn member_part(member: u8, weight: u8, absent: MemberSet) -> Part {
     let bit = 1u64.checked_shl(u32::from(member)).unwrap_or(0);
     let is_live = !absent.contains(member);
@@ -112,7 +112,7 @@ fn member_part(member: u8, weight: u8, absent: MemberSet) -> Part {
     }
 }
 
-/// Returns a choice of this many subexpressions from a number on, of which nothing is known yet.
+/// Returns a choice over this many subexpressions from a number on, of which nothing is known yet.
 fn choice_part(k: u16, weight: u8, number: usize) -> Part {
     let choice = Choice {
         k,
@@ -131,7 +131,7 @@ fn choice_part(k: u16, weight: u8, number: usize) -> Part {
     }
 }
 
-/// Where the parts of an expression are listed.
+/// The list of the parts of an expression, under construction.
 #[derive(Drop)]
 struct Listing<'e, A: Allocator, B: Allocator> {
     parts: Parts<B>,
@@ -201,7 +201,7 @@ impl<B: Allocator> Parts<B> {
         self.all.len()
     }
 
-    /// Notes what is known of a choice by its children.
+    /// Stores what follows for a choice from its children.
     fn know(&mut self, at: usize) {
         let Some(
             Part {
@@ -228,7 +228,7 @@ impl<B: Allocator> Parts<B> {
         }
     }
 
-    /// Notes what is known of all choices, of children before their parents.
+    /// Stores it for all choices, children before parents.
     fn know_all(&mut self) {
         for number in (0..self.choices.len()).rev() {
             let at = self.choices.get(number).copied().unwrap_or(0);
@@ -237,8 +237,8 @@ impl<B: Allocator> Parts<B> {
     }
 }
 
-/// Returns the subexpressions of an expression where these members are absent. `None` if they are too many, or more
-/// than the search may look at.
+/// Returns the subexpressions of an expression, these members absent. `None` if they are too many, or more than the
+/// budget allows for.
 pub fn parts_of<A: Allocator, B: Allocator + Clone>(
     search: &mut Search<B>,
     expr: &Expr<A>,

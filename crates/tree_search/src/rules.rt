@@ -1,5 +1,5 @@
-//! The search by the rules that look at items: those that ask for all their children first, then choices of one child,
-//! then matches, then other picks.
+//! The search by the rules over items: items that require all their children first, then those that require one, then
+//! matches, then other picks.
 
 use crate::leaves::{has_counterexample, leaf};
 use crate::matching::{Mates, steps_of};
@@ -18,14 +18,14 @@ struct Closed<B: Allocator> {
     tree: Refutation<B>,
 }
 
-/// The pairs that close, and for each left child a bit for each right child with which it does.
+/// The closing pairs, and for each left child a bit for each right child that closes with it.
 #[derive(Drop)]
 struct Closing<B: Allocator> {
     pairs: Vec<Closed<B>, B>,
     edges: Vec<u64, B>,
 }
 
-/// Returns the first item that asks for all its children.
+/// Returns the first item that requires all its children.
 fn first_all<A: Allocator>(row: &Row<'_, A>) -> Option<usize> {
     row.items.iter().position(|item| match *item {
         Expr::Member(_) => false,
@@ -33,7 +33,7 @@ fn first_all<A: Allocator>(row: &Row<'_, A>) -> Option<usize> {
     })
 }
 
-/// Returns the first item that asks for one of its children.
+/// Returns the first item that requires one of its children.
 fn first_any<A: Allocator>(row: &Row<'_, A>) -> Option<usize> {
     row.items.iter().position(|item| match *item {
         Expr::Member(_) => false,
@@ -41,7 +41,7 @@ fn first_any<A: Allocator>(row: &Row<'_, A>) -> Option<usize> {
     })
 }
 
-/// Returns what the first 64 children weigh.
+/// Returns the weight of the first 64 children.
 fn weights<A: Allocator>(of: &[(u8, Expr<A>)]) -> [u8; 64] {
     let mut weights = [0u8; 64];
     for (place, child) in weights.iter_mut().zip(of) {
@@ -50,7 +50,7 @@ fn weights<A: Allocator>(of: &[(u8, Expr<A>)]) -> [u8; 64] {
     weights
 }
 
-/// Returns whether it is worth while to look for what closes a pair of children.
+/// Returns whether a search for what closes a pair of children is worthwhile.
 fn may_close<A: Allocator>(state: &State<'_, A>, left: &Expr<A>, right: &Expr<A>) -> bool {
     match (left, right) {
         (Expr::Member(one), Expr::Member(other)) => {
@@ -60,7 +60,7 @@ fn may_close<A: Allocator>(state: &State<'_, A>, left: &Expr<A>, right: &Expr<A>
     }
 }
 
-/// Returns what refutes a state by its items, where it is found in trees of this many levels.
+/// Refutes a state by its items, in a tree of at most that many levels.
 #[cycle(rules)]
 pub fn refute<A: Allocator, B: Allocator + Clone>(
     search: &mut Search<B>,
@@ -92,7 +92,7 @@ pub fn refute<A: Allocator, B: Allocator + Clone>(
     }
 }
 
-/// Returns what refutes a state whose item is replaced by all its children.
+/// Refutes a state by replacing an item by all its children.
 #[cycle(rules)]
 fn open<A: Allocator, B: Allocator + Clone>(
     search: &mut Search<B>,
@@ -119,8 +119,8 @@ fn open<A: Allocator, B: Allocator + Clone>(
     Ok(Some(Refutation::Open { side, item, then }))
 }
 
-/// Returns what refutes a state whose item is replaced by one of its children, for this many of them that what is
-/// left weighs too little.
+/// Refutes a state by replacing an item by one of its children, for so many of them that the others' weight is below
+/// the threshold.
 #[cycle(rules)]
 fn pick<A: Allocator, B: Allocator + Clone>(
     search: &mut Search<B>,
@@ -172,7 +172,7 @@ fn pick<A: Allocator, B: Allocator + Clone>(
     }))
 }
 
-/// Returns what refutes a state by a match of two of its thresholds.
+/// Refutes a state by a match of two of its thresholds.
 #[cycle(rules)]
 fn match_some<A: Allocator, B: Allocator + Clone>(
     search: &mut Search<B>,
@@ -192,7 +192,7 @@ fn match_some<A: Allocator, B: Allocator + Clone>(
     Ok(None)
 }
 
-/// Returns what refutes a state by picks from one of its thresholds.
+/// Refutes a state by picks from one of its thresholds.
 #[cycle(rules)]
 fn pick_some<A: Allocator, B: Allocator + Clone>(
     search: &mut Search<B>,
@@ -212,8 +212,8 @@ fn pick_some<A: Allocator, B: Allocator + Clone>(
     Ok(None)
 }
 
-/// Returns the pairs of children of two thresholds that close, each on its own, and for each left child a bit for each
-/// right child with which it does.
+/// Returns the closing pairs of children of two thresholds, and for each left child a bit for each right child that
+/// closes with it.
 #[cycle(rules)]
 fn close_pairs<A: Allocator, B: Allocator + Clone>(
     search: &mut Search<B>,
@@ -246,7 +246,7 @@ fn close_pairs<A: Allocator, B: Allocator + Clone>(
     Ok(Closing { pairs, edges })
 }
 
-/// Returns what refutes a state by a match of two of its items.
+/// Refutes a state by a match of two of its items.
 #[cycle(rules)]
 fn match_two<A: Allocator, B: Allocator + Clone>(
     search: &mut Search<B>,
@@ -292,7 +292,7 @@ fn match_two<A: Allocator, B: Allocator + Clone>(
     Ok(Some(matched(&search.arena, left, right, &mates, closing.pairs)?))
 }
 
-/// Returns the match of the pairs that are mates.
+/// Returns the match of the pairs of a matching.
 fn matched<B: Allocator + Clone>(
     arena: &B,
     left: u16,

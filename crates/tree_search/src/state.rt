@@ -1,4 +1,4 @@
-//! What a search works on: the items of both sides, and the members that are absent from each.
+//! The states of a search: the items of both sides, and the members that are absent from each.
 
 ghost use Rattle.std.specs.Prelude.{◌<◌};
 
@@ -9,7 +9,7 @@ use std::alloc::{AllocError, Allocator};
 /// Items at the end of a side's list.
 #[derive(Drop)]
 pub struct Row<'a, A: Allocator> {
-    /// How many items stand before them, which the search leaves alone.
+    /// The number of items before them, which the search doesn't change.
     pub before: usize,
     pub items: &'a [&'a Expr<A>],
     /// The members that are absent from the side.
@@ -29,7 +29,7 @@ impl<'a, A: Allocator> Row<'a, A> {
         u16::try_from(self.before.saturating_add(at)).ok()
     }
 
-    /// Returns other items, behind as many.
+    /// Returns other items, after as many.
     pub fn with<'b>(&self, before: usize, items: &'b [&'b Expr<A>]) -> Row<'b, A>
     where
         'a: 'b,
@@ -41,7 +41,7 @@ impl<'a, A: Allocator> Row<'a, A> {
         }
     }
 
-    /// Returns one child in the place of an item, and the other items left alone.
+    /// Returns the items with one of them replaced by one child.
     pub fn narrowed<'b>(&self, items: &'b [&'b Expr<A>]) -> Row<'b, A>
     where
         'a: 'b,
@@ -112,7 +112,7 @@ impl<'a, A: Allocator> Row<'a, A> {
         self.items.iter().all(|item| holds(*item, members))
     }
 
-    /// Returns the first item that doesn't hold even in all members that may be there.
+    /// Returns the first item that doesn't hold in the set of all members that aren't absent.
     pub fn first_dead(&self) -> Option<usize> {
         let present = self.absent.complement();
         self.items.iter().position(|item| !holds(*item, present))
@@ -169,7 +169,7 @@ impl<'a, A: Allocator> State<'a, A> {
         }
     }
 
-    /// Returns the sides in each other's place.
+    /// Returns the state with its sides exchanged.
     pub fn turned(&self) -> State<'a, A> {
         State {
             left: self.right.again(),

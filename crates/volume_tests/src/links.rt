@@ -2,7 +2,7 @@
 
 ghost use Rattle.std.specs.Prelude.{◌<◌};
 
-use chains::Chains;
+use segment_core::Chains;
 use std::alloc::{AllocError, Global};
 use std::test::*;
 

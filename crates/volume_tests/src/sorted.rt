@@ -1,7 +1,7 @@
 //! Sets of records in sorted runs, whose records come in several orders.
 
 use redo_record::{Payload, Record, RecordSet, SharedRecord};
-use runs::Runs;
+use segment_core::Runs;
 use std::alloc::{AllocError, Global};
 use std::test::*;
 

@@ -1,4 +1,4 @@
-//! How far a log is covered by the points of its groups.
+//! Tracks how much of a log is covered by the points of its groups.
 
 ghost use Rattle.std.specs.Prelude.{◌≡◌, length};
 
@@ -7,7 +7,7 @@ use crate::last_lsns::GROUPS;
 use crate::log::Log;
 use redo_record::Record;
 
-/// How far a log is covered: a record is where its LSN is not above the point of its group.
+/// Tracks how much of a log is covered. A record is covered if its LSN isn't above the point of its group.
 #[derive(Clone, Copy)]
 pub struct DurabilityTracker {
     /// How many records of the log are covered, from the first on.
@@ -54,7 +54,7 @@ impl DurabilityTracker {
         self.durable_lasts[usize::from(group)]
     }
 
-    /// Goes on behind the records that are covered, up to the first that isn't.
+    /// Covers the records after those covered, up to the first that can't be.
     pub fn follow(&mut self, log: &Log, group_states: &GroupStates)
         requires { CoversPrefix self.old (group_point_of (groups_in group_states.now)) (packets_in log.now) }
         ensures { CoversLog self.new (group_point_of (groups_in group_states.now)) (packets_in log.now) }

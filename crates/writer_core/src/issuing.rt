@@ -35,7 +35,7 @@ pub struct Span {
     pub ghost assigned: { 1 ≤ volume },
 }
 
-/// Returns the record of a change's record behind a log, of which the last LSNs are known; `point` makes it a
+/// Returns the record of a change after the end of a log, of which the last LSNs are known; `point` makes it a
 /// consistency point. They then know the record too, and where memory runs out they don't.
 #[inline(always)]
 fn next_packet(
@@ -95,7 +95,7 @@ pub fn carry<'a>(volume: u32, group_states: &GroupStates, packet: &'a SharedReco
     }
 }
 
-/// Makes room for this many messages. For one it takes no memory. One takes no memory.
+/// Makes room for this many messages. Room for one takes no memory.
 #[inline(always)]
 pub fn room_for(alloc: Global, messages: usize) -> Result<Messages, AllocError>
     ensures { IfOk result (λ made. listed made ≡ []) }

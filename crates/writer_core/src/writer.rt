@@ -80,7 +80,7 @@ impl Writer {
 
     /// Returns the writer of a later volume epoch, from what its recovery keeps of the groups, with the recovery's lineage and the
     /// log that it found. In each group a write set must have acknowledged what the recovery installed
-    /// ([`Standings::has_installed`]). Takes no memory.
+    /// ([`GroupStates::has_installed`](crate::GroupStates::has_installed)). Takes no memory.
     pub fn opened(
         group_states: GroupStates,
         volume: u32,

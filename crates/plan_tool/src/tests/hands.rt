@@ -10,26 +10,26 @@ use std::thread;
 use std::thread::Threads;
 use volume_model::Fault;
 
-/// A hand by its place, and what it takes.
-type Turn = (usize, Option<usize>);
+/// A hand by its place, and the claim that it takes.
+type ExpectedTake = (usize, Option<usize>);
 
-/// The place of the first turn in which a hand takes something else, where so many claims are dealt to so many workers; behind all turns
-/// where there are more or fewer hands than workers.
+/// Returns the index of the first take that differs from the expected one, after `claims` claims are dealt to `workers` workers;
+/// the number of takes if there are more or fewer hands than workers.
 fn broken<R: Wait>(
     rt: &R,
     alloc: Global,
     claims: usize,
     workers: usize,
-    turns: &[Turn],
+    takes: &[ExpectedTake],
 ) -> Result<Option<usize>, Fault>
     requires some { 0 < workers }
     requires few { workers ≤ 16 }
 {
     let mut hands = deal(alloc, claims, workers)?;
     if hands.len() != workers {
-        return Ok(Some(turns.len()));
+        return Ok(Some(takes.len()));
     }
-    for (place, (hand, expected)) in turns.iter().enumerate() {
+    for (place, (hand, expected)) in takes.iter().enumerate() {
         let Some(hand) = hands.get_mut(*hand) else {
             return Ok(Some(place));
         };
@@ -41,7 +41,7 @@ fn broken<R: Wait>(
 }
 
 /// Two workers have five claims between them, each once, and then none.
-const EACH_ONCE: &[Turn] = &[
+const EACH_ONCE: &[ExpectedTake] = &[
     (1, Some(1)),
     (0, Some(0)),
     (1, Some(3)),
@@ -53,7 +53,7 @@ const EACH_ONCE: &[Turn] = &[
 ];
 
 /// One of three takes all seven.
-const ONE_TAKES_ALL: &[Turn] = &[
+const ONE_TAKES_ALL: &[ExpectedTake] = &[
     (1, Some(1)),
     (1, Some(4)),
     (1, Some(2)),
@@ -66,7 +66,7 @@ const ONE_TAKES_ALL: &[Turn] = &[
 ];
 
 /// A single worker has three.
-const ALONE: &[Turn] = &[(0, Some(0)), (0, Some(1)), (0, Some(2)), (0, None)];
+const ALONE: &[ExpectedTake] = &[(0, Some(0)), (0, Some(1)), (0, Some(2)), (0, None)];
 
 #[test]
 fn claims_are_dealt(rt: HostRuntime) {

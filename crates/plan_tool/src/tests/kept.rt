@@ -6,8 +6,8 @@ ghost use Rattle.plan.specs.Plan.{plan_data};
 ghost use Rattle.plan.specs.PlanClaims.{claims_in};
 
 use super::texts::plan_of;
-use cert_search::{Gate, PLAN_BYTES, keep_shortest, search_all};
-use plan::{ClaimRef, Plan, lent_claims};
+use cert_search::{Gate, keep_shortest, search_all};
+use plan::{ClaimRef, PLAN_BYTES, Plan, lent_claims};
 use std::alloc::Global;
 use std::sync::Wait;
 use std::test::*;

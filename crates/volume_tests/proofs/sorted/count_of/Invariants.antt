@@ -1,6 +1,6 @@
 use Rattle.std.proofs.Common.{◌-◌, length}
-use Rattle.runs.specs.Places.{index_of, IsPlaceIn}
-use Rattle.runs.specs.Runs.{runs_of, records_of}
+use Rattle.segment_core.specs.Places.{index_of, IsPlaceIn}
+use Rattle.segment_core.specs.Runs.{runs_of, records_of}
 use Rattle.volume_tests.proofs.sorted.count_of.Given as goal
 
 abbrev pub invariant-loop-packet : goal.invariant-loop-packet

@@ -1,9 +1,9 @@
 use Rattle.std.proofs.Common.{ℕ, [], ◌∷◌, sym, subst, ◌∙◌}
 use Rattle.volume_model.specs.Redo.{Redo}
 use Rattle.redo_record.specs.SharedRecord.{shared_redo}
-use Rattle.chains.specs.PendingRecords.{IsPendingIn, AreReleased}
-use Rattle.chains.proofs.Chained.{fewer_fall, scl-pending}
-use Rattle.chains.proofs.Telling.{is_reached-from, is_reached-off, wakes_none}
+use Rattle.segment_core.specs.PendingRecords.{IsPendingIn, AreReleased}
+use Rattle.segment_core.proofs.Chained.{fewer_fall, scl-pending}
+use Rattle.segment_core.proofs.Telling.{is_reached-from, is_reached-off, wakes_none}
 use Rattle.segment_core.specs.Link.{IsLinkOf}
 use Rattle.segment_core.proofs.pending_insert.Link.point.Goals as goal
 

@@ -1,10 +1,10 @@
 use Rattle.std.proofs.Common.{ℕ, [], ◌∷◌, sym, subst, arith}
 use Rattle.volume_model.specs.Redo.{Redo}
 use Rattle.redo_record.specs.SharedRecord.{shared_redo}
-use Rattle.chains.specs.PendingRecords.{IsPendingIn, AreReleased}
-use Rattle.chains.specs.Pending.{IsReached}
-use Rattle.chains.proofs.Chained.{fewer_fall}
-use Rattle.chains.proofs.Telling.{is_reached-from, is_reached-off, wakes_none}
+use Rattle.segment_core.specs.PendingRecords.{IsPendingIn, AreReleased}
+use Rattle.segment_core.specs.Pending.{IsReached}
+use Rattle.segment_core.proofs.Chained.{fewer_fall}
+use Rattle.segment_core.proofs.Telling.{is_reached-from, is_reached-off, wakes_none}
 use Rattle.segment_core.specs.Link.{IsLinkOf}
 use Rattle.segment_core.proofs.Rises.{shared_redo-falls}
 use Rattle.segment_core.proofs.pending_insert.Link.tie.Goals as goal

@@ -1,0 +1,76 @@
+-- Texts that were put token by token, and certificates that are read back.
+use Rattle.std.proofs.Common.{◌≡◌, ℕ, zero, suc, ◌≤◌, List, [], ◌∷◌, ◌++◌, refl, ap, sym, subst, ◌∙◌, arith, append-nil, Option, Some, Ok}
+use Rattle.std.specs.Prelude.{All, drop, option_and_then, option_map}
+use Rattle.std.specs.declared.alloc.Global.{Global}
+use Rattle.std.specs.Str.{IsUtf8}
+use Rattle.std.proofs.lemmas.List.Elements.{All-head, All-tail}
+use Rattle.json.specs.Token.{Token}
+use Rattle.json.specs.Json as json
+use Rattle.json.specs.Tree.{json_tokens}
+use Rattle.json.proofs.Printed.Trees.{value-json_tokens}
+use Rattle.json.specs.Lex.{tokens}
+use Rattle.json.specs.Print.{print}
+use Rattle.json.specs.Written.{Written}
+use Rattle.serde_json.specs.Data.{Data, depth}
+use Rattle.serde_json.specs.Read.{of_json, read, max_depth}
+use Rattle.serde_json.specs.Written.{WritesValue}
+use Rattle.serde_json.proofs.Texts.{tokens_from_order, print-outline}
+use Rattle.refutation.specs.declared.certificate.Certificate.{Certificate}
+use Rattle.refutation.specs.Certificate.{certificate_rule}
+use Rattle.plan.specs.PlanData.{PlanData}
+use Rattle.plan.specs.PlanText.{◌>=>◌, in_text, certificate_or_null, plan_in, json_of}
+use Rattle.plan.specs.Rewriting.{value_or_null}
+use Rattle.plan.specs.WithCertificates.{certificate_at}
+use Rattle.plan.specs.Written.{spelt, IsCompact}
+use Rattle.plan.proofs.Text.{is_json}
+use Rattle.plan.specs.Certificates.{certificate_values, IsReadBack}
+use Rattle.plan.specs.PutPlans.{rules_in, IsTextOf}
+
+-- ---- texts
+
+-- what was put for a value is read as that value
+read_back : (d : Data) (ts : List Token) (text : List ℕ) → WritesValue d [] ts → tokens text ≡ ts → depth d ≤ max_depth → read text ≡ Some d
+read_back d ts text put same shallow =
+    let whole : json.value max_depth (tokens text) ≡ Some (put.0, []) = ap (json.value max_depth) (same ∙ put.1 ∙ sym (append-nil (json_tokens put.0))) ∙ value-json_tokens put.0 max_depth [] (omega (arith, put.3)) in
+    ap (λ r. option_and_then of_json (option_and_then (λ p. json.if_last p.0 p.1) r)) whole ∙ put.2
+
+-- the text of a writer that held nothing at first
+pub text_of : (d : Data) (w : Written) (bytes : List ℕ) → WritesValue d [] w.tokens → w.before ≡ [] → bytes ≡ w.before ++ print w.tokens → tokens (print w.tokens) ≡ w.tokens → IsUtf8 (print w.tokens) → IsTextOf d bytes
+text_of d w bytes put none is reads utf8 =
+    let text : bytes ≡ print w.tokens = is ∙ ap (λ b. b ++ print w.tokens) none in
+    let same : tokens bytes ≡ w.tokens = ap tokens text ∙ reads in
+    record {
+      utf8 = subst IsUtf8 (sym text) utf8;
+      back = λ shallow. read_back d w.tokens bytes put same shallow;
+      compact = λ whole. text ∙ ap print (sym same) ∙ ap print (tokens_from_order bytes d (put.0, same ∙ put.1, put.4) whole) ∙ print-outline d;
+    }
+
+-- ---- certificates
+
+-- the certificate at a place is read back, and none where there is none
+pub read_at : (cs : List (Option (Certificate Global))) (i : ℕ) → All (λ c. IsReadBack (option_map certificate_rule c)) cs → certificate_or_null (value_or_null (certificate_values cs) i) ≡ Ok (certificate_at (rules_in cs) i)
+read_at [] i h = refl
+read_at (c ∷ cs) zero h = (All-head (λ c. IsReadBack (option_map certificate_rule c)) c cs h).read
+read_at (c ∷ cs) (suc i) h = read_at cs i (All-tail (λ c. IsReadBack (option_map certificate_rule c)) c cs h)
+
+pub nested : (cs : List (Option (Certificate Global))) (i : ℕ) → All (λ c. IsReadBack (option_map certificate_rule c)) cs → depth (value_or_null (certificate_values cs) i) ≤ 81
+nested [] i h = omega arith
+nested (c ∷ cs) zero h = (All-head (λ c. IsReadBack (option_map certificate_rule c)) c cs h).nests
+nested (c ∷ cs) (suc i) h = nested cs i (All-tail (λ c. IsReadBack (option_map certificate_rule c)) c cs h)
+
+-- those that others leave
+pub back_after : (n : ℕ) (cs : List (Option (Certificate Global))) → All (λ c. IsReadBack (option_map certificate_rule c)) cs → All (λ c. IsReadBack (option_map certificate_rule c)) (drop n cs)
+back_after zero cs h = h
+back_after (suc n) [] h = h
+back_after (suc n) (c ∷ cs) h = back_after n cs (All-tail (λ c. IsReadBack (option_map certificate_rule c)) c cs h)
+
+-- ---- the whole
+
+-- the text of a value that spells a plan
+pub text_spelt : (d : Data) (bytes : List ℕ) (plan : PlanData) → IsTextOf d bytes → depth d ≤ 86 → plan_in d ≡ Ok plan → spelt bytes ≡ Ok plan
+text_spelt d bytes plan t shallow is =
+    let read_back : json_of bytes ≡ Ok d = is_json bytes d t.utf8 (t.back (omega arith)) in
+    ap (λ r. in_text r >=> plan_in) read_back ∙ is
+
+pub text_compact : (d : Data) (bytes : List ℕ) → IsTextOf d bytes → depth d ≤ 86 → IsCompact bytes
+text_compact d bytes t shallow = (d, is_json bytes d t.utf8 (t.back (omega arith)), t.compact)

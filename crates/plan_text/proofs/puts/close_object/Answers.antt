@@ -1,9 +1,0 @@
-use Rattle.std.proofs.Common.{subst, sym}
-use Rattle.std.specs.Prelude.{OnSome}
-use Rattle.json.specs.Token as token
-use Rattle.plan_text.specs.Puts.{PutsToken}
-use Rattle.plan_text.proofs.Putting.{token_put}
-use Rattle.plan_text.proofs.puts.close_object.Goals as goal
-
-pub returns : goal.returns
-returns c = subst (λ o. OnSome o (PutsToken token.end_object c.args.writer.now c.end_object.new.self)) (sym c.ok.ensures.value) (token_put c.end_object.result c.args.writer.now c.end_object.new.self token.end_object c.end_object.ensures)

@@ -1,7 +1,0 @@
-use Rattle.std.proofs.Common.{map, take}
-use Rattle.refutation.specs.Writing.{number_data}
-use Rattle.plan_text.specs.Puts.{Lists}
-use Rattle.plan_text.proofs.puts.put_numbers.Given as goal
-
-abbrev pub invariant-loop-number : goal.invariant-loop-number
-invariant-loop-number l = record { puts : Lists (map number_data (take l.number-index l.numbers)) l.fn.writer l.writer }

@@ -1,5 +1,0 @@
-use Rattle.plan_text.proofs.Putting.{then_put}
-use Rattle.plan_text.proofs.puts.put_text_at.Goals as goal
-
-pub returns : goal.returns
-returns c = then_put c.put_text.result c.put_text.ensures (λ p. record { between = c.put_key.new.writer; key = c.in_ok-put_key.ensures; value = p })

@@ -1,8 +1,0 @@
-use Rattle.std.proofs.Common.{take}
-use Rattle.std.specs.Prelude.{All, option_map}
-use Rattle.refutation.specs.Certificate.{certificate_rule}
-use Rattle.plan_text.specs.Certificates.{IsReadBack}
-use Rattle.plan_text.proofs.sizes.room_for.Given as goal
-
-abbrev pub invariant-loop-certificate : goal.invariant-loop-certificate
-invariant-loop-certificate l = All (λ c. IsReadBack (option_map certificate_rule c)) (take l.certificate-index l.certificates)

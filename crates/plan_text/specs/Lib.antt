@@ -1,7 +1,0 @@
-pub mod Certificates
-pub mod Heads
-pub mod Puts
-pub mod Rules
-pub mod Taped
-pub mod Written
-pub mod Known

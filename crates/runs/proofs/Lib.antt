@@ -1,9 +1,0 @@
-pub mod Flat
-pub mod Cut
-pub mod Parted
-pub mod Latest
-pub mod Finding
-pub mod Edits
-pub mod Halves
-pub mod Ends
-pub mod Reading

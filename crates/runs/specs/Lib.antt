@@ -1,5 +1,0 @@
-pub mod Joined
-pub mod Parting
-pub mod Places
-pub mod Run
-pub mod Runs

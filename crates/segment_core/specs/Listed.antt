@@ -1,0 +1,26 @@
+-- The numbers that are pending under one number.
+use Rattle.std.specs.Prelude.{◌<◌, ℕ, List, [], ◌∷◌, Option, Some, None, length, vec_capacity}
+use Rattle.segment_core.specs.declared.waiters.Waiters.{Waiters}
+use Rattle.segment_core.specs.declared.waiters.Waiters.TheVariants.{Nobody, One, Many}
+
+-- those that wait, in their order
+abbrev pub numbers_of : Waiters → List ℕ
+numbers_of Nobody = []
+numbers_of (One m) = m ∷ []
+numbers_of (Many list) = list.items
+
+-- there is room for one more: one alone stands in no list
+abbrev pub HasRoom : Waiters → Type 0
+HasRoom Nobody = Unit {0}
+HasRoom (One m) = ⊥
+HasRoom (Many list) = length list.items < vec_capacity list
+
+-- those that wait, none where nothing is kept
+abbrev pub numbers_in : Option Waiters → List ℕ
+numbers_in None = []
+numbers_in (Some waiters) = numbers_of waiters
+
+-- something is kept, with room for one more
+abbrev pub IsRoomy : Option Waiters → Type 0
+IsRoomy None = ⊥
+IsRoomy (Some waiters) = HasRoom waiters

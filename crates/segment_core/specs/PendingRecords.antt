@@ -1,0 +1,26 @@
+-- What is kept of pending numbers and the numbers that they are pending under.
+use Rattle.std.specs.Prelude.{ℕ, ◌<◌, ◌++◌, List, length, vec_capacity}
+use Rattle.volume_model.specs.Lists.{IsIn}
+use Rattle.segment_core.specs.declared.pending_records.PendingRecords.{PendingRecords}
+use Rattle.segment_core.specs.Earlier.{earlier_waiters}
+use Rattle.segment_core.specs.Recent.{recent_waiters}
+use Rattle.segment_core.specs.Rising.{AreGrowing}
+use Rattle.segment_core.specs.Pending.{IsReleased}
+
+-- the numbers pending under the number, in the order in which they came
+abbrev pub waiters : PendingRecords → ℕ → List ℕ
+waiters pending k = earlier_waiters pending.earlier k ++ recent_waiters pending.recent.items k
+
+-- the second number waits for the first
+abbrev pub IsPendingIn : PendingRecords → ℕ → ℕ → Type 0
+IsPendingIn pending k m = IsIn m (waiters pending k)
+
+-- there is room for one more that waits, for this number as for any
+abbrev pub HasRoomFor : ℕ → PendingRecords → Type 0
+HasRoomFor k pending = length pending.recent.items < vec_capacity pending.recent
+
+-- the list has exactly those that the number releases, and it itself, in growing order
+pub record AreReleased (pending : ℕ → ℕ → Type 0) (n : ℕ) (released : List ℕ) : Type 0 where
+  pub growing : AreGrowing released
+  pub only : (m : ℕ) → IsIn m released → IsReleased pending n m
+  pub each : (m : ℕ) → IsReleased pending n m → IsIn m released

@@ -1,0 +1,130 @@
+//! The pending records of a group.
+
+ghost use Rattle.std.specs.Prelude.{ℕ, ◌<◌, ◌++◌};
+ghost use Rattle.std.proofs.Props.{props};
+ghost use Rattle.volume_model.specs.Lists.{IsIn};
+ghost use Rattle.segment_core.specs.Earlier.{earlier_waiters};
+ghost use Rattle.segment_core.specs.Recent.{recent_waiters};
+
+use crate::earlier::Earlier;
+use crate::numbers::add_all;
+use crate::pending_record::PendingRecord;
+use crate::recent::{add_waiters, has_pending, release};
+use std::alloc::{AllocError, Global};
+
+/// The initial room for LSNs that are released at once.
+const FEW: usize = 8;
+
+/// The number of newest pending records that are kept in a list.
+const RECENT: usize = 16;
+
+/// The pending records, by the LSN that they wait for: the newest in a short list, which mostly holds all, and the
+/// older ones in a tree.
+#[derive(Drop)]
+pub struct PendingRecords {
+    earlier: Earlier,
+    recent: Vec<PendingRecord>,
+    ghost above: { (k m : ℕ) → IsIn m (earlier_waiters earlier k ++ recent_waiters recent.items k) → k < m } by { Prim.hlevel props },
+}
+
+impl PendingRecords {
+    ghost use Rattle.std.specs.Prelude.{ℕ, ◌≡◌, ◌<◌, [], ◌∷◌, ◌++◌, if◌then◌else◌, ◌==◌, length, vec_capacity, IfOk, OnOk, MatchBool};
+    ghost use Rattle.volume_model.specs.Lists.{any};
+    ghost use Rattle.segment_core.specs.PendingRecords.{waiters, HasRoomFor, IsPendingIn, AreReleased};
+
+    /// Makes an empty structure: no record is pending.
+    pub fn new(alloc: Global) -> PendingRecords
+        ensures { (k : ℕ) → waiters result k ≡ [] }
+    {
+        PendingRecords {
+            earlier: Earlier::new(alloc),
+            recent: Vec::new(alloc),
+        }
+    }
+
+    /// Returns whether a record is pending under an LSN.
+    #[inline(always)]
+    pub fn has_pending(&self, number: u64) -> bool
+        ensures { MatchBool result ((m : ℕ) × IsPendingIn self.now number m) ((m : ℕ) → IsPendingIn self.now number m
+            → ⊥) }
+    {
+        has_pending(self.recent.as_slice(), number) || !self.earlier.of(number).is_empty()
+    }
+
+    /// Reserves room for one more pending record.
+    ///
+    /// # Errors
+    /// `AllocError` if there is no memory; then the same records are pending, in the same order.
+    #[inline(always)]
+    pub fn make_room(&mut self, alloc: Global, number: u64) -> Result<(), AllocError>
+        ensures same { (k : ℕ) → waiters self.new k ≡ waiters self.old k }
+        ensures room { OnOk result (HasRoomFor number self.new) }
+    {
+        if self.recent.len() < self.recent.capacity() {
+            Ok(())
+        } else {
+            self.move_to_earlier(alloc)
+        }
+    }
+
+    /// Moves the newest pending records to the older ones. Out of line, since the list mostly has room.
+    ///
+    /// # Errors
+    /// `AllocError` if there is no memory; then some may have been moved.
+    #[inline(never)]
+    fn move_to_earlier(&mut self, alloc: Global) -> Result<(), AllocError>
+        ensures same { (k : ℕ) → waiters self.new k ≡ waiters self.old k }
+        ensures room { OnOk result (length self.new.recent.items < vec_capacity self.new.recent) }
+    {
+        while !self.recent.is_empty() {
+            let PendingRecord { before, number } = self.recent[0];
+            self.earlier.make_room(alloc, before)?;
+            self.earlier.add_pending(before, number);
+            self.recent.remove(0);
+        }
+        self.recent.reserve_exact(RECENT)
+    }
+
+    /// Adds a record that is pending under an LSN.
+    #[inline(always)]
+    pub fn add_pending(&mut self, number: u64, waiter: u64)
+        requires room { HasRoomFor number self.old }
+        requires above { number < waiter }
+        ensures { (k : ℕ) → waiters self.new k ≡ (if k == number then waiters self.old k ++ waiter ∷ [] else waiters
+            self.old k) }
+    {
+        self.recent.push_reserved(PendingRecord {
+            before: number,
+            number: waiter,
+        });
+    }
+
+    /// Removes the records pending under these LSNs.
+    #[inline(always)]
+    pub fn release(&mut self, released: &[u64])
+        ensures { (k : ℕ) → waiters self.new k ≡ (if any (λ n. n == k) released.now then [] else waiters self.old k) }
+    {
+        release(&mut self.recent, released);
+        self.earlier.release(released);
+    }
+
+    /// Returns an LSN and all that it releases, in growing order: the records pending under it, those pending under
+    /// them, and so on.
+    ///
+    /// # Errors
+    /// `AllocError` if there is no memory for the list.
+    pub fn released(&self, alloc: Global, number: u64) -> Result<Vec<u64>, AllocError>
+        ensures { IfOk result (λ released. AreReleased (IsPendingIn self.now) number released.items) }
+    {
+        let mut released = Vec::with_capacity(alloc, FEW)?;
+        released.push_reserved(number);
+        let mut next = 0;
+        while next < released.len() {
+            let number = released[next];
+            add_all(&mut released, self.earlier.of(number))?;
+            add_waiters(self.recent.as_slice(), number, &mut released)?;
+            next += 1;
+        }
+        Ok(released)
+    }
+}

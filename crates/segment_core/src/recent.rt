@@ -1,0 +1,50 @@
+//! The newest pending records: a few, in the order they came.
+
+ghost use Rattle.std.specs.List.{list_any};
+ghost use Rattle.std.specs.Prelude.{ℕ, ◌≡◌, ◌==◌, [], if◌then◌else◌, OnOk};
+ghost use Rattle.volume_model.specs.Lists.{any};
+ghost use Rattle.segment_core.specs.Recent.{recent_waiters};
+ghost use Rattle.segment_core.specs.Rising.{AreGrowing, with_numbers};
+
+use crate::numbers::add;
+use crate::pending_record::PendingRecord;
+use std::alloc::AllocError;
+
+/// Returns whether a record is pending under an LSN.
+#[inline(always)]
+pub fn has_pending(pending: &[PendingRecord], before: u64) -> bool
+    ensures { result ≡ list_any (λ entry. entry.before == before) pending.now }
+{
+    pending.iter().any(|entry| entry.before == before)
+}
+
+/// Adds the records pending under an LSN to a list that lacks them.
+///
+/// # Errors
+/// `AllocError` if there is no memory.
+#[inline(always)]
+pub fn add_waiters(
+    pending: &[PendingRecord],
+    before: u64,
+    numbers: &mut Vec<u64>,
+) -> Result<(), AllocError>
+    requires growing { AreGrowing numbers.old.items }
+    ensures added { OnOk result (numbers.new.items ≡ with_numbers (recent_waiters pending.now before)
+        numbers.old.items) }
+{
+    for entry in pending {
+        if entry.before == before {
+            add(numbers, entry.number)?;
+        }
+    }
+    Ok(())
+}
+
+/// Removes the records pending under these LSNs.
+#[inline(always)]
+pub fn release(pending: &mut Vec<PendingRecord>, released: &[u64])
+    ensures { (k : ℕ) → recent_waiters pending.new.items k ≡ (if any (λ n. n == k) released.now then [] else
+        recent_waiters pending.old.items k) }
+{
+    pending.retain(|entry| !released.contains(&entry.before));
+}
