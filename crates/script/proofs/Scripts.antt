@@ -1,21 +1,29 @@
 -- A script that is read line by line.
-use Rattle.std.proofs.Common.{◌≡◌, ◌≢◌, ◌∙◌, ap, sym, subst, ℕ, zero, suc, ◌+◌, ◌-◌, ◌<◌, ◌≤◌, List, [], ◌∷◌, ◌++◌, Option, Some, None, Ok, Err, length, drop, take, get_or, arith, refl, sum_by, length-drop, option_map}
+use Rattle.std.proofs.Common.{◌≡◌, ◌≢◌, ◌∙◌, ap, sym, subst, ℕ, zero, suc, ◌+◌, ◌-◌, ◌<◌, ◌≤◌, List, [], ◌∷◌, ◌++◌, Option, Some, None, Ok, Err, length, drop, take, get_or, arith, refl, sum_by, length-drop, option_map, Bool, true, false, eqb, leb}
 use Rattle.std.specs.Borrow.{Bor}
+use Rattle.std.specs.List.{list_all}
 use Rattle.std.specs.Str.{IsUtf8}
+use Rattle.std.proofs.lemmas.Bool.{leb-true}
 use Rattle.std.proofs.lemmas.List.{length-take-le, length_push}
 use Rattle.std.proofs.lemmas.List.Sums.{fold-append, sum_by_push}
+use Rattle.std.proofs.lemmas.Str.{IsUtf8-from_ascii}
 use Rattle.std.proofs.Math.Seq.{take-suc}
 use Rattle.volume_model.specs.declared.fault.Fault.{Fault}
-use Rattle.volume_model.specs.declared.fault.Fault.TheVariants.{NoMemory}
-use Rattle.script.specs.Grammar.{LineAction, action_of}
-use Rattle.script.specs.Named.{AddsFirst, IsFirstLine}
+use Rattle.volume_model.specs.declared.fault.Fault.TheVariants.{Malformed, NoMemory}
+use Rattle.script.specs.Ahead.{EndsAt, after_line, ends_line}
+use Rattle.script.specs.Grammar.{LineAction, action_of, is_silent, said}
+use Rattle.script.specs.Adds.{AddsFirst, IsFirstLine}
 use Rattle.script.specs.Pieces.{pieces, before_newline}
-use Rattle.script.specs.Seen.{Seen, seen_action}
+use Rattle.script.specs.Reads.{ReadsBy}
+use Rattle.script.specs.Seen.{Seen, seen, seen_action}
 use Rattle.script.specs.Seen.Seen.{Silent, Pause, Asks}
 use Rattle.script.specs.Script.{AddsLine, AreActions, Does, IsFirstBad, IsScript, Keeps, Kept, ReadsScript, kept_in, kept_of, line_at, nothing_kept, stop_at, with_action, with_line}
 use Rattle.script.specs.Script.AreActions.{none, more}
 use Rattle.script.specs.declared.reading.Script.{Script}
-use Rattle.script.proofs.Lines.{first_there}
+use Rattle.script.proofs.Lines.{line_there}
+use Rattle.script.specs.Words.{words_in}
+use Rattle.script.proofs.Numerals.{and_both}
+use Rattle.script.proofs.WordsAhead.{none_ends}
 
 -- Of a text the first lines were read; what comes after them is the rest, and there is so much room for it.
 pub record IsReading (text rest : List ℕ) (room : ℕ) (now : Kept) : Type 0 where
@@ -145,9 +153,61 @@ module _ (text rest : List ℕ) (room number : ℕ) (now new : Kept) (so_far : I
       reads_fault text rest line after room (length rest - length after) number now new fault numbered so_far (next_line rest line after first) refused
 
   -- or there were too many before it
-  pub reads_after_growth : rest ≢ [] → number ≡ suc (length now.indexes) → 100000 < number → IsFirstBad text number
-  reads_after_growth some numbered late = go (first_there rest some)
+  pub reads_after_growth : 0 < length rest → number ≡ suc (length now.indexes) → 100000 < number → IsFirstBad text number
+  reads_after_growth some numbered late =
+      let line = before_newline rest in
+      let after = after_line rest in
+      reads_bad text rest line after room (length rest - length after) number now numbered so_far (next_line rest line after (line_there rest some)) (λ action fits few utf8 says. omega (arith, few, late, numbered))
+
+-- ASCII is UTF-8
+low_at : (line : List ℕ) → list_all (λ b. leb b 127) line ≡ true → (i : ℕ) → get_or line i 0 < 128
+low_at [] low zero = omega arith
+low_at [] low (suc i) = omega arith
+low_at (b ∷ line) low zero = let both = and_both (leb b 127) (list_all (λ b. leb b 127) line) low in omega (arith, leb-true b 127 both.0)
+low_at (b ∷ line) low (suc i) = let both = and_both (leb b 127) (list_all (λ b. leb b 127) line) low in low_at line both.1 i
+
+ascii_at_end : (rest : List ℕ) → ends_line rest ≡ true → list_all (λ b. leb b 127) (before_newline rest) ≡ true
+ascii_at_end [] e = refl
+ascii_at_end (b ∷ rest) e = let same : eqb b 10 ≡ true = e in rw same refl
+
+-- the first line of a text that isn't silent
+module _ (text : List ℕ) (old new : Kept) (some : 0 < length text) (loud : is_silent (before_newline text) ≡ false) where
+  spoken : action_of (length old.indexes) (before_newline text) ≡ said (length old.indexes) (words_in (before_newline text))
+  spoken = rw loud refl
+
+  -- was added
+  pub adds_line : (rest : List ℕ) (after : Bor (List ℕ)) (asks : Seen) → option_map (seen_action old.indexes) (said (length old.indexes) (words_in (before_newline text))) ≡ Some asks → EndsAt text rest → after.now ≡ after_line rest → new ≡ with_line old asks → AddsFirst text old (Ok after) new
+  adds_line rest after asks says ends goes is_new =
+      let line = before_newline text in
+      let found = action_seen (said (length old.indexes) (words_in line)) old.indexes asks says in
+      let ascii : list_all (λ b. leb b 127) line ≡ true = sym (ap (λ (e : List ℕ × Bool). e.1) ends.same_line) ∙ ascii_at_end rest (none_ends rest ends.none) in
+      let same : after.now ≡ after_line text = goes ∙ ap (λ (e : List ℕ × Bool). e.0) ends.same_line in
+      (line, subst (λ (a : List ℕ). IsFirstLine text line a) (sym same) (line_there text some), (found.0, IsUtf8-from_ascii line (low_at line ascii), spoken ∙ found.1, is_new ∙ ap (with_line old) (sym found.2)))
+
+  -- or was refused
+  pub refuses_line : (fault : Fault) → ReadsBy seen (option_map (seen_action old.indexes) (said (length old.indexes) (words_in (before_newline text)))) (Err fault) → AddsFirst text old (Err fault) new
+  refuses_line fault refused = (before_newline text, after_line text, line_there text some, go fault refused)
     where
-      go : (line : List ℕ) × (after : List ℕ) × IsFirstLine rest line after → IsFirstBad text number
-      go (line, after, first) =
-          reads_bad text rest line after room (length rest - length after) number now numbered so_far (next_line rest line after first) (λ action fits few utf8 says. omega (arith, few, late, numbered))
+      none : (there : Option LineAction) → option_map (seen_action old.indexes) there ≡ None → there ≡ None
+      none None e = refl
+      none (Some action) e = absurd cc
+
+      go : (fault : Fault) → ReadsBy seen (option_map (seen_action old.indexes) (said (length old.indexes) (words_in (before_newline text)))) (Err fault) → AddsLine (before_newline text) old (Err fault) new
+      go NoMemory refused = tt
+      go Malformed refused = λ action utf8 says. absurd (let there = sym says ∙ (spoken ∙ none (said (length old.indexes) (words_in (before_newline text))) refused) in let bad : Some action ≡ None = there in cc)
+      go fault refused = absurd refused
+
+-- a silent one was added, or isn't UTF-8
+module _ (text : List ℕ) (old new : Kept) (some : 0 < length text) (silent : is_silent (before_newline text) ≡ true) where
+  nothing : action_of (length old.indexes) (before_newline text) ≡ Some LineAction.Nothing
+  nothing = rw silent refl
+
+  pub adds_silent : (after : Bor (List ℕ)) → IsUtf8 (before_newline text) → after.now ≡ after_line text → new ≡ with_line old Seen.Silent → AddsFirst text old (Ok after) new
+  adds_silent after utf8 goes is_new =
+      (before_newline text, subst (λ (a : List ℕ). IsFirstLine text (before_newline text) a) (sym goes) (line_there text some), (LineAction.Nothing, utf8, nothing, is_new))
+
+  pub refuses_silent : ¬ (IsUtf8 (before_newline text)) → AddsFirst text old (Err Malformed) new
+  refuses_silent bad = (before_newline text, after_line text, line_there text some, λ action utf8 says. bad utf8)
+
+pub adds_no_memory : (text : List ℕ) (old new : Kept) → 0 < length text → AddsFirst text old (Err NoMemory) new
+adds_no_memory text old new some = (before_newline text, after_line text, line_there text some, tt)

@@ -1,5 +1,6 @@
 -- Words that are read in turn.
 use Rattle.std.proofs.Common.{◌≡◌, ◌∙◌, ◌&&◌, ap, sym, subst, ℕ, Bool, true, false, if◌then◌else◌, List, [], ◌∷◌, Option, Some, None, Result, Ok, Err, All, eqb, leb, length, refl, option_map}
+use Rattle.std.specs.Borrow.{Bor}
 use Rattle.std.specs.List.{join_with_byte}
 use Rattle.std.specs.Result.{IsErrAnd}
 use Rattle.std.proofs.lemmas.Bool.{ne_eqb}
@@ -57,6 +58,10 @@ handed view there outer whole fault (Err f) turn e is = subst (λ f. ReadsBy out
     go NoMemory e = tt
     go Malformed e = turn e
     go f e = absurd e
+
+-- a number that was found, and what comes after it
+abbrev pub number_found : ℕ × Bor (List ℕ) → ℕ × List ℕ
+number_found found = (found.0, found.1.now)
 
 -- no word is left
 pub none_after : (words : List (List ℕ)) (u : Unit {0}) → ended words ≡ Some u → words ≡ []
@@ -154,29 +159,6 @@ all_spelled bytes hex e = go (leb 1 (length bytes) && leb (length bytes) 128) re
     go true sized = ap (λ b. if b then all_bytes_in bytes else None) (sym sized) ∙ e
     go false sized = absurd (let none : bytes_in bytes ≡ None = rw sized refl in let bad : None ≡ Some hex = sym none ∙ e in cc)
 
--- and of a change, whose bytes have no separator
+-- the bytes of a change have no separator
 pub alone : (bytes hex : List ℕ) → bytes_in bytes ≡ Some hex → fields_in bytes ≡ bytes ∷ []
 alone bytes hex e = slice_split_none (λ b. eqb b 58) bytes (other_digits 58 refl bytes hex (all_spelled bytes hex e))
-
-module _ (group block offset : ℕ) (bytes : List ℕ) (fields second third : List (List ℕ)) (g : first_number most_ids fields ≡ Some (group, second)) (b : first_number most_blocks second ≡ Some (block, third))
-    (o : first_number most_offsets third ≡ Some (offset, fields_in bytes)) where
-  pub change_is : (hex : List ℕ) → bytes_in bytes ≡ Some hex → change_by fields ≡ Some (record { group = group; block = block; offset = offset; bytes = hex })
-  change_is hex spelled =
-      let one = taken most_ids fields group second g in
-      let two = taken most_blocks second block third b in
-      let three = taken most_offsets third offset (fields_in bytes) o in
-      rw (one.is, two.is, three.is, alone bytes hex spelled, one.spells, two.spells, three.spells, spelled) refl
-
-  pub no_change : bytes_in bytes ≡ None → change_by fields ≡ None
-  no_change spelled =
-      let one = taken most_ids fields group second g in
-      let two = taken most_blocks second block third b in
-      let three = taken most_offsets third offset (fields_in bytes) o in
-      rw (one.is, two.is, three.is) (go (fields_in bytes) refl one.word two.word three.word one.spells two.spells three.spells)
-    where
-      go : (left : List (List ℕ)) → fields_in bytes ≡ left → (x y z : List ℕ) → number_in most_ids x ≡ Some group → number_in most_blocks y ≡ Some block → number_in most_offsets z ≡ Some offset → change_by (x ∷ y ∷ z ∷ left) ≡ None
-      go [] is x y z ex ey ez = refl
-      go (w ∷ []) is x y z ex ey ez =
-          let same : w ≡ bytes = ap (join_with_byte 58) (sym is) ∙ join_with_byte-slice_split 58 bytes in
-          rw (same, ex, ey, ez, spelled) refl
-      go (w ∷ v ∷ more) is x y z ex ey ez = refl

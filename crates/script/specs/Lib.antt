@@ -5,6 +5,7 @@ pub mod Words
 pub mod Grammar
 pub mod Seen
 pub mod Script
-pub mod Named
-pub mod Plain
+pub mod Ahead
+pub mod Adds
+pub mod Changes
 pub mod Examples

@@ -27,7 +27,6 @@ asked_by (orders.DeliverFrom group member event place) = Asked.From group member
 asked_by (orders.TakeFrom volume event place) = Asked.TakeFrom volume event place
 
 abbrev pub seen : Line → Seen
-seen lines.Empty = Seen.Silent
 seen lines.Wait = Seen.Pause
 seen (lines.Order order) = Seen.Asks (asked_by order)
 

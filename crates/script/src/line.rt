@@ -1,18 +1,20 @@
 //! Reading one line of a script.
 
-ghost use Rattle.std.specs.Prelude.{◌≡◌, [], IfOk, length, option_map};
+ghost use Rattle.std.specs.Prelude.{◌≡◌, ◌++◌, [], IfOk, IfSome, MatchOption, None, OnOk, Some, codes, length, option_map, true};
 ghost use Rattle.world.specs.Events.{event_of};
-ghost use Rattle.script.specs.Grammar.{action_of, is_silent, said_by, verb_in, wait_in};
+ghost use Rattle.script.specs.Ahead.{EndsAt, after_word, ends_word, is_gap, line_end, word_at, words_ahead};
+ghost use Rattle.script.specs.Grammar.{said, said_by, verb_in, wait_in};
+ghost use Rattle.script.specs.Pieces.{before_newline};
 ghost use Rattle.script.specs.Reads.{ReadsBy};
-ghost use Rattle.script.specs.Parts.{parts_left};
 ghost use Rattle.script.specs.Seen.{Asked, Seen, seen, seen_action};
+ghost use Rattle.script.specs.Words.{words_in};
 
 use crate::changes::issue;
+use crate::cursor::{Cursor, ends_word};
 use crate::names::{deliver, take};
 use crate::numbers::{
     advance, assign, cut, grow, hydrate, offer, open, read, refresh, resend, restart,
 };
-use crate::parts::Parts;
 use std::alloc::{AllocError, Global};
 use volume_model::Fault;
 use world::{Event, Order};
@@ -37,11 +39,9 @@ pub enum Verb {
     Wait,
 }
 
-/// What a line does.
+/// What a line does that isn't silent.
 #[derive(Drop)]
 pub enum Line {
-    /// Nothing: it is empty or a comment.
-    Empty,
     /// The lines before it end before those after it begin. A run takes them one by one, so there it does nothing.
     Wait,
     /// It makes an event happen.
@@ -83,37 +83,111 @@ fn verb_by(word: &[u8]) -> Option<Verb>
     }
 }
 
-/// Returns whether a line does nothing.
-fn is_silent(line: &[u8]) -> bool
-    ensures { result ≡ is_silent line.now }
+/// Returns whether a byte ends a word.
+#[inline(always)]
+fn is_gap(byte: u8) -> bool
+    ensures { result ≡ is_gap byte }
 {
-    line.is_empty() || line[0] == b'#'
+    byte == b' ' || byte == b'\n'
 }
 
-/// Returns what a line does, or that it isn't one of a script. `events` has the index of each earlier line's event.
-#[inline(always)]
-pub fn line_of(alloc: Global, text: &[u8], events: &[Option<u32>]) -> Result<Line, Fault>
-    ensures { ReadsBy seen (option_map (seen_action events.now) (action_of (length events.now) text.now)) result }
+/// Returns the word at the head of a text, and what comes after it.
+fn first_word(text: &[u8]) -> (&[u8], &[u8])
+    ensures word { result.0.now ≡ word_at text.now }
+    ensures rest { result.1.now ≡ after_word text.now }
 {
-    if is_silent(text) {
-        return Ok(Line::Empty);
+    let mut at = 0;
+    while at < text.len() {
+        if is_gap(text[at]) {
+            return (&text[..at], &text[at..]);
+        }
+        at += 1;
     }
-    let mut words = Parts::new(text, b' ');
-    let Some(verb) = words.take_first() else {
-        return Err(Fault::Malformed);
-    };
-    let Some(verb) = verb_by(verb) else {
-        return Err(Fault::Malformed);
-    };
-    said_by(alloc, verb, words, events)
+    (text, &[])
 }
 
-/// Reads the words after a verb.
+/// Returns what comes after `deliver`, where it is the word at the head of a text.
 #[inline(always)]
-fn said_by(alloc: Global, verb: Verb, words: Parts, events: &[Option<u32>]) -> Result<Line, Fault>
-    requires { words.separator ≡ 32 }
-    ensures { ReadsBy seen (option_map (seen_action events.now) (said_by (length events.now) verb
-        (parts_left words.entry))) result }
+fn after_deliver(text: &[u8]) -> Option<&[u8]>
+    ensures { IfSome result (λ rest. (text.now ≡ codes "deliver" ++ rest.now) × (ends_word rest.now ≡ true)) }
+{
+    match text {
+        [b'd', b'e', b'l', b'i', b'v', b'e', b'r', rest @ ..] if ends_word(rest) => Some(rest),
+        _ => None,
+    }
+}
+
+/// Returns what comes after `take`, where it is the word at the head of a text.
+#[inline(always)]
+fn after_take(text: &[u8]) -> Option<&[u8]>
+    ensures { IfSome result (λ rest. (text.now ≡ codes "take" ++ rest.now) × (ends_word rest.now ≡ true)) }
+{
+    match text {
+        [b't', b'a', b'k', b'e', rest @ ..] if ends_word(rest) => Some(rest),
+        _ => None,
+    }
+}
+
+/// Returns the verb that is the word at the head of a text, and what comes after it. Most lines deliver or take: these
+/// two words are found without a search for the word's end.
+#[inline(always)]
+pub fn verb_at(text: &[u8]) -> Option<(Verb, &[u8])>
+    ensures verb { MatchOption result (verb_in (word_at text.now) ≡ None)
+        (λ found. (verb_in (word_at text.now) ≡ Some found.0) × (found.1.now ≡ after_word text.now)) }
+    ensures same_line { IfSome result (λ found. line_end found.1.now ≡ line_end text.now) }
+{
+    if let Some(rest) = after_deliver(text) {
+        return Some((Verb::Deliver, rest));
+    }
+    if let Some(rest) = after_take(text) {
+        return Some((Verb::Take, rest));
+    }
+    other_verb_at(text)
+}
+
+/// Returns the same of any word.
+#[inline(never)]
+fn other_verb_at(text: &[u8]) -> Option<(Verb, &[u8])>
+    ensures verb { MatchOption result (verb_in (word_at text.now) ≡ None)
+        (λ found. (verb_in (word_at text.now) ≡ Some found.0) × (found.1.now ≡ after_word text.now)) }
+    ensures same_line { IfSome result (λ found. line_end found.1.now ≡ line_end text.now) }
+{
+    let (word, rest) = first_word(text);
+    match verb_by(word) {
+        Some(verb) => Some((verb, rest)),
+        None => None,
+    }
+}
+
+/// Takes the words of a line that isn't silent. `events` has the index of each earlier line's event.
+#[inline(always)]
+pub fn line_at(alloc: Global, words: &mut Cursor, events: &[Option<u32>]) -> Result<Line, Fault>
+    ensures line { ReadsBy seen (option_map (seen_action events.now) (said (length events.now)
+        (words_in (before_newline words.old.rest.now)))) result }
+    ensures end { OnOk result (EndsAt words.old.rest.now words.new.rest.now) }
+{
+    let Some((verb, rest)) = verb_at(words.rest) else {
+        return Err(Fault::Malformed);
+    };
+    words.rest = rest;
+    match verb {
+        Verb::Deliver => Ok(Line::Order(deliver(alloc, words, events)?)),
+        Verb::Take => Ok(Line::Order(take(alloc, words, events)?)),
+        _ => said_by(alloc, verb, words, events),
+    }
+}
+
+/// Reads the words after a verb. Out of line, so that deliveries and takings set up none of its events.
+#[inline(never)]
+fn said_by(
+    alloc: Global,
+    verb: Verb,
+    words: &mut Cursor,
+    events: &[Option<u32>],
+) -> Result<Line, Fault>
+    ensures line { ReadsBy seen (option_map (seen_action events.now) (said_by (length events.now) verb
+        (words_ahead words.old.rest.now))) result }
+    ensures end { OnOk result (EndsAt words.old.rest.now words.new.rest.now) }
 {
     match verb {
         Verb::Assign => Ok(line_by(alloc, assign(words)?)?),
@@ -143,12 +217,10 @@ fn line_by(alloc: Global, event: Event) -> Result<Line, AllocError>
 }
 
 /// `wait`
-fn wait(words: Parts) -> Result<Line, Fault>
-    ensures { ReadsBy seen (option_map (seen_action []) (wait_in (parts_left words.entry))) result }
+fn wait(words: &Cursor) -> Result<Line, Fault>
+    ensures line { ReadsBy seen (option_map (seen_action []) (wait_in (words_ahead words.now.rest.now))) result }
+    ensures end { OnOk result (words_ahead words.now.rest.now ≡ []) }
 {
-    if words.is_empty() {
-        Ok(Line::Wait)
-    } else {
-        Err(Fault::Malformed)
-    }
+    words.end()?;
+    Ok(Line::Wait)
 }

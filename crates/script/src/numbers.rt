@@ -1,25 +1,28 @@
 //! Events that have numbers alone.
 
+ghost use Rattle.std.specs.Prelude.{OnOk};
 ghost use Rattle.world.specs.Events.{event_of};
 ghost use Rattle.script.specs.Grammar.{advance_in, assign_in, cut_in, grow_in, hydrate_in, offer_in, open_in, read_in, refresh_in, resend_in, restart_in};
 ghost use Rattle.script.specs.Reads.{ReadsBy};
-ghost use Rattle.script.specs.Parts.{parts_left};
+ghost use Rattle.script.specs.Ahead.{EndsAt, words_ahead};
 
-use crate::parts::Parts;
+use crate::cursor::Cursor;
 use volume_model::Fault;
 use world::Event;
 
 /// `assign`
-pub fn assign(words: Parts) -> Result<Event, Fault>
-    ensures { ReadsBy event_of (assign_in (parts_left words.entry)) result }
+pub fn assign(words: &mut Cursor) -> Result<Event, Fault>
+    ensures event { ReadsBy event_of (assign_in (words_ahead words.old.rest.now)) result }
+    ensures end { OnOk result (EndsAt words.old.rest.now words.new.rest.now) }
 {
     words.end()?;
     Ok(Event::Assign)
 }
 
 /// `advance G C`
-pub fn advance(mut words: Parts) -> Result<Event, Fault>
-    ensures { ReadsBy event_of (advance_in (parts_left words.entry)) result }
+pub fn advance(words: &mut Cursor) -> Result<Event, Fault>
+    ensures event { ReadsBy event_of (advance_in (words_ahead words.old.rest.now)) result }
+    ensures end { OnOk result (EndsAt words.old.rest.now words.new.rest.now) }
 {
     let group = words.take_id()?;
     let configuration = words.take_block()?;
@@ -31,8 +34,9 @@ pub fn advance(mut words: Parts) -> Result<Event, Fault>
 }
 
 /// `refresh V`
-pub fn refresh(mut words: Parts) -> Result<Event, Fault>
-    ensures { ReadsBy event_of (refresh_in (parts_left words.entry)) result }
+pub fn refresh(words: &mut Cursor) -> Result<Event, Fault>
+    ensures event { ReadsBy event_of (refresh_in (words_ahead words.old.rest.now)) result }
+    ensures end { OnOk result (EndsAt words.old.rest.now words.new.rest.now) }
 {
     let volume = words.take_block()?;
     words.end()?;
@@ -40,16 +44,18 @@ pub fn refresh(mut words: Parts) -> Result<Event, Fault>
 }
 
 /// `grow`
-pub fn grow(words: Parts) -> Result<Event, Fault>
-    ensures { ReadsBy event_of (grow_in (parts_left words.entry)) result }
+pub fn grow(words: &mut Cursor) -> Result<Event, Fault>
+    ensures event { ReadsBy event_of (grow_in (words_ahead words.old.rest.now)) result }
+    ensures end { OnOk result (EndsAt words.old.rest.now words.new.rest.now) }
 {
     words.end()?;
     Ok(Event::Grow)
 }
 
 /// `cut V`
-pub fn cut(mut words: Parts) -> Result<Event, Fault>
-    ensures { ReadsBy event_of (cut_in (parts_left words.entry)) result }
+pub fn cut(words: &mut Cursor) -> Result<Event, Fault>
+    ensures event { ReadsBy event_of (cut_in (words_ahead words.old.rest.now)) result }
+    ensures end { OnOk result (EndsAt words.old.rest.now words.new.rest.now) }
 {
     let volume = words.take_block()?;
     words.end()?;
@@ -57,8 +63,9 @@ pub fn cut(mut words: Parts) -> Result<Event, Fault>
 }
 
 /// `open V`
-pub fn open(mut words: Parts) -> Result<Event, Fault>
-    ensures { ReadsBy event_of (open_in (parts_left words.entry)) result }
+pub fn open(words: &mut Cursor) -> Result<Event, Fault>
+    ensures event { ReadsBy event_of (open_in (words_ahead words.old.rest.now)) result }
+    ensures end { OnOk result (EndsAt words.old.rest.now words.new.rest.now) }
 {
     let volume = words.take_block()?;
     words.end()?;
@@ -66,8 +73,9 @@ pub fn open(mut words: Parts) -> Result<Event, Fault>
 }
 
 /// `resend V N`
-pub fn resend(mut words: Parts) -> Result<Event, Fault>
-    ensures { ReadsBy event_of (resend_in (parts_left words.entry)) result }
+pub fn resend(words: &mut Cursor) -> Result<Event, Fault>
+    ensures event { ReadsBy event_of (resend_in (words_ahead words.old.rest.now)) result }
+    ensures end { OnOk result (EndsAt words.old.rest.now words.new.rest.now) }
 {
     let volume = words.take_block()?;
     let lsn = words.take_lsn()?;
@@ -76,8 +84,9 @@ pub fn resend(mut words: Parts) -> Result<Event, Fault>
 }
 
 /// `read V G B`
-pub fn read(mut words: Parts) -> Result<Event, Fault>
-    ensures { ReadsBy event_of (read_in (parts_left words.entry)) result }
+pub fn read(words: &mut Cursor) -> Result<Event, Fault>
+    ensures event { ReadsBy event_of (read_in (words_ahead words.old.rest.now)) result }
+    ensures end { OnOk result (EndsAt words.old.rest.now words.new.rest.now) }
 {
     let volume = words.take_block()?;
     let group = words.take_id()?;
@@ -91,8 +100,9 @@ pub fn read(mut words: Parts) -> Result<Event, Fault>
 }
 
 /// `hydrate G M`
-pub fn hydrate(mut words: Parts) -> Result<Event, Fault>
-    ensures { ReadsBy event_of (hydrate_in (parts_left words.entry)) result }
+pub fn hydrate(words: &mut Cursor) -> Result<Event, Fault>
+    ensures event { ReadsBy event_of (hydrate_in (words_ahead words.old.rest.now)) result }
+    ensures end { OnOk result (EndsAt words.old.rest.now words.new.rest.now) }
 {
     let group = words.take_id()?;
     let member = words.take_id()?;
@@ -101,8 +111,9 @@ pub fn hydrate(mut words: Parts) -> Result<Event, Fault>
 }
 
 /// `restart G M`
-pub fn restart(mut words: Parts) -> Result<Event, Fault>
-    ensures { ReadsBy event_of (restart_in (parts_left words.entry)) result }
+pub fn restart(words: &mut Cursor) -> Result<Event, Fault>
+    ensures event { ReadsBy event_of (restart_in (words_ahead words.old.rest.now)) result }
+    ensures end { OnOk result (EndsAt words.old.rest.now words.new.rest.now) }
 {
     let group = words.take_id()?;
     let member = words.take_id()?;
@@ -111,8 +122,9 @@ pub fn restart(mut words: Parts) -> Result<Event, Fault>
 }
 
 /// `offer G M N`
-pub fn offer(mut words: Parts) -> Result<Event, Fault>
-    ensures { ReadsBy event_of (offer_in (parts_left words.entry)) result }
+pub fn offer(words: &mut Cursor) -> Result<Event, Fault>
+    ensures event { ReadsBy event_of (offer_in (words_ahead words.old.rest.now)) result }
+    ensures end { OnOk result (EndsAt words.old.rest.now words.new.rest.now) }
 {
     let group = words.take_id()?;
     let member = words.take_id()?;

@@ -1,32 +1,13 @@
 //! Numbers at the head of a text.
 
-ghost use Rattle.std.specs.Prelude.{◌≡◌, ◌==◌, ◌&&◌, ◌||◌, ◌+◌, ◌*◌, ◌^◌, ◌≤◌, MatchOption, length, nat_le, not, slice_index};
-ghost use Rattle.std.specs.List.{slice_split};
-ghost use Rattle.script.specs.Parts.{first_number, left_of};
+ghost use Rattle.std.specs.Prelude.{◌≡◌, ◌+◌, ◌*◌, ◌^◌, ◌≤◌, IfOk, MatchOption};
+ghost use Rattle.script.specs.Ahead.{HasDigit, IsDigitless, line_end, number_at};
 ghost use Rattle.script.specs.Reads.{ReadsBy};
 
 use volume_model::Fault;
 
 /// With a number up to this one any digit more makes a number below 2^64.
 const TAKES_ANY_DIGIT: u64 = 1_844_674_407_370_955_160;
-
-/// Returns whether there is a first digit, which is 0 only where it is alone.
-#[inline(always)]
-fn begins_numeral(digits: &[u8]) -> bool
-    ensures { result ≡ (nat_le 1 (length digits.now) && (nat_le (length digits.now) 1 || not
-        (slice_index digits.now 0 == 48))) }
-{
-    !digits.is_empty() && (digits.len() <= 1 || digits[0] != b'0')
-}
-
-/// Returns whether digits of this value are a numeral, and it is at most `most`.
-#[inline(always)]
-fn is_number(digits: &[u8], value: u64, most: u64) -> bool
-    ensures { result ≡ (nat_le 1 (length digits.now) && (nat_le (length digits.now) 1 || not
-        (slice_index digits.now 0 == 48)) && nat_le value most) }
-{
-    begins_numeral(digits) && value <= most
-}
 
 /// Returns the number with one decimal digit more, if it is below 2^64.
 #[inline(always)]
@@ -40,31 +21,43 @@ fn with_digit(value: u64, digit: u8) -> Option<u64>
     value.checked_mul(10)?.checked_add(u64::from(digit))
 }
 
-/// Returns the number that the first part of a text spells in decimal without leading zeros, if it is at most `most`,
-/// and the text behind the separator after it, if there is one.
+/// Returns the number that the digits at the head of a text spell in decimal without leading zeros, if it is at most
+/// `most`, and what comes after them.
 #[inline(always)]
-pub fn split_number(text: &[u8], separator: u8, most: u64) -> Result<(u64, Option<&[u8]>), Fault>
-    ensures { ReadsBy (λ found. (found.0, left_of separator found.1))
-        (first_number most (slice_split (λ b. b == separator) text.now)) result }
+pub fn number_at(text: &[u8], most: u64) -> Result<(u64, &[u8]), Fault>
+    ensures number { ReadsBy (λ found. (found.0, found.1.now)) (number_at most text.now) result }
+    ensures fits { IfOk result (λ found. found.0 ≤ most) }
+    ensures same_line { IfOk result (λ found. line_end found.1.now ≡ line_end text.now) }
 {
-    let mut value = 0;
-    for (at, byte) in text.iter().enumerate() {
-        if *byte == separator {
-            if !is_number(&text[..at], value, most) {
-                return Err(Fault::Malformed);
-            }
-            return Ok((value, Some(&text[at + 1..])));
-        }
-        if !byte.is_ascii_digit() {
+    let Some((first, after)) = digit_at(text) else {
+        return Err(Fault::Malformed);
+    };
+    let mut value = u64::from(first);
+    let mut rest = after;
+    while let Some((digit, more)) = digit_at(rest) {
+        // A digit after 0 makes that one a leading zero.
+        if value == 0 {
             return Err(Fault::Malformed);
         }
-        let Some(longer) = with_digit(value, *byte - b'0') else {
+        let Some(longer) = with_digit(value, digit) else {
             return Err(Fault::Malformed);
         };
         value = longer;
+        rest = more;
     }
-    if !is_number(text, value, most) {
+    if value > most {
         return Err(Fault::Malformed);
     }
-    Ok((value, None))
+    Ok((value, rest))
+}
+
+/// Returns the value of the digit at the head of a text, and what comes after it.
+#[inline(always)]
+fn digit_at(text: &[u8]) -> Option<(u8, &[u8])>
+    ensures { MatchOption result (IsDigitless text.now) (λ found. HasDigit text.now found.0 found.1.now) }
+{
+    match text {
+        [digit, rest @ ..] if digit.is_ascii_digit() => Some((*digit - b'0', rest)),
+        _ => None,
+    }
 }

@@ -1,11 +1,14 @@
 //! The bytes that a change's digits spell.
 
-ghost use Rattle.std.specs.Prelude.{◌≡◌};
-ghost use Rattle.redo_record.specs.Payload.{payload_bytes};
-ghost use Rattle.script.specs.Words.{digit_in, byte_in, bytes_in, all_bytes_in};
+ghost use Rattle.std.specs.Prelude.{◌≡◌, IfOk, MatchOption, None, Some, take};
+ghost use Rattle.redo_record.specs.Payload.{HasRoom};
+ghost use Rattle.script.specs.Ahead.{line_end};
+ghost use Rattle.script.specs.Changes.{byte_at, bytes_at};
+ghost use Rattle.script.specs.Words.{digit_in, byte_in};
 ghost use Rattle.script.specs.Reads.{Reads, ReadsBy};
 
-use redo_record::{MOST_BYTES, Payload};
+use crate::cursor::ends_word;
+use redo_record::MOST_BYTES;
 use volume_model::Fault;
 
 /// Returns the value of a hexadecimal digit in lower case.
@@ -24,32 +27,46 @@ fn digit(byte: u8) -> Result<u8, Fault>
 
 /// Returns the byte of two hexadecimal digits.
 #[inline(always)]
-pub fn byte_of(high: u8, low: u8) -> Result<u8, Fault>
+fn byte_of(high: u8, low: u8) -> Result<u8, Fault>
     ensures { Reads (byte_in high low) result }
 {
     Ok(digit(high)? * 16 + digit(low)?)
 }
 
-/// Reads 1 to 64 bytes, each of them two hexadecimal digits in lower case.
-pub fn payload_of(word: &[u8]) -> Result<Payload, Fault>
-    ensures { ReadsBy payload_bytes (bytes_in word.now) result }
+/// Returns the byte of the two hexadecimal digits at the head of a text, and what comes after them.
+#[inline(always)]
+fn byte_at(text: &[u8]) -> Option<(u8, &[u8])>
+    ensures { MatchOption result (byte_at text.now ≡ None) (λ found. byte_at text.now ≡ Some (found.0, found.1.now)) }
 {
-    let mut digits = word;
-    if digits.is_empty() || digits.len() > 2 * MOST_BYTES {
-        return Err(Fault::Malformed);
+    match text {
+        [high, low, rest @ ..] => match byte_of(*high, *low) {
+            Ok(byte) => Some((byte, rest)),
+            Err(_) => None,
+        },
+        _ => None,
     }
-    let mut bytes = [0; MOST_BYTES];
+}
+
+/// Puts 1 to 64 bytes, each of them two hexadecimal digits in lower case, that end a word at the head of a text: how
+/// many there are, and what comes after them.
+#[inline(always)]
+pub fn put_bytes<'a>(text: &'a [u8], bytes: &mut [u8; MOST_BYTES]) -> Result<(usize, &'a [u8]), Fault>
+    ensures bytes { ReadsBy (λ found. (take found.0 bytes.new, found.1.now)) (bytes_at text.now) result }
+    ensures room { IfOk result (λ found. HasRoom found.0) }
+    ensures same_line { IfOk result (λ found. line_end found.1.now ≡ line_end text.now) }
+{
+    let mut rest = text;
     let mut count = 0;
-    while let [high, low, more @ ..] = digits {
-        bytes[count] = byte_of(*high, *low)?;
+    while let Some((byte, more)) = byte_at(rest) {
+        if count == MOST_BYTES {
+            return Err(Fault::Malformed);
+        }
+        bytes[count] = byte;
         count += 1;
-        digits = more;
+        rest = more;
     }
-    if !digits.is_empty() {
+    if count == 0 || !ends_word(rest) {
         return Err(Fault::Malformed);
     }
-    match Payload::new(&bytes[..count]) {
-        Some(payload) => Ok(payload),
-        None => Err(Fault::Malformed),
-    }
+    Ok((count, rest))
 }

@@ -1,15 +1,17 @@
 //! The lines of a script in turn: one event a line.
 
-ghost use Rattle.std.specs.Prelude.{◌≡◌, ◌<◌, ◌≤◌, ◌↔◌, IfOk, IsTrue, OnOk, length, vec_len};
+ghost use Rattle.std.specs.Prelude.{◌≡◌, ◌<◌, ◌≤◌, ◌↔◌, IfOk, IsTrue, OnOk, length, true, vec_len};
 ghost use Rattle.std.specs.Str.{IsUtf8};
 ghost use Rattle.script.specs.Seen.{Seen, asked_by, seen};
-ghost use Rattle.script.specs.Named.{AddsFirst};
-ghost use Rattle.script.specs.Script.{AddsLine, ReadsScript, kept_in, stop_at, with_line};
+ghost use Rattle.script.specs.Grammar.{is_silent};
+ghost use Rattle.script.specs.Pieces.{before_newline};
+ghost use Rattle.script.specs.Adds.{AddsFirst};
+ghost use Rattle.script.specs.Script.{ReadsScript, kept_in, stop_at, with_line};
+ghost use Rattle.script.specs.declared.reading.Script.{Script};
 
-use crate::line::{Line, line_of};
-use crate::named::named_order;
-use crate::pieces::first_line;
-use crate::seeking::count_of;
+use crate::cursor::Cursor;
+use crate::line::{Line, line_at};
+use crate::pieces::{count_of, first_line};
 use std::alloc::{AllocError, Global};
 use volume_model::Fault;
 use world::Order;
@@ -98,7 +100,6 @@ fn keep(script: &mut Script, events: &mut Vec<Option<u32>>, line: Line) -> Resul
         (seen line)) }
 {
     match line {
-        Line::Empty => events.push(None)?,
         Line::Wait => {
             let line = events.len() as u32 + 1;
             events.push(None)?;
@@ -119,27 +120,28 @@ fn is_utf8(bytes: &[u8]) -> bool
     str::from_utf8(bytes).is_ok()
 }
 
-/// Adds a line. Out of line, since most lines are read without it.
-#[inline(never)]
-fn add_line(
-    alloc: Global,
-    script: &mut Script,
-    events: &mut Vec<Option<u32>>,
-    line: &[u8],
-) -> Result<(), Fault>
-    requires { vec_len events.old < SCRIPT_LINES }
-    ensures { AddsLine line.now (kept_in script.old events.old.items) result (kept_in script.new events.new.items) }
+/// Returns whether the first line of a text is empty or a comment.
+#[inline(always)]
+fn is_silent(text: &[u8]) -> bool
+    requires { 0 < length text.now }
+    ensures { result ≡ is_silent (before_newline text.now) }
 {
+    text[0] == b'\n' || text[0] == b'#'
+}
+
+/// Adds the first line of a text, which is empty or a comment, and returns the text after it.
+fn add_silent<'a>(events: &mut Vec<Option<u32>>, text: &'a [u8]) -> Result<&'a [u8], Fault>
+    requires some { 0 < length text.now }
+    requires silent { is_silent (before_newline text.now) ≡ true }
+    ensures { (script : Script) → AddsFirst text.now (kept_in script events.old.items) result
+        (kept_in script events.new.items) }
+{
+    let (line, after) = first_line(text);
     if !is_utf8(line) {
         return Err(Fault::Malformed);
     }
-    match line_of(alloc, line, events.as_slice()) {
-        Ok(line) => {
-            keep(script, events, line)?;
-            Ok(())
-        }
-        Err(fault) => Err(fault),
-    }
+    events.push(None)?;
+    Ok(after)
 }
 
 /// Adds the first line of a text, and returns the text after it.
@@ -154,13 +156,15 @@ fn add_first<'a>(
     requires few { vec_len events.old < SCRIPT_LINES }
     ensures { AddsFirst text.now (kept_in script.old events.old.items) result (kept_in script.new events.new.items) }
 {
-    if let Some((order, after)) = named_order(text, events.as_slice()) {
-        keep_order(script, events, order)?;
-        return Ok(after);
+    if is_silent(text) {
+        return add_silent(events, text);
     }
-    let (line, after) = first_line(text);
-    match add_line(alloc, script, events, line) {
-        Ok(()) => Ok(after),
+    let mut words = Cursor { rest: text };
+    match line_at(alloc, &mut words, events.as_slice()) {
+        Ok(line) => {
+            keep(script, events, line)?;
+            Ok(words.after_line())
+        }
         Err(fault) => Err(fault),
     }
 }

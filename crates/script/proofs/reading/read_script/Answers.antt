@@ -1,7 +1,6 @@
 use Rattle.std.proofs.Common.{Err, arith, length, rules, subst, suc, sym, ◌+◌, ◌<◌, ◌≡◌}
 use Rattle.script.specs.Script.{ReadsScript, kept_in}
 use Rattle.script.specs.declared.reading.ScriptFault.{ScriptFault}
-use Rattle.script.proofs.Lines.{is_some}
 use Rattle.script.proofs.Scripts.{reads_all, reads_after_growth, reads_next, reads_over, reads_refused, starts_empty}
 use Rattle.script.proofs.reading.read_script.Goals as goal
 
@@ -18,7 +17,7 @@ returns-then-number-gt-SCRIPT_LINES c =
     let now = kept_in c.loop-rest.script c.loop-rest.events.items in
     let some : 0 < length rest = search rules in
     let numbered : c.len-number.result + 1 ≡ suc (length c.loop-rest.events.items) = omega arith in
-    reads_after_growth c.args.text.now rest c.loop-rest.room (c.len-number.result + 1) now now c.loop-rest.invariant (is_some rest some) numbered (omega arith)
+    reads_after_growth c.args.text.now rest c.loop-rest.room (c.len-number.result + 1) now now c.loop-rest.invariant some numbered (omega arith)
 
 pub returns-in-Err : goal.returns-in-Err
 returns-in-Err c =
