@@ -1,5 +1,5 @@
 -- What stands ahead of a cursor in a line.
-use Rattle.std.proofs.Common.{◌≡◌, ◌≢◌, ◌∙◌, ap, sym, subst, ℕ, zero, suc, ◌+◌, ◌<◌, ◌≤◌, Bool, true, false, List, [], ◌∷◌, ◌++◌, ◌&&◌, ◌||◌, if◌then◌else◌, Option, Some, None, All, length, get_or, refl, eqb, leb, arith, length-append, option_and_then, option_map}
+use Rattle.std.proofs.Common.{◌≡◌, ◌≢◌, ◌∙◌, ap, sym, subst, ℕ, zero, suc, ◌+◌, ◌<◌, ◌≤◌, Bool, true, false, List, [], ◌∷◌, ◌++◌, ◌&&◌, ◌||◌, if◌then◌else◌, Option, Some, None, All, length, get_or, refl, eqb, leb, arith, length-append, option_and_then, option_map, drop, eq-eqb}
 use Rattle.std.specs.Char.{is_ascii_digit}
 use Rattle.std.specs.List.{list_all, slice_split}
 use Rattle.std.proofs.lemmas.Bool.{eqb-true, le-leb, ne_eqb}
@@ -21,6 +21,7 @@ not_digit c b other digit = ne_eqb b c (λ same. absurd (let bad : true ≡ fals
 
 -- a byte of a line, ASCII
 pub in_line : (b : ℕ) (text : List ℕ) → eqb b 10 ≡ false → leb b 127 ≡ true → line_end (b ∷ text) ≡ line_end text
+unfolding line_end
 in_line b text other low = rw (other, low) refl
 
 digit_in_line : (b : ℕ) (text : List ℕ) → is_ascii_digit b ≡ true → line_end (b ∷ text) ≡ line_end text
@@ -43,6 +44,7 @@ some_is x y e = cc
 
 -- a byte that comes before a line goes on
 pub byte_in_line : (byte : ℕ) (text rest : List ℕ) → 32 ≤ byte → byte ≤ 127 → after_byte byte text ≡ Some rest → line_end rest ≡ line_end text
+unfolding line_end
 byte_in_line byte [] rest above below e = absurd cc
 byte_in_line byte (b ∷ text) rest above below e = go (eqb b byte) refl
   where
@@ -53,6 +55,10 @@ byte_in_line byte (b ∷ text) rest above below e = go (eqb b byte) refl
         let goes : text ≡ rest = cc in
         rw (← goes) (sym (in_line b text (ne_eqb b 10 (λ ten. absurd (omega (arith, is, ten, above)))) (le-leb b 127 (omega (arith, is, below)))))
     go false other = absurd (let bad : None ≡ Some rest = rw other at e in cc)
+
+pub head_in_line : (byte : ℕ) (text : List ℕ) → 32 ≤ byte → byte ≤ 127 → 1 ≤ length text → get_or text 0 0 ≡ byte → line_end (drop 1 text) ≡ line_end text
+head_in_line byte [] above below some is = absurd (omega arith)
+head_in_line byte (b ∷ text) above below some is = byte_in_line byte (b ∷ text) text above below (rw (is, eq-eqb byte byte refl) refl)
 
 -- a number after a byte was found where both are there
 pub record HasNumber (byte most : ℕ) (text : List ℕ) (n : ℕ) (rest : List ℕ) : Type 0 where

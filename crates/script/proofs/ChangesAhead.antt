@@ -1,5 +1,6 @@
 -- The changes that a cursor takes.
-use Rattle.std.proofs.Common.{◌≡◌, ◌≢◌, ◌∙◌, ap, sym, ℕ, zero, suc, ◌+◌, ◌*◌, ◌-◌, ◌<◌, ◌≤◌, Bool, true, false, List, [], ◌∷◌, ◌++◌, ◌&&◌, ◌||◌, if◌then◌else◌, Option, Some, None, append_assoc, length, drop, get_or, refl, eqb, leb, arith, length-append, option_and_then, option_map}
+use Rattle.std.proofs.Common.{◌≡◌, ◌≢◌, ◌∙◌, ap, sym, ℕ, zero, suc, ◌+◌, ◌*◌, ◌-◌, ◌<◌, ◌≤◌, Bool, true, false, List, [], ◌∷◌, ◌++◌, ◌&&◌, ◌||◌, if◌then◌else◌, Option, Some, None, append_assoc, length, drop, get_or, refl, eqb, leb, arith, length-append, option_and_then, option_map, take}
+use Rattle.std.specs.Borrow.{Bor}
 use Rattle.std.specs.Char.{is_ascii_digit}
 use Rattle.std.specs.List.{join_with_byte}
 use Rattle.std.proofs.lemmas.Bool.{eqb-true, le-leb, lt-leb, ne_eqb}
@@ -176,11 +177,13 @@ abbrev then_words : List ℕ → model.Change → model.Change × List (List ℕ
 then_words text c = (c, words_ahead (after_word text))
 
 first_word : (b : ℕ) (text : List ℕ) → eqb b 32 ≡ true → first_change (words_ahead (b ∷ text)) ≡ option_map (then_words text) (block_after (number_at most_ids text))
+unfolding words_ahead
 first_word b text space =
     let words : words_ahead (b ∷ text) ≡ word_at text ∷ words_ahead (after_word text) = rw space (ap words_in (before_is text) ∙ words_are text) in
     ap first_change words ∙ ap (option_map (then_words text)) (word_change text)
 
 no_word : (b : ℕ) (text : List ℕ) → eqb b 32 ≡ false → first_change (words_ahead (b ∷ text)) ≡ None
+unfolding words_ahead
 no_word b text other = go (eqb b 10) refl
   where
     go : (t : Bool) → eqb b 10 ≡ t → first_change (words_ahead (b ∷ text)) ≡ None
@@ -244,12 +247,20 @@ module _ (c : ℕ) (text : List ℕ) (space : eqb c 32 ≡ true) where
   by_second (Some (g, second)) eg = by_third g second eg (number_after 58 most_blocks second) refl
 
 change_is : (text : List ℕ) → first_change (words_ahead text) ≡ change_by_place (place_at text)
+unfolding words_ahead
 change_is [] = refl
 change_is (c ∷ text) = go (eqb c 32) refl
   where
     go : (s : Bool) → eqb c 32 ≡ s → first_change (words_ahead (c ∷ text)) ≡ change_by_place (place_at (c ∷ text))
     go true space = by_second c text space (number_at most_ids text) refl
     go false space = no_word c text space ∙ rw space refl
+
+-- what was read of a place, and of the bytes after it
+abbrev pub place_found : ℕ × ℕ × ℕ × Bor (List ℕ) → ℕ × ℕ × ℕ × List ℕ
+place_found found = (found.0, found.1, found.2, found.3.now)
+
+abbrev pub bytes_found : List ℕ → ℕ × Bor (List ℕ) → List ℕ × List ℕ
+bytes_found bytes found = (take found.0 bytes, found.1.now)
 
 pub no_place : (text : List ℕ) → place_at text ≡ None → first_change (words_ahead text) ≡ None
 no_place text e = change_is text ∙ ap change_by_place e
@@ -307,20 +318,18 @@ fewer_words (word ∷ words) c later e = go (change_by (fields_in word)) refl
         let rest : words ≡ later = ap (λ (f : model.Change × List (List ℕ)). f.1) pair in
         omega (arith, ap length rest)
 
+-- where a word is left the changes are some
+pub some_left : (words : List (List ℕ)) → words ≢ [] → changes_in words ≡ some_changes words
+some_left [] more = absurd (more refl)
+some_left (word ∷ words) more = refl
+
 module _ (all : Option (List model.Change)) (items : List Change) (words : List (List ℕ)) (before : all ≡ option_map (λ more. changes_of items ++ more) (some_changes words)) where
   pub bad_change : first_change words ≡ None → all ≡ None
   bad_change e = rw (before, none_in_turn words e) refl
 
-  module _ (c : Change) (later : List (List ℕ)) (e : first_change words ≡ Some (change_of c, later)) (new : List Change) (is_new : new ≡ items ++ c ∷ []) where
-    with_one : all ≡ option_map (λ more. changes_of new ++ more) (changes_in later)
-    with_one = rw (is_new, before, some_in_turn words (change_of c) later e) (after_change items c (changes_in later))
+  pub with_one : (c : Change) (later : List (List ℕ)) → first_change words ≡ Some (change_of c, later) → (new : List Change) → new ≡ items ++ c ∷ [] → all ≡ option_map (λ more. changes_of new ++ more) (changes_in later)
+  with_one c later e new is_new = rw (is_new, before, some_in_turn words (change_of c) later e) (after_change items c (changes_in later))
 
-    pub last_change : later ≡ [] → all ≡ Some (changes_of new)
-    last_change end = with_one ∙ rw end (ap Some (append-nil (changes_of new)))
-
-    pub more_changes : later ≢ [] → all ≡ option_map (λ more. changes_of new ++ more) (some_changes later)
-    more_changes more = with_one ∙ ap (option_map (λ more. changes_of new ++ more)) (go later more)
-      where
-        go : (later : List (List ℕ)) → later ≢ [] → changes_in later ≡ some_changes later
-        go [] more = absurd (more refl)
-        go (word ∷ words) more = refl
+-- no word is left
+pub all_taken : (all : Option (List model.Change)) (items : List Change) (words : List (List ℕ)) → all ≡ option_map (λ more. changes_of items ++ more) (changes_in words) → words ≡ [] → all ≡ Some (changes_of items)
+all_taken all items words before none = rw (before, none) (ap Some (append-nil (changes_of items)))

@@ -25,9 +25,11 @@ next_side text = next_number 46 most_numbers refl is_newline digit_no_newline re
 
 -- the name's sides come after the space
 name_ahead : (earlier b : ℕ) (text : List ℕ) → eqb b 32 ≡ true → only_name earlier (words_ahead (b ∷ text)) ≡ named_by earlier (option_and_then by_end (number_at most_numbers text))
+unfolding words_ahead
 name_ahead earlier b text space = rw space (only_is earlier (before is_newline text) ∙ (name_by earlier (sides_in (before is_newline text)) ∙ ap (named_by earlier) (next_side (46 ∷ text))))
 
 no_name_ahead : (earlier b : ℕ) (text : List ℕ) → eqb b 32 ≡ false → only_name earlier (words_ahead (b ∷ text)) ≡ None
+unfolding words_ahead
 no_name_ahead earlier b text other = go (eqb b 10) refl
   where
     go : (t : Bool) → eqb b 10 ≡ t → only_name earlier (words_ahead (b ∷ text)) ≡ None
@@ -36,6 +38,7 @@ no_name_ahead earlier b text other = go (eqb b 10) refl
 
 -- what the name is, by the two numbers
 name_is : (earlier : ℕ) (text : List ℕ) → only_name earlier (words_ahead text) ≡ named_by earlier (option_and_then by_end (number_after 32 most_numbers text))
+unfolding words_ahead
 name_is earlier [] = refl
 name_is earlier (b ∷ text) = go (eqb b 32) refl
   where

@@ -1,7 +1,8 @@
 -- A script that is read line by line.
-use Rattle.std.proofs.Common.{◌≡◌, ◌≢◌, ◌∙◌, ap, sym, subst, ℕ, zero, suc, ◌+◌, ◌-◌, ◌<◌, ◌≤◌, List, [], ◌∷◌, ◌++◌, Option, Some, None, Ok, Err, length, drop, take, get_or, arith, refl, sum_by, length-drop, option_map, Bool, true, false, eqb, leb}
+use Rattle.std.proofs.Common.{◌≡◌, ◌≢◌, ◌∙◌, ap, sym, subst, ℕ, zero, suc, ◌+◌, ◌-◌, ◌<◌, ◌≤◌, List, [], ◌∷◌, ◌++◌, Option, Some, None, Ok, Err, length, drop, take, get_or, arith, refl, sum_by, length-drop, option_map, Result, Bool, true, false, eqb, leb}
 use Rattle.std.specs.Borrow.{Bor}
 use Rattle.std.specs.List.{list_all}
+use Rattle.std.specs.Result.{IsErrAnd}
 use Rattle.std.specs.Str.{IsUtf8}
 use Rattle.std.proofs.lemmas.Bool.{leb-true}
 use Rattle.std.proofs.lemmas.List.{length-take-le, length_push}
@@ -10,7 +11,7 @@ use Rattle.std.proofs.lemmas.Str.{IsUtf8-from_ascii}
 use Rattle.std.proofs.Math.Seq.{take-suc}
 use Rattle.volume_model.specs.declared.fault.Fault.{Fault}
 use Rattle.volume_model.specs.declared.fault.Fault.TheVariants.{Malformed, NoMemory}
-use Rattle.script.specs.Ahead.{EndsAt, after_line, ends_line}
+use Rattle.script.specs.Ahead.{EndsAt, after_line, ends_line, line_end}
 use Rattle.script.specs.Grammar.{LineAction, action_of, is_silent, said}
 use Rattle.script.specs.Adds.{AddsFirst, IsFirstLine}
 use Rattle.script.specs.Pieces.{pieces, before_newline}
@@ -170,6 +171,11 @@ ascii_at_end : (rest : List ℕ) → ends_line rest ≡ true → list_all (λ b.
 ascii_at_end [] e = refl
 ascii_at_end (b ∷ rest) e = let same : eqb b 10 ≡ true = e in rw same refl
 
+-- where two texts end in the same line
+same_end : (rest text : List ℕ) → line_end rest ≡ line_end text → (after_line rest ≡ after_line text) × (list_all (λ b. leb b 127) (before_newline rest) ≡ list_all (λ b. leb b 127) (before_newline text))
+unfolding line_end
+same_end rest text e = (ap (λ (x : List ℕ × Bool). x.0) e, ap (λ (x : List ℕ × Bool). x.1) e)
+
 -- the first line of a text that isn't silent
 module _ (text : List ℕ) (old new : Kept) (some : 0 < length text) (loud : is_silent (before_newline text) ≡ false) where
   spoken : action_of (length old.indexes) (before_newline text) ≡ said (length old.indexes) (words_in (before_newline text))
@@ -180,8 +186,8 @@ module _ (text : List ℕ) (old new : Kept) (some : 0 < length text) (loud : is_
   adds_line rest after asks says ends goes is_new =
       let line = before_newline text in
       let found = action_seen (said (length old.indexes) (words_in line)) old.indexes asks says in
-      let ascii : list_all (λ b. leb b 127) line ≡ true = sym (ap (λ (e : List ℕ × Bool). e.1) ends.same_line) ∙ ascii_at_end rest (none_ends rest ends.none) in
-      let same : after.now ≡ after_line text = goes ∙ ap (λ (e : List ℕ × Bool). e.0) ends.same_line in
+      let ascii : list_all (λ b. leb b 127) line ≡ true = sym (same_end rest text ends.same_line).1 ∙ ascii_at_end rest (none_ends rest ends.none) in
+      let same : after.now ≡ after_line text = goes ∙ (same_end rest text ends.same_line).0 in
       (line, subst (λ (a : List ℕ). IsFirstLine text line a) (sym same) (line_there text some), (found.0, IsUtf8-from_ascii line (low_at line ascii), spoken ∙ found.1, is_new ∙ ap (with_line old) (sym found.2)))
 
   -- or was refused
@@ -211,3 +217,7 @@ module _ (text : List ℕ) (old new : Kept) (some : 0 < length text) (silent : i
 
 pub adds_no_memory : (text : List ℕ) (old new : Kept) → 0 < length text → AddsFirst text old (Err NoMemory) new
 adds_no_memory text old new some = (before_newline text, after_line text, line_there text some, tt)
+
+pub no_memory_by : (text : List ℕ) (old new : Kept) (result : Result (Bor (List ℕ)) Fault) → 0 < length text → IsErrAnd result (λ f. f ≡ NoMemory) → AddsFirst text old result new
+no_memory_by text old new (Ok x) some is = absurd is
+no_memory_by text old new (Err f) some is = subst (λ (f : Fault). AddsFirst text old (Err f) new) (sym is) (adds_no_memory text old new some)

@@ -37,6 +37,7 @@ module _ (most : ℕ) (text : List ℕ) where
   by_end f = if ends_word f.1 then Some (f.0, words_ahead f.1) else None
 
   next : first_number most (words_ahead text) ≡ option_and_then by_end (number_after 32 most text)
+  unfolding words_ahead
   next = next_number 32 most refl is_newline digit_no_newline refl text
 
   -- the next word is no number
@@ -52,10 +53,12 @@ module _ (most : ℕ) (text : List ℕ) where
 
 -- no word is left where the line ends
 pub ends_none : (text : List ℕ) → ends_line text ≡ true → words_ahead text ≡ []
+unfolding words_ahead
 ends_none [] e = refl
 ends_none (b ∷ text) e = let same : b ≡ 10 = eqb-true b 10 e in rw same refl
 
 pub none_ends : (text : List ℕ) → words_ahead text ≡ [] → ends_line text ≡ true
+unfolding words_ahead
 none_ends [] e = refl
 none_ends (b ∷ text) e = go (eqb b 10) refl (eqb b 32) refl
   where
@@ -78,8 +81,16 @@ after_end text none b after is =
     let newline : eqb b 10 ≡ true = ap ends_line (sym is) ∙ none_ends text none in
     rw (is, newline) refl
 
+pub after_ended : (text : List ℕ) → words_ahead text ≡ [] → 1 ≤ length text → drop 1 text ≡ after_line text
+after_ended [] none some = absurd (omega arith)
+after_ended (b ∷ text) none some = sym (after_end (b ∷ text) none b text refl)
+
+pub ends_at : (text rest : List ℕ) → ends_line rest ≡ true → line_end rest ≡ line_end text → EndsAt text rest
+ends_at text rest end same = record { none = ends_none rest end; same_line = same }
+
 -- the first word of a line, and those after it
 pub words_are : (text : List ℕ) → words_in (before_newline text) ≡ word_at text ∷ words_ahead (after_word text)
+unfolding words_ahead
 words_are [] = refl
 words_are (b ∷ text) = go (eqb b 32) refl (eqb b 10) refl (words_are text)
   where

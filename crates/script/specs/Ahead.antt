@@ -81,7 +81,7 @@ abbrev pub ends_word : List ℕ → Bool
 ends_word text = ends_part is_newline 32 text
 
 -- the words of a line after the place where a word ends
-abbrev pub words_ahead : List ℕ → List (List ℕ)
+unfoldable pub words_ahead : List ℕ → List (List ℕ)
 words_ahead text = parts_ahead is_newline 32 text
 
 -- what comes after the line that a text begins in
@@ -90,7 +90,7 @@ after_line [] = []
 after_line (b ∷ text) = if b == 10 then text else after_line text
 
 -- the same, and whether what is left of the line is ASCII
-abbrev pub line_end : List ℕ → List ℕ × Bool
+unfoldable pub line_end : List ℕ → List ℕ × Bool
 line_end text = (after_line text, list_all (λ b. nat_le b 127) (before_newline text))
 
 -- the line that a text begins in ends where the other begins, and is ASCII up to there

@@ -40,12 +40,11 @@ fn all_changes(alloc: Global, words: &mut Cursor) -> Result<Vec<Change>, Fault>
     ensures end { OnOk result (EndsAt words.old.rest.now words.new.rest.now) }
 {
     let mut changes = Vec::with_capacity(alloc, room(words.rest))?;
-    loop {
+    changes.push(take_change(alloc, words)?)?;
+    while !words.is_at_end() {
         changes.push(take_change(alloc, words)?)?;
-        if words.is_at_end() {
-            return Ok(changes);
-        }
     }
+    Ok(changes)
 }
 
 /// Takes the next word, `G:B:O:HEX`.

@@ -1,6 +1,6 @@
 //! Messages that are named by the lines that made them.
 
-ghost use Rattle.std.specs.Prelude.{◌≡◌, ℕ, IfOk, None, OnOk, length, option_map};
+ghost use Rattle.std.specs.Prelude.{◌≡◌, IfOk, None, OnOk, length, option_map};
 ghost use Rattle.script.specs.Grammar.{deliver_in, take_in};
 ghost use Rattle.script.specs.Reads.{ReadsBy};
 ghost use Rattle.script.specs.Ahead.{EndsAt, words_ahead};
@@ -50,7 +50,7 @@ fn delivery(
 /// Returns the delivery of a message of a line without an event, which has made none: number 0 is that of none.
 #[inline(never)]
 fn no_delivery(alloc: Global, group: u8, member: u8) -> Result<Order, AllocError>
-    ensures { IfOk result (λ order. (place : ℕ) → asked_by order ≡ asked_from group member place None) }
+    ensures { IfOk result (λ order. asked_by order ≡ asked_from group member 0 None) }
 {
     let none = Event::Deliver {
         group,
@@ -91,7 +91,7 @@ fn taking(alloc: Global, volume: u32, place: u64, event: Option<u32>) -> Result<
 /// Returns the taking of a message of a line without an event.
 #[inline(never)]
 fn no_taking(alloc: Global, volume: u32) -> Result<Order, AllocError>
-    ensures { IfOk result (λ order. (place : ℕ) → asked_by order ≡ take_from volume place None) }
+    ensures { IfOk result (λ order. asked_by order ≡ take_from volume 0 None) }
 {
     Ok(Order::Event(Box::new(alloc, Event::Take { volume, message: 0 })?))
 }

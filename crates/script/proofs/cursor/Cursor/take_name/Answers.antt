@@ -4,6 +4,7 @@ use Rattle.script.specs.Grammar.{most_numbers}
 use Rattle.script.specs.Parts.{only_name}
 use Rattle.script.proofs.NamesAhead.{goes_on, is_name, no_line, no_name, no_place}
 use Rattle.script.proofs.Turns.{handed, number_found}
+use Rattle.script.proofs.WordsAhead.{ends_at}
 use Rattle.script.proofs.cursor.Cursor.take_name.Goals as goal
 
 pub returns-in_err-line-clause-name : goal.returns-in_err-line-clause-name
@@ -35,3 +36,6 @@ returns-clause-name c =
     let line = c.in_ok-line in
     let place = c.in_ok-place in
     is_name c.args.earlier c.args.self.now.rest.now line.line line.rest.now line.ensures.number place.place place.rest.now place.ensures.number (sym c.ends_line.ensures ∙ c.if-not-ends_line.false) (sym c.is_name.ensures ∙ c.if-not-is_name.false)
+
+pub returns-clause-end : goal.returns-clause-end
+returns-clause-end c = ends_at c.args.self.now.rest.now c.in_ok-place.rest.now (sym c.ends_line.ensures ∙ c.if-not-ends_line.false) (c.in_ok-place.ensures.same_line ∙ c.in_ok-line.ensures.same_line)
