@@ -12,7 +12,7 @@ use segment_core::Prepared;
 use std::alloc::Global;
 use std::sync::{Mutex, Wait};
 use volume_model::Fault;
-use wire::Message;
+use wire::{Message, Write};
 use world::Event;
 
 impl<L: Site> NodeActor<L> {
@@ -40,6 +40,20 @@ impl<L: Site> NodeActor<L> {
             × (actor_node self.new ≡ actor_node self.old) }
     {
         self.segment.prepare(alloc, message)
+    }
+
+    /// Prepares the reaction to a Write, as [`prepare`](NodeActor::prepare) does for its message.
+    #[inline(always)]
+    fn prepare_write(&mut self, alloc: Global, write: &Write) -> Result<Prepared, Fault>
+        ensures ready { IfOk result (λ prepared. IsReady self.new.segment prepared) }
+        ensures step { IfOk result (λ prepared. delivery_of self.new (Some (message_of (Message.Write write.now)))
+            ≡ Ok (step_of prepared (node_of self.new.segment))) }
+        ensures fails { IfErr result (λ fault. Fails fault
+            (delivery_of self.new (Some (message_of (Message.Write write.now))))) }
+        ensures same { (self.new.group ≡ self.old.group) × (self.new.member ≡ self.old.member)
+            × (actor_node self.new ≡ actor_node self.old) }
+    {
+        self.segment.prepare_write(alloc, write)
     }
 
     /// Applies a prepared reaction and enters the step. The caller holds the node's lock and the journal's.
@@ -170,32 +184,6 @@ impl<L: Site> NodeActor<L> {
         self.decline(&mut log, pass, message_ref, fault)
     }
 
-    /// Reacts to a message, which is the one that is referred to, as [`react`](NodeActor::react) says.
-    #[inline(always)]
-    fn react_to<'a, R: Wait, G: StepGate>(
-        &mut self,
-        rt: &R,
-        alloc: Global,
-        journal: &Mutex<Log<'a, L>>,
-        pass: &mut Pass<'a, L>,
-        message_ref: &mut MessageRef<'a, L>,
-        message: &'a Message,
-        gate: &G,
-    ) -> Result<Receipt, Halt>
-        requires { message_ref_message message_ref.old ≡ Some (message_of message.now) }
-        ensures recorded { PassRecords (Deliver (actor_group self.old) (actor_member self.old)
-            (message_ref_number message_ref.old)) result pass.old pass.new }
-        ensures seat { seat_of pass.new ≡ seat_of pass.old }
-        ensures found { IfErr result (λ halt. halt ≢ Refused NoMessage) }
-        ensures same { (actor_group self.new ≡ actor_group self.old) × (actor_member self.new ≡ actor_member self.old) }
-        ensures still { OnErr result (actor_node self.new ≡ actor_node self.old) }
-    {
-        match self.prepare(alloc, message) {
-            Ok(prepared) => self.accept(rt, journal, pass, message_ref, gate, prepared),
-            Err(fault) => self.reject(rt, journal, pass, message_ref, fault),
-        }
-    }
-
     /// Does what [`react`](NodeActor::react) says, out of line so that the write path keeps a small stack frame.
     #[inline(never)]
     fn react_any<'a, R: Wait, G: StepGate>(
@@ -214,8 +202,10 @@ impl<L: Site> NodeActor<L> {
         ensures same { (actor_group self.new ≡ actor_group self.old) × (actor_member self.new ≡ actor_member self.old) }
         ensures still { OnErr result (actor_node self.new ≡ actor_node self.old) }
     {
-        let message = message_ref.message();
-        self.react_to(rt, alloc, journal, pass, message_ref, message, gate)
+        match self.prepare(alloc, message_ref.message()) {
+            Ok(prepared) => self.accept(rt, journal, pass, message_ref, gate, prepared),
+            Err(fault) => self.reject(rt, journal, pass, message_ref, fault),
+        }
     }
 
     /// Delivers a message to the node, whose lock the caller holds: prepares the reaction, lends the answers to the
@@ -248,9 +238,11 @@ impl<L: Site> NodeActor<L> {
         ensures still { OnErr result (actor_node self.new ≡ actor_node self.old) }
     {
         // Most messages are Writes: compiled on their own, they take a tenth fewer instructions.
-        let message = message_ref.message();
-        if let Message::Write(_) = message {
-            return self.react_to(rt, alloc, journal, pass, message_ref, message, gate);
+        if let Message::Write(write) = message_ref.message() {
+            return match self.prepare_write(alloc, write) {
+                Ok(prepared) => self.accept(rt, journal, pass, message_ref, gate, prepared),
+                Err(fault) => self.reject(rt, journal, pass, message_ref, fault),
+            };
         }
         self.react_any(rt, alloc, journal, pass, message_ref, gate)
     }

@@ -18,7 +18,7 @@ use Rattle.world.specs.declared.client.Client.{Client}
 use Rattle.world.specs.Slots.{node_at}
 use Rattle.world.specs.Homes.{nodes_of}
 use Rattle.world.specs.Clients.{client_plan, client_volume, seen_client, client_or_unborn, clients_of, IsClientOf, IsPut}
-use Rattle.world.specs.Acts.{client_acted, client_ordered, order_after_growth, IsOrderOf}
+use Rattle.world.specs.Actions.{client_acted, client_after_growth, client_does, message_found, named_in}
 use Rattle.world.specs.Actors.{moved_of, plan_of, messages_in, world_of, Steps}
 use Rattle.world.specs.Worlds.{world_with}
 use Rattle.world.proofs.ClientTable.{client_put, clients_on, kept_clients, same_client, same_clients}
@@ -36,14 +36,14 @@ returns-clause-steps c =
     let inside : home.value ≡ born = c.in_ok-new.ensures.ok in
     let is : IsPut self.clients.items c.args.volume home c.keep.new.clients.items = c.in_ok-keep.ensures.kept in
     let put_is : put (clients_of self.clients.items) c.args.volume (seen_client born) ≡ clients_of c.keep.new.clients.items = ap (λ (cl : Client). put (clients_of self.clients.items) c.args.volume (seen_client cl)) (sym inside) ∙ client_put self.clients.items c.keep.new.clients.items c.args.volume home is in
-    let ordered : IsOrderOf (messages_in self) c.args.order c.in_ok-act.act = subst (λ (ms : List Message). IsOrderOf (added (messages_of ms) []) c.args.order c.in_ok-act.act) c.as_slice.ensures.value c.in_ok-act.ensures in
-    let defined : ClientAnswer = client_ordered (messages_in self) c.args.order (plan_of self) c.args.volume unborn in
+    let found : message_found c.named-found.result ≡ named_in (messages_in self) c.args.action = c.named-found.ensures ∙ ap (λ (ms : List Message). named_in (added (messages_of ms) []) c.args.action) c.as_slice.ensures.value in
+    let defined : ClientAnswer = client_does (messages_in self) c.args.action (plan_of self) c.args.volume unborn in
     let new : Client = c.unborn-client.result in
     let cloned : checked_model (arc_value c.in_ok-clone.field-0) ≡ checked_model (arc_value self.plan) = search rules in
-    let asked : client_acted c.in_ok-act.act (plan_of self) c.args.volume unborn ≡ client_acted c.in_ok-act.act (client_plan new) (client_volume new) (seen_client new) =
-    λ i. client_acted c.in_ok-act.act (sym (c.unborn-client.ensures.own.plan_is ∙ cloned ∙ c.requires.actors.plan) i) (sym c.unborn-client.ensures.own.volume_is i) (sym c.unborn-client.ensures.client i) in
-    let steps : defined ≡ Ok (answered c.in_ok-made.made (seen_client born)) = ordered.does (plan_of self) c.args.volume unborn ∙ asked ∙ c.in_ok-made.ensures.answers in
-    client_steps (authority_of self.authority) (node_at (plan_of self) (nodes_of self.nodes.items)) (clients_of self.clients.items) (messages_in self) c.args.volume (order_after_growth c.args.order) defined unborn (seen_client born) (ap client_or_unborn c.requires.absent)
+    let asked : defined ≡ client_acted (message_found c.named-found.result) c.args.action (client_plan new) (client_volume new) (seen_client new) =
+    λ i. client_acted (sym found i) c.args.action (sym (c.unborn-client.ensures.own.plan_is ∙ cloned ∙ c.requires.actors.plan) i) (sym c.unborn-client.ensures.own.volume_is i) (sym c.unborn-client.ensures.client i) in
+    let steps : defined ≡ Ok (answered c.in_ok-made.made (seen_client born)) = asked ∙ c.in_ok-made.ensures.answers in
+    client_steps (authority_of self.authority) (node_at (plan_of self) (nodes_of self.nodes.items)) (clients_of self.clients.items) (messages_in self) c.args.volume (client_after_growth c.args.action) defined unborn (seen_client born) (ap client_or_unborn c.requires.absent)
     (clients_of c.keep.new.clients.items) put_is (Ok c.enter.result) (added (messages_of c.enter.new.messages.items) [])
     (made_result (λ (step : ClientStep). step.made) (λ (step : ClientStep). step.client) kept c.enter.new.messages.items made defined (answered c.in_ok-made.made (seen_client born)) (seen_client born) c.enter.result
     steps refl refl c.enter.ensures.count (c.enter.ensures.added ∙ ap (λ (ms : List Message). ms ++ made) c.in_ok-reserve.ensures.items))
@@ -80,14 +80,14 @@ pub returns-in_err-keep-clause-steps : goal.returns-in_err-keep-clause-steps
 returns-in_err-keep-clause-steps c =
     let self = c.args.self.now in
     let born : Client = c.act.new.self in
-    let ordered : IsOrderOf (messages_in self) c.args.order c.in_ok-act.act = subst (λ (ms : List Message). IsOrderOf (added (messages_of ms) []) c.args.order c.in_ok-act.act) c.as_slice.ensures.value c.in_ok-act.ensures in
-    let defined : ClientAnswer = client_ordered (messages_in self) c.args.order (plan_of self) c.args.volume unborn in
+    let found : message_found c.named-found.result ≡ named_in (messages_in self) c.args.action = c.named-found.ensures ∙ ap (λ (ms : List Message). named_in (added (messages_of ms) []) c.args.action) c.as_slice.ensures.value in
+    let defined : ClientAnswer = client_does (messages_in self) c.args.action (plan_of self) c.args.volume unborn in
     let new : Client = c.unborn-client.result in
     let cloned : checked_model (arc_value c.in_ok-clone.field-0) ≡ checked_model (arc_value self.plan) = search rules in
-    let asked : client_acted c.in_ok-act.act (plan_of self) c.args.volume unborn ≡ client_acted c.in_ok-act.act (client_plan new) (client_volume new) (seen_client new) =
-    λ i. client_acted c.in_ok-act.act (sym (c.unborn-client.ensures.own.plan_is ∙ cloned ∙ c.requires.actors.plan) i) (sym c.unborn-client.ensures.own.volume_is i) (sym c.unborn-client.ensures.client i) in
-    let steps : defined ≡ Ok (answered c.in_ok-made.made (seen_client born)) = ordered.does (plan_of self) c.args.volume unborn ∙ asked ∙ c.in_ok-made.ensures.answers in
-    let late = order_after_growth c.args.order in
+    let asked : defined ≡ client_acted (message_found c.named-found.result) c.args.action (client_plan new) (client_volume new) (seen_client new) =
+    λ i. client_acted (sym found i) c.args.action (sym (c.unborn-client.ensures.own.plan_is ∙ cloned ∙ c.requires.actors.plan) i) (sym c.unborn-client.ensures.own.volume_is i) (sym c.unborn-client.ensures.client i) in
+    let steps : defined ≡ Ok (answered c.in_ok-made.made (seen_client born)) = asked ∙ c.in_ok-made.ensures.answers in
+    let late = client_after_growth c.args.action in
     let wants : may_run_out_of_memory late (moved_of (of_client (world_of self) c.args.volume defined)) ≡ true = ap (λ (a : ClientAnswer). may_run_out_of_memory late (moved_of (of_client (world_of self) c.args.volume a))) steps in
     let failed : c.from_residual-in_err-keep.result ≡ Err NoMemory = search rules in
     let clients : clients_of c.keep.new.clients.items ≡ clients_of self.clients.items = kept_clients self.clients.items c.keep.new.clients.items c.in_err-keep.ensures.same in
