@@ -1,5 +1,5 @@
 -- What the model's actors do.
-use Rattle.std.specs.Prelude.{◌≡◌, ℕ, Bool, List, [], Option, None, Some, option_map, Result}
+use Rattle.std.specs.Prelude.{◌≡◌, ℕ, Bool, true, false, List, [], Option, None, Some, option_map, Result}
 use Rattle.std.specs.Borrow.{Bor}
 use Rattle.volume_model.specs.declared.fault.Fault.{Fault}
 use Rattle.volume_model.specs.Answer.{never_after_growth}
@@ -58,6 +58,24 @@ action_event (actor.Authority action) = authority_event action
 action_event (actor.Client volume action) = client_event volume action
 action_event (actor.Node group member action) = node_event group member action
 action_event (actor.Deliver group member message) = Event.Deliver group member message
+
+-- the event is one of the authority
+abbrev pub is_of_authority : Event → Bool
+is_of_authority Event.Assign = true
+is_of_authority (Event.Advance group configuration) = true
+is_of_authority (Event.Refresh volume) = true
+is_of_authority Event.Grow = true
+is_of_authority event = false
+
+-- the event is one of a client
+abbrev pub is_of_client : Event → Bool
+is_of_client (Event.Issue volume changes) = true
+is_of_client (Event.Take volume message) = true
+is_of_client (Event.Cut volume) = true
+is_of_client (Event.Open volume) = true
+is_of_client (Event.Resend volume lsn) = true
+is_of_client (Event.Read volume group block) = true
+is_of_client event = false
 
 -- what the authority of a plan does
 abbrev pub authority_acted : Plan → Authority → AuthorityAction → Result AuthorityStep Fault

@@ -1,7 +1,8 @@
 //! Events, as an actor and its action.
 
-ghost use Rattle.std.specs.Prelude.{◌≡◌, IfOk};
+ghost use Rattle.std.specs.Prelude.{◌≡◌, true, IfOk};
 ghost use Rattle.world.specs.Actions.{action_event, authority_event, client_event, node_event};
+ghost use Rattle.world.specs.Actions.{is_of_authority, is_of_client};
 ghost use Rattle.world.specs.Events.{event_of};
 
 use crate::actions::{ActorAction, AuthorityAction, ClientAction};
@@ -15,41 +16,17 @@ impl Event {
         ensures { action_event result ≡ event_of self.now }
     {
         match self {
-            Event::Assign => ActorAction::Authority(AuthorityAction::Assign),
-            Event::Advance {
-                group,
-                configuration,
-            } => ActorAction::Authority(AuthorityAction::Advance {
-                group: *group,
-                configuration: *configuration,
-            }),
-            Event::Refresh { volume } => {
-                ActorAction::Authority(AuthorityAction::Refresh { volume: *volume })
+            Event::Assign | Event::Advance { .. } | Event::Refresh { .. } | Event::Grow => {
+                ActorAction::Authority(self.authority_action())
             }
-            Event::Grow => ActorAction::Authority(AuthorityAction::Grow),
-            Event::Issue { volume, changes } => ActorAction::Client(
-                *volume,
-                ClientAction::Issue(changes),
-            ),
-            Event::Take { volume, message } => {
-                ActorAction::Client(*volume, ClientAction::Take { message: *message })
-            }
-            Event::Cut { volume } => ActorAction::Client(*volume, ClientAction::Cut),
-            Event::Open { volume } => ActorAction::Client(*volume, ClientAction::Open),
-            Event::Resend { volume, lsn } => ActorAction::Client(
-                *volume,
-                ClientAction::Resend { lsn: *lsn },
-            ),
-            Event::Read {
-                volume,
-                group,
-                block,
-            } => {
-                let action = ClientAction::Read {
-                    group: *group,
-                    block: *block,
-                };
-                ActorAction::Client(*volume, action)
+            Event::Issue { .. }
+            | Event::Take { .. }
+            | Event::Cut { .. }
+            | Event::Open { .. }
+            | Event::Resend { .. }
+            | Event::Read { .. } => {
+                let (volume, action) = self.client_action();
+                ActorAction::Client(volume, action)
             }
             Event::Deliver {
                 group,
@@ -73,6 +50,54 @@ impl Event {
             Event::Offer { group, member, lsn } => {
                 ActorAction::Node(*group, *member, NodeAction::Offer { lsn: *lsn })
             }
+        }
+    }
+
+    /// Returns the action of an event of the authority.
+    fn authority_action(&self) -> AuthorityAction
+        requires { is_of_authority (event_of self.now) ≡ true }
+        ensures { authority_event result ≡ event_of self.now }
+    {
+        match self {
+            Event::Assign => AuthorityAction::Assign,
+            Event::Advance {
+                group,
+                configuration,
+            } => AuthorityAction::Advance {
+                group: *group,
+                configuration: *configuration,
+            },
+            Event::Refresh { volume } => AuthorityAction::Refresh { volume: *volume },
+            Event::Grow => AuthorityAction::Grow,
+            _ => unreachable!(),
+        }
+    }
+
+    /// Returns the volume epoch and the action of an event of a client.
+    fn client_action(&self) -> (u32, ClientAction<'_>)
+        requires { is_of_client (event_of self.now) ≡ true }
+        ensures { client_event result.0 result.1 ≡ event_of self.now }
+    {
+        match self {
+            Event::Issue { volume, changes } => (*volume, ClientAction::Issue(changes)),
+            Event::Take { volume, message } => {
+                (*volume, ClientAction::Take { message: *message })
+            }
+            Event::Cut { volume } => (*volume, ClientAction::Cut),
+            Event::Open { volume } => (*volume, ClientAction::Open),
+            Event::Resend { volume, lsn } => (*volume, ClientAction::Resend { lsn: *lsn }),
+            Event::Read {
+                volume,
+                group,
+                block,
+            } => {
+                let action = ClientAction::Read {
+                    group: *group,
+                    block: *block,
+                };
+                (*volume, action)
+            }
+            _ => unreachable!(),
         }
     }
 
