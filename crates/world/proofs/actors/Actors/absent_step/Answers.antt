@@ -1,4 +1,4 @@
-use Rattle.std.proofs.Common.{◌≡◌, ◌++◌, ℕ, Bool, true, [], List, Option, None, Result, Ok, Err, refl, sym, ap, ap₂, ◌∙◌, subst, rules}
+use Rattle.std.proofs.Common.{◌≡◌, ◌++◌, ℕ, Bool, true, [], List, None, Result, Ok, Err, refl, sym, ap, ap₂, ◌∙◌, subst, rules}
 use Rattle.std.proofs.lemmas.Result.{err_from_is_err_and}
 use Rattle.std.specs.Arc.{arc_value}
 use Rattle.std.specs.Global.{Box}
@@ -7,10 +7,8 @@ use Rattle.volume_model.specs.Lists.{added, put}
 use Rattle.volume_model.specs.Answer.{may_run_out_of_memory, refusal_of, AnswersAfterGrowth}
 use Rattle.volume_model.specs.declared.fault.Fault.{Fault}
 use Rattle.volume_model.specs.declared.fault.Fault.TheVariants.{NoMemory}
-use Rattle.volume_model.specs.Plan.{Plan}
 use Rattle.volume_model.specs.Client as model
 use Rattle.volume_model.specs.Client.{ClientAnswer, ClientStep, unborn}
-use Rattle.volume_model.specs.Message as model_message
 use Rattle.volume_model.specs.World.{of_client}
 use Rattle.wire.specs.declared.message.Message.{Message}
 use Rattle.wire.specs.Listed.{listed}
