@@ -15,7 +15,10 @@ returns-clause-moves c =
     let s : Segment = c.args.segment.now in
     let node : Node = node_of s in
     let kept : List Message = c.args.messages.now.items in
-    ready_moves (action_after_growth c.args.action) (action_of s c.args.action) (step_of c.in_ok-prepared.prepared) node node (node_of c.take.new.segment) (added (messages_of kept) []) (added (messages_of c.take.new.messages.items) []) c.take.result
+    let after : List Message = c.take.new.messages.items in
+    let late = action_after_growth c.args.action in
+    ready_moves late (action_of s c.args.action) (step_of c.in_ok-prepared.prepared) node node
+    (node_of c.take.new.segment) (added (messages_of kept) []) (added (messages_of after) []) c.take.result
     c.in_ok-prepared.ensures.step
     refl
-    (c.take.ensures.moves (action_after_growth c.args.action))
+    (c.take.ensures.moves late)

@@ -17,8 +17,15 @@ returns-clause-moves c =
     let node : Node = node_of s in
     let kept : List Message = c.args.messages.now.items in
     let message : Message = c.in_ok-message.message.now in
-    let named : numbered (added (messages_of kept) []) c.args.number ≡ Some (message_of message) = subst (λ (ms : List Message). numbered (added (messages_of ms) []) c.args.number ≡ Some (message_of message)) c.as_slice.ensures.value c.in_ok-message.ensures in
-    ready_moves never_after_growth (deliver (segment_plan s) (segment_group s) (segment_member s) node (numbered (added (messages_of kept) []) c.args.number)) (step_of c.in_ok-prepared.prepared) node (node_of c.prepare.new.self) (node_of c.take.new.segment) (added (messages_of kept) []) (added (messages_of c.take.new.messages.items) []) c.take.result
-    (ap (deliver (segment_plan s) (segment_group s) (segment_member s) node) named ∙ c.in_ok-prepared.ensures.step)
+    let after : List Message = c.take.new.messages.items in
+    let found = λ (ms : List Message). numbered (added (messages_of ms) []) c.args.number in
+    let named : found kept ≡ Some (message_of message) =
+    subst (λ (ms : List Message). found ms ≡ Some (message_of message)) c.as_slice.ensures.value
+    c.in_ok-message.ensures in
+    let does = deliver (segment_plan s) (segment_group s) (segment_member s) node in
+    ready_moves never_after_growth (does (found kept)) (step_of c.in_ok-prepared.prepared) node
+    (node_of c.prepare.new.self) (node_of c.take.new.segment) (added (messages_of kept) [])
+    (added (messages_of after) []) c.take.result
+    (ap does named ∙ c.in_ok-prepared.ensures.step)
     c.in_ok-prepared.ensures.node
     (c.take.ensures.moves never_after_growth)

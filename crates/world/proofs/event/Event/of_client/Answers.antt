@@ -6,4 +6,6 @@ use Rattle.world.proofs.event.Event.of_client.Goals as goal
 
 pub returns-in_ok-to_vec-in-Issue : goal.returns-in_ok-to_vec-in-Issue
 returns-in_ok-to_vec-in-Issue c =
-    ap (Issue c.args.volume) (copied c.in-Issue.changes.now c.in_ok-to_vec-in-Issue.field-0.items c.in_ok-to_vec-in-Issue.ensures.ok) ∙ ap (client_event c.args.volume) (sym c.in-Issue.is)
+    let copy = c.in_ok-to_vec-in-Issue in
+    ap (Issue c.args.volume) (copied c.in-Issue.changes.now copy.field-0.items copy.ensures.ok)
+    ∙ ap (client_event c.args.volume) (sym c.in-Issue.is)
