@@ -53,7 +53,7 @@ event_is event volume own asked is who =
     sym is ∙ ap (λ v. client_event v asked) same
 
 -- only a client's action is an event of a client
-pub IsOfClient : ActorAction → Type 0
+abbrev pub IsOfClient : ActorAction → Type 0
 IsOfClient (actor.Authority asked) = ⊥
 IsOfClient (actor.Client volume asked) = Unit {0}
 IsOfClient (actor.Node g m asked) = ⊥
