@@ -17,7 +17,8 @@ use Rattle.fleet_actors.specs.Actions.{HasFound}
 use Rattle.fleet_actors.specs.Attempts.{JudgedOf}
 
 -- a client finds its refusals on its own
-pub action_own : (asked : ClientAction) (found : Option Message) (plan : Plan) (volume : ℕ) (now : Client) → HasFound asked found → Refuses IsOwnOfClient (client_acted found asked plan volume now)
+pub action_own : (asked : ClientAction) (found : Option Message) (plan : Plan) (volume : ℕ) (now : Client)
+    → HasFound asked found → Refuses IsOwnOfClient (client_acted found asked plan volume now)
 action_own (action.Issue changes) found plan volume now has = issued_own plan volume now (changes_of changes.now)
 action_own (action.Take message) None plan volume now has = absurd cc
 action_own (action.Take message) (Some m) plan volume now has = taken_own plan volume now m

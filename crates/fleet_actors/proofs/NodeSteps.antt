@@ -46,7 +46,8 @@ not_joined w g from joined j f h = omega (arith, h, j, f)
 pub unjoined_delivery : (plan : Plan) (w : World) (g m number : ℕ) → groups_joined w.authority ≤ g → refusal (step plan w (Event.Deliver g m number)) ≡ 82
 unjoined_delivery plan w g m number h = absent plan w g m (deliver plan g m (w.nodes g m) (numbered w.messages number)) h
 
-pub unjoined_action : (plan : Plan) (w : World) (g m : ℕ) (what : NodeAction) → groups_joined w.authority ≤ g → refusal (step plan w (node_event g m what)) ≡ 82
+pub unjoined_action : (plan : Plan) (w : World) (g m : ℕ) (what : NodeAction) → groups_joined w.authority ≤ g
+    → refusal (step plan w (node_event g m what)) ≡ 82
 unjoined_action plan w g m action.Hydrate h = absent plan w g m (hydrated plan g m (w.nodes g m)) h
 unjoined_action plan w g m action.Restart h = absent plan w g m (Ok (record { made = []; node = restarted (w.nodes g m) })) h
 unjoined_action plan w g m (action.Offer lsn) h = absent plan w g m (offered g (w.nodes g m) lsn) h
@@ -117,9 +118,11 @@ module _ (plan : Plan) (slots cells : ℕ) (es : List Entry) (seen : World) (act
       exact plan slots cells es g m (Event.Deliver g m asked) (deliver plan g m now found) (delivers plan (world_at plan es) g m joined named now here asked found (ap (numbered (world_at plan es).messages) same ∙ is)) own fault fails
 
   -- what it does of itself
-  pub denies : (what : NodeAction) (fault : Fault) → Fails fault (acted what plan g m now) → Exact plan slots cells es (node_event g m what) fault
+  pub denies : (what : NodeAction) (fault : Fault) → Fails fault (acted what plan g m now)
+      → Exact plan slots cells es (node_event g m what) fault
   denies what fault fails =
-      exact plan slots cells es g m (node_event g m what) (acted what plan g m now) (does plan (world_at plan es) g m joined named now here what) (action_own plan g m now what) fault fails
+      exact plan slots cells es g m (node_event g m what) (acted what plan g m now)
+      (does plan (world_at plan es) g m joined named now here what) (action_own plan g m now what) fault fails
 
   -- the messages that it answers a letter with are the model's
   pub answers : (number asked : ℕ) (found : Option Message) → asked ≡ number → numbered (world_at plan es).messages number ≡ found → (s : NodeStep) → deliver plan g m now found ≡ Ok s → (made : List Message) → made ≡ s.made → makes (step plan (world_at plan es) (Event.Deliver g m asked)) ≡ Some made
@@ -133,16 +136,19 @@ module _ (plan : Plan) (slots cells : ℕ) (es : List Entry) (seen : World) (act
       ∙ put_at_here (world_at plan es).nodes g m s.node
 
   -- what it does of itself isn't refused where the node does it
-  pub grants : (what : NodeAction) (s : NodeStep) → acted what plan g m now ≡ Ok s → refusal (step plan (world_at plan es) (node_event g m what)) ≡ 0
+  pub grants : (what : NodeAction) (s : NodeStep) → acted what plan g m now ≡ Ok s
+      → refusal (step plan (world_at plan es) (node_event g m what)) ≡ 0
   grants what s ok = ap refusal (does plan (world_at plan es) g m joined named now here what ∙ ap (of_node (world_at plan es) g m) ok)
 
   -- so are those that it makes of itself
-  pub makes_step : (what : NodeAction) (s : NodeStep) → acted what plan g m now ≡ Ok s → (made : List Message) → made ≡ s.made → makes (step plan (world_at plan es) (node_event g m what)) ≡ Some made
+  pub makes_step : (what : NodeAction) (s : NodeStep) → acted what plan g m now ≡ Ok s → (made : List Message)
+      → made ≡ s.made → makes (step plan (world_at plan es) (node_event g m what)) ≡ Some made
   makes_step what s ok made are =
       ap makes (does plan (world_at plan es) g m joined named now here what ∙ ap (of_node (world_at plan es) g m) ok) ∙ ap (λ (ms : List Message). Some ms) (sym are)
 
   -- and it is then the model's node
-  pub done : (what : NodeAction) (s : NodeStep) → acted what plan g m now ≡ Ok s → (after plan (world_at plan es) (node_event g m what)).nodes g m ≡ s.node
+  pub done : (what : NodeAction) (s : NodeStep) → acted what plan g m now ≡ Ok s
+      → (after plan (world_at plan es) (node_event g m what)).nodes g m ≡ s.node
   done what s ok =
       ap (λ (r : Result Step Fault). (after_step (world_at plan es) r).nodes g m) (does plan (world_at plan es) g m joined named now here what ∙ ap (of_node (world_at plan es) g m) ok) ∙ put_at_here (world_at plan es).nodes g m s.node
 
@@ -164,5 +170,7 @@ module _ (plan : Plan) (g m : ℕ) (s : Segment) (is : IsSegmentOf plan g m s) (
   pub action_steps : (made : NodeStep) → action_of s what ≡ Ok made → acted what plan g m (node_of s) ≡ Ok made
   action_steps made ok = sym same_action ∙ ok
 
-  pub action_fails : (fault : Fault) → AnswersAfterGrowth (action_after_growth what) step_of (action_of s what) (node_of s) (Err fault) (node_of s) → Fails fault (acted what plan g m (node_of s))
-  action_fails fault h = subst (Fails fault) same_action (late_fails (action_after_growth what) step_of (action_of s what) (node_of s) (node_of s) fault h)
+  pub action_fails : (fault : Fault) → AnswersAfterGrowth (action_after_growth what) step_of (action_of s what)
+      (node_of s) (Err fault) (node_of s) → Fails fault (acted what plan g m (node_of s))
+  action_fails fault h = subst (Fails fault) same_action (late_fails (action_after_growth what) step_of
+      (action_of s what) (node_of s) (node_of s) fault h)

@@ -20,7 +20,8 @@ of_authority-refusal w (Err fault) = refl
 of_authority-refusal w (Ok s) = refl
 
 -- the step of an act is that of the authority's answer
-act_step : (plan : Plan) (w : World) (asked : AuthorityAction) → step plan w (authority_event asked) ≡ of_authority w (authority_acted plan w.authority asked)
+act_step : (plan : Plan) (w : World) (asked : AuthorityAction)
+    → step plan w (authority_event asked) ≡ of_authority w (authority_acted plan w.authority asked)
 act_step plan w action.Assign = refl
 act_step plan w (action.Advance group configuration) = refl
 act_step plan w (action.Refresh volume) = refl
@@ -31,19 +32,25 @@ pub authority_here : (actor : Actor) (w v : World) (now : Authority) → actor �
 authority_here actor w v now is agree seen = sym (seen ∙ subst (λ (a : Actor). Agree a w v) is agree)
 
 -- an authority of this plan that is asked refuses what the step refuses
-pub authority_refuses : (plan own : Plan) → own ≡ plan → (w : World) (asked : AuthorityAction) (old : Authority) (event : Event) → w.authority ≡ old → event ≡ authority_event asked → refusal (step plan w event) ≡ refusal (authority_acted own old asked)
+pub authority_refuses : (plan own : Plan) → own ≡ plan → (w : World) (asked : AuthorityAction) (old : Authority)
+    (event : Event) → w.authority ≡ old → event ≡ authority_event asked
+    → refusal (step plan w event) ≡ refusal (authority_acted own old asked)
 authority_refuses plan own of w asked old event here is =
     ap refusal (ap (step plan w) is ∙ act_step plan w asked) ∙ of_authority-refusal w (authority_acted plan w.authority asked) ∙ λ i. refusal (authority_acted (sym of i) (here i) asked)
 
 -- what the slots' being spent says of the world
-pub slots_spent : (w : World) (asked : AuthorityAction) (old : Authority) (event : Event) (given slots : ℕ) → w.authority ≡ old → event ≡ authority_event asked → given ≡ slots → IsSpent asked old given → (event ≡ Event.Assign) × (w.authority.last_volume ≡ slots)
-slots_spent w action.Assign old event given slots here is same spent = (is, ap (λ (a : Authority). a.last_volume) here ∙ spent ∙ same)
+pub slots_spent : (w : World) (asked : AuthorityAction) (old : Authority) (event : Event) (given slots : ℕ)
+    → w.authority ≡ old → event ≡ authority_event asked → given ≡ slots → IsSpent asked old given
+    → (event ≡ Event.Assign) × (w.authority.last_volume ≡ slots)
+slots_spent w action.Assign old event given slots here is same spent =
+    (is, ap (λ (a : Authority). a.last_volume) here ∙ spent ∙ same)
 slots_spent w (action.Advance group configuration) old event given slots here is same spent = absurd spent
 slots_spent w (action.Refresh volume) old event given slots here is same spent = absurd spent
 slots_spent w action.Grow old event given slots here is same spent = absurd spent
 
 -- what the actor's mark has seen then has the authority as it is
-pub ruled_state : (plan own : Plan) → own ≡ plan → (w : World) (asked : AuthorityAction) (old new : Authority) (event : Event) → w.authority ≡ old → event ≡ authority_event asked → (attempt : Result Messages Fault)
+pub ruled_state : (plan own : Plan) → own ≡ plan → (w : World) (asked : AuthorityAction) (old new : Authority)
+    (event : Event) → w.authority ≡ old → event ≡ authority_event asked → (attempt : Result Messages Fault)
     → IfOk attempt (λ made. IsDone (authority_acted own old asked) (messages_of (listed made)) new) → OnErr attempt (new ≡ old) → (seen now : List Entry) → old ≡ (world_at plan seen).authority
     → MatchResult attempt (λ made. world_at plan now ≡ after plan w event) (λ fault. now ≡ seen) → new ≡ (world_at plan now).authority
 ruled_state plan own of w asked old new event here is (Ok made) done still seen now was stands =

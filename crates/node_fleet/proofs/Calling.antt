@@ -33,5 +33,7 @@ pub lost_halt : (halt : Halt) (fault : Fault) → halt ≡ Refused fault → fau
 lost_halt halt fault is lost = is ∙ ap Refused lost
 
 -- the result of a message that is not there
-pub unmade_names : (event : Event) (steps : List Made) (halt : Halt) → IsUnmade event steps (Err halt) → halt ≡ Refused NoMessage → NamesElse event steps
-unmade_names event steps halt unmade is = names_else event steps (unmade (ap (λ (h : Halt). let r : Result Receipt Halt = Err h in r) is))
+pub unmade_names : (event : Event) (steps : List Made) (halt : Halt) → IsUnmade event steps (Err halt)
+    → halt ≡ Refused NoMessage → NamesElse event steps
+unmade_names event steps halt unmade is = names_else event steps
+    (unmade (ap (λ (h : Halt). let r : Result Receipt Halt = Err h in r) is))

@@ -149,7 +149,8 @@ impl<'a, L: FleetSite> Fleet<'a, L> {
         ensures recorded { PassRecordsCall (event_of event) result pass.old pass.new }
         ensures raised { IfOk result (λ r. RaisesBy (event_of event) r.durable (seat_of pass.old) (seat_of pass.new)) }
         ensures still { OnErr result (seat_of pass.new ≡ seat_of pass.old) }
-        ensures unmade { IfErr result (λ fault. fault ≡ NoMessage → NamesElse (event_of event) (steps_of pass.old)) }
+        ensures unmade { IfErr result (λ fault. fault ≡ NoMessage → NamesElse (event_of event)
+            (steps_of pass.old)) }
     {
         match self.try_client(rt, pass, volume, event) {
             Ok(receipt) => Ok(receipt),

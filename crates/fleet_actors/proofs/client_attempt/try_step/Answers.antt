@@ -13,14 +13,16 @@ returns-in-Err-clause-refused c =
     let action = c.args.action in
     let found : Option model.Message = message_found c.args.found in
     let defined : ClientAnswer = client_acted found action (client_plan old) (client_volume old) (seen_client old) in
-    judged_test c.args.full defined (action_own action found (client_plan old) (client_volume old) (seen_client old) c.requires.found) (client_after_growth action) c.in-Err.fault c.in-Err.ensures.answers
+    judged_test c.args.full defined (action_own action found (client_plan old) (client_volume old) (seen_client old)
+    c.requires.found) (client_after_growth action) c.in-Err.fault c.in-Err.ensures.answers
 
 pub returns-clause-done : goal.returns-clause-done
 returns-clause-done c =
     let old = c.args.client.now in
     let action = c.args.action in
     let found : Option model.Message = message_found c.args.found in
-    done_answer (client_after_growth action) answered (client_acted found action (client_plan old) (client_volume old) (seen_client old)) (seen_client old) (seen_client c.act.new.self) c.act.result c.act.ensures.answers
+    done_answer (client_after_growth action) answered (client_acted found action (client_plan old) (client_volume old)
+    (seen_client old)) (seen_client old) (seen_client c.act.new.self) c.act.result c.act.ensures.answers
 
 pub returns-clause-refused : goal.returns-clause-refused
 returns-clause-refused c =
@@ -28,11 +30,14 @@ returns-clause-refused c =
     let action = c.args.action in
     let found : Option model.Message = message_found c.args.found in
     let defined : ClientAnswer = client_acted found action (client_plan old) (client_volume old) (seen_client old) in
-    judged_answer c.args.full defined (action_own action found (client_plan old) (client_volume old) (seen_client old) c.requires.found) (client_after_growth action) answered (seen_client old) (seen_client c.act.new.self) c.act.result c.act.ensures.answers
+    judged_answer c.args.full defined (action_own action found (client_plan old) (client_volume old) (seen_client old)
+    c.requires.found) (client_after_growth action) answered (seen_client old) (seen_client c.act.new.self) c.act.result
+    c.act.ensures.answers
 
 pub returns-clause-still : goal.returns-clause-still
 returns-clause-still c =
     let old = c.args.client.now in
     let action = c.args.action in
     let found : Option model.Message = message_found c.args.found in
-    still_answer (client_after_growth action) answered (client_acted found action (client_plan old) (client_volume old) (seen_client old)) (seen_client old) (seen_client c.act.new.self) c.act.result c.act.ensures.answers
+    still_answer (client_after_growth action) answered (client_acted found action (client_plan old) (client_volume old)
+    (seen_client old)) (seen_client old) (seen_client c.act.new.self) c.act.result c.act.ensures.answers

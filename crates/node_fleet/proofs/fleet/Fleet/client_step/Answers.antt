@@ -7,4 +7,6 @@ use Rattle.node_fleet.proofs.fleet.Fleet.client_step.Goals as goal
 
 pub returns-clause-unmade : goal.returns-clause-unmade
 returns-clause-unmade g c =
-    subst (λ (e : Event). IfErr c.enter_client.result (λ fault. fault ≡ NoMessage → NamesElse e (steps_of c.args.pass.now))) c.in_ok-event.ensures c.enter_client.ensures.unmade
+    let steps = steps_of c.args.pass.now in
+    subst (λ (e : Event). IfErr c.enter_client.result (λ fault. fault ≡ NoMessage → NamesElse e steps))
+    c.in_ok-event.ensures c.enter_client.ensures.unmade

@@ -7,7 +7,8 @@ pub returns-in-Err-clause-recorded : goal.returns-in-Err-clause-recorded
 returns-in-Err-clause-recorded g c =
     let first = c.args.pass.now in
     let new = c.try_node.new.pass in
-    records_refused (node_event c.args.group c.args.member c.args.action) c.in-Err.halt c.refusal_of.result (steps_of first) (steps_of new) (notes_of first) (notes_of new) c.refusal_of.ensures c.in-Err.ensures.recorded
+    records_refused (node_event c.args.group c.args.member c.args.action) c.in-Err.halt c.refusal_of.result
+    (steps_of first) (steps_of new) (notes_of first) (notes_of new) c.refusal_of.ensures c.in-Err.ensures.recorded
 
 pub returns-in-Err-clause-found : goal.returns-in-Err-clause-found
 returns-in-Err-clause-found g c lost = c.in-Err.ensures.found (lost_halt c.in-Err.halt c.refusal_of.result c.refusal_of.ensures lost)

@@ -23,7 +23,11 @@ refused-requires-clause-exact g c =
     let event = event_of c.args.event in
     let own = c.unborn-client.ensures.own in
     let here : w.clients volume ≡ old = ap w.clients own.volume_is ∙ c.requires.unborn ∙ sym c.unborn-client.ensures.client in
-    let is : event ≡ client_event volume action = event_is event volume c.in-Client.field-0 action (sym (ap action_event c.in-Client.is) ∙ c.split.ensures) (c.requires.who ∙ ap Actor.Client (sym own.volume_is)) in
+    let who = c.requires.who ∙ ap Actor.Client (sym own.volume_is) in
+    let split = sym (ap action_event c.in-Client.is) ∙ c.split.ensures in
+    let is : event ≡ client_event volume action = event_is event volume c.in-Client.field-0 action split who in
     let of : client_plan client ≡ plan = own.plan_is ∙ ap checked_model c.in-Ok.ensures.cases ∙ c.args.self.now.plan_is in
     let same = refuses_alike plan (client_plan client) of w volume action found old old event here is c.requires.found in
-    exact_of plan g.L.Site.slots (length g.L.Site.cells) es event ⊥ c.is_full.result (client_acted found action (client_plan client) volume old) (λ h. absurd h) c.is_full.ensures same c.in-Err-try_step.fault c.in-Err-try_step.ensures.refused
+    exact_of plan g.L.Site.slots (length g.L.Site.cells) es event ⊥ c.is_full.result
+    (client_acted found action (client_plan client) volume old) (λ h. absurd h) c.is_full.ensures same
+    c.in-Err-try_step.fault c.in-Err-try_step.ensures.refused
