@@ -60,10 +60,7 @@ impl Call {
             Call::Deliver(member, message) => fleet.deliver(rt, pass, 0, member, message, look),
             Call::Node(member, action) => fleet.node_step(rt, pass, 0, member, action),
             Call::Authority(action) => fleet.advance(rt, pass, action),
-            Call::Issue(volume, bytes) => {
-                let changes = changes(alloc, bytes)?;
-                fleet.client_step(rt, pass, volume, ClientAction::Issue(&changes))
-            }
+            Call::Issue(volume, bytes) => fleet.issue(rt, pass, volume, changes(alloc, bytes)?),
             Call::Take(volume, message) => {
                 fleet.client_step(rt, pass, volume, ClientAction::Take { message })
             }
