@@ -10,9 +10,10 @@ ghost use Rattle.node_fleet.specs.Bases.{passes_of, IsBaseOf};
 
 use crate::Told;
 use crate::texts::{LONG, REPLACED, SIX};
-use fleet_actors::{ClientAction, NodeAction, StepGate};
+use fleet_actors::StepGate;
 use node_fleet::{Base, Fleet, FleetSite, Journal, Pass, Receipt, Row};
 use plan::{CheckedPlan, check_plan, read_plan};
+use segment_core::NodeAction;
 use std::alloc::{AllocError, Global};
 use std::marker::Brand;
 use std::sync::{Arc, Wait};
@@ -20,7 +21,7 @@ use std::thread;
 use std::thread::{JoinHandle, Scope, Threads};
 use volume_model::Fault;
 use wire::Messages;
-use world::{AuthorityAct, Event, Outcome, run};
+use world::{AuthorityAction, ClientAction, Event, Outcome, run};
 use writer_core::Change;
 
 /// Sees nothing of what nodes answer.
@@ -39,7 +40,7 @@ enum Call {
     /// A member does something of itself.
     Node(u8, NodeAction),
     /// The authority acts.
-    Authority(AuthorityAct),
+    Authority(AuthorityAction),
     /// The first client gives these bytes their records.
     Issue(&'static str),
     /// A client takes a message.
@@ -72,7 +73,7 @@ const WRITTEN: [Call; 17] = [
 /// A member joins and becomes whole while an old write is still under way, and a recovery reads and cuts.
 const JOINED: [Call; 32] = [
     Call::Issue("a"),
-    Call::Authority(AuthorityAct::Advance {
+    Call::Authority(AuthorityAction::Advance {
         group: 0,
         configuration: 1,
     }),
@@ -97,7 +98,7 @@ const JOINED: [Call; 32] = [
     Call::Take(1, 8),
     Call::Take(1, 9),
     Call::Take(1, 11),
-    Call::Authority(AuthorityAct::Assign),
+    Call::Authority(AuthorityAction::Assign),
     Call::Take(2, 12),
     Call::Deliver(1, 13),
     Call::Deliver(2, 13),
@@ -108,19 +109,30 @@ const JOINED: [Call; 32] = [
     Call::Cut(2),
 ];
 
-/// What a client is asked to do.
-fn action(alloc: Global, call: Call) -> Result<ClientAction, Fault> {
+/// Changes of these bytes, one a byte, from the first byte of block 0 on.
+fn changes(alloc: Global, bytes: &str) -> Result<Vec<Change>, Fault> {
+    let mut changes = Vec::with_capacity(alloc, bytes.len())?;
+    for (offset, byte) in bytes.bytes().enumerate() {
+        let offset = u16::try_from(offset).unwrap_or(0);
+        changes.push(Change::new(alloc, 0, 0, offset, &[byte])?)?;
+    }
+    Ok(changes)
+}
+
+/// What a client is asked to do, where it issues these changes or none.
+fn action(call: Call, changes: &[Change]) -> ClientAction<'_> {
     match call {
-        Call::Issue(bytes) => {
-            let mut changes = Vec::with_capacity(alloc, bytes.len())?;
-            for (offset, byte) in bytes.bytes().enumerate() {
-                let offset = u16::try_from(offset).unwrap_or(0);
-                changes.push(Change::new(alloc, 0, 0, offset, &[byte])?)?;
-            }
-            Ok(ClientAction::Issue(changes))
-        }
-        Call::Take(_, message) => Ok(ClientAction::Take { message }),
-        _ => Ok(ClientAction::Cut),
+        Call::Issue(_) => ClientAction::Issue(changes),
+        Call::Take(_, message) => ClientAction::Take { message },
+        _ => ClientAction::Cut,
+    }
+}
+
+/// The changes that a call issues.
+fn issued(alloc: Global, call: Call) -> Result<Vec<Change>, Fault> {
+    match call {
+        Call::Issue(bytes) => changes(alloc, bytes),
+        _ => Ok(Vec::new(alloc)),
     }
 }
 
@@ -130,14 +142,14 @@ fn made<'a, L: FleetSite, R: Wait>(
     fleet: &Fleet<'a, L>,
     pass: &mut Pass<'a, L>,
     call: Call,
-    action: &ClientAction,
+    changes: &[Change],
 ) -> Result<Receipt, Fault> {
     match call {
         Call::Deliver(member, message) => fleet.deliver(rt, pass, 0, member, message, &Blind),
         Call::Node(member, action) => fleet.node_step(rt, pass, 0, member, action),
-        Call::Authority(act) => fleet.advance(rt, pass, act),
-        Call::Issue(_) => fleet.client_step(rt, pass, 1, action),
-        Call::Take(volume, _) | Call::Cut(volume) => fleet.client_step(rt, pass, volume, action),
+        Call::Authority(action) => fleet.advance(rt, pass, action),
+        Call::Issue(_) => fleet.client_step(rt, pass, 1, action(call, changes)),
+        Call::Take(volume, _) | Call::Cut(volume) => fleet.client_step(rt, pass, volume, action(call, changes)),
     }
 }
 
@@ -155,11 +167,11 @@ fn make_all<'a, L: FleetSite, R: Wait>(
         return Ok(());
     }
     for (i, call) in calls.iter().enumerate() {
-        let action = action(alloc, *call)?;
+        let changes = issued(alloc, *call)?;
         let pass = &mut passes[i % count];
-        let first = made(rt, fleet, pass, *call, &action);
+        let first = made(rt, fleet, pass, *call, &changes);
         let answer = match first {
-            Err(Fault::NoMemory) => made(rt, fleet, pass, *call, &action),
+            Err(Fault::NoMemory) => made(rt, fleet, pass, *call, &changes),
             answer => answer,
         };
         match answer {
@@ -292,19 +304,16 @@ fn calls<R: Wait>(rt: &R, alloc: Global, passes: usize) -> Told
 fn event(alloc: Global, call: Call) -> Result<Event, Fault> {
     Ok(match call {
         Call::Deliver(member, message) => Event::Deliver { group: 0, member, message },
-        Call::Node(member, action) => action.event(0, member),
-        Call::Authority(AuthorityAct::Assign) => Event::Assign,
-        Call::Authority(AuthorityAct::Advance { group, configuration }) => Event::Advance { group, configuration },
-        Call::Authority(AuthorityAct::Refresh { volume }) => Event::Refresh { volume },
-        Call::Authority(AuthorityAct::Grow) => Event::Grow,
-        Call::Issue(_) => action(alloc, call)?.event(1),
-        Call::Take(volume, _) | Call::Cut(volume) => action(alloc, call)?.event(volume),
+        Call::Node(member, action) => Event::of_node(0, member, action),
+        Call::Authority(action) => Event::of_authority(action),
+        Call::Issue(bytes) => Event::Issue { volume: 1, changes: changes(alloc, bytes)? },
+        Call::Take(volume, _) | Call::Cut(volume) => Event::of_client(alloc, volume, action(call, &[]))?,
     })
 }
 
 /// A member that isn't whole answers no fence, loses its copies at a restart, and becomes whole.
 const MADE_WHOLE: [Call; 20] = [
-    Call::Authority(AuthorityAct::Advance {
+    Call::Authority(AuthorityAction::Advance {
         group: 0,
         configuration: 1,
     }),
@@ -312,8 +321,8 @@ const MADE_WHOLE: [Call; 20] = [
     Call::Deliver(0, 1),
     Call::Deliver(1, 1),
     Call::Deliver(2, 1),
-    Call::Authority(AuthorityAct::Assign),
-    Call::Authority(AuthorityAct::Refresh { volume: 1 }),
+    Call::Authority(AuthorityAction::Assign),
+    Call::Authority(AuthorityAction::Refresh { volume: 1 }),
     Call::Take(2, 3),
     Call::Deliver(6, 4),
     Call::Deliver(0, 2),
@@ -339,7 +348,7 @@ fn long_log(alloc: Global) -> Result<Vec<Call>, AllocError> {
         calls.push(Call::Deliver(0, message))?;
         calls.push(Call::Deliver(1, message))?;
     }
-    calls.push(Call::Authority(AuthorityAct::Advance { group: 0, configuration: 1 }))?;
+    calls.push(Call::Authority(AuthorityAction::Advance { group: 0, configuration: 1 }))?;
     for (member, message) in [(0, 1801), (1, 1801), (3, 1801), (0, 1802), (1, 1802)] {
         calls.push(Call::Deliver(member, message))?;
     }
@@ -461,7 +470,7 @@ impl<'f, 'a, L: FleetSite> Taker<'f, 'a, L> {
         let mut steps = [(0, 0); 2];
         for (place, message) in messages.iter().enumerate() {
             let action = ClientAction::Take { message: *message };
-            if let Ok(receipt) = fleet.client_step(rt, &mut pass, 1, &action) {
+            if let Ok(receipt) = fleet.client_step(rt, &mut pass, 1, action) {
                 if place < 2 {
                     steps[place] = (receipt.number, receipt.durable);
                 }

@@ -31,9 +31,10 @@ ghost use Rattle.plan.specs.CheckedModel.{checked_model};
 ghost use Rattle.journal.specs.Tokens.{ids_of};
 ghost use Rattle.node_fleet.specs.Bases.{passes_of, IsBaseOf};
 
-use fleet_actors::{ClientAction, NodeAction, StepGate};
+use fleet_actors::StepGate;
 use node_fleet::{Base, Fleet, FleetSite, Pass, Row};
 use plan::{CheckedPlan, check_plan, read_plan};
+use segment_core::NodeAction;
 use std::alloc::{AllocError, Global};
 use std::marker::Brand;
 use std::process::ExitCode;
@@ -42,6 +43,7 @@ use std::sync::{Arc, Wait};
 use std::time::Instant;
 use std::{env, io};
 use wire::Messages;
+use world::ClientAction;
 use writer_core::Change;
 
 /// Six copies, of which four write and three read.
@@ -135,17 +137,17 @@ struct Made {
 }
 
 /// A transaction of so many changes of 8 bytes, to the blocks from this one on.
-fn transaction(alloc: Global, first: u32, changes: u32) -> Result<ClientAction, AllocError> {
+fn transaction(alloc: Global, first: u32, changes: u32) -> Result<Vec<Change>, AllocError> {
     let mut all = Vec::with_capacity(alloc, changes as usize)?;
     for change in 0..changes {
         let block = first.wrapping_add(change) % BLOCKS;
         all.push(Change::new(alloc, 0, block, 0, &[5; 8])?)?;
     }
-    Ok(ClientAction::Issue(all))
+    Ok(all)
 }
 
 /// The transactions of a round.
-fn transactions(alloc: Global, changes: u32) -> Result<Vec<ClientAction>, AllocError> {
+fn transactions(alloc: Global, changes: u32) -> Result<Vec<Vec<Change>>, AllocError> {
     let mut all = Vec::with_capacity(alloc, ISSUES as usize)?;
     for issue in 0..ISSUES {
         all.push(transaction(alloc, issue.wrapping_mul(changes), changes)?)?;
@@ -159,18 +161,19 @@ fn issue<'a, L: FleetSite, R: Wait + Clock>(
     rt: &R,
     fleet: &Fleet<'a, L>,
     callers: &mut Callers<'a, L>,
-    actions: &[ClientAction],
+    transactions: &[Vec<Change>],
     writes: &mut Vec<u64>,
     times: &mut Times,
 ) -> Option<()> {
     let start = Instant::now(rt).ok()?;
-    for action in actions {
+    for changes in transactions {
+        let action = ClientAction::Issue(changes);
         let receipt = fleet.client_step(rt, callers.next()?, 1, action).ok()?;
         for place in 0..receipt.made as u64 {
             writes.push(receipt.first_message.wrapping_add(place)).ok()?;
         }
     }
-    times.add(rt, start, actions.len())
+    times.add(rt, start, transactions.len())
 }
 
 /// Issues the transactions of a round, which the journal is given.
@@ -179,14 +182,14 @@ fn give<'a, L: FleetSite, R: Wait + Clock>(
     rt: &R,
     fleet: &Fleet<'a, L>,
     callers: &mut Callers<'a, L>,
-    actions: Vec<ClientAction>,
+    transactions: Vec<Vec<Change>>,
     writes: &mut Vec<u64>,
     times: &mut Times,
 ) -> Option<()> {
-    let count = actions.len();
+    let count = transactions.len();
     let start = Instant::now(rt).ok()?;
-    for action in actions {
-        let receipt = fleet.client_does(rt, callers.next()?, 1, action).ok()?;
+    for changes in transactions {
+        let receipt = fleet.issue(rt, callers.next()?, 1, changes).ok()?;
         for place in 0..receipt.made as u64 {
             writes.push(receipt.first_message.wrapping_add(place)).ok()?;
         }
@@ -226,7 +229,7 @@ fn take<'a, L: FleetSite, R: Wait + Clock>(
     let start = Instant::now(rt).ok()?;
     for ack in acks {
         let action = ClientAction::Take { message: *ack };
-        let _ = fleet.client_step(rt, callers.next()?, 1, &action).ok()?;
+        let _ = fleet.client_step(rt, callers.next()?, 1, action).ok()?;
     }
     times.add(rt, start, acks.len())
 }
@@ -254,7 +257,7 @@ fn round<'a, L: FleetSite, R: Wait + Clock>(
     rt: &R,
     fleet: &Fleet<'a, L>,
     callers: &mut Callers<'a, L>,
-    actions: &Vec<ClientAction>,
+    transactions: &Vec<Vec<Change>>,
     gives: bool,
     made: &mut Made,
     table: &mut Table,
@@ -270,9 +273,9 @@ fn round<'a, L: FleetSite, R: Wait + Clock>(
     writes.clear();
     acks.clear();
     if gives {
-        give(rt, fleet, callers, actions.clone().ok()?, writes, given)?;
+        give(rt, fleet, callers, transactions.clone().ok()?, writes, given)?;
     } else {
-        issue(rt, fleet, callers, actions.as_slice(), writes, issued)?;
+        issue(rt, fleet, callers, transactions.as_slice(), writes, issued)?;
     }
     deliver(rt, fleet, callers, writes.as_slice(), acks, delivered)?;
     take(rt, fleet, callers, acks.as_slice(), taken)?;
@@ -300,10 +303,10 @@ fn rounds<'a, L: FleetSite, R: Wait + Clock>(
         writes: Vec::with_capacity(alloc, 4096).ok()?,
         acks: Vec::with_capacity(alloc, 16384).ok()?,
     };
-    let actions = transactions(alloc, changes).ok()?;
+    let transactions = transactions(alloc, changes).ok()?;
     let mut callers = Callers { passes, at: 0 };
     for number in 0..count {
-        round(rt, fleet, &mut callers, &actions, number % 2 > 0, &mut made, &mut table)?;
+        round(rt, fleet, &mut callers, &transactions, number % 2 > 0, &mut made, &mut table)?;
     }
     Some(table)
 }

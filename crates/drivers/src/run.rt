@@ -5,11 +5,10 @@ use crate::calls::call;
 use crate::completion::Completion;
 use crate::completion_table::CompletionTable;
 use crate::nodes::{Node, receiver};
-use fleet_actors::ClientAction;
 use node_fleet::{Fleet, FleetSite, Pass, StepGate};
 use std::sync::Wait;
 use wire::Messages;
-use world::{Event, Order};
+use world::{ClientAction, Event, Order};
 
 /// A gate that looks at nothing.
 struct Open;
@@ -114,7 +113,7 @@ impl<'f, 'a, L: FleetSite> Run<'f, 'a, L> {
         let call = match order {
             Order::TakeFrom { volume, .. } => {
                 let action = ClientAction::Take { message };
-                self.fleet.client_does(rt, pass, *volume, action)
+                self.fleet.client_step(rt, pass, *volume, action)
             }
             Order::Event(event) => call(rt, self.fleet, pass, event),
             Order::DeliverFrom { .. } => return,

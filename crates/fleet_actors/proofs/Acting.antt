@@ -1,5 +1,6 @@
 -- The step of a client, in the world.
-use Rattle.std.proofs.Common.{◌≡◌, ℕ, Bool, eq-eqb, List, Option, Some, Result, Ok, Err, MatchResult, IfOk, OnErr, refl, sym, ap, ◌∙◌, subst}
+use Rattle.std.proofs.Common.{◌≡◌, ℕ, Bool, eq-eqb, List, Option, Some, Result, Ok, Err, MatchResult, IfOk}
+use Rattle.std.proofs.Common.{OnErr, OnOk, refl, sym, ap, ◌∙◌, subst}
 use Rattle.std.specs.Prelude.{if◌then◌else◌}
 use Rattle.volume_model.specs.declared.fault.Fault.{Fault}
 use Rattle.volume_model.specs.StepResults.{makes, refusal}
@@ -14,9 +15,11 @@ use Rattle.wire.specs.declared.messages.Messages.{Messages}
 use Rattle.wire.specs.Listed.{listed}
 use Rattle.wire.specs.Message.{messages_of}
 use Rattle.writer_core.specs.Writers.{answered}
-use Rattle.fleet_actors.specs.declared.client_action.ClientAction.{ClientAction}
-use Rattle.fleet_actors.specs.declared.client_action.ClientAction.TheVariants as action
-use Rattle.fleet_actors.specs.Actions.{action_acted, event_by, HasFound, IsFound}
+use Rattle.world.specs.declared.actions.ClientAction.{ClientAction}
+use Rattle.world.specs.declared.actions.ClientAction.TheVariants as action
+use Rattle.world.specs.Actions.{client_acted, client_event}
+use Rattle.journal.specs.PassSteps.{durable_in, durable_of}
+use Rattle.fleet_actors.specs.Actions.{action_durable, IsFound}
 
 -- the refusal of a client's step is the client's
 of_client-refusal : (w : World) (volume : ℕ) (answer : ClientAnswer) → refusal (of_client w volume answer) ≡ refusal answer
@@ -31,7 +34,8 @@ pub client_here : (actor : Actor) (volume : ℕ) (w v : World) (now : Client) �
 client_here actor volume w v now is agree seen = sym (seen ∙ subst (λ (a : Actor). Agree a w v) is agree)
 
 -- whose step it is
-pub event_of_client : (volume : ℕ) (asked : ClientAction) → actor_of (event_by volume asked) ≡ Actor.Client volume
+event_of_client : (volume : ℕ) (asked : ClientAction)
+    → actor_of (client_event volume asked) ≡ Actor.Client volume
 event_of_client volume (action.Issue changes) = refl
 event_of_client volume (action.Take message) = refl
 event_of_client volume action.Cut = refl
@@ -39,18 +43,29 @@ event_of_client volume action.Open = refl
 event_of_client volume (action.Resend lsn) = refl
 event_of_client volume (action.Read group block) = refl
 
--- what was found is there
-pub found_there : (made : List model.Message) (asked : ClientAction) (found : Option model.Message) → IsFound made asked found → HasFound asked found
-found_there made (action.Issue changes) found is = tt
-found_there made (action.Take message) found is = is.0
-found_there made action.Cut found is = tt
-found_there made action.Open found is = tt
-found_there made (action.Resend lsn) found is = tt
-found_there made (action.Read group block) found is = tt
+-- the event of a client's action is that of this client
+pub event_is : (event : Event) (volume own : ℕ) (asked : ClientAction) → client_event own asked ≡ event
+    → actor_of event ≡ Actor.Client volume → event ≡ client_event volume asked
+event_is event volume own asked is who =
+    let named : Actor.Client own ≡ Actor.Client volume = sym (event_of_client own asked) ∙ ap actor_of is ∙ who in
+    let same : own ≡ volume = cc in
+    sym is ∙ ap (λ v. client_event v asked) same
+
+-- the durable point that a client's step shows
+client_shows : (volume : ℕ) (asked : ClientAction) (w : World) (now : Client) → w.clients volume ≡ now
+    → action_durable asked now ≡ durable_in w (client_event volume asked)
+client_shows volume (action.Issue changes) w now is = refl
+client_shows volume (action.Take message) w now is = ap durable_of (sym is)
+client_shows volume action.Cut w now is = refl
+client_shows volume action.Open w now is = ap durable_of (sym is)
+client_shows volume (action.Resend lsn) w now is = refl
+client_shows volume (action.Read group block) w now is = refl
 
 -- the step of an action is that of the client's answer
-action_step : (plan : Plan) (w : World) (volume : ℕ) (asked : ClientAction) (found : Option model.Message) → IsFound w.messages asked found
-    → step plan w (event_by volume asked) ≡ of_client w volume (action_acted found asked plan volume (w.clients volume))
+action_step : (plan : Plan) (w : World) (volume : ℕ) (asked : ClientAction) (found : Option model.Message)
+    → IsFound w.messages (client_event volume asked) found
+    → step plan w (client_event volume asked)
+    ≡ of_client w volume (client_acted found asked plan volume (w.clients volume))
 action_step plan w volume (action.Issue changes) found is = refl
 action_step plan w volume (action.Take message) found is = ap (λ (o : Option model.Message). of_client w volume (take plan volume (w.clients volume) o)) is.1
 action_step plan w volume action.Cut found is = refl
@@ -59,12 +74,16 @@ action_step plan w volume (action.Resend lsn) found is = refl
 action_step plan w volume (action.Read group block) found is = refl
 
 -- a client that was old, of this plan, does what it is asked to, in a world that has it
-module _ (plan own : Plan) (of : own ≡ plan) (w : World) (volume : ℕ) (asked : ClientAction) (found : Option model.Message) (old new : Client) (event : Event) (here : w.clients volume ≡ old) (is : event ≡ event_by volume asked) (heard : IsFound w.messages asked found) where
+module _ (plan own : Plan) (of : own ≡ plan) (w : World) (volume : ℕ) (asked : ClientAction)
+    (found : Option model.Message) (old new : Client) (event : Event) (here : w.clients volume ≡ old)
+    (is : event ≡ client_event volume asked) (heard : IsFound w.messages event found) where
   abbrev pub answer : ClientAnswer
-  answer = action_acted found asked own volume old
+  answer = client_acted found asked own volume old
 
   whole : step plan w event ≡ of_client w volume answer
-  whole = ap (step plan w) is ∙ action_step plan w volume asked found heard ∙ λ i. of_client w volume (action_acted found asked (sym of i) volume (here i))
+  whole = ap (step plan w) is ∙ action_step plan w volume asked found
+      (subst (λ (e : Event). IsFound w.messages e found) is heard)
+      ∙ λ i. of_client w volume (client_acted found asked (sym of i) volume (here i))
 
   pub refuses_alike : refusal (step plan w event) ≡ refusal answer
   refuses_alike = ap refusal whole ∙ of_client-refusal w volume answer
@@ -82,6 +101,14 @@ module _ (plan own : Plan) (of : own ≡ plan) (w : World) (volume : ℕ) (asked
   pub attempt_makes : (attempt : Result Messages Fault) → IfOk attempt (λ made. answer ≡ Ok (answered made new)) → IfOk attempt (λ made. makes (step plan w event) ≡ Some (messages_of (listed made)))
   attempt_makes (Ok made) done = client_makes made done
   attempt_makes (Err fault) done = tt
+
+  pub attempt_durable : (attempt : Result Messages Fault) → IfOk attempt (λ made. answer ≡ Ok (answered made new))
+      → (durable : ℕ) → durable ≡ action_durable asked new
+      → OnOk attempt (durable ≡ durable_in (after plan w event) event)
+  attempt_durable (Ok made) done durable shown =
+      shown ∙ client_shows volume asked (after plan w event) new (client_after made done)
+      ∙ ap (durable_in (after plan w event)) (sym is)
+  attempt_durable (Err fault) done durable shown = tt
 
   -- what the actor's mark has seen then has the client as it is
   pub attempt_state : (attempt : Result Messages Fault) → IfOk attempt (λ made. answer ≡ Ok (answered made new)) → OnErr attempt (new ≡ old) → (seen now : List Entry) → old ≡ (world_at plan seen).clients volume

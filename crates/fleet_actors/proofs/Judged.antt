@@ -10,14 +10,16 @@ use Rattle.volume_model.specs.StepResults.{Refuses, IsOwnOfClient}
 use Rattle.volume_model.proofs.Own.{issued_own, taken_own, cut_own, opened_own, resent_own, page_asked_own}
 use Rattle.recovery.specs.Recoveries.{admitted}
 use Rattle.writer_core.specs.Changes.{changes_of}
-use Rattle.fleet_actors.specs.declared.client_action.ClientAction.{ClientAction}
-use Rattle.fleet_actors.specs.declared.client_action.ClientAction.TheVariants as action
-use Rattle.fleet_actors.specs.Actions.{action_acted, HasFound}
+use Rattle.world.specs.declared.actions.ClientAction.{ClientAction}
+use Rattle.world.specs.declared.actions.ClientAction.TheVariants as action
+use Rattle.world.specs.Actions.{client_acted}
+use Rattle.fleet_actors.specs.Actions.{HasFound}
 use Rattle.fleet_actors.specs.Attempts.{JudgedOf}
 
 -- a client finds its refusals on its own
-pub action_own : (asked : ClientAction) (found : Option Message) (plan : Plan) (volume : ℕ) (now : Client) → HasFound asked found → Refuses IsOwnOfClient (action_acted found asked plan volume now)
-action_own (action.Issue changes) found plan volume now has = issued_own plan volume now (changes_of changes.items)
+pub action_own : (asked : ClientAction) (found : Option Message) (plan : Plan) (volume : ℕ) (now : Client)
+    → HasFound asked found → Refuses IsOwnOfClient (client_acted found asked plan volume now)
+action_own (action.Issue changes) found plan volume now has = issued_own plan volume now (changes_of changes.now)
 action_own (action.Take message) None plan volume now has = absurd cc
 action_own (action.Take message) (Some m) plan volume now has = taken_own plan volume now m
 action_own action.Cut found plan volume now has = cut_own plan volume now

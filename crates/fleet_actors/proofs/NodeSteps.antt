@@ -18,16 +18,15 @@ use Rattle.volume_model.specs.World.{Event, Step, World, after, after_step, deli
 use Rattle.volume_model.proofs.Frames.{put_at_here}
 use Rattle.volume_model.proofs.ListFacts.{get_there}
 use Rattle.volume_model.proofs.Own.{hydrated_own, offered_own, reaction_own}
-use Rattle.segment_core.specs.declared.act.NodeAct.{NodeAct}
+use Rattle.segment_core.specs.declared.action.NodeAction.{NodeAction}
+use Rattle.segment_core.specs.declared.action.NodeAction.TheVariants as action
 use Rattle.segment_core.specs.declared.segment.Segment.{Segment}
-use Rattle.segment_core.specs.Acts.{act_after_growth, acted}
+use Rattle.segment_core.specs.Actions.{acted, action_after_growth}
 use Rattle.segment_core.specs.Prepared.{step_of}
-use Rattle.segment_core.specs.Segment.{act_of, node_of, IsSameActor, IsSegmentOf}
+use Rattle.segment_core.specs.Segment.{action_of, node_of, IsSameActor, IsSegmentOf}
 use Rattle.wire.specs.declared.message.Message as wire
 use Rattle.wire.specs.Message.{message_of}
-use Rattle.fleet_actors.specs.declared.action.NodeAction.{NodeAction}
-use Rattle.fleet_actors.specs.declared.action.NodeAction.TheVariants as action
-use Rattle.fleet_actors.specs.Nodes.{done_by, event_by}
+use Rattle.world.specs.Actions.{node_event}
 
 -- a node that the plan names, and whose group has joined, isn't refused for that
 there_is : (plan : Plan) (joined g m : ℕ) (answer : NodeAnswer) → nat_lt g joined ≡ true → is_named plan g m ≡ true → if_there plan joined g m answer ≡ answer
@@ -47,7 +46,8 @@ not_joined w g from joined j f h = omega (arith, h, j, f)
 pub unjoined_delivery : (plan : Plan) (w : World) (g m number : ℕ) → groups_joined w.authority ≤ g → refusal (step plan w (Event.Deliver g m number)) ≡ 82
 unjoined_delivery plan w g m number h = absent plan w g m (deliver plan g m (w.nodes g m) (numbered w.messages number)) h
 
-pub unjoined_action : (plan : Plan) (w : World) (g m : ℕ) (what : NodeAction) → groups_joined w.authority ≤ g → refusal (step plan w (event_by g m what)) ≡ 82
+pub unjoined_action : (plan : Plan) (w : World) (g m : ℕ) (what : NodeAction) → groups_joined w.authority ≤ g
+    → refusal (step plan w (node_event g m what)) ≡ 82
 unjoined_action plan w g m action.Hydrate h = absent plan w g m (hydrated plan g m (w.nodes g m)) h
 unjoined_action plan w g m action.Restart h = absent plan w g m (Ok (record { made = []; node = restarted (w.nodes g m) })) h
 unjoined_action plan w g m (action.Offer lsn) h = absent plan w g m (offered g (w.nodes g m) lsn) h
@@ -61,7 +61,7 @@ module _ (plan : Plan) (w : World) (g m : ℕ) (joined : nat_lt g (groups_joined
       ∙ ap (λ (o : Option Message). of_node w g m (deliver plan g m now o)) is
 
   -- so is what it does of itself
-  does : (what : NodeAction) → step plan w (event_by g m what) ≡ of_node w g m (done_by plan g m now what)
+  does : (what : NodeAction) → step plan w (node_event g m what) ≡ of_node w g m (acted what plan g m now)
   does action.Hydrate =
       ap (of_node w g m) (there_is plan (groups_joined w.authority) g m (hydrated plan g m (w.nodes g m)) joined named) ∙ ap (λ (n : Node). of_node w g m (hydrated plan g m n)) (sym here)
   does action.Restart =
@@ -97,12 +97,12 @@ letter_own plan g m now made index inside =
     delivery_own plan g m now (option_map message_of (slice_get made index)) (message_of x.0) (ap (option_map message_of) x.1)
 
 -- which actor does it
-pub action_actor : (g m : ℕ) (what : NodeAction) → actor_of (event_by g m what) ≡ Actor.Node g m
+pub action_actor : (g m : ℕ) (what : NodeAction) → actor_of (node_event g m what) ≡ Actor.Node g m
 action_actor g m action.Hydrate = refl
 action_actor g m action.Restart = refl
 action_actor g m (action.Offer lsn) = refl
 
-pub action_own : (plan : Plan) (g m : ℕ) (now : Node) (what : NodeAction) → Refuses IsOwn (done_by plan g m now what)
+pub action_own : (plan : Plan) (g m : ℕ) (now : Node) (what : NodeAction) → Refuses IsOwn (acted what plan g m now)
 action_own plan g m now action.Hydrate = hydrated_own plan g m now
 action_own plan g m now action.Restart = tt
 action_own plan g m now (action.Offer lsn) = offered_own g now lsn
@@ -118,9 +118,11 @@ module _ (plan : Plan) (slots cells : ℕ) (es : List Entry) (seen : World) (act
       exact plan slots cells es g m (Event.Deliver g m asked) (deliver plan g m now found) (delivers plan (world_at plan es) g m joined named now here asked found (ap (numbered (world_at plan es).messages) same ∙ is)) own fault fails
 
   -- what it does of itself
-  pub denies : (what : NodeAction) (fault : Fault) → Fails fault (done_by plan g m now what) → Exact plan slots cells es (event_by g m what) fault
+  pub denies : (what : NodeAction) (fault : Fault) → Fails fault (acted what plan g m now)
+      → Exact plan slots cells es (node_event g m what) fault
   denies what fault fails =
-      exact plan slots cells es g m (event_by g m what) (done_by plan g m now what) (does plan (world_at plan es) g m joined named now here what) (action_own plan g m now what) fault fails
+      exact plan slots cells es g m (node_event g m what) (acted what plan g m now)
+      (does plan (world_at plan es) g m joined named now here what) (action_own plan g m now what) fault fails
 
   -- the messages that it answers a letter with are the model's
   pub answers : (number asked : ℕ) (found : Option Message) → asked ≡ number → numbered (world_at plan es).messages number ≡ found → (s : NodeStep) → deliver plan g m now found ≡ Ok s → (made : List Message) → made ≡ s.made → makes (step plan (world_at plan es) (Event.Deliver g m asked)) ≡ Some made
@@ -134,16 +136,19 @@ module _ (plan : Plan) (slots cells : ℕ) (es : List Entry) (seen : World) (act
       ∙ put_at_here (world_at plan es).nodes g m s.node
 
   -- what it does of itself isn't refused where the node does it
-  pub grants : (what : NodeAction) (s : NodeStep) → done_by plan g m now what ≡ Ok s → refusal (step plan (world_at plan es) (event_by g m what)) ≡ 0
+  pub grants : (what : NodeAction) (s : NodeStep) → acted what plan g m now ≡ Ok s
+      → refusal (step plan (world_at plan es) (node_event g m what)) ≡ 0
   grants what s ok = ap refusal (does plan (world_at plan es) g m joined named now here what ∙ ap (of_node (world_at plan es) g m) ok)
 
   -- so are those that it makes of itself
-  pub makes_step : (what : NodeAction) (s : NodeStep) → done_by plan g m now what ≡ Ok s → (made : List Message) → made ≡ s.made → makes (step plan (world_at plan es) (event_by g m what)) ≡ Some made
+  pub makes_step : (what : NodeAction) (s : NodeStep) → acted what plan g m now ≡ Ok s → (made : List Message)
+      → made ≡ s.made → makes (step plan (world_at plan es) (node_event g m what)) ≡ Some made
   makes_step what s ok made are =
       ap makes (does plan (world_at plan es) g m joined named now here what ∙ ap (of_node (world_at plan es) g m) ok) ∙ ap (λ (ms : List Message). Some ms) (sym are)
 
   -- and it is then the model's node
-  pub done : (what : NodeAction) (s : NodeStep) → done_by plan g m now what ≡ Ok s → (after plan (world_at plan es) (event_by g m what)).nodes g m ≡ s.node
+  pub done : (what : NodeAction) (s : NodeStep) → acted what plan g m now ≡ Ok s
+      → (after plan (world_at plan es) (node_event g m what)).nodes g m ≡ s.node
   done what s ok =
       ap (λ (r : Result Step Fault). (after_step (world_at plan es) r).nodes g m) (does plan (world_at plan es) g m joined named now here what ∙ ap (of_node (world_at plan es) g m) ok) ∙ put_at_here (world_at plan es).nodes g m s.node
 
@@ -158,12 +163,14 @@ late_fails late step defined old new NoMemory h = tt
 late_fails late step defined old new fault h = h.0
 
 -- a segment does what it is asked to as the node that it is
-module _ (plan : Plan) (g m : ℕ) (s : Segment) (is : IsSegmentOf plan g m s) (what : NodeAction) (act : NodeAct) (same : (plan : Plan) (g m : ℕ) (now : Node) → acted act plan g m now ≡ done_by plan g m now what) where
-  same_act : act_of s act ≡ done_by plan g m (node_of s) what
-  same_act = (λ i. acted act (is.plan_is i) (is.group_is i) (is.member_is i) (node_of s)) ∙ same plan g m (node_of s)
+module _ (plan : Plan) (g m : ℕ) (s : Segment) (is : IsSegmentOf plan g m s) (what : NodeAction) where
+  same_action : action_of s what ≡ acted what plan g m (node_of s)
+  same_action = λ i. acted what (is.plan_is i) (is.group_is i) (is.member_is i) (node_of s)
 
-  pub action_steps : (made : NodeStep) → act_of s act ≡ Ok made → done_by plan g m (node_of s) what ≡ Ok made
-  action_steps made ok = sym same_act ∙ ok
+  pub action_steps : (made : NodeStep) → action_of s what ≡ Ok made → acted what plan g m (node_of s) ≡ Ok made
+  action_steps made ok = sym same_action ∙ ok
 
-  pub action_fails : (fault : Fault) → AnswersAfterGrowth (act_after_growth act) step_of (act_of s act) (node_of s) (Err fault) (node_of s) → Fails fault (done_by plan g m (node_of s) what)
-  action_fails fault h = subst (Fails fault) same_act (late_fails (act_after_growth act) step_of (act_of s act) (node_of s) (node_of s) fault h)
+  pub action_fails : (fault : Fault) → AnswersAfterGrowth (action_after_growth what) step_of (action_of s what)
+      (node_of s) (Err fault) (node_of s) → Fails fault (acted what plan g m (node_of s))
+  action_fails fault h = subst (Fails fault) same_action (late_fails (action_after_growth what) step_of
+      (action_of s what) (node_of s) (node_of s) fault h)

@@ -9,10 +9,10 @@ use Rattle.volume_model.specs.Journal.{Entry, world_at}
 use Rattle.wire.specs.declared.messages.Messages.{Messages}
 use Rattle.wire.specs.Listed.{listed}
 use Rattle.wire.specs.Message.{messages_of}
-use Rattle.world.specs.declared.acts.AuthorityAct.{AuthorityAct}
-use Rattle.world.specs.declared.acts.AuthorityAct.TheVariants as act
-use Rattle.world.specs.Acts.{authority_acted}
-use Rattle.fleet_actors.specs.Acts.{event_by, IsSpent}
+use Rattle.world.specs.declared.actions.AuthorityAction.{AuthorityAction}
+use Rattle.world.specs.declared.actions.AuthorityAction.TheVariants as action
+use Rattle.world.specs.Actions.{authority_acted, authority_event}
+use Rattle.fleet_actors.specs.Actions.{IsSpent}
 use Rattle.fleet_actors.specs.Attempts.{IsDone}
 
 of_authority-refusal : (w : World) (answer : Result AuthorityStep Fault) → refusal (of_authority w answer) ≡ refusal answer
@@ -20,30 +20,37 @@ of_authority-refusal w (Err fault) = refl
 of_authority-refusal w (Ok s) = refl
 
 -- the step of an act is that of the authority's answer
-act_step : (plan : Plan) (w : World) (asked : AuthorityAct) → step plan w (event_by asked) ≡ of_authority w (authority_acted plan w.authority asked)
-act_step plan w act.Assign = refl
-act_step plan w (act.Advance group configuration) = refl
-act_step plan w (act.Refresh volume) = refl
-act_step plan w act.Grow = refl
+act_step : (plan : Plan) (w : World) (asked : AuthorityAction)
+    → step plan w (authority_event asked) ≡ of_authority w (authority_acted plan w.authority asked)
+act_step plan w action.Assign = refl
+act_step plan w (action.Advance group configuration) = refl
+act_step plan w (action.Refresh volume) = refl
+act_step plan w action.Grow = refl
 
 -- the authority of both worlds, as its actor's mark says
 pub authority_here : (actor : Actor) (w v : World) (now : Authority) → actor ≡ Actor.TheAuthority → Agree actor w v → now ≡ w.authority → v.authority ≡ now
 authority_here actor w v now is agree seen = sym (seen ∙ subst (λ (a : Actor). Agree a w v) is agree)
 
 -- an authority of this plan that is asked refuses what the step refuses
-pub authority_refuses : (plan own : Plan) → own ≡ plan → (w : World) (asked : AuthorityAct) (old : Authority) (event : Event) → w.authority ≡ old → event ≡ event_by asked → refusal (step plan w event) ≡ refusal (authority_acted own old asked)
+pub authority_refuses : (plan own : Plan) → own ≡ plan → (w : World) (asked : AuthorityAction) (old : Authority)
+    (event : Event) → w.authority ≡ old → event ≡ authority_event asked
+    → refusal (step plan w event) ≡ refusal (authority_acted own old asked)
 authority_refuses plan own of w asked old event here is =
     ap refusal (ap (step plan w) is ∙ act_step plan w asked) ∙ of_authority-refusal w (authority_acted plan w.authority asked) ∙ λ i. refusal (authority_acted (sym of i) (here i) asked)
 
 -- what the slots' being spent says of the world
-pub slots_spent : (w : World) (asked : AuthorityAct) (old : Authority) (event : Event) (given slots : ℕ) → w.authority ≡ old → event ≡ event_by asked → given ≡ slots → IsSpent asked old given → (event ≡ Event.Assign) × (w.authority.last_volume ≡ slots)
-slots_spent w act.Assign old event given slots here is same spent = (is, ap (λ (a : Authority). a.last_volume) here ∙ spent ∙ same)
-slots_spent w (act.Advance group configuration) old event given slots here is same spent = absurd spent
-slots_spent w (act.Refresh volume) old event given slots here is same spent = absurd spent
-slots_spent w act.Grow old event given slots here is same spent = absurd spent
+pub slots_spent : (w : World) (asked : AuthorityAction) (old : Authority) (event : Event) (given slots : ℕ)
+    → w.authority ≡ old → event ≡ authority_event asked → given ≡ slots → IsSpent asked old given
+    → (event ≡ Event.Assign) × (w.authority.last_volume ≡ slots)
+slots_spent w action.Assign old event given slots here is same spent =
+    (is, ap (λ (a : Authority). a.last_volume) here ∙ spent ∙ same)
+slots_spent w (action.Advance group configuration) old event given slots here is same spent = absurd spent
+slots_spent w (action.Refresh volume) old event given slots here is same spent = absurd spent
+slots_spent w action.Grow old event given slots here is same spent = absurd spent
 
 -- what the actor's mark has seen then has the authority as it is
-pub ruled_state : (plan own : Plan) → own ≡ plan → (w : World) (asked : AuthorityAct) (old new : Authority) (event : Event) → w.authority ≡ old → event ≡ event_by asked → (attempt : Result Messages Fault)
+pub ruled_state : (plan own : Plan) → own ≡ plan → (w : World) (asked : AuthorityAction) (old new : Authority)
+    (event : Event) → w.authority ≡ old → event ≡ authority_event asked → (attempt : Result Messages Fault)
     → IfOk attempt (λ made. IsDone (authority_acted own old asked) (messages_of (listed made)) new) → OnErr attempt (new ≡ old) → (seen now : List Entry) → old ≡ (world_at plan seen).authority
     → MatchResult attempt (λ made. world_at plan now ≡ after plan w event) (λ fault. now ≡ seen) → new ≡ (world_at plan now).authority
 ruled_state plan own of w asked old new event here is (Ok made) done still seen now was stands =

@@ -1,4 +1,3 @@
-pub mod Acts
 pub mod Authorities
 pub mod Actions
 pub mod RecordsAttempt

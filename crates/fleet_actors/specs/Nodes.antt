@@ -1,27 +1,12 @@
 -- What contracts see of a node's actor, and what it does.
-use Rattle.std.specs.Prelude.{ℕ, [], Option, Ok}
+use Rattle.std.specs.Prelude.{ℕ, Option}
 use Rattle.std.specs.declared.sync.ledger.Ledger.{Ghosts as LedgerGhosts}
-use Rattle.volume_model.specs.Plan.{Plan}
 use Rattle.volume_model.specs.Message.{Message}
-use Rattle.volume_model.specs.Node.{Node, NodeAnswer, hydrated, offered, restarted}
-use Rattle.volume_model.specs.World.{Event, deliver}
+use Rattle.volume_model.specs.Node.{Node, NodeAnswer}
+use Rattle.volume_model.specs.World.{deliver}
 use Rattle.segment_core.specs.Segment.{node_of}
 use Rattle.journal.specs.declared.row.Site.{Ghosts as SiteGhosts}
-use Rattle.fleet_actors.specs.declared.action.NodeAction.{NodeAction}
-use Rattle.fleet_actors.specs.declared.action.NodeAction.TheVariants as action
 use Rattle.fleet_actors.specs.declared.node.NodeActor.{NodeActor}
-
--- the event of a node's action
-abbrev pub event_by : ℕ → ℕ → NodeAction → Event
-event_by group member action.Hydrate = Event.Hydrate group member
-event_by group member action.Restart = Event.Restart group member
-event_by group member (action.Offer lsn) = Event.Offer group member lsn
-
--- what the node of a member of a group does of itself
-abbrev pub done_by : Plan → ℕ → ℕ → Node → NodeAction → NodeAnswer
-done_by plan group member now action.Hydrate = hydrated plan group member now
-done_by plan group member now action.Restart = Ok (record { made = []; node = restarted now })
-done_by plan group member now (action.Offer lsn) = offered group now lsn
 
 module _ {X : Type 0} {s : SiteGhosts X} {l : LedgerGhosts X} where
   -- its group

@@ -3,14 +3,13 @@ use Rattle.std.specs.Prelude.{◌≡◌, ℕ, List, All, Result, Err}
 use Rattle.std.specs.declared.sync.ledger.Ledger.{Ghosts as LedgerGhosts}
 use Rattle.volume_model.specs.declared.fault.Fault.TheVariants.{NoMessage}
 use Rattle.volume_model.specs.Client.{Client}
+use Rattle.volume_model.specs.World.{Event}
 use Rattle.world.specs.Clients.{client_volume, seen_client}
 use Rattle.journal.specs.declared.row.Site.{Ghosts as SiteGhosts}
 use Rattle.journal.specs.declared.entry.Receipt.{Receipt}
 use Rattle.journal.specs.PassSteps.{IsElse, Made}
 use Rattle.fleet_actors.specs.declared.halt.Halt.{Halt}
 use Rattle.fleet_actors.specs.declared.halt.Halt.TheVariants.{Refused}
-use Rattle.fleet_actors.specs.declared.client_action.ClientAction.{ClientAction}
-use Rattle.fleet_actors.specs.declared.client_action.ClientAction.TheVariants as action
 use Rattle.fleet_actors.specs.declared.client.ClientActor.{ClientActor}
 
 -- its volume epoch
@@ -22,10 +21,10 @@ abbrev pub actor_client : {X : Type 0} {s : SiteGhosts X} {l : LedgerGhosts X} �
 actor_client actor = seen_client actor.client
 
 -- a message is to be taken, and was made by none of these steps
-abbrev pub IsElsewhere : ClientAction → List Made → Type 0
-IsElsewhere (action.Take message) steps = All (IsElse message) steps
+abbrev pub IsElsewhere : Event → List Made → Type 0
+IsElsewhere (Event.Take volume message) steps = All (IsElse message) steps
 IsElsewhere other steps = ⊥
 
 -- where a message is said not to be there, one is to be taken, and none of these steps made it
-abbrev pub IsUnmade : ClientAction → List Made → Result Receipt Halt → Type 0
-IsUnmade action steps result = result ≡ Err (Refused NoMessage) → IsElsewhere action steps
+abbrev pub IsUnmade : Event → List Made → Result Receipt Halt → Type 0
+IsUnmade event steps result = result ≡ Err (Refused NoMessage) → IsElsewhere event steps

@@ -1,67 +1,26 @@
-//! Actions of a node without a message.
+//! How a node of a fleet performs an action.
 
-ghost use Rattle.std.specs.Prelude.{◌≡◌, ℕ};
+ghost use Rattle.std.specs.Prelude.{◌≡◌};
 
 use crate::halt::Halt;
 use crate::node::NodeActor;
 use crate::step::{catch_up_and_reserve, refused};
 use journal::{Log, Pass, Receipt, Site};
-use segment_core::NodeAct;
+use segment_core::NodeAction;
 use std::alloc::Global;
 use std::sync::Wait;
 use volume_model::Fault;
 use world::Event;
 
-/// An action of a node without a message.
-#[derive(Clone, Copy, PartialEq, Eq, Debug)]
-pub enum NodeAction {
-    /// Becomes whole from the copies that it was sent.
-    Hydrate,
-    /// Restarts.
-    Restart,
-    /// Offers the record with this LSN to its peers.
-    Offer { lsn: u64 },
-}
-
-impl NodeAction {
-    ghost use Rattle.volume_model.specs.Plan.{Plan};
-    ghost use Rattle.volume_model.specs.Node.{Node};
-    ghost use Rattle.segment_core.specs.Acts.{acted};
-    ghost use Rattle.world.specs.Events.{event_of};
-    ghost use Rattle.fleet_actors.specs.Nodes.{done_by, event_by};
-
-    /// Returns the event of this action of a member of a group.
-    pub fn event(self, group: u8, member: u8) -> Event
-        ensures { event_of result ≡ event_by group member self }
-    {
-        match self {
-            NodeAction::Hydrate => Event::Hydrate { group, member },
-            NodeAction::Restart => Event::Restart { group, member },
-            NodeAction::Offer { lsn } => Event::Offer { group, member, lsn },
-        }
-    }
-
-    /// Returns the segment's action.
-    fn act<'a>(self) -> NodeAct<'a>
-        ensures { (plan : Plan) (group member : ℕ) (now : Node) → acted result plan group member now ≡ done_by plan
-            group member now self }
-    {
-        match self {
-            NodeAction::Hydrate => NodeAct::Hydrate,
-            NodeAction::Restart => NodeAct::Restart,
-            NodeAction::Offer { lsn } => NodeAct::Offer { lsn },
-        }
-    }
-}
-
 impl<L: Site> NodeActor<L> {
     ghost use Rattle.std.specs.Prelude.{length, ◌≢◌, Err, IfErr, OnErr, OnOk};
     ghost use Rattle.volume_model.specs.declared.fault.Fault.TheVariants.{NoMessage};
+    ghost use Rattle.world.specs.Actions.{node_event};
     ghost use Rattle.journal.specs.Passes.{journal_of, seat_of, world_of};
     ghost use Rattle.fleet_actors.specs.declared.halt.Halt.TheVariants.{Refused, StaleCursor};
     ghost use Rattle.fleet_actors.specs.RecordsAttempt.{Enters, IsExact, PassRecords};
     ghost use Rattle.fleet_actors.specs.Ready.{IsStale};
-    ghost use Rattle.fleet_actors.specs.Nodes.{actor_group, actor_member, actor_node, event_by};
+    ghost use Rattle.fleet_actors.specs.Nodes.{actor_group, actor_member, actor_node};
 
     /// Performs an action without a message and enters the step. The caller holds the node's lock and the journal's.
     ///
@@ -78,11 +37,11 @@ impl<L: Site> NodeActor<L> {
         pass: &mut Pass<'a, L>,
         action: NodeAction,
     ) -> Result<Receipt, Halt>
-        ensures recorded { PassRecords (event_by (actor_group self.old) (actor_member self.old) action) result pass.old
-            pass.new }
+        ensures recorded { PassRecords (node_event (actor_group self.old) (actor_member self.old) action) result
+            pass.old pass.new }
         ensures exact { IsExact L.plan L.slots (length L.cells) (journal_of log.old)
-            (event_by (actor_group self.old) (actor_member self.old) action) result }
-        ensures entered { Enters (event_by (actor_group self.old) (actor_member self.old) action) (journal_of log.old)
+            (node_event (actor_group self.old) (actor_member self.old) action) result }
+        ensures entered { Enters (node_event (actor_group self.old) (actor_member self.old) action) (journal_of log.old)
             (journal_of log.new) result }
         ensures stale { result ≡ Err StaleCursor → IsStale self.old.cursor log.old }
         ensures seat { seat_of pass.new ≡ seat_of pass.old }
@@ -99,11 +58,11 @@ impl<L: Site> NodeActor<L> {
             member,
         } = self;
         catch_up_and_reserve(log, pass, cursor)?;
-        let event = action.event(*group, *member);
+        let event = Event::of_node(*group, *member, action);
         if u64::from(*group) >= log.joined() {
             return Err(refused(log, pass, event, Fault::NoActor));
         }
-        let prepared = match segment.prepare_act(alloc, action.act()) {
+        let prepared = match segment.prepare_action(alloc, action) {
             Ok(prepared) => prepared,
             Err(fault) => return Err(refused(log, pass, event, fault)),
         };

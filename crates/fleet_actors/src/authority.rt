@@ -8,14 +8,14 @@ ghost use Rattle.epochs.specs.Authority.{authority_of, authority_plan};
 ghost use Rattle.journal.specs.Passes.{marked, seen_at};
 ghost use Rattle.journal.proofs.Plans.{Plan-set};
 
-use crate::authority_attempt::{event, try_step};
+use crate::authority_attempt::try_step;
 use crate::halt::Halt;
 use crate::step::{catch_up_and_reserve, commit_or_note};
 use epochs::Authority;
 use journal::{ActorCursor, Log, Pass, Receipt, Site};
 use std::alloc::Global;
 use std::sync::Wait;
-use world::AuthorityAct;
+use world::{AuthorityAction, Event};
 
 /// The authority and its cursor.
 #[derive(Drop)]
@@ -32,7 +32,8 @@ impl<L: Site> AuthorityActor<L> {
     ghost use Rattle.volume_model.specs.declared.fault.Fault.TheVariants.{JournalFull, NoMessage, NoSlot};
     ghost use Rattle.journal.specs.Passes.{journal_of, seat_of, world_of};
     ghost use Rattle.fleet_actors.specs.declared.halt.Halt.TheVariants.{Refused, StaleCursor};
-    ghost use Rattle.fleet_actors.specs.Acts.{event_by, IsLeft, IsSpent};
+    ghost use Rattle.world.specs.Actions.{authority_event};
+    ghost use Rattle.fleet_actors.specs.Actions.{IsLeft, IsSpent};
     ghost use Rattle.fleet_actors.specs.Authorities.{actor_authority};
     ghost use Rattle.fleet_actors.specs.RecordsAttempt.{Enters, IsExact, PassRecords};
     ghost use Rattle.fleet_actors.specs.Ready.{IsStale};
@@ -50,7 +51,7 @@ impl<L: Site> AuthorityActor<L> {
     ///
     /// # Errors
     /// The authority is unchanged. [`StaleCursor`](Halt::StaleCursor) if the cursor isn't the authority's last entry.
-    /// Else, and noted: the authority's own refusal, as [`AuthorityAct::admitted_by`] gives it (`EpochsSpent` if no
+    /// Else, and noted: the authority's own refusal, as [`AuthorityAction::admitted_by`] gives it (`EpochsSpent` if no
     /// volume epoch is left; `NoGroup` if the group hasn't joined; `NotInPlan` if its configuration has no such
     /// child; `Superseded` if the volume epoch isn't the last one assigned; `AllGrown` if every group has joined);
     /// `NoSlot` if an assignment would pass the last slot; `JournalFull` if no cell is left. `NoMemory`, which isn't
@@ -61,16 +62,16 @@ impl<L: Site> AuthorityActor<L> {
         alloc: Global,
         log: &mut Log<'a, L>,
         pass: &mut Pass<'a, L>,
-        act: AuthorityAct,
+        action: AuthorityAction,
         slots: u32,
     ) -> Result<Receipt, Halt>
         requires slots { slots ≡ L.slots }
-        ensures recorded { PassRecords (event_by act) result pass.old pass.new }
-        ensures exact { IsExact L.plan L.slots (length L.cells) (journal_of log.old) (event_by act) result }
-        ensures left { OnOk result (IsLeft act (world_of log.old).authority slots) }
-        ensures spent { result ≡ Err (Refused NoSlot) → IsSpent act (world_of log.old).authority slots }
-        ensures full { result ≡ Err (Refused JournalFull) → IsLeft act (world_of log.old).authority slots }
-        ensures entered { Enters (event_by act) (journal_of log.old) (journal_of log.new) result }
+        ensures recorded { PassRecords (authority_event action) result pass.old pass.new }
+        ensures exact { IsExact L.plan L.slots (length L.cells) (journal_of log.old) (authority_event action) result }
+        ensures left { OnOk result (IsLeft action (world_of log.old).authority slots) }
+        ensures spent { result ≡ Err (Refused NoSlot) → IsSpent action (world_of log.old).authority slots }
+        ensures full { result ≡ Err (Refused JournalFull) → IsLeft action (world_of log.old).authority slots }
+        ensures entered { Enters (authority_event action) (journal_of log.old) (journal_of log.new) result }
         ensures stale { result ≡ Err StaleCursor → IsStale self.old.cursor log.old }
         ensures seat { seat_of pass.new ≡ seat_of pass.old }
         ensures found { result ≢ Err (Refused NoMessage) }
@@ -81,7 +82,7 @@ impl<L: Site> AuthorityActor<L> {
         if let Err(halt) = catch_up_and_reserve(log, pass, cursor) {
             return Err(halt);
         }
-        let done = try_step(alloc, authority, log.is_full(), act, slots);
-        commit_or_note(rt, log, cursor, pass, event(act), done, 0)
+        let done = try_step(alloc, authority, log.is_full(), action, slots);
+        commit_or_note(rt, log, cursor, pass, Event::of_authority(action), done, 0)
     }
 }

@@ -5,45 +5,26 @@ ghost use Rattle.volume_model.specs.declared.fault.Fault.TheVariants.{JournalFul
 ghost use Rattle.wire.specs.Listed.{listed};
 ghost use Rattle.wire.specs.Message.{messages_of};
 ghost use Rattle.epochs.specs.Authority.{authority_of, authority_plan};
-ghost use Rattle.world.specs.Acts.{authority_acted};
-ghost use Rattle.world.specs.Events.{event_of};
-ghost use Rattle.fleet_actors.specs.Acts.{event_by, IsLeft, IsSpent};
+ghost use Rattle.world.specs.Actions.{authority_acted};
+ghost use Rattle.fleet_actors.specs.Actions.{IsLeft, IsSpent};
 ghost use Rattle.fleet_actors.specs.Attempts.{IsDone, Judged};
 
 use epochs::Authority;
 use std::alloc::Global;
 use volume_model::Fault;
 use wire::Messages;
-use world::{AuthorityAct, Event};
-
-/// Returns the event of an action.
-pub(crate) fn event(act: AuthorityAct) -> Event
-    ensures { event_of result ≡ event_by act }
-{
-    match act {
-        AuthorityAct::Assign => Event::Assign,
-        AuthorityAct::Advance {
-            group,
-            configuration,
-        } => Event::Advance {
-            group,
-            configuration,
-        },
-        AuthorityAct::Refresh { volume } => Event::Refresh { volume },
-        AuthorityAct::Grow => Event::Grow,
-    }
-}
+use world::AuthorityAction;
 
 /// Returns whether the action assigns a volume epoch beyond the last slot's.
-fn is_spent(authority: &Authority, act: AuthorityAct, slots: u32) -> bool
-    ensures { MatchBool result (IsSpent act (authority_of authority.now) slots) (IsLeft act (authority_of authority.now)
-        slots) }
+fn is_spent(authority: &Authority, action: AuthorityAction, slots: u32) -> bool
+    ensures { MatchBool result (IsSpent action (authority_of authority.now) slots)
+        (IsLeft action (authority_of authority.now) slots) }
 {
-    match act {
-        AuthorityAct::Assign => authority.last_volume() == slots,
-        AuthorityAct::Advance { .. } => false,
-        AuthorityAct::Refresh { .. } => false,
-        AuthorityAct::Grow => false,
+    match action {
+        AuthorityAction::Assign => authority.last_volume() == slots,
+        AuthorityAction::Advance { .. } => false,
+        AuthorityAction::Refresh { .. } => false,
+        AuthorityAction::Grow => false,
     }
 }
 
@@ -55,30 +36,30 @@ pub(crate) fn try_step(
     alloc: Global,
     authority: &mut Authority,
     full: bool,
-    act: AuthorityAct,
+    action: AuthorityAction,
     slots: u32,
 ) -> Result<Messages, Fault>
     ensures done { IfOk result
-        (λ made. IsDone (authority_acted (authority_plan authority.old) (authority_of authority.old) act)
+        (λ made. IsDone (authority_acted (authority_plan authority.old) (authority_of authority.old) action)
         (messages_of (listed made)) (authority_of authority.new)) }
     ensures room { OnOk result (full ≡ false) }
-    ensures left { OnOk result (IsLeft act (authority_of authority.old) slots) }
-    ensures refused { IfErr result (λ fault. Judged (IsSpent act (authority_of authority.old) slots) full
-        (authority_acted (authority_plan authority.old) (authority_of authority.old) act) fault) }
-    ensures full { IfErr result (λ fault. fault ≡ JournalFull → IsLeft act (authority_of authority.old) slots) }
+    ensures left { OnOk result (IsLeft action (authority_of authority.old) slots) }
+    ensures refused { IfErr result (λ fault. Judged (IsSpent action (authority_of authority.old) slots) full
+        (authority_acted (authority_plan authority.old) (authority_of authority.old) action) fault) }
+    ensures full { IfErr result (λ fault. fault ≡ JournalFull → IsLeft action (authority_of authority.old) slots) }
     ensures still { OnErr result (authority_of authority.new ≡ authority_of authority.old) }
     ensures plan { authority_plan authority.new ≡ authority_plan authority.old }
 {
-    if let Err(fault) = act.admitted_by(authority) {
+    if let Err(fault) = action.admitted_by(authority) {
         return Err(fault);
     }
-    if is_spent(authority, act, slots) {
+    if is_spent(authority, action, slots) {
         return Err(Fault::NoSlot);
     }
     if full {
         return Err(Fault::JournalFull);
     }
-    match act.done_by(alloc, authority) {
+    match action.done_by(alloc, authority) {
         Ok(Some(message)) => Ok(Messages::One(message)),
         Ok(None) => Ok(Messages::Empty),
         Err(_) => Err(Fault::NoMemory),

@@ -8,7 +8,6 @@ ghost use Rattle.world.specs.Clients.{client_plan, client_volume, seen_client};
 ghost use Rattle.journal.specs.Passes.{marked, seen_at};
 ghost use Rattle.journal.proofs.Plans.{Plan-set};
 
-use crate::client_action::ClientAction;
 use crate::client_attempt::{shown, try_step};
 use crate::halt::Halt;
 use crate::step::{commit_or_note, reserve_step};
@@ -17,7 +16,7 @@ use std::alloc::Global;
 use std::sync::Wait;
 use volume_model::Fault;
 use wire::Message;
-use world::Client;
+use world::{ActorAction, Client, Event};
 
 /// The client of a volume epoch and its cursor.
 #[derive(Drop)]
@@ -31,13 +30,14 @@ pub struct ClientActor<L: Site> {
 }
 
 impl<L: Site> ClientActor<L> {
-    ghost use Rattle.std.specs.Prelude.{length, option_map, ◌≢◌, Err, OnErr, OnOk};
-    ghost use Rattle.std.specs.Option.{option_copied};
+    ghost use Rattle.std.specs.Prelude.{length, ◌≢◌, Err, OnErr, OnOk};
     ghost use Rattle.volume_model.specs.declared.fault.Fault.TheVariants.{NoMessage};
-    ghost use Rattle.wire.specs.Message.{message_of};
+    ghost use Rattle.volume_model.specs.Actor.{actor_of};
+    ghost use Rattle.world.specs.Actions.{message_found};
+    ghost use Rattle.world.specs.Events.{event_of};
     ghost use Rattle.journal.specs.Passes.{journal_of, seat_of, steps_of, world_of, SeesAll};
     ghost use Rattle.fleet_actors.specs.declared.halt.Halt.TheVariants.{Refused, StaleCursor};
-    ghost use Rattle.fleet_actors.specs.Actions.{event_by, IsFound};
+    ghost use Rattle.fleet_actors.specs.Actions.{IsFound};
     ghost use Rattle.fleet_actors.specs.RecordsAttempt.{Enters, IsExact, PassRecords};
     ghost use Rattle.fleet_actors.specs.Ready.{IsStale};
     ghost use Rattle.fleet_actors.specs.Volumes.{actor_client, actor_volume, IsUnmade};
@@ -59,7 +59,7 @@ impl<L: Site> ClientActor<L> {
         self.client.volume()
     }
 
-    /// Performs an action, with the message that was found if it takes one, and enters the step.
+    /// Performs the action of an event, with the message that was found if it takes one, and enters the step.
     #[inline(always)]
     fn step<'a, R: Wait>(
         &mut self,
@@ -67,16 +67,15 @@ impl<L: Site> ClientActor<L> {
         alloc: Global,
         log: &mut Log<'a, L>,
         pass: &mut Pass<'a, L>,
-        action: ClientAction,
+        event: Event,
         found: Option<&Message>,
     ) -> Result<Receipt, Halt>
+        requires who { actor_of (event_of event) ≡ Actor.Client (client_volume self.old.client) }
         requires settled { SeesAll pass.old log.old }
-        requires found { IsFound (world_of log.old).messages action (option_map message_of (option_copied found)) }
-        ensures recorded { PassRecords (event_by (client_volume self.old.client) action) result pass.old pass.new }
-        ensures exact { IsExact L.plan L.slots (length L.cells) (journal_of log.old)
-            (event_by (client_volume self.old.client) action) result }
-        ensures entered { Enters (event_by (client_volume self.old.client) action) (journal_of log.old)
-            (journal_of log.new) result }
+        requires found { IsFound (world_of log.old).messages (event_of event) (message_found found) }
+        ensures recorded { PassRecords (event_of event) result pass.old pass.new }
+        ensures exact { IsExact L.plan L.slots (length L.cells) (journal_of log.old) (event_of event) result }
+        ensures entered { Enters (event_of event) (journal_of log.old) (journal_of log.new) result }
         ensures stale { result ≡ Err StaleCursor → IsStale self.old.cursor log.old }
         ensures seat { seat_of pass.new ≡ seat_of pass.old }
         ensures found { result ≢ Err (Refused NoMessage) }
@@ -89,22 +88,25 @@ impl<L: Site> ClientActor<L> {
         if let Err(halt) = reserve_step(log, pass, cursor) {
             return Err(halt);
         }
-        let volume = client.volume();
-        let done = try_step(alloc, client, log.is_full(), &action, found);
-        let durable = shown(client, &action);
-        commit_or_note(rt, log, cursor, pass, action.event(volume), done, durable)
+        let ActorAction::Client(_, action) = event.split() else {
+            unreachable!()
+        };
+        let done = try_step(alloc, client, log.is_full(), action, found);
+        let durable = shown(client, action);
+        commit_or_note(rt, log, cursor, pass, event, done, durable)
     }
 
-    /// Performs an action and enters the step. The caller holds the client's lock and the journal's.
+    /// Performs the action of an event, which is one of this client, and enters the step. The caller holds the client's
+    /// lock and the journal's.
     ///
     /// # Errors
     /// The client is unchanged. `NoMessage` if no step has made the message to take; it isn't noted.
     /// [`StaleCursor`](Halt::StaleCursor) if the cursor isn't the client's last entry. Else, and noted: the client's
-    /// own refusal, as [`Client::admits`] and [`Client::admits_open`] give it (`NoActor` before its birth;
-    /// `NotAddressed` or `NotInPlan` of a message; `AlreadyDone`, `NotReady` or `LsnSpent` of a cut; `AlreadyDone` or
-    /// `NotReady` of an opening; `NotOpen` of an action of open writers; `BadTransaction`, `NotJoined`, `LsnSpent` or
-    /// `LimitReached` of an issue; `NoLogRecord` of a resend; `NoGroup` of a read); `JournalFull` if no cell is left.
-    /// `NoMemory`, which isn't noted.
+    /// own refusal, as [`Client::admits`] gives it (`NoActor` before its birth; `NotAddressed` or `NotInPlan` of a
+    /// message; `AlreadyDone`, `NotReady` or `LsnSpent` of a cut; `AlreadyDone` or `NotReady` of an opening; `NotOpen`
+    /// of an action of open writers; `BadTransaction`, `NotJoined`, `LsnSpent` or `LimitReached` of an issue;
+    /// `NoLogRecord` of a resend; `NoGroup` of a read); `JournalFull` if no cell is left. `NoMemory`, which isn't
+    /// noted.
     #[inline(always)]
     pub fn act<'a, R: Wait>(
         &mut self,
@@ -112,35 +114,27 @@ impl<L: Site> ClientActor<L> {
         alloc: Global,
         log: &mut Log<'a, L>,
         pass: &mut Pass<'a, L>,
-        action: ClientAction,
+        event: Event,
     ) -> Result<Receipt, Halt>
-        ensures recorded { PassRecords (event_by (actor_volume self.old) action) result pass.old pass.new }
-        ensures exact { IsExact L.plan L.slots (length L.cells) (journal_of log.old) (event_by (actor_volume self.old)
-            action) result }
-        ensures entered { Enters (event_by (actor_volume self.old) action) (journal_of log.old) (journal_of log.new)
-            result }
+        requires { actor_of (event_of event) ≡ Actor.Client (actor_volume self.old) }
+        ensures recorded { PassRecords (event_of event) result pass.old pass.new }
+        ensures exact { IsExact L.plan L.slots (length L.cells) (journal_of log.old) (event_of event) result }
+        ensures entered { Enters (event_of event) (journal_of log.old) (journal_of log.new) result }
         ensures stale { result ≡ Err StaleCursor → IsStale self.old.cursor log.old }
         ensures seat { seat_of pass.new ≡ seat_of pass.old }
-        ensures unmade { IsUnmade action (steps_of pass.old) result }
+        ensures unmade { IsUnmade (event_of event) (steps_of pass.old) result }
         ensures same { actor_volume self.new ≡ actor_volume self.old }
         ensures moved { OnOk result (actor_client self.new ≡ (world_of log.new).clients (actor_volume self.old)) }
         ensures still { OnErr result (actor_client self.new ≡ actor_client self.old) }
     {
-        let ClientAction::Take { message } = action else {
+        let Event::Take { message, .. } = event else {
             log.catch_up(pass);
-            return self.step(rt, alloc, log, pass, action, None);
+            return self.step(rt, alloc, log, pass, event, None);
         };
         let Some(message_ref) = log.seek(pass, message) else {
             return Err(Halt::Refused(Fault::NoMessage));
         };
         let found = message_ref.message();
-        self.step(
-            rt,
-            alloc,
-            log,
-            pass,
-            ClientAction::Take { message },
-            Some(found),
-        )
+        self.step(rt, alloc, log, pass, event, Some(found))
     }
 }

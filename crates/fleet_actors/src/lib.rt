@@ -5,7 +5,6 @@ mod action;
 mod authority;
 mod authority_attempt;
 mod client;
-mod client_action;
 mod client_attempt;
 mod gate;
 mod halt;
@@ -14,10 +13,8 @@ mod node;
 mod reaction;
 mod step;
 
-pub use action::NodeAction;
 pub use authority::AuthorityActor;
 pub use client::ClientActor;
-pub use client_action::ClientAction;
 pub use client_attempt::try_step;
 pub use gate::StepGate;
 pub use halt::Halt;

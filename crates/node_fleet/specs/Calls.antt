@@ -14,8 +14,6 @@ use Rattle.journal.specs.declared.pass.Pass.{Pass}
 use Rattle.journal.specs.declared.row.Site.{Ghosts as SiteGhosts}
 use Rattle.journal.specs.Passes.{AddsStep, notes_of, steps_of}
 use Rattle.journal.specs.PassSteps.{IsElse, Made}
-use Rattle.fleet_actors.specs.declared.client_action.ClientAction.{ClientAction}
-use Rattle.fleet_actors.specs.declared.client_action.ClientAction.TheVariants as action
 use Rattle.fleet_actors.specs.RecordsAttempt.{AddsNote}
 
 -- the pass has the step of this event more, as its receipt says, or a note of the refusal
@@ -41,19 +39,13 @@ IsOfNone plan (Restart group member) = is_named plan group member ≡ false
 IsOfNone plan (Offer group member lsn) = is_named plan group member ≡ false
 IsOfNone plan event = ⊥
 
--- whether an action may move the durable point of its client
-abbrev pub is_moving : ClientAction → Bool
-is_moving (action.Take message) = true
-is_moving action.Open = true
-is_moving other = false
+-- whether an event may move the durable point of its client
+abbrev pub is_moving : Event → Bool
+is_moving (Take volume number) = true
+is_moving (Open volume) = true
+is_moving event = false
 
 -- what a step of a client does on the board: its durable point is raised, where the step may move it
-abbrev pub Raises : ClientAction → ℕ → List BoardStep → List BoardStep → Type 0
-Raises (action.Take message) durable seat seat' = seat' ≡ seat ++ Raised durable ∷ []
-Raises action.Open durable seat seat' = seat' ≡ seat ++ Raised durable ∷ []
-Raises other durable seat seat' = seat' ≡ seat
-
--- the same of the event that the step is
 abbrev pub RaisesBy : Event → ℕ → List BoardStep → List BoardStep → Type 0
 RaisesBy (Take volume number) durable seat seat' = seat' ≡ seat ++ Raised durable ∷ []
 RaisesBy (Open volume) durable seat seat' = seat' ≡ seat ++ Raised durable ∷ []

@@ -2,7 +2,7 @@
 
 ghost use Rattle.std.specs.Prelude.{◌≡◌, IfErr};
 ghost use Rattle.journal.specs.Passes.{seat_of};
-ghost use Rattle.fleet_actors.specs.Acts.{event_by};
+ghost use Rattle.world.specs.Actions.{authority_event};
 ghost use Rattle.fleet_actors.specs.RecordsAttempt.{PassRecords};
 ghost use Rattle.node_fleet.specs.Calls.{PassRecordsCall};
 
@@ -12,7 +12,7 @@ use fleet_actors::{Halt, lock_spinning};
 use journal::{Pass, Receipt};
 use std::sync::Wait;
 use volume_model::Fault;
-use world::AuthorityAct;
+use world::AuthorityAction;
 
 impl<'a, L: FleetSite> Fleet<'a, L> {
     ghost use Rattle.std.specs.Prelude.{◌≢◌, Err};
@@ -24,15 +24,15 @@ impl<'a, L: FleetSite> Fleet<'a, L> {
         &self,
         rt: &R,
         pass: &mut Pass<'a, L>,
-        act: AuthorityAct,
+        action: AuthorityAction,
     ) -> Result<Receipt, Halt>
-        ensures recorded { PassRecords (event_by act) result pass.old pass.new }
+        ensures recorded { PassRecords (authority_event action) result pass.old pass.new }
         ensures seat { seat_of pass.new ≡ seat_of pass.old }
         ensures found { result ≢ Err (Refused NoMessage) }
     {
         let mut actor = lock_spinning(rt, &self.authority);
         let mut log = lock_spinning(rt, &self.journal);
-        actor.act(rt, self.alloc, &mut log, pass, act, self.slots)
+        actor.act(rt, self.alloc, &mut log, pass, action, self.slots)
     }
 
     // Enters what the authority does, by the journal's pass.
@@ -40,14 +40,14 @@ impl<'a, L: FleetSite> Fleet<'a, L> {
         &self,
         rt: &R,
         pass: &mut Pass<'a, L>,
-        act: AuthorityAct,
+        action: AuthorityAction,
     ) -> Result<Receipt, Fault>
-        ensures recorded { PassRecordsCall (event_by act) result pass.old pass.new }
+        ensures recorded { PassRecordsCall (authority_event action) result pass.old pass.new }
         ensures seat { seat_of pass.new ≡ seat_of pass.old }
         ensures found { IfErr result (λ fault. fault ≢ NoMessage) }
     {
         for _ in rt.forever() {
-            match self.try_authority(rt, pass, act) {
+            match self.try_authority(rt, pass, action) {
                 Ok(receipt) => return Ok(receipt),
                 Err(Halt::StaleCursor) => {}
                 Err(Halt::Refused(fault)) => return Err(fault),

@@ -1,22 +1,23 @@
 //! The public calls of a fleet.
 
 ghost use Rattle.std.specs.Prelude.{◌≡◌, IfErr, IfOk, OnErr};
-ghost use Rattle.volume_model.specs.World.Event.{Deliver};
-ghost use Rattle.fleet_actors.specs.Acts as acts;
-ghost use Rattle.fleet_actors.specs.Actions as actions;
-ghost use Rattle.fleet_actors.specs.Nodes as nodes;
+ghost use Rattle.volume_model.specs.World.Event.{Deliver, Issue};
+ghost use Rattle.writer_core.specs.Changes.{changes_of};
+ghost use Rattle.world.specs.Actions.{authority_event, client_event, node_event};
 ghost use Rattle.node_fleet.specs.Calls.{NamesElse, RaisesBy, Unmade};
 ghost use Rattle.node_fleet.specs.Passes.{notes_of, seat_of, steps_of, IsEntrySame, IsMailSame, Records};
 
 use crate::fleet::Fleet;
 use crate::pass::Pass;
 use crate::site::FleetSite;
-use fleet_actors::{ClientAction, NodeAction, StepGate};
+use fleet_actors::StepGate;
 use journal::Receipt;
 use mailbox::Letter;
+use segment_core::NodeAction;
 use std::sync::Wait;
 use volume_model::Fault;
-use world::AuthorityAct;
+use world::{AuthorityAction, ClientAction, Event};
+use writer_core::Change;
 
 impl<'a, L: FleetSite> Fleet<'a, L> {
     ghost use Rattle.std.specs.Prelude.{[], true, ◌++◌, ◌∷◌, ◌≢◌, ◌≤◌, All, None, Some};
@@ -38,62 +39,65 @@ impl<'a, L: FleetSite> Fleet<'a, L> {
         &self,
         rt: &R,
         pass: &mut Pass<'a, L>,
-        act: AuthorityAct,
+        action: AuthorityAction,
     ) -> Result<Receipt, Fault>
-        ensures recorded { Records (acts.event_by act) result pass.old pass.new }
+        ensures recorded { Records (authority_event action) result pass.old pass.new }
         ensures seat { seat_of pass.new ≡ seat_of pass.old }
         ensures mail { IsMailSame pass.old pass.new }
         ensures found { IfErr result (λ fault. fault ≢ NoMessage) }
     {
-        self.enter_authority(rt, &mut pass.entered, act)
+        self.enter_authority(rt, &mut pass.entered, action)
     }
 
-    /// Makes a step of a client. The action moves into the journal's entry or into the note of a refusal, without a
-    /// copy. After a Take or an Open the board is raised to the client's durable point under the client's lock.
+    /// Makes a step of a client. After a Take or an Open the board is raised to the client's durable point under the
+    /// client's lock. The journal gets a copy of the changes that are issued; [`Fleet::issue`] makes none.
     ///
     /// # Errors
     /// `NoMessage` if no step has made the message to take; it isn't noted. The client's refusal, as
     /// [`ClientActor::act`](fleet_actors::ClientActor::act) gives it; a client without a slot is one that no View has
-    /// reached. `JournalFull` if no cell is left. `NoMemory`, which isn't noted; the action is gone then, so a caller
-    /// that wants to try again calls [`Fleet::client_step`].
-    pub fn client_does<R: Wait>(
-        &self,
-        rt: &R,
-        pass: &mut Pass<'a, L>,
-        volume: u32,
-        action: ClientAction,
-    ) -> Result<Receipt, Fault>
-        ensures recorded { Records (actions.event_by volume action) result pass.old pass.new }
-        ensures raised { IfOk result (λ r. RaisesBy (actions.event_by volume action) r.durable (seat_of pass.old)
-            (seat_of pass.new)) }
-        ensures still { OnErr result (seat_of pass.new ≡ seat_of pass.old) }
-        ensures mail { IsMailSame pass.old pass.new }
-        ensures unmade { IfErr result (λ fault. fault ≡ NoMessage → NamesElse (actions.event_by volume action)
-            (steps_of pass.old)) }
-    {
-        self.enter_client(rt, &mut pass.entered, volume, action)
-    }
-
-    /// Makes a step of a client by a copy of the action: otherwise as [`Fleet::client_does`].
-    ///
-    /// # Errors
-    /// Those of [`Fleet::client_does`].
+    /// reached. `JournalFull` if no cell is left. `NoMemory`, which isn't noted.
     pub fn client_step<R: Wait>(
         &self,
         rt: &R,
         pass: &mut Pass<'a, L>,
         volume: u32,
-        action: &ClientAction,
+        action: ClientAction<'_>,
     ) -> Result<Receipt, Fault>
-        ensures recorded { Records (actions.event_by volume action.now) result pass.old pass.new }
-        ensures raised { IfOk result (λ r. RaisesBy (actions.event_by volume action.now) r.durable (seat_of pass.old)
+        ensures recorded { Records (client_event volume action.entry) result pass.old pass.new }
+        ensures raised { IfOk result (λ r. RaisesBy (client_event volume action.entry) r.durable (seat_of pass.old)
             (seat_of pass.new)) }
         ensures still { OnErr result (seat_of pass.new ≡ seat_of pass.old) }
         ensures mail { IsMailSame pass.old pass.new }
-        ensures unmade { IfErr result (λ fault. fault ≡ NoMessage → NamesElse (actions.event_by volume action.now)
+        ensures unmade { IfErr result (λ fault. fault ≡ NoMessage → NamesElse (client_event volume action.entry)
             (steps_of pass.old)) }
     {
-        self.enter_client_copy(rt, &mut pass.entered, volume, action)
+        let event = Event::of_client(self.alloc, volume, action)?;
+        self.enter_client(rt, &mut pass.entered, volume, event)
+    }
+
+    /// Issues a transaction of a client: as [`Fleet::client_step`] does, but the changes move into the journal's entry
+    /// or into the note of a refusal, without a copy.
+    ///
+    /// # Errors
+    /// Those of [`Fleet::client_step`] of an issue. The changes are gone after `NoMemory`.
+    pub fn issue<R: Wait>(
+        &self,
+        rt: &R,
+        pass: &mut Pass<'a, L>,
+        volume: u32,
+        changes: Vec<Change>,
+    ) -> Result<Receipt, Fault>
+        ensures recorded { Records (Issue volume (changes_of changes.items)) result pass.old pass.new }
+        ensures seat { seat_of pass.new ≡ seat_of pass.old }
+        ensures mail { IsMailSame pass.old pass.new }
+        ensures found { IfErr result (λ fault. fault ≢ NoMessage) }
+    {
+        self.enter_client(
+            rt,
+            &mut pass.entered,
+            volume,
+            Event::Issue { volume, changes },
+        )
     }
 
     /// Delivers a message to a node: looks it up, prepares the reaction under the node's lock alone, lends the
@@ -134,7 +138,7 @@ impl<'a, L: FleetSite> Fleet<'a, L> {
         member: u8,
         action: NodeAction,
     ) -> Result<Receipt, Fault>
-        ensures recorded { Records (nodes.event_by group member action) result pass.old pass.new }
+        ensures recorded { Records (node_event group member action) result pass.old pass.new }
         ensures found { IfErr result (λ fault. fault ≢ NoMessage) }
         ensures seat { seat_of pass.new ≡ seat_of pass.old }
         ensures mail { IsMailSame pass.old pass.new }

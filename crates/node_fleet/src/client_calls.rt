@@ -1,35 +1,35 @@
 //! The clients' calls of a fleet.
 
 ghost use Rattle.std.specs.Prelude.{◌≡◌, IfErr, IfOk, OnErr};
+ghost use Rattle.volume_model.specs.Actor.{actor_of, Actor};
 ghost use Rattle.journal.specs.Passes.{seat_of, steps_of};
-ghost use Rattle.fleet_actors.specs.Actions.{event_by};
+ghost use Rattle.world.specs.Events.{event_of};
 ghost use Rattle.fleet_actors.specs.RecordsAttempt.{PassRecords};
 ghost use Rattle.fleet_actors.specs.Volumes.{IsUnmade};
-ghost use Rattle.node_fleet.specs.Calls.{is_moving, NamesElse, PassRecordsCall, Raises, RaisesBy};
+ghost use Rattle.node_fleet.specs.Calls.{is_moving, NamesElse, PassRecordsCall, RaisesBy};
 
 use crate::fleet::Fleet;
 use crate::settling::refusal_of;
 use crate::site::FleetSite;
-use fleet_actors::{ClientAction, ClientActor, Halt, lock_spinning, refused, try_step};
+use fleet_actors::{ClientActor, Halt, lock_spinning, refused, try_step};
 use journal::{ActorName, Log, Pass, Receipt};
 use std::sync::{Mutex, Wait};
 use volume_model::Fault;
 use wire::Message;
-use world::Client;
+use world::{ActorAction, Client, Event};
 
-// Returns whether an action may move the durable point of its client.
-fn moves(action: &ClientAction) -> bool
-    ensures { result ≡ is_moving action.now }
+// Returns whether an event may move the durable point of its client.
+fn moves(event: &Event) -> bool
+    ensures { result ≡ is_moving (event_of event.now) }
 {
-    matches!(action, ClientAction::Take { .. } | ClientAction::Open)
+    matches!(event, Event::Take { .. } | Event::Open { .. })
 }
 
 impl<'a, L: FleetSite> Fleet<'a, L> {
-    ghost use Rattle.std.specs.Prelude.{option_map, ◌≢◌, Err};
-    ghost use Rattle.std.specs.Option.{option_copied};
+    ghost use Rattle.std.specs.Prelude.{◌≢◌, Err};
     ghost use Rattle.volume_model.specs.declared.fault.Fault.TheVariants.{NoMessage};
     ghost use Rattle.volume_model.specs.Client.{unborn};
-    ghost use Rattle.wire.specs.Message.{message_of};
+    ghost use Rattle.world.specs.Actions.{message_found};
     ghost use Rattle.journal.specs.Passes.{world_of, HasNoteRoom, SeesAll};
     ghost use Rattle.fleet_actors.specs.Actions.{IsFound};
     ghost use Rattle.fleet_actors.specs.declared.halt.Halt.TheVariants.{Refused};
@@ -39,21 +39,22 @@ impl<'a, L: FleetSite> Fleet<'a, L> {
         self.clients.get(volume as usize)
     }
 
-    // Refuses what is asked of a client that no View can have reached, with the message that was found if it is to take
+    // Refuses the event of a client that no View can have reached, with the message that was found if it is to take
     // one. `StaleCursor` where it would be born, which nothing brings about.
     fn refuse_unborn(
         &self,
         log: &Log<'a, L>,
         pass: &mut Pass<'a, L>,
         volume: u32,
-        action: ClientAction,
+        event: Event,
         found: Option<&Message>,
     ) -> Halt
+        requires who { actor_of (event_of event) ≡ Actor.Client volume }
         requires unborn { (world_of log.now).clients volume ≡ unborn }
-        requires found { IsFound (world_of log.now).messages action (option_map message_of (option_copied found)) }
+        requires found { IsFound (world_of log.now).messages (event_of event) (message_found found) }
         requires settled { SeesAll pass.old log.now }
         requires room { HasNoteRoom pass.old }
-        ensures recorded { PassRecords (event_by volume action) (Err result) pass.old pass.new }
+        ensures recorded { PassRecords (event_of event) (Err result) pass.old pass.new }
         ensures seat { seat_of pass.new ≡ seat_of pass.old }
         ensures found { result ≢ Refused NoMessage }
     {
@@ -61,23 +62,27 @@ impl<'a, L: FleetSite> Fleet<'a, L> {
             Ok(plan) => Client::unborn(plan, volume),
             Err(_) => return Halt::Refused(Fault::NoMemory),
         };
-        match try_step(self.alloc, &mut client, log.is_full(), &action, found) {
+        let ActorAction::Client(_, action) = event.split() else {
+            unreachable!()
+        };
+        match try_step(self.alloc, &mut client, log.is_full(), action, found) {
             Ok(_) => Halt::StaleCursor,
-            Err(fault) => refused(log, pass, action.event(volume), fault),
+            Err(fault) => refused(log, pass, event, fault),
         }
     }
 
-    // Refuses what is asked of the client of a volume epoch that has no slot.
+    // Refuses the event of the client of a volume epoch that has no slot.
     fn refuse_slotless<R: Wait>(
         &self,
         rt: &R,
         pass: &mut Pass<'a, L>,
         volume: u32,
-        action: ClientAction,
+        event: Event,
     ) -> Halt
-        ensures recorded { PassRecords (event_by volume action) (Err result) pass.old pass.new }
+        requires { actor_of (event_of event) ≡ Actor.Client volume }
+        ensures recorded { PassRecords (event_of event) (Err result) pass.old pass.new }
         ensures seat { seat_of pass.new ≡ seat_of pass.old }
-        ensures unmade { IsUnmade action (steps_of pass.old) (Err result) }
+        ensures unmade { IsUnmade (event_of event) (steps_of pass.old) (Err result) }
     {
         if pass.reserve().is_err() {
             return Halt::Refused(Fault::NoMemory);
@@ -86,46 +91,45 @@ impl<'a, L: FleetSite> Fleet<'a, L> {
         if volume == 1 || log.has_place(ActorName::Client(volume)) {
             return Halt::StaleCursor;
         }
-        match action {
-            ClientAction::Take { message } => match log.seek(pass, message) {
-                None => Halt::Refused(Fault::NoMessage),
-                Some(message_ref) => {
-                    let found = message_ref.message();
-                    self.refuse_unborn(&log, pass, volume, action, Some(found))
-                }
-            },
-            other => {
-                log.catch_up(pass);
-                self.refuse_unborn(&log, pass, volume, other, None)
+        let Event::Take { message, .. } = event else {
+            log.catch_up(pass);
+            return self.refuse_unborn(&log, pass, volume, event, None);
+        };
+        match log.seek(pass, message) {
+            None => Halt::Refused(Fault::NoMessage),
+            Some(message_ref) => {
+                let found = message_ref.message();
+                self.refuse_unborn(&log, pass, volume, event, Some(found))
             }
         }
     }
 
-    // Attempts a client's action. Its durable point is raised on the board if the action may move it.
+    // Attempts the event of a client. Its durable point is raised on the board if the event may move it.
     #[inline(always)]
     fn try_client<R: Wait>(
         &self,
         rt: &R,
         pass: &mut Pass<'a, L>,
         volume: u32,
-        action: ClientAction,
+        event: Event,
     ) -> Result<Receipt, Halt>
-        ensures recorded { PassRecords (event_by volume action) result pass.old pass.new }
-        ensures raised { IfOk result (λ r. Raises action r.durable (seat_of pass.old) (seat_of pass.new)) }
+        requires { actor_of (event_of event) ≡ Actor.Client volume }
+        ensures recorded { PassRecords (event_of event) result pass.old pass.new }
+        ensures raised { IfOk result (λ r. RaisesBy (event_of event) r.durable (seat_of pass.old) (seat_of pass.new)) }
         ensures still { OnErr result (seat_of pass.new ≡ seat_of pass.old) }
-        ensures unmade { IsUnmade action (steps_of pass.old) result }
+        ensures unmade { IsUnmade (event_of event) (steps_of pass.old) result }
     {
         let Some(client) = self.client(volume) else {
-            return Err(self.refuse_slotless(rt, pass, volume, action));
+            return Err(self.refuse_slotless(rt, pass, volume, event));
         };
         let mut actor = lock_spinning(rt, client);
         if actor.volume() != volume {
             return Err(Halt::StaleCursor);
         }
-        let raises = moves(&action);
+        let raises = moves(&event);
         let receipt = {
             let mut log = lock_spinning(rt, &self.journal);
-            actor.act(rt, self.alloc, &mut log, pass, action)?
+            actor.act(rt, self.alloc, &mut log, pass, event)?
         };
         if raises {
             pass.raise(&self.board, receipt.durable);
@@ -133,43 +137,24 @@ impl<'a, L: FleetSite> Fleet<'a, L> {
         Ok(receipt)
     }
 
-    // Enters a client's action, by the journal's pass.
+    // Enters the event of a client, by the journal's pass.
     pub(crate) fn enter_client<R: Wait>(
         &self,
         rt: &R,
         pass: &mut Pass<'a, L>,
         volume: u32,
-        action: ClientAction,
+        event: Event,
     ) -> Result<Receipt, Fault>
-        ensures recorded { PassRecordsCall (event_by volume action) result pass.old pass.new }
-        ensures raised { IfOk result (λ r. RaisesBy (event_by volume action) r.durable (seat_of pass.old)
-            (seat_of pass.new)) }
+        requires { actor_of (event_of event) ≡ Actor.Client volume }
+        ensures recorded { PassRecordsCall (event_of event) result pass.old pass.new }
+        ensures raised { IfOk result (λ r. RaisesBy (event_of event) r.durable (seat_of pass.old) (seat_of pass.new)) }
         ensures still { OnErr result (seat_of pass.new ≡ seat_of pass.old) }
-        ensures unmade { IfErr result (λ fault. fault ≡ NoMessage → NamesElse (event_by volume action)
+        ensures unmade { IfErr result (λ fault. fault ≡ NoMessage → NamesElse (event_of event)
             (steps_of pass.old)) }
     {
-        match self.try_client(rt, pass, volume, action) {
+        match self.try_client(rt, pass, volume, event) {
             Ok(receipt) => Ok(receipt),
             Err(halt) => Err(refusal_of(rt, halt)),
         }
-    }
-
-    // Enters a copy of a client's action.
-    pub(crate) fn enter_client_copy<R: Wait>(
-        &self,
-        rt: &R,
-        pass: &mut Pass<'a, L>,
-        volume: u32,
-        action: &ClientAction,
-    ) -> Result<Receipt, Fault>
-        ensures recorded { PassRecordsCall (event_by volume action.now) result pass.old pass.new }
-        ensures raised { IfOk result (λ r. RaisesBy (event_by volume action.now) r.durable (seat_of pass.old)
-            (seat_of pass.new)) }
-        ensures still { OnErr result (seat_of pass.new ≡ seat_of pass.old) }
-        ensures unmade { IfErr result (λ fault. fault ≡ NoMessage → NamesElse (event_by volume action.now)
-            (steps_of pass.old)) }
-    {
-        let copy = action.clone()?;
-        self.enter_client(rt, pass, volume, copy)
     }
 }

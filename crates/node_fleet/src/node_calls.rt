@@ -7,14 +7,15 @@ ghost use Rattle.volume_model.specs.World.Event.{Deliver};
 ghost use Rattle.journal.specs.Passes.{journal_of, message_ref_number, notes_of, seat_of, steps_of, world_of};
 ghost use Rattle.world.specs.Events.{event_of};
 ghost use Rattle.fleet_actors.specs.RecordsAttempt.{AddsNote, PassRecords};
-ghost use Rattle.fleet_actors.specs.Nodes.{event_by};
+ghost use Rattle.world.specs.Actions.{node_event};
 ghost use Rattle.node_fleet.specs.Calls.{IsOfNone, PassRecordsCall, Unmade};
 
 use crate::fleet::Fleet;
 use crate::settling::refusal_of;
 use crate::site::FleetSite;
-use fleet_actors::{Halt, NodeAction, NodeActor, StepGate, lock_spinning};
+use fleet_actors::{Halt, NodeActor, StepGate, lock_spinning};
 use journal::{Log, MessageRef, Pass, Receipt};
+use segment_core::NodeAction;
 use std::sync::{Mutex, Wait};
 use volume_model::Fault;
 use world::{Event, slot};
@@ -160,7 +161,7 @@ impl<'a, L: FleetSite> Fleet<'a, L> {
         member: u8,
         action: NodeAction,
     ) -> Result<Receipt, Halt>
-        ensures recorded { PassRecords (event_by group member action) result pass.old pass.new }
+        ensures recorded { PassRecords (node_event group member action) result pass.old pass.new }
         ensures found { IfErr result (λ halt. halt ≢ Refused NoMessage) }
         ensures seat { seat_of pass.new ≡ seat_of pass.old }
     {
@@ -181,12 +182,12 @@ impl<'a, L: FleetSite> Fleet<'a, L> {
         member: u8,
         action: NodeAction,
     ) -> Result<Receipt, Fault>
-        ensures recorded { PassRecordsCall (event_by group member action) result pass.old pass.new }
+        ensures recorded { PassRecordsCall (node_event group member action) result pass.old pass.new }
         ensures found { IfErr result (λ fault. fault ≢ NoMessage) }
         ensures seat { seat_of pass.new ≡ seat_of pass.old }
     {
         let Some(node) = self.node(group, member) else {
-            return Err(self.refuse_absent(rt, pass, action.event(group, member)));
+            return Err(self.refuse_absent(rt, pass, Event::of_node(group, member, action)));
         };
         match self.try_node(rt, pass, node, group, member, action) {
             Ok(receipt) => Ok(receipt),

@@ -1,7 +1,7 @@
 //! A segment of a protection group: the records that it holds, its complete point, and what it answers.
 #![tactic(auto)]
 
-mod act;
+mod action;
 mod assembly;
 mod block_list;
 mod block_places;
@@ -29,7 +29,7 @@ mod waiters;
 
 pub use crate::chains::Chains;
 pub use crate::runs::Runs;
-pub use act::NodeAct;
+pub use action::NodeAction;
 pub use place::Place;
 pub use prepared::Prepared;
 pub use segment::Segment;

@@ -10,7 +10,7 @@ ghost use Rattle.std.specs.Arc.{arc_value};
 ghost use Rattle.volume_model.specs.Plan.{is_named};
 ghost use Rattle.plan.specs.CheckedModel.{checked_model};
 
-use crate::act::NodeAct;
+use crate::action::NodeAction;
 use crate::assembly::Assembly;
 use crate::prepared::{Effect, Prepared};
 use crate::records::Records;
@@ -67,9 +67,9 @@ impl Segment {
     ghost use Rattle.wire.specs.Contents.{contents_of, piece_in};
     ghost use Rattle.wire.specs.Listed.{listed};
     ghost use Rattle.wire.specs.Message.{label_of, message_of, messages_of};
-    ghost use Rattle.segment_core.specs.Acts.{act_after_growth};
+    ghost use Rattle.segment_core.specs.Actions.{action_after_growth};
     ghost use Rattle.segment_core.specs.Prepared.{answers_of, effected, step_of};
-    ghost use Rattle.segment_core.specs.Segment.{node_of, segment_group, segment_member, act_of, answered, born, offered_step, reaction_of, replaced, CanTake, IsSegmentOf, IsSameActor, IsReady, Prepares};
+    ghost use Rattle.segment_core.specs.Segment.{node_of, segment_group, segment_member, action_of, answered, born, offered_step, reaction_of, replaced, CanTake, IsSegmentOf, IsSameActor, IsReady, Prepares};
 
     /// Makes the segment of a member of a group, as it is at the volume's birth.
     ///
@@ -472,24 +472,20 @@ impl Segment {
     /// unchanged, and what is prepared is a step of the segment as it is now.
     ///
     /// # Errors
-    /// Those of [`Segment::prepare`] for [`NodeAct::Deliver`], of [`Segment::hydrate`] for [`NodeAct::Hydrate`], of
-    /// [`Segment::offer`] for [`NodeAct::Offer`]; `NoMemory` if none applies and memory ran out.
-    #[inline(always)]
-    pub fn prepare_act(&mut self, alloc: Global, act: NodeAct<'_>) -> Result<Prepared, Fault>
-        ensures step { AnswersAfterGrowth (act_after_growth act.entry) step_of (act_of self.old act.entry)
-            (node_of self.old) result (node_of self.old) }
-        ensures ready { IfOk result (λ prepared. IsReady self.new prepared) }
-        ensures node { node_of self.new ≡ node_of self.old }
-        ensures actor { IsSameActor self.old self.new }
+    /// Those of [`Segment::hydrate`] for [`NodeAction::Hydrate`], of [`Segment::offer`] for [`NodeAction::Offer`];
+    /// `NoMemory` if none applies and memory ran out.
+    pub fn prepare_action(&self, alloc: Global, action: NodeAction) -> Result<Prepared, Fault>
+        ensures step { AnswersAfterGrowth (action_after_growth action) step_of (action_of self.now action)
+            (node_of self.now) result (node_of self.now) }
+        ensures ready { IfOk result (λ prepared. IsReady self.now prepared) }
     {
-        match act {
-            NodeAct::Deliver(message) => self.prepare(alloc, message),
-            NodeAct::Hydrate => self.prepare_hydration(alloc),
-            NodeAct::Restart => Ok(Prepared {
+        match action {
+            NodeAction::Hydrate => self.prepare_hydration(alloc),
+            NodeAction::Restart => Ok(Prepared {
                 answers: Messages::Empty,
                 effect: Effect::Restart,
             }),
-            NodeAct::Offer { lsn } => self.prepare_offer(alloc, lsn),
+            NodeAction::Offer { lsn } => self.prepare_offer(alloc, lsn),
         }
     }
 

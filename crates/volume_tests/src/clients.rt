@@ -13,7 +13,7 @@ use volume_model::Fault::{
     self, AlreadyDone, NoActor, NotAddressed, NotOpen, NotReady, Superseded,
 };
 use wire::{Ack, Label, Message, Place, Report, View};
-use world::{AuthorityAct, Client, ClientAct, ClientState, Event};
+use world::{AuthorityAction, Client, ClientAction, ClientState, Event};
 
 /// The label under which volume epoch 2 speaks.
 const LABEL: Label = Label {
@@ -80,10 +80,15 @@ fn message(alloc: Global, input: Input) -> Result<Message, Fault> {
     })
 }
 
-/// How many messages an act makes, where the client judges before it as it answers; `NoMemory` where it doesn't.
-fn made(alloc: Global, client: &mut Client, act: ClientAct<'_>) -> Result<Said, Fault> {
-    let judged = client.admits(alloc, act);
-    let answer = client.act(alloc, act);
+/// How many messages an action makes, where the client judges before it as it answers; `NoMemory` where it doesn't.
+fn made(
+    alloc: Global,
+    client: &mut Client,
+    action: ClientAction<'_>,
+    found: Option<&Message>,
+) -> Result<Said, Fault> {
+    let judged = client.admits(alloc, action, found);
+    let answer = client.act(alloc, action, found);
     match (judged, answer) {
         (Ok(()), Ok(made)) => Ok(Count(made.len())),
         (Err(fault), Err(_)) => Err(fault),
@@ -108,17 +113,29 @@ fn shown(client: &Client, input: Input) -> Said {
 fn answer(alloc: Global, client: &mut Client, input: Input) -> Result<Said, Fault> {
     match input {
         Input::View | Input::Report(_) | Input::Ack(_) => {
-            made(alloc, client, ClientAct::Take(&message(alloc, input)?))
+            let found = message(alloc, input)?;
+            made(
+                alloc,
+                client,
+                ClientAction::Take { message: 1 },
+                Some(&found),
+            )
         }
-        Input::Cut => made(alloc, client, ClientAct::Cut),
-        Input::Issue(groups) => made(alloc, client, ClientAct::Issue(&changes(alloc, groups)?)),
-        Input::Resend(lsn) => made(alloc, client, ClientAct::Resend { lsn }),
-        Input::Read => made(alloc, client, ClientAct::Read { group: 0, block: 0 }),
-        Input::Open => match client.open() {
-            Ok(()) => Ok(Yes),
+        Input::Cut => made(alloc, client, ClientAction::Cut, None),
+        Input::Issue(groups) => {
+            let changes = changes(alloc, groups)?;
+            made(alloc, client, ClientAction::Issue(&changes), None)
+        }
+        Input::Resend(lsn) => made(alloc, client, ClientAction::Resend { lsn }, None),
+        Input::Read => {
+            let action = ClientAction::Read { group: 0, block: 0 };
+            made(alloc, client, action, None)
+        }
+        Input::Open => match client.act(alloc, ClientAction::Open, None) {
+            Ok(_) => Ok(Yes),
             Err(fault) => Err(fault),
         },
-        Input::MayOpen => match client.admits_open() {
+        Input::MayOpen => match client.admits(alloc, ClientAction::Open, None) {
             Ok(()) => Ok(Yes),
             Err(fault) => Err(fault),
         },
@@ -249,10 +266,10 @@ fn authority_acts(
     alloc: Global,
 ) -> Result<(Result<(), Fault>, u32, [Result<(), Fault>; 2]), Fault> {
     let mut authority = Authority::new(alloc, checked(alloc, SIX)?)?;
-    let assign = AuthorityAct::Assign;
+    let assign = AuthorityAction::Assign;
     let admitted = assign.admitted_by(&authority);
     assign.done_by(alloc, &mut authority)?;
-    let late = AuthorityAct::Refresh { volume: 1 };
+    let late = AuthorityAction::Refresh { volume: 1 };
     let judged = late.admitted_by(&authority);
     let done = match late.done_by(alloc, &mut authority) {
         Ok(_) => Ok(()),

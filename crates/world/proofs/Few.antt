@@ -1,11 +1,14 @@
 -- How many messages a step of a client makes at most.
-use Rattle.std.proofs.Common.{◌≡◌, ℕ, ◌+◌, ◌/◌, ◌≤◌, List, Option, Some, None, Ok, Err, length, arith}
+use Rattle.std.proofs.Common.{◌≡◌, ℕ, ◌+◌, ◌/◌, ◌≤◌, Bool, true, false, not, ◌&&◌, List, [], Option, Some, None, Ok, Err, length, arith}
 use Rattle.volume_model.specs.Redo.{Redo}
 use Rattle.volume_model.specs.Plan.{Plan}
 use Rattle.volume_model.specs.Message.{Message}
-use Rattle.volume_model.specs.Client.{Client, ClientAnswer}
+use Rattle.volume_model.specs.declared.fault.Fault.{Fault}
+use Rattle.volume_model.specs.declared.fault.Fault.TheVariants.{AlreadyDone, NoActor, NotReady}
+use Rattle.volume_model.specs.Refusal.{refuse_if}
+use Rattle.volume_model.specs.Client.{has_cut, is_born, is_open, Client, ClientAnswer}
 use Rattle.volume_model.specs.ClientMessages.{taken}
-use Rattle.volume_model.specs.ClientRecovery.{cut_client, log_reported}
+use Rattle.volume_model.specs.ClientRecovery.{cut_client, has_installed, log_reported, opened, writing}
 use Rattle.volume_model.specs.World.{take}
 use Rattle.volume_model.specs.Few.{Few, StepsAreFew, most_installs}
 
@@ -18,6 +21,16 @@ few-more less more (Ok step) h few = let made : length step.made ≤ less = few 
 pub few-named : (plan : Plan) (most volume : ℕ) (now : Client) → ((m : Message) → Few most (taken plan volume now m)) → (found : Option Message) → Few most (take plan volume now found)
 few-named plan most volume now few None = tt
 few-named plan most volume now few (Some m) = few m
+
+-- what may be refused first makes no more
+few-unless : (most : ℕ) (b : Bool) (fault : Fault) (answer : ClientAnswer) → Few most answer → Few most (refuse_if b fault answer)
+few-unless most true fault answer few = tt
+few-unless most false fault answer few = few
+
+-- an opening makes none
+pub few-opened : (plan : Plan) (now : Client) → Few 0 (opened plan now)
+few-opened plan now =
+    few-unless 0 (not (is_born now.stage)) NoActor _ (few-unless 0 (is_open now.stage) AlreadyDone _ (few-unless 0 (not (has_cut now.stage && has_installed plan now)) NotReady (Ok (record { made = []; client = writing plan now })) (omega arith)))
 
 installs-within : (least groups many : ℕ) (found : List Redo) → least ≤ groups → length found ≤ many → most_installs least found ≤ groups + many / 256
 installs-within least groups many found few within = omega (arith, few, within)

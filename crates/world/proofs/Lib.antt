@@ -8,3 +8,5 @@ pub mod Runs
 pub mod Moving
 pub mod Returned
 pub mod Few
+pub mod NodeSlot
+pub mod ActorSteps

@@ -11,7 +11,7 @@ use Rattle.wire.specs.Message.{messages_of}
 use Rattle.std.specs.Arc.{arc_value}
 use Rattle.plan.specs.CheckedModel.{checked_model}
 use Rattle.epochs.specs.Authority.{authority_of, authority_plan}
-use Rattle.segment_core.specs.Acts.{is_full}
+use Rattle.segment_core.specs.Actions.{is_full}
 use Rattle.recovery.specs.Finds.{is_spent}
 use Rattle.world.specs.Slots.{members, node_at}
 use Rattle.world.specs.Homes.{nodes_of, AreHomes}

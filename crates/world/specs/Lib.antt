@@ -1,4 +1,4 @@
-pub mod Acts
+pub mod Actions
 pub mod Clients
 pub mod Events
 pub mod Slots

@@ -1,8 +1,7 @@
 //! All actors, and all messages ever made.
 
-use crate::acts::{AuthorityAct, ClientAct, ClientOrder, NodeOrder};
+use crate::actions::{ActorAction, AuthorityAction, ClientAction};
 use crate::client::Client;
-use crate::client_step::act_of;
 use crate::clients::keep;
 use crate::event::Event;
 use crate::nodes::{all_born, slot};
@@ -10,7 +9,7 @@ use crate::numbering::enter;
 use crate::{authority_step, birth, client_step, node_step};
 use epochs::Authority;
 use plan::CheckedPlan;
-use segment_core::{NodeAct, Segment};
+use segment_core::{NodeAction, Segment};
 use std::alloc::{AllocError, Global};
 use std::sync::Arc;
 use volume_model::Fault;
@@ -34,13 +33,13 @@ impl Actors {
     ghost use Rattle.volume_model.specs.declared.fault.Fault.TheVariants.{NoMemory};
     ghost use Rattle.std.specs.Prelude.{None};
     ghost use Rattle.volume_model.specs.Client.{unborn};
-    ghost use Rattle.volume_model.specs.ClientRecovery.{opened};
     ghost use Rattle.volume_model.specs.World as model;
     ghost use Rattle.volume_model.specs.World.{groups_joined, if_there, of_authority, of_client, of_node, opening, step};
     ghost use Rattle.plan.specs.CheckedModel.{checked_model};
     ghost use Rattle.volume_model.specs.Answer.{never_after_growth};
     ghost use Rattle.world.specs.Actors.{event_after_growth, plan_of, world_of, messages_in, AreActors, Steps};
-    ghost use Rattle.world.specs.Acts.{authority_acted, client_ordered, node_after_growth, node_ordered, order_after_growth};
+    ghost use Rattle.segment_core.specs.Actions.{acted, action_after_growth};
+    ghost use Rattle.world.specs.Actions.{authority_acted, client_after_growth, client_does};
     ghost use Rattle.world.specs.Clients.{client_in};
     ghost use Rattle.world.specs.Events.{event_of};
 
@@ -63,30 +62,30 @@ impl Actors {
         })
     }
 
-    /// Lets the authority act.
-    fn authority_step(&mut self, alloc: Global, act: AuthorityAct) -> Result<u64, Fault>
+    /// Performs an action of the authority.
+    fn authority_step(&mut self, alloc: Global, action: AuthorityAction) -> Result<u64, Fault>
         requires { AreActors self.old }
         ensures steps { Steps never_after_growth (of_authority (world_of self.old) (authority_acted (plan_of self.old)
-            (world_of self.old).authority act)) (world_of self.old) result (world_of self.new) }
+            (world_of self.old).authority action)) (world_of self.old) result (world_of self.new) }
         ensures good { AreActors self.new }
         ensures plan { plan_of self.new ≡ plan_of self.old }
     {
-        authority_step::act(alloc, &mut self.authority, &mut self.messages, act)
+        authority_step::act(alloc, &mut self.authority, &mut self.messages, action)
     }
 
-    /// Lets a node act. `NoActor` if its group hasn't joined, or the plan doesn't name it.
+    /// Performs a node's action. `NoActor` if its group hasn't joined, or the plan doesn't name it.
     fn node_step(
         &mut self,
         alloc: Global,
         group: u8,
         member: u8,
-        order: NodeOrder<'_>,
+        action: NodeAction,
     ) -> Result<u64, Fault>
         requires { AreActors self.old }
-        ensures steps { Steps (node_after_growth order.entry) (of_node (world_of self.old) group member
+        ensures steps { Steps (action_after_growth action) (of_node (world_of self.old) group member
             (if_there (plan_of self.old) (groups_joined (world_of self.old).authority) group member
-            (node_ordered (messages_in self.old) order.entry (plan_of self.old) group member
-            ((world_of self.old).nodes group member)))) (world_of self.old) result (world_of self.new) }
+            (acted action (plan_of self.old) group member ((world_of self.old).nodes group member))))
+            (world_of self.old) result (world_of self.new) }
         ensures good { AreActors self.new }
         ensures plan { plan_of self.new ≡ plan_of self.old }
     {
@@ -98,82 +97,12 @@ impl Actors {
         };
         match &mut self.nodes[slot] {
             None => Err(Fault::NoActor),
-            Some(segment) => node_step::act(alloc, segment, &mut self.messages, order),
+            Some(segment) => node_step::act(alloc, segment, &mut self.messages, action),
         }
     }
 
-    /// Lets a client act. `NoActor` if it isn't there, unless it takes a View.
-    fn client_step(
-        &mut self,
-        alloc: Global,
-        volume: u32,
-        order: ClientOrder<'_>,
-    ) -> Result<u64, Fault>
-        requires { AreActors self.old }
-        ensures steps { Steps (order_after_growth order.entry) (of_client (world_of self.old) volume
-            (client_ordered (messages_in self.old) order.entry (plan_of self.old) volume
-            ((world_of self.old).clients volume))) (world_of self.old) result (world_of self.new) }
-        ensures good { AreActors self.new }
-        ensures plan { plan_of self.new ≡ plan_of self.old }
-    {
-        let place = volume as usize;
-        if place >= self.clients.len() {
-            return self.absent_step(alloc, volume, order);
-        }
-        match &mut self.clients[place] {
-            None => self.absent_step(alloc, volume, order),
-            Some(client) => client_step::act(alloc, client, &mut self.messages, order),
-        }
-    }
-
-    /// Lets a client act that isn't there: it is born by a View, and anything else is refused.
-    fn absent_step(
-        &mut self,
-        alloc: Global,
-        volume: u32,
-        order: ClientOrder<'_>,
-    ) -> Result<u64, Fault>
-        requires actors { AreActors self.old }
-        requires absent { client_in self.old.clients.items volume ≡ None }
-        ensures steps { Steps (order_after_growth order.entry) (of_client (world_of self.old) volume
-            (client_ordered (messages_in self.old) order.entry (plan_of self.old) volume unborn)) (world_of self.old)
-            result (world_of self.new) }
-        ensures good { AreActors self.new }
-        ensures plan { plan_of self.new ≡ plan_of self.old }
-    {
-        let act = act_of(order, self.messages.as_slice())?;
-        birth::admits(&self.plan, volume, act)?;
-        let mut client = Client::unborn(self.plan.clone()?, volume);
-        let made = client.act(alloc, act)?;
-        self.messages.reserve(made.len())?;
-        keep(&mut self.clients, volume, Box::new(alloc, client)?)?;
-        Ok(enter(&mut self.messages, made))
-    }
-
-    /// Opens a client as a writer. `NoActor` if it isn't there.
-    fn opening_step(&mut self, volume: u32) -> Result<u64, Fault>
-        requires { AreActors self.old }
-        ensures steps { Steps never_after_growth (of_client (world_of self.old) volume
-            (opened (plan_of self.old) ((world_of self.old).clients volume))) (world_of self.old) result
-            (world_of self.new) }
-        ensures good { AreActors self.new }
-        ensures plan { plan_of self.new ≡ plan_of self.old }
-    {
-        let place = volume as usize;
-        if place >= self.clients.len() {
-            return Err(Fault::NoActor);
-        }
-        match &mut self.clients[place] {
-            None => Err(Fault::NoActor),
-            Some(client) => {
-                client.open()?;
-                Ok(0)
-            }
-        }
-    }
-
-    /// Lets a node take the message with this number.
-    #[inline(always)]
+    /// Delivers the message with this number to a node. `NoActor` if its group hasn't joined, or the plan doesn't name
+    /// it.
     pub(crate) fn deliver(
         &mut self,
         alloc: Global,
@@ -187,7 +116,64 @@ impl Actors {
         ensures good { AreActors self.new }
         ensures plan { plan_of self.new ≡ plan_of self.old }
     {
-        self.node_step(alloc, group, member, NodeOrder::Deliver { message })
+        if group >= self.authority.joined() {
+            return Err(Fault::NoActor);
+        }
+        let Some(slot) = slot(self.nodes.len(), group, member) else {
+            return Err(Fault::NoActor);
+        };
+        match &mut self.nodes[slot] {
+            None => Err(Fault::NoActor),
+            Some(segment) => node_step::deliver(alloc, segment, &mut self.messages, message),
+        }
+    }
+
+    /// Performs a client's action. `NoActor` if it isn't there, unless it takes a View.
+    fn client_step(
+        &mut self,
+        alloc: Global,
+        volume: u32,
+        action: ClientAction<'_>,
+    ) -> Result<u64, Fault>
+        requires { AreActors self.old }
+        ensures steps { Steps (client_after_growth action.entry) (of_client (world_of self.old) volume
+            (client_does (messages_in self.old) action.entry (plan_of self.old) volume
+            ((world_of self.old).clients volume))) (world_of self.old) result (world_of self.new) }
+        ensures good { AreActors self.new }
+        ensures plan { plan_of self.new ≡ plan_of self.old }
+    {
+        let place = volume as usize;
+        if place >= self.clients.len() {
+            return self.absent_step(alloc, volume, action);
+        }
+        match &mut self.clients[place] {
+            None => self.absent_step(alloc, volume, action),
+            Some(client) => client_step::act(alloc, client, &mut self.messages, action),
+        }
+    }
+
+    /// Performs an action of a client that isn't there: it is born by a View, and anything else is refused.
+    fn absent_step(
+        &mut self,
+        alloc: Global,
+        volume: u32,
+        action: ClientAction<'_>,
+    ) -> Result<u64, Fault>
+        requires actors { AreActors self.old }
+        requires absent { client_in self.old.clients.items volume ≡ None }
+        ensures steps { Steps (client_after_growth action.entry) (of_client (world_of self.old) volume
+            (client_does (messages_in self.old) action.entry (plan_of self.old) volume unborn)) (world_of self.old)
+            result (world_of self.new) }
+        ensures good { AreActors self.new }
+        ensures plan { plan_of self.new ≡ plan_of self.old }
+    {
+        let found = client_step::named(action, self.messages.as_slice());
+        birth::admits(&self.plan, volume, action, found)?;
+        let mut client = Client::unborn(self.plan.clone()?, volume);
+        let made = client.act(alloc, action, found)?;
+        self.messages.reserve(made.len())?;
+        keep(&mut self.clients, volume, Box::new(alloc, client)?)?;
+        Ok(enter(&mut self.messages, made))
     }
 
     /// Lets a client take the message with this number.
@@ -199,7 +185,7 @@ impl Actors {
         ensures good { AreActors self.new }
         ensures plan { plan_of self.new ≡ plan_of self.old }
     {
-        self.client_step(alloc, volume, ClientOrder::Take { message })
+        self.client_step(alloc, volume, ClientAction::Take { message })
     }
 
     /// Makes an event happen, and answers how many messages it made; or refuses it, and nothing has changed.
@@ -210,60 +196,17 @@ impl Actors {
         ensures good { AreActors self.new }
         ensures plan { plan_of self.new ≡ plan_of self.old }
     {
-        match event {
-            Event::Assign => self.authority_step(alloc, AuthorityAct::Assign),
-            Event::Advance {
-                group,
-                configuration,
-            } => {
-                let act = AuthorityAct::Advance {
-                    group: *group,
-                    configuration: *configuration,
-                };
-                self.authority_step(alloc, act)
+        match event.split() {
+            ActorAction::Authority(action) => self.authority_step(alloc, action),
+            ActorAction::Client(volume, action) => self.client_step(alloc, volume, action),
+            ActorAction::Node(group, member, action) => {
+                self.node_step(alloc, group, member, action)
             }
-            Event::Refresh { volume } => {
-                self.authority_step(alloc, AuthorityAct::Refresh { volume: *volume })
-            }
-            Event::Grow => self.authority_step(alloc, AuthorityAct::Grow),
-            Event::Issue { volume, changes } => {
-                self.client_step(alloc, *volume, ClientOrder::Act(ClientAct::Issue(changes)))
-            }
-            Event::Take { volume, message } => self.take(alloc, *volume, *message),
-            Event::Cut { volume } => {
-                self.client_step(alloc, *volume, ClientOrder::Act(ClientAct::Cut))
-            }
-            Event::Open { volume } => self.opening_step(*volume),
-            Event::Resend { volume, lsn } => {
-                let act = ClientAct::Resend { lsn: *lsn };
-                self.client_step(alloc, *volume, ClientOrder::Act(act))
-            }
-            Event::Read {
-                volume,
-                group,
-                block,
-            } => {
-                let act = ClientAct::Read {
-                    group: *group,
-                    block: *block,
-                };
-                self.client_step(alloc, *volume, ClientOrder::Act(act))
-            }
-            Event::Hydrate { group, member } => {
-                self.node_step(alloc, *group, *member, NodeOrder::Act(NodeAct::Hydrate))
-            }
-            Event::Deliver {
+            ActorAction::Deliver {
                 group,
                 member,
                 message,
-            } => self.deliver(alloc, *group, *member, *message),
-            Event::Restart { group, member } => {
-                self.node_step(alloc, *group, *member, NodeOrder::Act(NodeAct::Restart))
-            }
-            Event::Offer { group, member, lsn } => {
-                let act = NodeAct::Offer { lsn: *lsn };
-                self.node_step(alloc, *group, *member, NodeOrder::Act(act))
-            }
+            } => self.deliver(alloc, group, member, message),
         }
     }
 

@@ -5,17 +5,17 @@ ghost use Rattle.volume_model.specs.Answer.{refusal_of, Answers, AnswersAlways};
 ghost use Rattle.volume_model.specs.Lists.{added};
 ghost use Rattle.wire.specs.Message.{messages_of};
 ghost use Rattle.epochs.specs.Authority.{authority_of, authority_plan};
-ghost use Rattle.world.specs.Acts.{authority_acted, spoken, OfAdvance};
+ghost use Rattle.world.specs.Actions.{authority_acted, spoken, OfAdvance};
 ghost use Rattle.world.specs.Moves.{AuthorityMoves};
 
-use crate::acts::AuthorityAct;
+use crate::actions::AuthorityAction;
 use epochs::Authority;
 use std::alloc::Global;
 use volume_model::Fault;
 use wire::Message;
 
-impl AuthorityAct {
-    /// Checks whether the authority would do it: exactly the refusal of [`AuthorityAct::done_by`], without acting.
+impl AuthorityAction {
+    /// Checks whether the authority would do it: exactly the refusal of [`AuthorityAction::done_by`], without acting.
     /// Takes no memory.
     ///
     /// # Errors
@@ -27,20 +27,20 @@ impl AuthorityAct {
             self) }
     {
         match self {
-            AuthorityAct::Assign => authority.admits_assign(),
-            AuthorityAct::Advance {
+            AuthorityAction::Assign => authority.admits_assign(),
+            AuthorityAction::Advance {
                 group,
                 configuration,
             } => authority.admits_advance(group, configuration),
-            AuthorityAct::Refresh { volume } => authority.admits_refresh(volume),
-            AuthorityAct::Grow => authority.admits_grow(),
+            AuthorityAction::Refresh { volume } => authority.admits_refresh(volume),
+            AuthorityAction::Grow => authority.admits_grow(),
         }
     }
 
     /// Performs the action and returns its message, if it makes one. On error the authority is unchanged.
     ///
     /// # Errors
-    /// Those of [`AuthorityAct::admitted_by`]; `NoMemory`, except of an advance, which takes no memory.
+    /// Those of [`AuthorityAction::admitted_by`]; `NoMemory`, except of an advance, which takes no memory.
     pub fn done_by(self, alloc: Global, authority: &mut Authority) -> Result<Option<Message>, Fault>
         ensures answers { Answers spoken (authority_acted (authority_plan authority.old) (authority_of authority.old)
             self) (authority_of authority.old) result (authority_of authority.new) }
@@ -49,13 +49,13 @@ impl AuthorityAct {
         ensures plan { authority_plan authority.new ≡ authority_plan authority.old }
     {
         match self {
-            AuthorityAct::Assign => Ok(Some(authority.assign(alloc)?)),
-            AuthorityAct::Advance {
+            AuthorityAction::Assign => Ok(Some(authority.assign(alloc)?)),
+            AuthorityAction::Advance {
                 group,
                 configuration,
             } => Ok(Some(authority.advance(group, configuration)?)),
-            AuthorityAct::Refresh { volume } => Ok(Some(authority.refresh(alloc, volume)?)),
-            AuthorityAct::Grow => {
+            AuthorityAction::Refresh { volume } => Ok(Some(authority.refresh(alloc, volume)?)),
+            AuthorityAction::Grow => {
                 authority.grow()?;
                 Ok(None)
             }
@@ -69,18 +69,18 @@ pub fn act(
     alloc: Global,
     authority: &mut Authority,
     messages: &mut Vec<Message>,
-    act: AuthorityAct,
+    action: AuthorityAction,
 ) -> Result<u64, Fault>
-    ensures moves { AuthorityMoves (authority_acted (authority_plan authority.old) (authority_of authority.old) act)
+    ensures moves { AuthorityMoves (authority_acted (authority_plan authority.old) (authority_of authority.old) action)
         (authority_of authority.old) (added (messages_of messages.old.items) []) result (authority_of authority.new)
         (added (messages_of messages.new.items) []) }
     ensures plan { authority_plan authority.new ≡ authority_plan authority.old }
 {
-    if let Err(fault) = act.admitted_by(authority) {
+    if let Err(fault) = action.admitted_by(authority) {
         return Err(fault);
     }
     messages.reserve(1)?;
-    match act.done_by(alloc, authority)? {
+    match action.done_by(alloc, authority)? {
         Some(message) => {
             messages.push(message).unwrap();
             Ok(1)

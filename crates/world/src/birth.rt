@@ -5,13 +5,14 @@ ghost use Rattle.std.specs.Arc.{arc_value};
 ghost use Rattle.volume_model.specs.Answer.{refusal_of, AnswersAfterGrowth, AnswersNew, AnswersNewAfterGrowth};
 ghost use Rattle.volume_model.specs.Client.{unborn};
 ghost use Rattle.volume_model.specs.ClientMessages.{taken};
+ghost use Rattle.volume_model.specs.World.{take};
 ghost use Rattle.volume_model.specs.declared.fault.Fault.TheVariants.{NoMemory};
 ghost use Rattle.plan.specs.CheckedModel.{checked_model};
 ghost use Rattle.wire.specs.Message.{message_of};
 ghost use Rattle.recovery.specs.Recoveries.{admitted, begun, birth_of, recovery_plan, recovery_volume, view_volume};
-ghost use Rattle.world.specs.Acts.{client_acted, client_after_growth, ButForCut};
+ghost use Rattle.world.specs.Actions.{client_acted, client_after_growth, message_found, ButForCut};
 
-use crate::acts::ClientAct;
+use crate::actions::ClientAction;
 use crate::addressed::addressed;
 use plan::CheckedPlan;
 use recovery::Recovery;
@@ -21,12 +22,15 @@ use volume_model::Fault;
 use wire::Message;
 
 /// Checks whether a client that isn't there would become a recovery by a message: by a View of its volume epoch, at
-/// places of the plan (else `NotInPlan`). Any other message is refused: `NotAddressed` if it isn't for the client,
-/// else `NoActor`, as there is none to take it.
-fn admits_birth(plan: &CheckedPlan, volume: u32, message: &Message) -> Result<(), Fault>
-    ensures refusal { result ≡ refusal_of (taken (checked_model plan.now) volume unborn (message_of message.now)) }
+/// places of the plan (else `NotInPlan`). `NoMessage` if none was found. Any other message is refused: `NotAddressed`
+/// if it isn't for the client, else `NoActor`, as there is none to take it.
+fn admits_birth(plan: &CheckedPlan, volume: u32, found: Option<&Message>) -> Result<(), Fault>
+    ensures refusal { result ≡ refusal_of (take (checked_model plan.now) volume unborn (message_found found.entry)) }
     ensures own { IfErr result (λ fault. fault ≢ NoMemory) }
 {
+    let Some(message) = found else {
+        return Err(Fault::NoMessage);
+    };
     addressed(volume, plan.groups(), message)?;
     match message {
         Message::View(_) => Recovery::admits_birth(plan, message),
@@ -35,15 +39,21 @@ fn admits_birth(plan: &CheckedPlan, volume: u32, message: &Message) -> Result<()
 }
 
 /// Checks whether a client that no View has reached would act: by a View alone.
-pub fn admits(plan: &CheckedPlan, volume: u32, act: ClientAct<'_>) -> Result<(), Fault>
-    ensures answers { AnswersAfterGrowth (client_after_growth act.entry) admitted
-        (refusal_of (client_acted act.entry (checked_model plan.now) volume unborn)) tt result tt }
-    ensures sure { ButForCut act.entry (result ≡ refusal_of (client_acted act.entry (checked_model plan.now) volume
-        unborn)) }
+pub fn admits(
+    plan: &CheckedPlan,
+    volume: u32,
+    action: ClientAction<'_>,
+    found: Option<&Message>,
+) -> Result<(), Fault>
+    ensures answers { AnswersAfterGrowth (client_after_growth action.entry) admitted
+        (refusal_of (client_acted (message_found found.entry) action.entry (checked_model plan.now) volume unborn)) tt
+        result tt }
+    ensures sure { ButForCut action.entry (result ≡ refusal_of (client_acted (message_found found.entry) action.entry
+        (checked_model plan.now) volume unborn)) }
     ensures own { IfErr result (λ fault. fault ≢ NoMemory) }
 {
-    match act {
-        ClientAct::Take(message) => admits_birth(plan, volume, message),
+    match action {
+        ClientAction::Take { .. } => admits_birth(plan, volume, found),
         _ => Err(Fault::NoActor),
     }
 }
@@ -68,13 +78,16 @@ fn begin(
     alloc: Global,
     plan: &Arc<CheckedPlan>,
     volume: u32,
-    message: &Message,
+    found: Option<&Message>,
 ) -> Result<(Recovery, Vec<Message>), Fault>
-    ensures step { AnswersNew begun (taken (checked_model (arc_value plan.now)) volume unborn (message_of message.now))
-        result }
+    ensures step { AnswersNew begun (take (checked_model (arc_value plan.now)) volume unborn
+        (message_found found.entry)) result }
     ensures plan { IfOk result (λ r. recovery_plan r.0 ≡ checked_model (arc_value plan.now)) }
     ensures volume { IfOk result (λ r. recovery_volume r.0 ≡ volume) }
 {
+    let Some(message) = found else {
+        return Err(Fault::NoMessage);
+    };
     addressed(volume, plan.groups(), message)?;
     match message {
         Message::View(_) => begin_by_view(alloc, plan, message),
@@ -87,15 +100,17 @@ pub fn act(
     alloc: Global,
     plan: &Arc<CheckedPlan>,
     volume: u32,
-    act: ClientAct<'_>,
+    action: ClientAction<'_>,
+    found: Option<&Message>,
 ) -> Result<(Recovery, Vec<Message>), Fault>
-    ensures step { AnswersNewAfterGrowth (client_after_growth act.entry) begun
-        (client_acted act.entry (checked_model (arc_value plan.now)) volume unborn) result }
+    ensures step { AnswersNewAfterGrowth (client_after_growth action.entry) begun
+        (client_acted (message_found found.entry) action.entry (checked_model (arc_value plan.now)) volume unborn)
+        result }
     ensures plan { IfOk result (λ r. recovery_plan r.0 ≡ checked_model (arc_value plan.now)) }
     ensures volume { IfOk result (λ r. recovery_volume r.0 ≡ volume) }
 {
-    match act {
-        ClientAct::Take(message) => begin(alloc, plan, volume, message),
+    match action {
+        ClientAction::Take { .. } => begin(alloc, plan, volume, found),
         _ => Err(Fault::NoActor),
     }
 }

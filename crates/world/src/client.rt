@@ -1,6 +1,6 @@
 //! A client of the volume.
 
-use crate::acts::ClientAct;
+use crate::actions::ClientAction;
 use crate::{birth, recovering, writing};
 use plan::CheckedPlan;
 use recovery::Recovery;
@@ -9,7 +9,7 @@ use std::alloc::Global;
 use std::mem;
 use std::sync::Arc;
 use volume_model::{Fault, steps_are_few};
-use wire::Messages;
+use wire::{Message, Messages};
 use writer_core::Writer;
 
 /// How far a client has come.
@@ -36,16 +36,16 @@ pub struct Client {
 impl Client {
     ghost use Rattle.std.specs.Prelude.{◌≡◌, IfOk, Ok};
     ghost use Rattle.std.specs.Arc.{arc_value};
-    ghost use Rattle.volume_model.specs.Answer.{never_after_growth, refusal_of, AnswersAfterGrowth, AnswersNew};
+    ghost use Rattle.volume_model.specs.Answer.{never_after_growth, refusal_of, AnswersAfterGrowth, AnswersAlways, AnswersNew};
     ghost use Rattle.volume_model.specs.Client.{first_writer, unborn};
     ghost use Rattle.volume_model.specs.ClientMessages.{taken};
     ghost use Rattle.volume_model.specs.ClientRecovery.{cut_client, opened};
     ghost use Rattle.volume_model.specs.Few.{Few};
     ghost use Rattle.volume_model.specs.Message as model;
     ghost use Rattle.plan.specs.CheckedModel.{checked_model};
-    ghost use Rattle.writer_core.specs.Writers.{answered, silent};
+    ghost use Rattle.writer_core.specs.Writers.{answered};
     ghost use Rattle.recovery.specs.Recoveries.{admitted};
-    ghost use Rattle.world.specs.Acts.{client_acted, client_after_growth, ButForCut};
+    ghost use Rattle.world.specs.Actions.{client_acted, client_after_growth, message_found, ButForCut, OfOpening};
     ghost use Rattle.world.specs.Clients.{client_plan, client_volume, seen_client, seen_state, IsClientOf, IsSameClient};
 
     /// Returns the client of a volume epoch that no View has reached.
@@ -136,91 +136,104 @@ impl Client {
         }
     }
 
-    /// Checks whether it would do what it is asked to: exactly the refusal of [`Client::act`], without acting. A cut
-    /// is judged by finding the log, which takes memory; nothing else does.
+    /// Checks whether it would perform an action, with the message that was found if it takes one: exactly the refusal
+    /// of [`Client::act`], without acting. A cut is judged by finding the log, which takes memory; nothing else does.
     ///
     /// # Errors
-    /// Where no View has reached it: `NotAddressed` for a message that isn't for it, `NotInPlan` for a View of places
-    /// that the plan doesn't have, and `NoActor` for all but a View. Else `NotAddressed` and `NotInPlan` of messages,
-    /// and: of a recovery `NotOpen` for what a writer alone does, and for a cut `AlreadyDone`, `NotReady` until the
-    /// reports are a read set of each group, or `LsnSpent`; of a writer `AlreadyDone` for a cut, and what [`Writer`]
-    /// answers to an issue, a resend or a read.
-    pub fn admits(&self, alloc: Global, act: ClientAct<'_>) -> Result<(), Fault>
-        ensures answers { AnswersAfterGrowth (client_after_growth act.entry) admitted
-            (refusal_of (client_acted act.entry (client_plan self.now) (client_volume self.now) (seen_client self.now)))
-            tt result tt }
-        ensures sure { ButForCut act.entry (result ≡ refusal_of (client_acted act.entry (client_plan self.now)
-            (client_volume self.now) (seen_client self.now))) }
+    /// `NoMessage` for a message that wasn't found. Where no View has reached the client: `NotAddressed` for a message
+    /// that isn't for it, `NotInPlan` for a View of places that the plan doesn't have, and `NoActor` for all but a
+    /// View. Else `NotAddressed` and `NotInPlan` of messages, and: of a recovery `NotOpen` for what a writer alone
+    /// does, for a cut `AlreadyDone`, `NotReady` until the reports are a read set of each group, or `LsnSpent`, and for
+    /// an opening `NotReady` until the members of a write set of each group have acknowledged what it installed; of a
+    /// writer `AlreadyDone` for a cut and an opening, and what [`Writer`] answers to an issue, a resend or a read.
+    pub fn admits(
+        &self,
+        alloc: Global,
+        action: ClientAction<'_>,
+        found: Option<&Message>,
+    ) -> Result<(), Fault>
+        ensures answers { AnswersAfterGrowth (client_after_growth action.entry) admitted
+            (refusal_of (client_acted (message_found found.entry) action.entry (client_plan self.now)
+            (client_volume self.now) (seen_client self.now))) tt result tt }
+        ensures sure { ButForCut action.entry (result ≡ refusal_of (client_acted (message_found found.entry)
+            action.entry (client_plan self.now) (client_volume self.now) (seen_client self.now))) }
     {
         match &self.state {
-            ClientState::Unborn => birth::admits(&self.plan, self.volume, act),
-            ClientState::Recovery(recovery) => recovering::admits(alloc, recovery, act),
-            ClientState::Writer(writer) => writing::admits(writer, act),
+            ClientState::Unborn => birth::admits(&self.plan, self.volume, action, found),
+            ClientState::Recovery(recovery) => recovering::admits(alloc, recovery, action, found),
+            ClientState::Writer(writer) => writing::admits(writer, action, found),
         }
     }
 
-    /// Performs an action and returns its messages. On error the client is unchanged.
+    /// Performs an action, with the message that was found if it takes one, and returns its messages. An opening turns
+    /// the recovery into a writer. On error the client is unchanged.
     ///
     /// # Errors
-    /// Those of [`Client::admits`]; `NoMemory`.
+    /// Those of [`Client::admits`]; `NoMemory`, but not of an opening, which takes no memory.
     #[inline(always)]
-    pub fn act(&mut self, alloc: Global, act: ClientAct<'_>) -> Result<Messages, Fault>
-        ensures answers { AnswersAfterGrowth (client_after_growth act.entry) answered
-            (client_acted act.entry (client_plan self.old) (client_volume self.old) (seen_client self.old))
-            (seen_client self.old) result (seen_client self.new) }
+    pub fn act(
+        &mut self,
+        alloc: Global,
+        action: ClientAction<'_>,
+        found: Option<&Message>,
+    ) -> Result<Messages, Fault>
+        ensures answers { AnswersAfterGrowth (client_after_growth action.entry) answered
+            (client_acted (message_found found.entry) action.entry (client_plan self.old) (client_volume self.old)
+            (seen_client self.old)) (seen_client self.old) result (seen_client self.new) }
+        ensures always { OfOpening action.entry (AnswersAlways answered (opened (client_plan self.old)
+            (seen_client self.old)) (seen_client self.old) result (seen_client self.new)) }
         ensures same { IsSameClient self.old self.new }
     {
         if let ClientState::Writer(writer) = &mut self.state {
-            return writing::act(alloc, writer, act);
+            return writing::act(alloc, writer, action, found);
         }
-        self.act_early(alloc, act)
+        self.act_early(alloc, action, found)
     }
 
     /// Performs an action of a client that isn't a writer yet. Out of line, since recoveries take much more stack
     /// than writers.
     #[inline(never)]
-    fn act_early(&mut self, alloc: Global, act: ClientAct<'_>) -> Result<Messages, Fault>
-        ensures answers { AnswersAfterGrowth (client_after_growth act.entry) answered
-            (client_acted act.entry (client_plan self.old) (client_volume self.old) (seen_client self.old))
-            (seen_client self.old) result (seen_client self.new) }
+    fn act_early(
+        &mut self,
+        alloc: Global,
+        action: ClientAction<'_>,
+        found: Option<&Message>,
+    ) -> Result<Messages, Fault>
+        ensures answers { AnswersAfterGrowth (client_after_growth action.entry) answered
+            (client_acted (message_found found.entry) action.entry (client_plan self.old) (client_volume self.old)
+            (seen_client self.old)) (seen_client self.old) result (seen_client self.new) }
+        ensures always { OfOpening action.entry (AnswersAlways answered (opened (client_plan self.old)
+            (seen_client self.old)) (seen_client self.old) result (seen_client self.new)) }
         ensures same { IsSameClient self.old self.new }
     {
+        if let ClientAction::Open = action {
+            return self.open();
+        }
         match &mut self.state {
-            ClientState::Unborn => match birth::act(alloc, &self.plan, self.volume, act) {
+            ClientState::Unborn => match birth::act(alloc, &self.plan, self.volume, action, found) {
                 Ok((recovery, made)) => {
                     self.state = ClientState::Recovery(recovery);
                     Ok(Messages::of(made))
                 }
                 Err(fault) => Err(fault),
             },
-            ClientState::Recovery(recovery) => match recovering::act(alloc, recovery, act) {
-                Ok(made) => Ok(Messages::of(made)),
-                Err(fault) => Err(fault),
-            },
-            ClientState::Writer(writer) => writing::act(alloc, writer, act),
+            ClientState::Recovery(recovery) => {
+                match recovering::act(alloc, recovery, action, found) {
+                    Ok(made) => Ok(Messages::of(made)),
+                    Err(fault) => Err(fault),
+                }
+            }
+            ClientState::Writer(writer) => writing::act(alloc, writer, action, found),
         }
     }
 
-    /// Checks whether it would become a writer: exactly the refusal of [`Client::open`], without acting. `NoActor`
-    /// before its birth, `AlreadyDone` if it is one, `NotReady` until the members of a write set of each group have
-    /// acknowledged what it installed. Takes no memory.
-    pub fn admits_open(&self) -> Result<(), Fault>
-        ensures { result ≡ refusal_of (opened (client_plan self.now) (seen_client self.now)) }
-    {
-        match &self.state {
-            ClientState::Unborn => Err(Fault::NoActor),
-            ClientState::Recovery(recovery) => recovery.admits_open(),
-            ClientState::Writer(_) => Err(Fault::AlreadyDone),
-        }
-    }
-
-    /// Turns the recovery into a writer. Refused as [`Client::admits_open`] says; then the client is unchanged. Refused
-    /// as [`Client::admits_open`] says; then the client is unchanged. Takes no memory.
-    pub fn open(&mut self) -> Result<(), Fault>
-        ensures answers { AnswersAfterGrowth never_after_growth silent
+    /// Turns the recovery into a writer. Takes no memory, and makes no message.
+    fn open(&mut self) -> Result<Messages, Fault>
+        ensures answers { AnswersAfterGrowth never_after_growth answered
             (opened (client_plan self.old) (seen_client self.old)) (seen_client self.old) result
             (seen_client self.new) }
-        ensures refusal { result ≡ refusal_of (opened (client_plan self.old) (seen_client self.old)) }
+        ensures always { AnswersAlways answered (opened (client_plan self.old) (seen_client self.old))
+            (seen_client self.old) result (seen_client self.new) }
         ensures same { IsSameClient self.old self.new }
     {
         match mem::replace(&mut self.state, ClientState::Unborn) {
@@ -228,7 +241,7 @@ impl Client {
             ClientState::Recovery(recovery) => match recovery.open() {
                 Ok(writer) => {
                     self.state = ClientState::Writer(writer);
-                    Ok(())
+                    Ok(Messages::Empty)
                 }
                 Err((fault, recovery)) => {
                     self.state = ClientState::Recovery(recovery);

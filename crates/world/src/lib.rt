@@ -1,8 +1,8 @@
 //! The world of a volume: all actors, all messages ever made, and what a list of events leads to.
 #![tactic(auto)]
 
+mod actions;
 mod actors;
-mod acts;
 mod addressed;
 mod authority_step;
 mod birth;
@@ -18,9 +18,10 @@ mod orders;
 mod outcome;
 mod recovering;
 mod running;
+mod split;
 mod writing;
 
-pub use acts::{AuthorityAct, ClientAct};
+pub use actions::{ActorAction, AuthorityAction, ClientAction};
 pub use client::{Client, ClientState};
 pub use event::{Event, Order};
 pub use nodes::{MEMBERS, slot};

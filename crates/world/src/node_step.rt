@@ -1,32 +1,19 @@
 //! A node's step, among all messages.
 
-ghost use Rattle.std.specs.Prelude.{◌≡◌, Bool, [], Ok, MatchResult};
+ghost use Rattle.std.specs.Prelude.{◌≡◌, Bool, [], Ok};
 ghost use Rattle.volume_model.specs.Lists.{added};
 ghost use Rattle.volume_model.specs.declared.fault.Fault.{Fault as FaultName};
-ghost use Rattle.volume_model.specs.declared.fault.Fault.TheVariants.{NoMessage};
 ghost use Rattle.wire.specs.Message.{messages_of};
 ghost use Rattle.segment_core.specs.Prepared.{step_of};
 ghost use Rattle.segment_core.specs.Segment.{node_of, IsReady, IsSameActor};
-ghost use Rattle.world.specs.Acts.{IsNodeOrderOf, IsRefusedNodeOrder, SegmentMoves};
+ghost use Rattle.world.specs.Actions.{Delivers, SegmentActs};
 ghost use Rattle.world.specs.Moves.{NodeMoves};
 
-use crate::acts::NodeOrder;
 use crate::numbering::{enter, named};
-use segment_core::{NodeAct, Prepared, Segment};
+use segment_core::{NodeAction, Prepared, Segment};
 use std::alloc::Global;
 use volume_model::Fault;
 use wire::Message;
-
-/// Returns what an order asks for, among these messages. `NoMessage` if it names none of them.
-fn act_of<'a>(order: NodeOrder<'a>, messages: &'a [Message]) -> Result<NodeAct<'a>, Fault>
-    ensures { MatchResult result (λ act. IsNodeOrderOf (added (messages_of messages.entry.now) []) order.entry act)
-        (λ fault. (fault ≡ NoMessage) × IsRefusedNodeOrder (added (messages_of messages.entry.now) []) order.entry) }
-{
-    match order {
-        NodeOrder::Act(act) => Ok(act),
-        NodeOrder::Deliver { message } => Ok(NodeAct::Deliver(named(messages, message)?)),
-    }
-}
 
 /// Applies a prepared step of a segment and appends its messages, for which it makes room first. On error nothing has
 /// changed.
@@ -47,20 +34,40 @@ fn take(
     Ok(enter(messages, made))
 }
 
-/// Does what [`act`] says, out of line so that the write path keeps a small stack frame.
+/// Does what [`deliver`] says, out of line so that the write path keeps a small stack frame.
 #[inline(never)]
-fn act_any(
+fn deliver_any(
     alloc: Global,
     segment: &mut Segment,
     messages: &mut Vec<Message>,
-    order: NodeOrder<'_>,
+    number: u64,
 ) -> Result<u64, Fault>
-    ensures moves { SegmentMoves order.entry segment.old segment.new messages.old.items messages.new.items result }
+    ensures moves { Delivers number segment.old segment.new messages.old.items messages.new.items result }
     ensures actor { IsSameActor segment.old segment.new }
 {
-    let act = act_of(order, messages.as_slice())?;
-    let prepared = segment.prepare_act(alloc, act)?;
+    let message = named(messages.as_slice(), number)?;
+    let prepared = segment.prepare(alloc, message)?;
     take(segment, messages, prepared)
+}
+
+/// Delivers the message with this number to a segment and appends the answers, for which it makes room before the
+/// segment changes. `NoMessage` if none has the number. On error nothing has changed.
+pub fn deliver(
+    alloc: Global,
+    segment: &mut Segment,
+    messages: &mut Vec<Message>,
+    number: u64,
+) -> Result<u64, Fault>
+    ensures moves { Delivers number segment.old segment.new messages.old.items messages.new.items result }
+    ensures actor { IsSameActor segment.old segment.new }
+{
+    // Most messages are Writes. Without this path, and its own call of a segment, scripts of Writes take 11 to 16 %
+    // more instructions.
+    if let Message::Write(write) = named(messages.as_slice(), number)? {
+        let prepared = segment.prepare_write(alloc, write)?;
+        return take(segment, messages, prepared);
+    }
+    deliver_any(alloc, segment, messages, number)
 }
 
 /// Performs a segment's action and appends its messages, for which it makes room before the segment changes. On error
@@ -69,18 +76,11 @@ pub fn act(
     alloc: Global,
     segment: &mut Segment,
     messages: &mut Vec<Message>,
-    order: NodeOrder<'_>,
+    action: NodeAction,
 ) -> Result<u64, Fault>
-    ensures moves { SegmentMoves order.entry segment.old segment.new messages.old.items messages.new.items result }
+    ensures moves { SegmentActs action segment.old segment.new messages.old.items messages.new.items result }
     ensures actor { IsSameActor segment.old segment.new }
 {
-    // Most orders deliver a Write. Without this path, and its own call of a segment, scripts of Writes take 11 to 16 %
-    // more instructions.
-    if let NodeOrder::Deliver { message } = order {
-        if let Message::Write(write) = named(messages.as_slice(), message)? {
-            let prepared = segment.prepare_write(alloc, write)?;
-            return take(segment, messages, prepared);
-        }
-    }
-    act_any(alloc, segment, messages, order)
+    let prepared = segment.prepare_action(alloc, action)?;
+    take(segment, messages, prepared)
 }

@@ -1,17 +1,18 @@
 //! The messages that were made, in the order of making.
 
-ghost use Rattle.std.specs.Prelude.{◌≡◌, ◌+◌, ◌≤◌, ◌++◌, [], None, Some, length, option_map, vec_capacity, vec_len, MatchResult};
+ghost use Rattle.std.specs.Prelude.{◌≡◌, ◌+◌, ◌≤◌, ◌++◌, [], None, Some, length, vec_capacity, vec_len, MatchResult};
 ghost use Rattle.volume_model.specs.declared.fault.Fault.TheVariants.{NoMessage};
 ghost use Rattle.volume_model.specs.Lists.{added, numbered};
 ghost use Rattle.wire.specs.Listed.{listed};
 ghost use Rattle.wire.specs.Message.{message_of, messages_of};
+ghost use Rattle.world.specs.Actions.{message_found};
 
 use volume_model::Fault;
 use wire::{Message, Messages};
 
 /// Returns the message with a number, counted from 1 in the order of making.
-fn message_at(messages: &[Message], number: u64) -> Option<&Message>
-    ensures { option_map (λ m. message_of m.now) result ≡ numbered (added (messages_of messages.now) []) number }
+pub fn message_at(messages: &[Message], number: u64) -> Option<&Message>
+    ensures { message_found result ≡ numbered (added (messages_of messages.now) []) number }
 {
     if number == 0 || number > messages.len() as u64 {
         return None;

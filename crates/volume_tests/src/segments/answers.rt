@@ -11,7 +11,7 @@ use super::nodes::node;
 use super::rows::{Row, Table, are_kept};
 use super::steps::Said::{self, Acks, Asks, Byte, Copies, Nothing, Offers, Reports};
 use super::steps::said_by;
-use segment_core::{NodeAct, Prepared, Segment};
+use segment_core::{NodeAction, Prepared, Segment};
 use std::alloc::Global;
 use std::test::*;
 use volume_model::Fault::{self, StaleMember, StaleVolume};
@@ -77,10 +77,10 @@ fn takes(alloc: Global, at: At, input: Input, parts: Parts) -> Result<bool, Faul
     Ok(applied(&mut node, prepared) == parts)
 }
 
-/// Whether an act is done so in two parts.
-fn acts(alloc: Global, at: At, act: NodeAct<'_>, parts: Parts) -> Result<bool, Fault> {
+/// Whether an action is done so in two parts.
+fn acts(alloc: Global, at: At, action: NodeAction, parts: Parts) -> Result<bool, Fault> {
     let mut node = node(alloc, at)?;
-    let prepared = node.prepare_act(alloc, act)?;
+    let prepared = node.prepare_action(alloc, action)?;
     Ok(applied(&mut node, prepared) == parts)
 }
 
@@ -96,13 +96,13 @@ const OFFERING: Parts = (Offers(1, 2, 1), 1, Offers(1, 2, 1), 1);
 /// What was made ready shows its answers, and nothing has changed before it is applied.
 #[test]
 fn steps_in_two_parts(rt: HostRuntime) {
-    let (alloc, offer) = (rt.alloc(), NodeAct::Offer { lsn: 1 });
+    let (alloc, offer) = (rt.alloc(), NodeAction::Offer { lsn: 1 });
     assert_eq!(rt;
         takes(alloc, Whole, Write(0, 1, 1, Ours(1)), TAKING),
         Ok(true)
     );
     assert_eq!(rt;
-        acts(alloc, Copied, NodeAct::Hydrate, BECOMING_WHOLE),
+        acts(alloc, Copied, NodeAction::Hydrate, BECOMING_WHOLE),
         Ok(true)
     );
     assert_eq!(rt; acts(alloc, Hydrated, offer, OFFERING), Ok(true));

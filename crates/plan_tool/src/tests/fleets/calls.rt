@@ -1,12 +1,12 @@
 //! Calls of a fleet, as tables give them.
 
 use super::looks::{Lent, Look};
-use fleet_actors::{ClientAction, NodeAction};
 use node_fleet::{Fleet, FleetSite, Pass, Receipt};
+use segment_core::NodeAction;
 use std::alloc::{AllocError, Global};
 use std::sync::Wait;
 use volume_model::Fault;
-use world::AuthorityAct;
+use world::{AuthorityAction, ClientAction};
 use writer_core::Change;
 
 /// A call that concerns group 0.
@@ -17,7 +17,7 @@ pub enum Call {
     /// A member does something of itself.
     Node(u8, NodeAction),
     /// The authority acts.
-    Authority(AuthorityAct),
+    Authority(AuthorityAction),
     /// A client gives these bytes their records, one a byte, from the first byte of block 0 on.
     Issue(u32, &'static str),
     /// A client takes a message.
@@ -46,16 +46,6 @@ fn changes(alloc: Global, bytes: &str) -> Result<Vec<Change>, AllocError> {
     Ok(changes)
 }
 
-/// What a client is asked to do.
-fn action(alloc: Global, call: Call) -> Result<ClientAction, AllocError> {
-    match call {
-        Call::Issue(_, bytes) => Ok(ClientAction::Issue(changes(alloc, bytes)?)),
-        Call::Take(_, message) => Ok(ClientAction::Take { message }),
-        Call::Read(_) => Ok(ClientAction::Read { group: 0, block: 0 }),
-        _ => Ok(ClientAction::Cut),
-    }
-}
-
 impl Call {
     /// Makes it by a pass.
     fn made<'a, L: FleetSite, R: Wait>(
@@ -69,13 +59,15 @@ impl Call {
         match self {
             Call::Deliver(member, message) => fleet.deliver(rt, pass, 0, member, message, look),
             Call::Node(member, action) => fleet.node_step(rt, pass, 0, member, action),
-            Call::Authority(act) => fleet.advance(rt, pass, act),
-            Call::Issue(volume, _)
-            | Call::Take(volume, _)
-            | Call::Cut(volume)
-            | Call::Read(volume) => {
-                let action = action(alloc, self)?;
-                fleet.client_step(rt, pass, volume, &action)
+            Call::Authority(action) => fleet.advance(rt, pass, action),
+            Call::Issue(volume, bytes) => fleet.issue(rt, pass, volume, changes(alloc, bytes)?),
+            Call::Take(volume, message) => {
+                fleet.client_step(rt, pass, volume, ClientAction::Take { message })
+            }
+            Call::Cut(volume) => fleet.client_step(rt, pass, volume, ClientAction::Cut),
+            Call::Read(volume) => {
+                let action = ClientAction::Read { group: 0, block: 0 };
+                fleet.client_step(rt, pass, volume, action)
             }
             Call::Board => Ok(Receipt {
                 number: 0,

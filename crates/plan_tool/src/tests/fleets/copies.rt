@@ -7,7 +7,7 @@ use super::looks::Look;
 use std::alloc::{AllocError, Global};
 use std::test::*;
 use volume_model::Fault;
-use world::AuthorityAct;
+use world::AuthorityAction;
 
 /// Thirty bytes, each of which is a record.
 const THIRTY: &str = "abcdefghijklmnopqrstuvwxyzabcd";
@@ -22,7 +22,7 @@ fn copied(alloc: Global) -> Result<Vec<Step>, AllocError> {
     for message in 1..601 {
         steps.push((Call::Deliver(0, message), Ok((1, 0))))?;
     }
-    let advance = AuthorityAct::Advance {
+    let advance = AuthorityAction::Advance {
         group: 0,
         configuration: 1,
     };

@@ -4,10 +4,10 @@ use super::super::texts::{SIX, TWO_GROUPS};
 use super::calls::{Call, Step};
 use super::drive::run_table;
 use super::looks::Look;
-use fleet_actors::NodeAction;
+use segment_core::NodeAction;
 use std::test::*;
 use volume_model::Fault;
-use world::AuthorityAct;
+use world::AuthorityAction;
 
 /// Two steps fill a journal of two cells, and no actor makes another.
 const FULL: &[Step] = &[
@@ -17,7 +17,7 @@ const FULL: &[Step] = &[
     (Call::Deliver(0, 1), Err(Fault::JournalFull)),
     (Call::Issue(1, "a"), Err(Fault::JournalFull)),
     (
-        Call::Authority(AuthorityAct::Assign),
+        Call::Authority(AuthorityAction::Assign),
         Err(Fault::JournalFull),
     ),
 ];
@@ -38,8 +38,8 @@ const NOBODY: &[Step] = &[
     (Call::Take(2, 1), Err(Fault::NotAddressed)),
     (Call::Take(3, 1), Err(Fault::NotAddressed)),
     (Call::Take(3, 2), Err(Fault::NoMessage)),
-    (Call::Authority(AuthorityAct::Assign), Ok((1, 0))),
-    (Call::Authority(AuthorityAct::Assign), Err(Fault::NoSlot)),
+    (Call::Authority(AuthorityAction::Assign), Ok((1, 0))),
+    (Call::Authority(AuthorityAction::Assign), Err(Fault::NoSlot)),
     (Call::Deliver(0, 1), Ok((1, 0))),
 ];
 

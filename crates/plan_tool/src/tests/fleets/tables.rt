@@ -4,10 +4,10 @@ use super::super::texts::{REPLACED, SIX};
 use super::calls::{Call, Step};
 use super::drive::run_table;
 use super::looks::Look;
-use fleet_actors::NodeAction;
+use segment_core::NodeAction;
 use std::test::*;
 use volume_model::Fault;
-use world::AuthorityAct;
+use world::AuthorityAction;
 
 /// Three bytes reach four of six members, and their acknowledgements the writer.
 pub const WRITTEN: &[Step] = &[
@@ -61,7 +61,7 @@ const WRITTEN_AND_READ: &[Step] = &[
 /// A member that isn't whole answers no fence, loses its copies at a restart, and becomes whole.
 const MADE_WHOLE: &[Step] = &[
     (
-        Call::Authority(AuthorityAct::Advance {
+        Call::Authority(AuthorityAction::Advance {
             group: 0,
             configuration: 1,
         }),
@@ -71,9 +71,9 @@ const MADE_WHOLE: &[Step] = &[
     (Call::Deliver(0, 1), Ok((0, 0))),
     (Call::Deliver(1, 1), Ok((0, 0))),
     (Call::Deliver(2, 1), Ok((0, 0))),
-    (Call::Authority(AuthorityAct::Assign), Ok((1, 0))),
+    (Call::Authority(AuthorityAction::Assign), Ok((1, 0))),
     (
-        Call::Authority(AuthorityAct::Refresh { volume: 1 }),
+        Call::Authority(AuthorityAction::Refresh { volume: 1 }),
         Err(Fault::Superseded),
     ),
     (Call::Take(2, 3), Ok((1, 0))),
@@ -95,7 +95,7 @@ const MADE_WHOLE: &[Step] = &[
 const JOINED: [Step; 32] = [
     (Call::Issue(1, "a"), Ok((1, 0))),
     (
-        Call::Authority(AuthorityAct::Advance {
+        Call::Authority(AuthorityAction::Advance {
             group: 0,
             configuration: 1,
         }),
@@ -122,7 +122,7 @@ const JOINED: [Step; 32] = [
     (Call::Take(1, 8), Ok((0, 0))),
     (Call::Take(1, 9), Ok((0, 0))),
     (Call::Take(1, 11), Ok((0, 0))),
-    (Call::Authority(AuthorityAct::Assign), Ok((1, 0))),
+    (Call::Authority(AuthorityAction::Assign), Ok((1, 0))),
     (Call::Take(2, 12), Ok((1, 0))),
     (Call::Deliver(1, 13), Ok((1, 0))),
     (Call::Deliver(2, 13), Ok((1, 0))),

@@ -11,9 +11,9 @@ use super::super::texts::{SIX, checked};
 use super::calls::{Call, Step, first_wrong};
 use super::drive::{Ending, ended};
 use super::looks::Look;
-use fleet_actors::{ClientAction, NodeAction};
 use node_fleet::{Base, Fleet, FleetSite, Pass, Row, StepGate};
 use plan::CheckedPlan;
+use segment_core::NodeAction;
 use std::alloc::{AllocError, Global};
 use std::marker::Brand;
 use std::sync::{Arc, Wait};
@@ -22,6 +22,7 @@ use std::thread;
 use std::thread::{JoinHandle, Scope, Threads};
 use volume_model::Fault;
 use wire::{Message, Messages};
+use world::ClientAction;
 
 /// One record is issued.
 const ISSUED: &[Step] = &[(Call::Issue(1, "a"), Ok((1, 0)))];
@@ -78,7 +79,7 @@ impl<'f, 'a, L: FleetSite> Scene<'f, 'a, L> {
     fn go_round<R: Wait>(&self, rt: &R, pass: &mut Pass<'a, L>, member: u8) {
         let message = self.deliver(rt, pass, member);
         let action = ClientAction::Take { message };
-        let _ = self.fleet.client_step(rt, pass, 1, &action);
+        let _ = self.fleet.client_step(rt, pass, 1, action);
         let _ = self
             .fleet
             .node_step(rt, pass, 0, member, NodeAction::Restart);

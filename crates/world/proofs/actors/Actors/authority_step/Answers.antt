@@ -4,7 +4,7 @@ use Rattle.epochs.specs.Authority.{authority_of}
 use Rattle.world.specs.Slots.{node_at}
 use Rattle.world.specs.Homes.{nodes_of, AreHomes}
 use Rattle.world.specs.Clients.{clients_of, AreClients}
-use Rattle.world.specs.Acts.{authority_acted}
+use Rattle.world.specs.Actions.{authority_acted}
 use Rattle.world.specs.Actors.{plan_of, messages_in}
 use Rattle.world.proofs.Steps.{LowFor, authority_steps}
 use Rattle.world.proofs.actors.Actors.authority_step.Goals as goal
@@ -22,4 +22,4 @@ returns-clause-good c =
 pub returns-clause-steps : goal.returns-clause-steps
 returns-clause-steps c =
     let self = c.args.self.now in
-    rw c.act.ensures.plan (authority_steps (authority_of self.authority) (node_at (plan_of self) (nodes_of self.nodes.items)) (clients_of self.clients.items) (messages_in self) (authority_acted (plan_of self) (authority_of self.authority) c.args.act) _ c.act.result _ c.act.ensures.moves)
+    rw c.act.ensures.plan (authority_steps (authority_of self.authority) (node_at (plan_of self) (nodes_of self.nodes.items)) (clients_of self.clients.items) (messages_in self) (authority_acted (plan_of self) (authority_of self.authority) c.args.action) _ c.act.result _ c.act.ensures.moves)
