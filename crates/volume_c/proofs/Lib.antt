@@ -1,0 +1,6 @@
+pub mod AsBox
+pub mod Left
+pub mod Statuses
+pub mod Did
+pub mod Back
+pub mod Made

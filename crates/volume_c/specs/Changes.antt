@@ -1,0 +1,8 @@
+-- The changes of a transaction, as C has them.
+use Rattle.std.specs.Prelude.{take}
+use Rattle.volume_model.specs.ClientWriter as model
+use Rattle.volume_c.specs.declared.changes.VolumeChange.{VolumeChange}
+
+-- the change that a struct of C is
+abbrev pub given_change : VolumeChange → model.Change
+given_change c = record { group = c.group; block = c.block; offset = c.offset; bytes = take c.length c.bytes }

@@ -1,0 +1,11 @@
+pub mod Sealed
+pub mod Outbox
+pub mod View
+pub mod Calls
+pub mod Given
+pub mod Plans
+pub mod Changes
+pub mod Saved
+pub mod Segments
+pub mod Clients
+pub mod Authorities

@@ -1,0 +1,38 @@
+-- What the calls of a segment are to give.
+use Rattle.std.specs.Prelude.{ℕ, List, [], Result, Ok, Err}
+use Rattle.volume_model.specs.declared.fault.Fault.{Fault}
+use Rattle.volume_model.specs.Plan.{Plan}
+use Rattle.volume_model.specs.Message as model
+use Rattle.volume_model.specs.Redo.{scl}
+use Rattle.volume_model.specs.Node.{Node, restarted}
+use Rattle.segment_core.specs.Segment.{born, paged}
+use Rattle.segment_core.specs.Snapshot.{resumed}
+use Rattle.volume_c.specs.View.{View, ANode}
+use Rattle.volume_c.specs.Calls.{Step, Value, of_plan, of_node, with_value}
+use Rattle.volume_c.specs.Saved.{segment_in, segment_spelled}
+
+-- a node that is made has made no message
+abbrev pub node_made : Plan → ℕ → ℕ → Result Node Fault → Result (List model.Message × View) Fault
+node_made plan group member (Err fault) = Err fault
+node_made plan group member (Ok node) = Ok ([], ANode plan group member node)
+
+-- the node that a member of a group is born as
+abbrev pub born_step : ℕ → ℕ → View → Step
+born_step group member = of_plan (λ plan. node_made plan group member (born plan group member))
+
+-- the node that was saved
+abbrev pub resumed_step : List ℕ → ℕ → ℕ → View → Step
+resumed_step bytes group member view = with_value (segment_in bytes)
+    (λ node. of_plan (λ plan. node_made plan group member (resumed plan group member node)) view)
+
+-- a page at a point
+abbrev pub page_value : ℕ → ℕ → View → Value (List ℕ)
+page_value block point = of_node (λ plan group member node. paged plan group member node block point)
+
+-- the segment complete point
+abbrev pub scl_value : View → Value ℕ
+scl_value = of_node (λ plan group member node. Ok (scl node.contents.records))
+
+-- the bytes of the snapshot
+abbrev pub snapshot_value : View → Value (List ℕ)
+snapshot_value = of_node (λ plan group member node. Ok (segment_spelled (restarted node)))

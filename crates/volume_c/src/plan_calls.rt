@@ -1,0 +1,104 @@
+//! Plans.
+
+ghost use Rattle.std.specs.Prelude.{◌≡◌, ◌≢◌, None, Ok, IfOk, IfErr};
+ghost use Rattle.std.specs.Arc.{arc_value};
+ghost use Rattle.plan.specs.CheckedModel.{checked_model};
+ghost use Rattle.plan.specs.PlanText.{plan_of};
+ghost use Rattle.plan.specs.PlanFaults.{plan_fault};
+ghost use Rattle.plan.specs.Plan.{plan_data};
+ghost use Rattle.volume_c.specs.View.{View, seen};
+ghost use Rattle.volume_c.specs.Plans.{ReadsPlan};
+
+use crate::actor::{Actor, Held};
+use crate::constructors::hold;
+use crate::handle::Handle;
+use crate::outbox::Outbox;
+use crate::status::WRONG_HANDLE;
+use plan::{CheckedPlan, Plan, PlanFault, check_plan, read_plan};
+use std::alloc::Global;
+use std::sync::Arc;
+use volume_model::Fault;
+use wire::Messages;
+
+/// Returns the plan, where it has no fault.
+fn checked_plan(alloc: Global, plan: Plan) -> Result<CheckedPlan, PlanFault>
+    ensures plan { IfOk result (λ checked. checked.plan ≡ plan) }
+    ensures faultless { IfOk result (λ checked. plan_fault (plan_data plan) ≡ None) }
+{
+    match check_plan(alloc, plan) {
+        Ok(plan) => Ok(plan),
+        Err(refused) => Err(refused.0),
+    }
+}
+
+/// Returns the plan of a text, where it has no fault.
+fn checked(alloc: Global, text: &[u8]) -> Result<CheckedPlan, PlanFault>
+    ensures spelled { IfOk result (λ checked. plan_of text.now ≡ Ok (plan_data checked.plan)) }
+    ensures faultless { IfOk result (λ checked. plan_fault (plan_data checked.plan) ≡ None) }
+{
+    let plan = read_plan(alloc, text)?;
+    checked_plan(alloc, plan)
+}
+
+/// Copies as much of a text as there is room for, and returns its length.
+fn copy_line(text: &str, line: &mut [u8]) -> usize {
+    let bytes = text.as_bytes();
+    let count = bytes.len().min(line.len());
+    let (front, _) = line.split_at_mut(count);
+    front.copy_from_slice(&bytes[..count]);
+    bytes.len()
+}
+
+/// Writes the line of a fault, as much of it as there is room for, and returns the fault's number.
+fn refuse(alloc: Global, fault: &PlanFault, line: &mut [u8], needed: &mut usize) -> u8
+    ensures { result ≢ 0 }
+{
+    if let Ok(text) = format!(in alloc; "{fault}") {
+        *needed = copy_line(text.as_str(), line);
+    }
+    fault.kind().number()
+}
+
+/// Fills an empty handle with a checked plan.
+fn hold_plan(alloc: Global, plan: CheckedPlan, out: &mut Handle) -> u8
+    requires { out.old.seal.held ≡ None }
+    ensures ok { result ≡ 0 → seen out.new.seal.held ≡ View.APlan (checked_model plan) }
+    ensures err { result ≢ 0 → out.new.seal.held ≡ out.old.seal.held }
+{
+    match Arc::new(alloc, plan) {
+        Ok(plan) => hold(
+            alloc,
+            Held {
+                actor: Actor::Plan(plan),
+                outbox: Outbox::of(Messages::Empty),
+            },
+            out,
+        ),
+        Err(_) => Fault::NoMemory.number(),
+    }
+}
+
+/// Reads a plan and checks it. `out`, which must be empty, holds the plan then. A plan may be closed as soon as each
+/// actor over it was made.
+///
+/// Where the plan has a fault, the fault's number is returned, as docs/FAULTS.md lists them. Its line, which says the
+/// place too, is written to `line`, as much of it as there is room for; `needed` is its whole length.
+#[unsafe(no_mangle)]
+pub extern "C" fn volume_plan_read(
+    alloc: Global,
+    text: &[u8],
+    out: &mut Handle,
+    line: &mut [u8],
+    needed: &mut usize,
+) -> u8
+    ensures { ReadsPlan text.now result out.old.seal.held out.new.seal.held }
+{
+    *needed = 0;
+    if out.is_live() {
+        return WRONG_HANDLE;
+    }
+    match checked(alloc, text) {
+        Ok(plan) => hold_plan(alloc, plan, out),
+        Err(fault) => refuse(alloc, &fault, line, needed),
+    }
+}

@@ -1,0 +1,142 @@
+//! The bytes of snapshots.
+
+ghost use Rattle.std.specs.Prelude.{◌≡◌, Ok, IfOk};
+ghost use Rattle.volume_model.specs.Answer.{Gives};
+ghost use Rattle.volume_model.specs.Node.{restarted};
+ghost use Rattle.epochs.specs.Authority.{authority_of};
+ghost use Rattle.epochs.specs.Snapshot.{authority_in as snapshot_authority};
+ghost use Rattle.segment_core.specs.Segment.{node_of, IsSameActor};
+ghost use Rattle.segment_core.specs.Snapshot.{node_in};
+ghost use Rattle.volume_c.specs.Saved.{head_at, flag_at, segment_in, segment_spelled, authority_in, authority_spelled};
+
+use crate::numbers::{put_place, put_u32, put_u64, read_place, u8_at, u32_at, u64_at};
+use epochs::{Authority, AuthoritySnapshot};
+use message_bytes::{put_contents, read_contents};
+use segment_core::{Segment, SegmentSnapshot};
+use std::alloc::Global;
+use std::sync::Arc;
+use volume_model::Fault;
+
+/// The version of these bytes.
+const VERSION: u8 = 1;
+
+/// The kind of a segment's snapshot.
+const SEGMENT: u8 = 129;
+
+/// The kind of an authority's snapshot.
+const AUTHORITY: u8 = 130;
+
+/// Reads the version and a kind, which must be this one.
+#[tactic(auto, unfolding(crate::specs::Saved::head_at))]
+fn read_head(wanted: u8, bytes: &[u8]) -> Result<(u8, &[u8]), Fault>
+    ensures { Gives (λ x. (x.0, x.1.now)) result (head_at wanted bytes.now) }
+{
+    let (version, rest) = u8_at(bytes)?;
+    let (kind, rest) = u8_at(rest)?;
+    if version != VERSION {
+        return Err(Fault::BadField);
+    }
+    if kind != wanted {
+        return Err(Fault::BadField);
+    }
+    Ok((kind, rest))
+}
+
+/// Reads a truth value, which is 0 or 1.
+#[tactic(auto, unfolding(crate::specs::Saved::flag_at))]
+fn read_flag(bytes: &[u8]) -> Result<(bool, &[u8]), Fault>
+    ensures { Gives (λ x. (x.0, x.1.now)) result (flag_at bytes.now) }
+{
+    let (byte, rest) = u8_at(bytes)?;
+    if byte > 1 {
+        return Err(Fault::BadField);
+    }
+    Ok((byte == 1, rest))
+}
+
+/// Reads a segment's snapshot. No length in the bytes reserves memory before the bytes behind it are there.
+///
+/// # Errors
+/// `Short`, `BadField` or `Trailing`, the first from left to right; `NoMemory`.
+#[tactic(auto, unfolding(crate::specs::Saved::segment_in))]
+pub fn read_segment(alloc: Global, bytes: &[u8]) -> Result<SegmentSnapshot, Fault>
+    ensures { Gives node_in result (segment_in bytes.now) }
+{
+    let (_kind, rest) = read_head(SEGMENT, bytes)?;
+    let (volume, rest) = u32_at(rest)?;
+    let (place, rest) = read_place(rest)?;
+    let (whole, rest) = read_flag(rest)?;
+    let (copied, rest) = u64_at(rest)?;
+    let (contents, rest) = read_contents(alloc, rest)?;
+    if !rest.is_empty() {
+        return Err(Fault::Trailing);
+    }
+    let contents = Arc::new(alloc, contents)?;
+    Ok(SegmentSnapshot {
+        volume,
+        place,
+        whole,
+        contents,
+        copied,
+    })
+}
+
+/// Returns the bytes of a segment's snapshot, which `read_segment` reads back as it.
+///
+/// # Errors
+/// `Full` if a list is longer than four bytes can count; `NoMemory`.
+pub fn segment_bytes(alloc: Global, segment: &mut Segment) -> Result<Vec<u8>, Fault>
+    ensures text { IfOk result (λ text. text.items ≡ segment_spelled (restarted (node_of segment.old))) }
+    ensures reads { IfOk result (λ text. segment_in text.items ≡ Ok (restarted (node_of segment.old))) }
+    ensures node { node_of segment.new ≡ node_of segment.old }
+    ensures actor { IsSameActor segment.old segment.new }
+{
+    let snapshot = segment.snapshot(alloc)?;
+    snapshot_bytes(alloc, &snapshot)
+}
+
+/// Returns the bytes of a snapshot.
+fn snapshot_bytes(alloc: Global, snapshot: &SegmentSnapshot) -> Result<Vec<u8>, Fault>
+    ensures text { IfOk result (λ text. text.items ≡ segment_spelled (node_in snapshot.now)) }
+    ensures reads { IfOk result (λ text. segment_in text.items ≡ Ok (node_in snapshot.now)) }
+{
+    let mut out = Vec::from_slice(alloc, &[VERSION, SEGMENT])?;
+    put_u32(&mut out, snapshot.volume)?;
+    put_place(&mut out, snapshot.place)?;
+    out.push(u8::from(snapshot.whole))?;
+    put_u64(&mut out, snapshot.copied)?;
+    put_contents(alloc, &mut out, &snapshot.contents)?;
+    Ok(out)
+}
+
+/// Reads an authority's snapshot.
+///
+/// # Errors
+/// `Short` or `BadField`, the first from left to right; `NoMemory`.
+#[tactic(auto, unfolding(crate::specs::Saved::authority_in))]
+pub fn read_authority(alloc: Global, bytes: &[u8]) -> Result<AuthoritySnapshot, Fault>
+    ensures { Gives snapshot_authority result (authority_in bytes.now) }
+{
+    let (_kind, rest) = read_head(AUTHORITY, bytes)?;
+    let (last_volume, rest) = u32_at(rest)?;
+    let configurations = Vec::from_slice(alloc, rest)?;
+    Ok(AuthoritySnapshot {
+        last_volume,
+        configurations,
+    })
+}
+
+/// Returns the bytes of an authority's snapshot, which `read_authority` reads back as it.
+///
+/// # Errors
+/// `NoMemory`.
+pub fn authority_bytes(alloc: Global, authority: &Authority) -> Result<Vec<u8>, Fault>
+    ensures text { IfOk result (λ text. text.items ≡ authority_spelled (authority_of authority.now)) }
+    ensures reads { IfOk result (λ text. authority_in text.items ≡ Ok (authority_of authority.now)) }
+{
+    let snapshot = authority.snapshot(alloc)?;
+    let mut out = Vec::from_slice(alloc, &[VERSION, AUTHORITY])?;
+    put_u32(&mut out, snapshot.last_volume)?;
+    out.extend_from_slice(&snapshot.configurations)?;
+    Ok(out)
+}

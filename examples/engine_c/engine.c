@@ -1,0 +1,519 @@
+/* An engine over the volume's library: six segments, a writer that fails, a recovery, and a member that is replaced, over
+ * a transport in memory that loses, repeats and reorders messages. Each node has a disk of its own, a snapshot and a log,
+ * from which it is resumed. docs/EMBEDDING.md says which call comes when.
+ *
+ *     engine PLAN GROWING SEED
+ *
+ * PLAN is examples/member_replaced.json, GROWING is examples/growing.json. The last line is "engine: good".
+ */
+#include "volume.h"
+
+#include <stdio.h>
+#include <stdlib.h>
+#include <string.h>
+
+enum { VIEW = 1, STEP_TO, FENCE, REPORT, INSTALL, WRITE, GOSSIP, ACK, COPY_ASK, COPY_REPORT, PAGE_ASK, PAGE };
+enum { MEMBERS = 7, BLOCKS = 4, BLOCK = 512 };
+
+#define WANT(condition) \
+    do { \
+        if (!(condition)) { \
+            printf("line %d: not so: %s\n", __LINE__, #condition); \
+            exit(1); \
+        } \
+    } while (0)
+#define DO(call) expect((call), 0, __LINE__, #call)
+
+/* Bytes that own their memory. */
+struct bytes {
+    uint8_t *at;
+    size_t length;
+};
+
+/* Messages on their way, each to a member, or to the client (member 255). */
+struct letter {
+    uint8_t to;
+    struct bytes bytes;
+};
+
+struct letters {
+    struct letter *at;
+    size_t count, room;
+};
+
+/* A node: its segment, and its disk. */
+struct node {
+    struct volume_handle segment;
+    struct bytes snapshot;
+    struct letters log;
+};
+
+static struct volume_handle plan, authority, client;
+static struct node nodes[MEMBERS];
+static struct letters wire; /* what is on its way */
+static struct letters kept; /* what the client sent, to be sent again */
+static struct letters steps; /* the steps of membership, which a node may miss as any message */
+static uint8_t pages[BLOCKS][BLOCK]; /* what the blocks must be at the durable point */
+static uint32_t volume_epoch = 1;
+static uint32_t acknowledged[MEMBERS]; /* the volume epoch of each member's last acknowledgement */
+static struct bytes last_page;
+static size_t lost, repeated, delivered, refused;
+static uint64_t state;
+
+static uint64_t next_random(void) {
+    state ^= state << 13;
+    state ^= state >> 7;
+    state ^= state << 17;
+    return state;
+}
+
+static void expect(uint8_t status, uint8_t wanted, int line, const char *call) {
+    if (status != wanted) {
+        uint8_t name[40];
+        size_t length = 0;
+        (void)volume_fault_name(status, name, sizeof name, &length);
+        printf("line %d: %s: %d %.*s\n", line, call, status, (int)length, name);
+        exit(1);
+    }
+}
+
+static void *memory(void *old, size_t size) {
+    void *made = realloc(old, size ? size : 1);
+    WANT(made);
+    return made;
+}
+
+static struct bytes copy_of(const uint8_t *at, size_t length) {
+    struct bytes made = {memory(NULL, length), length};
+    memcpy(made.at, at, length);
+    return made;
+}
+
+static void add(struct letters *list, uint8_t to, const uint8_t *at, size_t length) {
+    if (list->count == list->room) {
+        list->room = 2 * list->room + 8;
+        list->at = memory(list->at, list->room * sizeof *list->at);
+    }
+    list->at[list->count++] = (struct letter){to, copy_of(at, length)};
+}
+
+static void clear(struct letters *list) {
+    for (size_t i = 0; i < list->count; i++)
+        free(list->at[i].bytes.at);
+    free(list->at);
+    *list = (struct letters){0};
+}
+
+static uint32_t number_at(const uint8_t *at) {
+    return (uint32_t)at[0] << 24 | (uint32_t)at[1] << 16 | (uint32_t)at[2] << 8 | at[3];
+}
+
+/* Puts a message on the wire: for the client that it names, or for the members of the group. */
+static void post(const uint8_t *at, size_t length, uint8_t from) {
+    switch (at[1]) {
+    case REPORT:
+    case ACK:
+    case PAGE:
+        if (number_at(at + 3) == volume_epoch)
+            add(&wire, 255, at, length);
+        return;
+    case PAGE_ASK: /* any member that holds all up to the point may answer; ask one after the other */
+    default:
+        for (uint8_t member = 0; member < MEMBERS; member++)
+            if (member != from)
+                add(&wire, member, at, length);
+    }
+}
+
+/* Takes all messages that an actor made, and sends them. Those of the client and the authority are kept. */
+static void send_all(struct volume_handle *handle, uint8_t from) {
+    for (;;) {
+        size_t needed;
+        uint8_t none[1];
+        uint8_t status = volume_next_message(handle, none, 0, &needed);
+        if (status == VOLUME_NO_MORE)
+            return;
+        expect(status, VOLUME_TOO_SMALL, __LINE__, "a message's length");
+        uint8_t *at = memory(NULL, needed);
+        DO(volume_next_message(handle, at, needed, &needed));
+        if (from == 255)
+            add(at[1] == STEP_TO ? &steps : &kept, 0, at, needed);
+        post(at, needed, from);
+        free(at);
+    }
+}
+
+static void save(struct node *node) {
+    size_t needed;
+    uint8_t none[1];
+    expect(volume_segment_snapshot(&node->segment, none, 0, &needed), VOLUME_TOO_SMALL, __LINE__, "a snapshot's length");
+    free(node->snapshot.at);
+    node->snapshot = (struct bytes){memory(NULL, needed), needed};
+    DO(volume_segment_snapshot(&node->segment, node->snapshot.at, needed, &needed));
+    clear(&node->log);
+}
+
+/* The node's memory is gone, and its disk stays: the segment is what it was, but for pieces. */
+static void crash(uint8_t member) {
+    struct node *node = &nodes[member];
+    uint64_t before = 0, after = 0;
+    DO(volume_segment_scl(&node->segment, &before));
+    volume_close(&node->segment);
+    DO(volume_segment_resume(&plan, 0, member, node->snapshot.at, node->snapshot.length, &node->segment));
+    for (size_t i = 0; i < node->log.count; i++) {
+        size_t needed;
+        uint8_t answer[70000];
+        DO(volume_segment_take(&node->segment, node->log.at[i].bytes.at, node->log.at[i].bytes.length));
+        while (volume_next_message(&node->segment, answer, sizeof answer, &needed) == 0) {
+        }
+    }
+    DO(volume_segment_scl(&node->segment, &after));
+    WANT(before == after);
+}
+
+/* Gives a message to whom it is for. A node logs it before its answers leave. */
+static void deliver(const struct letter *letter) {
+    uint8_t status;
+    if (letter->to == 255) {
+        status = volume_client_take(&client, letter->bytes.at, letter->bytes.length);
+        if (status == 0 && letter->bytes.at[1] == PAGE) {
+            free(last_page.at);
+            last_page = copy_of(letter->bytes.at, letter->bytes.length);
+        }
+        if (status == 0 && letter->bytes.at[1] == ACK)
+            acknowledged[letter->bytes.at[11]] = volume_epoch;
+        if (status == 0)
+            send_all(&client, 255);
+    } else {
+        struct node *node = &nodes[letter->to];
+        status = volume_segment_take(&node->segment, letter->bytes.at, letter->bytes.length);
+        if (status == 0) {
+            add(&node->log, 0, letter->bytes.at, letter->bytes.length);
+            send_all(&node->segment, letter->to);
+        }
+    }
+    delivered += status == 0;
+    refused += status != 0;
+}
+
+/* Delivers what is on its way, in any order; one in eight is lost, one in eight comes twice. */
+static void pump(void) {
+    while (wire.count > 0) {
+        size_t i = next_random() % wire.count;
+        struct letter letter = wire.at[i];
+        uint64_t fate = next_random() % 8;
+        if (fate == 0) {
+            lost++;
+        } else {
+            deliver(&letter);
+            repeated += fate == 1;
+        }
+        if (fate != 1) {
+            /* its place may have moved: those that came meanwhile stand behind it */
+            wire.at[i] = wire.at[--wire.count];
+            free(letter.bytes.at);
+        }
+    }
+}
+
+/* Sends again all that the client and the authority sent, as an engine does after a while. */
+static void again(void) {
+    for (size_t i = 0; i < steps.count; i++)
+        post(steps.at[i].bytes.at, steps.at[i].bytes.length, 255);
+    pump();
+    for (size_t i = 0; i < kept.count; i++)
+        post(kept.at[i].bytes.at, kept.at[i].bytes.length, 255);
+    pump();
+}
+
+static struct volume_change change_of(uint32_t block, uint16_t offset, uint8_t value) {
+    struct volume_change change = {.block = block, .offset = offset, .group = 0, .length = 1 + value % 3};
+    memset(change.bytes, value, change.length);
+    return change;
+}
+
+/* The least complete point of all members. */
+static uint64_t lowest_scl(void) {
+    uint64_t lowest = UINT64_MAX;
+    for (uint8_t member = 0; member < MEMBERS; member++) {
+        uint64_t scl = 0;
+        DO(volume_segment_scl(&nodes[member].segment, &scl));
+        lowest = scl < lowest ? scl : lowest;
+    }
+    return lowest;
+}
+
+/* Sends the records again that some member lacks. */
+static void fill_gaps(uint64_t last) {
+    for (uint64_t lsn = lowest_scl() + 1; lsn <= last; lsn++)
+        if (volume_writer_resend(&client, lsn) == 0)
+            send_all(&client, 255);
+}
+
+/* Commits two changes, and waits until that is durable. */
+static void commit(void) {
+    struct volume_change changes[2];
+    struct volume_points points;
+    bool done = false;
+    for (int i = 0; i < 2; i++) {
+        changes[i] = change_of(next_random() % BLOCKS, next_random() % 500, next_random() % 256);
+        memcpy(&pages[changes[i].block][changes[i].offset], changes[i].bytes, changes[i].length);
+    }
+    DO(volume_writer_issue(&client, changes, 2));
+    send_all(&client, 255);
+    DO(volume_writer_points(&client, &points));
+    pump();
+    for (int tries = 0; tries < 100; tries++) {
+        DO(volume_writer_acknowledged(&client, points.last, &done));
+        if (done)
+            break;
+        fill_gaps(points.last);
+        again();
+    }
+    WANT(done);
+    clear(&kept);
+}
+
+/* Reads a block as the writer does, and from a segment that holds all up to the durable point. */
+static void read_block(uint32_t block) {
+    struct volume_points points;
+    bool read = false;
+    DO(volume_writer_points(&client, &points));
+    free(last_page.at);
+    last_page = (struct bytes){0};
+    for (int tries = 0; tries < 100 && !last_page.at; tries++) {
+        DO(volume_writer_read(&client, 0, block));
+        send_all(&client, 255);
+        pump();
+        clear(&kept);
+    }
+    WANT(last_page.at && last_page.length == 24 + BLOCK);
+    WANT(memcmp(last_page.at + 24, pages[block], BLOCK) == 0);
+    for (uint8_t member = 0; member < 6; member++) {
+        uint8_t page[BLOCK];
+        uint8_t status = volume_segment_page(&nodes[member].segment, block, points.durable, page, sizeof page);
+        WANT(status != 0 || memcmp(page, pages[block], BLOCK) == 0);
+        read = read || status == 0;
+    }
+    WANT(read);
+}
+
+/* Gossip fills the gaps of those that missed a record. */
+static void gossip(uint64_t lsn) {
+    for (uint8_t member = 0; member < MEMBERS; member++)
+        if (volume_segment_offer(&nodes[member].segment, lsn) == 0)
+            send_all(&nodes[member].segment, member);
+    pump();
+}
+
+static void save_authority(uint8_t *disk, size_t *length) {
+    DO(volume_authority_snapshot(&authority, disk, 40, length));
+}
+
+/* Hands the authority's View to the client that is there. */
+static void refresh(void) {
+    size_t needed;
+    uint8_t view[60];
+    DO(volume_authority_refresh(&authority, volume_epoch));
+    DO(volume_next_message(&authority, view, sizeof view, &needed));
+    DO(volume_client_take(&client, view, needed));
+    send_all(&client, 255);
+    pump();
+}
+
+static void birth(void) {
+    uint8_t disk[40];
+    size_t length;
+    for (uint8_t member = 0; member < MEMBERS; member++) {
+        DO(volume_segment_new(&plan, 0, member, &nodes[member].segment));
+        save(&nodes[member]);
+    }
+    DO(volume_authority_new(&plan, &authority));
+    save_authority(disk, &length);
+    volume_close(&authority);
+    DO(volume_authority_resume(&plan, disk, length, &authority));
+    DO(volume_writer_first(&plan, &client));
+    printf("birth: seven segments, an authority of %zu bytes, a writer\n", length);
+}
+
+static void write_some(int commits) {
+    struct volume_points points;
+    uint64_t point = 0;
+    for (int i = 0; i < commits; i++) {
+        commit();
+        if (i % 5 == 3)
+            crash((uint8_t)(next_random() % 6));
+        if (i % 7 == 6)
+            save(&nodes[next_random() % 6]);
+    }
+    DO(volume_writer_points(&client, &points));
+    DO(volume_writer_group_point(&client, 0, &point));
+    WANT(points.durable == points.last && point == points.last && points.complete == points.last);
+    gossip(points.last);
+    for (uint32_t block = 0; block < BLOCKS; block++)
+        read_block(block);
+    printf("written: durable %llu, start %llu\n", (unsigned long long)points.durable, (unsigned long long)points.start);
+}
+
+/* The writer is heard of no more; a recovery finds what it acknowledged, and becomes the next writer. */
+static void recover(void) {
+    struct volume_points old, points;
+    struct volume_change lone = change_of(0, 0, 1);
+    uint8_t view[60], disk[40];
+    size_t needed, length;
+    DO(volume_writer_points(&client, &old));
+    DO(volume_writer_issue(&client, &lone, 1)); /* it reaches nobody */
+    volume_close(&client);
+    clear(&kept);
+    DO(volume_authority_assign(&authority));
+    save_authority(disk, &length);
+    DO(volume_next_message(&authority, view, sizeof view, &needed));
+    volume_epoch = number_at(view + 2);
+    DO(volume_recovery_new(&plan, view, needed, &client));
+    WANT(volume_writer_points(&client, &points) == VOLUME_NOT_OPEN);
+    send_all(&client, 255);
+    WANT(volume_recovery_open(&client) == VOLUME_NOT_READY);
+    pump();
+    while (volume_recovery_cut(&client) == VOLUME_NOT_READY)
+        again();
+    clear(&kept);
+    send_all(&client, 255);
+    pump();
+    while (volume_recovery_open(&client) == VOLUME_NOT_READY)
+        again();
+    DO(volume_writer_points(&client, &points));
+    WANT(points.durable == old.durable && points.last == old.last && points.start > old.last);
+    /* a write quorum has the log; send it to the others too, before another member fails or is replaced */
+    for (uint8_t member = 0; member < 6; member++)
+        while (acknowledged[member] < volume_epoch)
+            again();
+    clear(&kept);
+    printf("recovered: volume epoch %u, durable %llu\n", (unsigned)volume_epoch, (unsigned long long)points.durable);
+}
+
+/* The authority leads the group to a configuration; the nodes and the writer follow. */
+static void advance(uint32_t configuration) {
+    uint8_t disk[40];
+    size_t length;
+    DO(volume_authority_advance(&authority, 0, configuration));
+    save_authority(disk, &length);
+    send_all(&authority, 255);
+    again();
+    refresh();
+}
+
+/* Member 6 comes in the place of member 5, by way of a configuration of both. */
+static void replace(void) {
+    uint8_t hydrated = VOLUME_NOT_ENOUGH;
+    advance(1);
+    commit();
+    for (int tries = 0; tries < 100 && hydrated != 0; tries++) {
+        /* the new member asks those of the group for copies, again and again */
+        static const uint8_t ask[] = {1, COPY_ASK, 0, 0, 0, 0, 2};
+        post(ask, sizeof ask, 6);
+        again();
+        hydrated = volume_segment_hydrate(&nodes[6].segment);
+    }
+    expect(hydrated, 0, __LINE__, "member 6 becomes whole");
+    save(&nodes[6]);
+    WANT(volume_segment_hydrate(&nodes[6].segment) == VOLUME_ALREADY_WHOLE);
+    crash(6);
+    commit();
+    advance(2);
+    commit();
+    for (uint32_t block = 0; block < BLOCKS; block++)
+        read_block(block);
+    printf("replaced: member 6 is whole, and stands in the place of member 5\n");
+}
+
+/* The mistakes that the library finds. */
+static void mistakes(const uint8_t *text, size_t length) {
+    struct volume_handle none = {0};
+    struct volume_change much = {.length = 65};
+    uint8_t line[100], page[BLOCK];
+    uint64_t scl = 7;
+    size_t needed;
+    WANT(volume_plan_read(text, length / 2, &none, line, sizeof line, &needed) == VOLUME_MALFORMED && !none.live);
+    printf("a plan that ends too early: %.*s\n", (int)needed, line);
+    WANT(volume_plan_read(text, length, &plan, line, sizeof line, &needed) == VOLUME_WRONG_HANDLE);
+    WANT(volume_segment_new(&plan, 0, 9, &none) == VOLUME_NO_ACTOR && !none.live);
+    WANT(volume_segment_scl(&plan, &scl) == VOLUME_WRONG_HANDLE && scl == 7);
+    WANT(volume_segment_scl(&none, &scl) == VOLUME_WRONG_HANDLE);
+    WANT(volume_segment_take(&nodes[0].segment, line, 0) == VOLUME_SHORT);
+    WANT(volume_segment_resume(&plan, 0, 0, line, 3, &none) == VOLUME_BAD_FIELD);
+    WANT(volume_segment_page(&nodes[0].segment, 0, 1, page, BLOCK - 1) == VOLUME_TOO_SMALL);
+    WANT(volume_writer_issue(&client, &much, 1) == VOLUME_BAD_LENGTH);
+    WANT(volume_writer_issue(&client, &much, 0) == VOLUME_BAD_TRANSACTION);
+    WANT(volume_writer_resend(&client, 1000) == VOLUME_NO_LOG_RECORD);
+    WANT(volume_recovery_cut(&client) == VOLUME_ALREADY_DONE);
+    WANT(volume_authority_grow(&authority) == VOLUME_ALL_GROWN);
+    WANT(volume_authority_refresh(&authority, volume_epoch + 1) == VOLUME_SUPERSEDED);
+    much.length = 1;
+    DO(volume_writer_issue(&client, &much, 1));
+    WANT(volume_writer_issue(&client, &much, 1) == VOLUME_UNSENT);
+    send_all(&client, 255);
+    pump();
+    volume_close(&none);
+}
+
+static struct bytes read_file(const char *name) {
+    FILE *file = fopen(name, "rb");
+    struct bytes made = {memory(NULL, 1 << 16), 0};
+    WANT(file);
+    made.length = fread(made.at, 1, 1 << 16, file);
+    fclose(file);
+    return made;
+}
+
+/* A group joins a volume that is written to. */
+static void grow(const struct bytes *text) {
+    struct volume_handle own = {0}, writer = {0}, grown = {0};
+    uint8_t line[100], view[60];
+    size_t needed;
+    DO(volume_plan_read(text->at, text->length, &own, line, sizeof line, &needed));
+    DO(volume_authority_new(&own, &grown));
+    DO(volume_writer_first(&own, &writer));
+    DO(volume_authority_grow(&grown));
+    DO(volume_authority_refresh(&grown, 1));
+    DO(volume_next_message(&grown, view, sizeof view, &needed));
+    DO(volume_client_take(&writer, view, needed));
+    DO(volume_next_message(&writer, line, sizeof line, &needed));
+    WANT(line[1] == INSTALL && line[2] == 1);
+    printf("grown: the writer installs group 1\n");
+    volume_close(&own);
+    volume_close(&writer);
+    volume_close(&grown);
+}
+
+int main(int count, char **words) {
+    uint8_t line[100];
+    size_t needed;
+    WANT(count == 4);
+    struct bytes text = read_file(words[1]), growing = read_file(words[2]);
+    state = 88172645463325252u + strtoull(words[3], NULL, 10);
+    DO(volume_plan_read(text.at, text.length, &plan, line, sizeof line, &needed));
+    birth();
+    write_some(20);
+    recover();
+    write_some(20);
+    replace();
+    mistakes(text.at, text.length);
+    grow(&growing);
+    for (int member = 0; member < MEMBERS; member++) {
+        volume_close(&nodes[member].segment);
+        free(nodes[member].snapshot.at);
+        clear(&nodes[member].log);
+    }
+    volume_close(&plan);
+    volume_close(&authority);
+    volume_close(&client);
+    clear(&wire);
+    clear(&kept);
+    clear(&steps);
+    free(last_page.at);
+    free(text.at);
+    free(growing.at);
+    WANT(lost > 100 && repeated > 100 && delivered > 1000);
+    printf("engine: good\n");
+    return 0;
+}

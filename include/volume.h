@@ -1,0 +1,309 @@
+/* The actors of a volume of replicated logs, by opaque handles. Made by scripts/header.py: edit the exports of
+ * crates/volume_c instead. docs/EMBEDDING.md says which calls an engine makes in which order.
+ *
+ * Results. A function returns 0, or a number of the list below and changes nothing then, unless its comment says
+ * otherwise. 9 says that memory ran out; the same call may be made again.
+ *
+ * Handles. A handle is all zeros before its first use (`struct volume_handle h = {0};`) and after volume_close. It owns
+ * what it holds. Never copy one that holds something, and never change its fields. It may move to another thread; calls
+ * with the same handle are made one at a time. The handles of one call are different ones. A function that is given a
+ * handle of another kind, an empty one, or a full one where it must be empty returns 90.
+ *
+ * Buffers. Bytes are given as a pointer and their number, and aren't kept after the call. A pointer isn't null, even
+ * where the number is 0, and the memory behind a pointer that isn't const is written by this call alone. Where a result
+ * doesn't fit into the buffer, 92 is returned, nothing is done, and `needed` says how many bytes it takes.
+ *
+ * Messages. Calls that change an actor may make messages, which wait in its handle: take each by volume_next_message.
+ * Until all are taken, calls that would make others return 91. Messages may be lost, repeated and reordered on their
+ * way, and must not be forged. docs/WIRE.md lays out their bytes.
+ */
+#ifndef VOLUME_H
+#define VOLUME_H
+
+#include <stdbool.h>
+#include <stddef.h>
+#include <stdint.h>
+
+#ifdef __cplusplus
+extern "C" {
+#endif
+
+/* A plan or an actor; all zeros where it is empty. */
+struct volume_handle {
+    void *at;
+    bool live;
+};
+
+/* The numbers that calls return. volume_fault_name gives the name of one. */
+enum volume_status {
+    VOLUME_OK = 0, /* The call did what it is for. */
+    VOLUME_SHORT = 1, /* The bytes end before the record does. */
+    VOLUME_BAD_FIELD = 2, /* A field of the record isn't allowed. */
+    VOLUME_TRAILING = 3, /* There are bytes after the record. */
+    VOLUME_NO_MEMORY = 9, /* A growth was refused. */
+    VOLUME_BAD_COUNT = 10, /* A threshold that isn't 1 <= k <= n <= 64. */
+    VOLUME_TOO_DEEP = 11, /* An expression of more than six levels. */
+    VOLUME_NOT_A_MEMBER = 12, /* No member of the configuration. */
+    VOLUME_MALFORMED = 13, /* A text of another shape. */
+    VOLUME_NO_SUCH_ITEM = 20, /* No item of this number. */
+    VOLUME_NOT_DEAD = 21, /* The item can still hold. */
+    VOLUME_NO_CLASH = 22, /* The items aren't the same member. */
+    VOLUME_NOT_ALL = 23, /* The item doesn't ask for all its children. */
+    VOLUME_TOO_FEW_PICKED = 24, /* The other children could be enough. */
+    VOLUME_BAD_PAIR = 25, /* A child that isn't there, or that is named twice. */
+    VOLUME_COUNT_TOO_SMALL = 26, /* The pairs are too few. */
+    VOLUME_BRANCH_COUNT = 27, /* Another number of branches than of children or pairs. */
+    VOLUME_BAD_PARENT = 30, /* The parent doesn't stand before the configuration. */
+    VOLUME_MEMBER_REUSED = 31, /* A fresh member that an ancestor has. */
+    VOLUME_NO_CERTIFICATE = 32, /* A claim without a certificate. */
+    VOLUME_CERTIFICATE = 33, /* A certificate that doesn't refute its claim. */
+    VOLUME_OVER_LIMIT = 34, /* More than the limit. */
+    VOLUME_SUPERSEDED = 40, /* The volume epoch isn't the last one assigned. */
+    VOLUME_NOT_IN_PLAN = 41, /* No such configuration of the plan, or not a child of the present one. */
+    VOLUME_NO_GROUP = 42, /* No such group. */
+    VOLUME_EPOCHS_SPENT = 43, /* No volume epoch is left. */
+    VOLUME_ALL_GROWN = 44, /* Every group of the plan has joined. */
+    VOLUME_STALE_VOLUME = 50, /* The node has promised a later volume epoch. */
+    VOLUME_STALE_MEMBER = 51, /* The node is at a later membership epoch. */
+    VOLUME_AHEAD_MEMBER = 52, /* The node is at an earlier membership epoch. */
+    VOLUME_NOT_INSTALLED = 53, /* The node's lineage isn't that of the volume epoch. */
+    VOLUME_NOT_WHOLE = 54, /* The node isn't whole yet. */
+    VOLUME_FULL = 55, /* The segment holds as many records as it may. */
+    VOLUME_ALREADY_WHOLE = 56, /* The node is whole already. */
+    VOLUME_NOT_ENOUGH = 57, /* The copies aren't those of a read set. */
+    VOLUME_NO_RECORD = 58, /* The segment holds no such record. */
+    VOLUME_BAD_PIECE = 59, /* No piece that can be one, or one of another number of pieces than those that are kept. */
+    VOLUME_TAIL_SEGMENT = 60, /* The member keeps no whole pages. */
+    VOLUME_POINT_AHEAD = 61, /* The segment isn't complete up to the point. */
+    VOLUME_SERIES_SPENT = 62, /* The node has made as many copies as it may. */
+    VOLUME_NOT_OPEN = 70, /* The client isn't an open writer. */
+    VOLUME_LIMIT_REACHED = 71, /* The log would run too far ahead of the durable point. */
+    VOLUME_BAD_TRANSACTION = 72, /* No transaction of 1 to 32 good changes. */
+    VOLUME_LSN_SPENT = 73, /* No log sequence number is left. */
+    VOLUME_NOT_READY = 74, /* The sets that the step asks for aren't there yet. */
+    VOLUME_ALREADY_DONE = 75, /* The client has taken this step already. */
+    VOLUME_NO_LOG_RECORD = 76, /* The log has no such record. */
+    VOLUME_NOT_JOINED = 77, /* The group hasn't joined the writer: its install doesn't count yet. */
+    VOLUME_NO_MESSAGE = 80, /* No such message was made. */
+    VOLUME_NOT_ADDRESSED = 81, /* The message isn't for this actor. */
+    VOLUME_NO_ACTOR = 82, /* The actor isn't there. */
+    VOLUME_NO_SLOT = 83, /* No slot is left for a client. */
+    VOLUME_JOURNAL_FULL = 84, /* The journal has no cell left. */
+    VOLUME_WRONG_HANDLE = 90, /* The handle is empty, or full where it must be empty, or holds another actor. */
+    VOLUME_UNSENT = 91, /* The actor has messages that weren't taken. */
+    VOLUME_TOO_SMALL = 92, /* The buffer is too small. */
+    VOLUME_NO_MORE = 93, /* All messages were taken. */
+    VOLUME_BAD_LENGTH = 94, /* A number of bytes that the struct can't hold. */
+};
+
+/* A change of a block: the first length of bytes, 1 to 64, are to stand in the block from offset on. */
+struct volume_change {
+    /* The block of the group. */
+    uint32_t block;
+    /* The first byte of the block that is changed. */
+    uint16_t offset;
+    /* The protection group. */
+    uint8_t group;
+    /* How many bytes are changed, 1 to 64. */
+    uint8_t length;
+    /* The bytes. */
+    uint8_t bytes[64];
+};
+
+/* The points of a writer's log. */
+struct volume_points {
+    /* The greatest LSN up to which each record is acknowledged by a write quorum of its group. */
+    uint64_t complete;
+    /* The greatest consistency point up to there. A commit at or below it is durable. */
+    uint64_t durable;
+    /* The LSN after which the writer's own records begin. */
+    uint64_t start;
+    /* The greatest LSN of the log: after an issue that of the commit. */
+    uint64_t last;
+};
+
+/* Writes the next message that the actor made to out, and drops it. Each message is handed out once, in the order in
+ * which the actor made them. Send it to the nodes of its group, or to the client of its label, as its kind says.
+ *
+ * needed is the message's length. Returns 92 where out is shorter, and the message stays; 93 where there is none. */
+uint8_t volume_next_message(struct volume_handle *handle, uint8_t *out, size_t out_length, size_t *needed);
+
+/* Writes the name of a number that a call returned, as docs/FAULTS.md has it, to out; nothing for other numbers.
+ * needed is the name's length; returns 92 where out is shorter. */
+uint8_t volume_fault_name(uint8_t number, uint8_t *out, size_t out_length, size_t *needed);
+
+/* Frees what the handle holds, and leaves it empty. Does nothing to an empty handle. */
+void volume_close(struct volume_handle *handle);
+
+/* Reads a plan and checks it. out, which must be empty, holds the plan then. A plan may be closed as soon as each
+ * actor over it was made.
+ *
+ * Where the plan has a fault, the fault's number is returned, as docs/FAULTS.md lists them. Its line, which says the
+ * place too, is written to line, as much of it as there is room for; needed is its whole length. */
+uint8_t volume_plan_read(const uint8_t *text, size_t text_length, struct volume_handle *out, uint8_t *line,
+    size_t line_length, size_t *needed);
+
+/* Makes the segment of a member of a group as it is when the volume is born: a member of the group's first
+ * configuration is whole and empty, any other member waits to be made whole. Call it once in the life of a node; after
+ * a restart call volume_segment_resume. out, which must be empty, holds the segment then.
+ *
+ * Refused 82 where the plan names no such member. */
+uint8_t volume_segment_new(struct volume_handle *plan, uint8_t group, uint8_t member, struct volume_handle *out);
+
+/* Makes a segment from the bytes that volume_segment_snapshot gave: the segment that was saved, after a restart. Then
+ * give it, by volume_segment_take, each message that was logged since, in the order of the log, and drop the answers.
+ * out, which must be empty, holds the segment then.
+ *
+ * Refused 1, 2 or 3 where the bytes aren't a snapshot's, and 82 where the plan names no such member. */
+uint8_t volume_segment_resume(struct volume_handle *plan, uint8_t group, uint8_t member, const uint8_t *bytes,
+    size_t bytes_length, struct volume_handle *out);
+
+/* Gives a segment a message: a StepTo, Fence, Install, Write, Gossip, CopyAsk, CopyReport or PageAsk. Its answers are
+ * handed out by volume_next_message. Log the message before an answer leaves the node: if it can't be logged, close
+ * the handle and resume the segment from the disk. A message that is refused changes nothing, and isn't logged.
+ *
+ * Refused 1, 2 or 3 where the bytes aren't a message's, 9, 50 to 62, 81 and 41 as docs/FAULTS.md says; 91 while there
+ * are messages to hand out. */
+uint8_t volume_segment_take(struct volume_handle *segment, const uint8_t *bytes, size_t bytes_length);
+
+/* Makes a segment whole from the copies that it took. Take a snapshot and put it on the disk before the segment takes
+ * another message: copies don't survive a restart.
+ *
+ * Refused 56 where it is whole, 57 where the copies aren't those of a read quorum, 55 where they hold more records
+ * than a segment may. */
+uint8_t volume_segment_hydrate(struct volume_handle *segment);
+
+/* Makes a Gossip of the record with this LSN, for the other nodes of the group.
+ *
+ * Refused 54 before the segment is whole, 53 where it has promised a later volume epoch than that of its log, 58 where
+ * it holds no such record. */
+uint8_t volume_segment_offer(struct volume_handle *segment, uint64_t lsn);
+
+/* Writes the 512 bytes of a block as its records up to an LSN make it. The segment's node calls it for a reader that
+ * knows the durable point; a writer asks by volume_writer_read.
+ *
+ * Refused 54 before the segment is whole, 60 where the member keeps no pages, 61 where the segment isn't complete up
+ * to point; 92 where page has fewer than 512 bytes. */
+uint8_t volume_segment_page(struct volume_handle *segment, uint32_t block, uint64_t point, uint8_t *page,
+    size_t page_length);
+
+/* Gives the segment complete point (SCL): the greatest LSN up to which the segment holds all records of its group. */
+uint8_t volume_segment_scl(struct volume_handle *segment, uint64_t *scl);
+
+/* Writes the state of a segment that survives a restart, all of it but the pieces of copies and installs that it was
+ * sent, as docs/WIRE.md lays it out. With a log of the messages that it took since, the segment can be resumed. needed
+ * is the length; 92 where out is shorter. It takes some 109 bytes a record at most. */
+uint8_t volume_segment_snapshot(struct volume_handle *segment, uint8_t *out, size_t out_length, size_t *needed);
+
+/* Makes the writer that a volume is born with: volume epoch 1, no record. Call it once in the life of the volume; each
+ * later writer is what a recovery becomes. out, which must be empty, holds the writer then. */
+uint8_t volume_writer_first(struct volume_handle *plan, struct volume_handle *out);
+
+/* Makes a recovery from a View message of the authority, as volume_authority_assign makes it. Its Fence messages, one
+ * a group, are handed out by volume_next_message. out, which must be empty, holds the recovery then.
+ *
+ * Refused 1, 2 or 3 where the bytes aren't a message's, 81 where they aren't a View's, 41 where its places aren't the
+ * plan's. */
+uint8_t volume_recovery_new(struct volume_handle *plan, const uint8_t *view, size_t view_length,
+    struct volume_handle *out);
+
+/* Gives a recovery or a writer a message that is for it: a View, Report, Ack or Page. What it makes is handed out by
+ * volume_next_message: for a later View Fences before a recovery's cut, and Installs after it. The page of a Page is
+ * the engine's: the writer judges whether it is one for it, and keeps nothing.
+ *
+ * Refused 1, 2 or 3 where the bytes aren't a message's, 81 where the message isn't for this client, 41 where a View's
+ * places aren't the plan's; 91 while there are messages to hand out. */
+uint8_t volume_client_take(struct volume_handle *client, const uint8_t *bytes, size_t bytes_length);
+
+/* Cuts the log that a recovery's reports hold, and makes the Install messages of it.
+ *
+ * Refused 74 until the senders of the reports are a read quorum of each group, 75 after the cut and of a writer, 73
+ * where no LSNs are left. */
+uint8_t volume_recovery_cut(struct volume_handle *recovery);
+
+/* Opens a recovery: the handle holds the writer of its volume epoch then.
+ *
+ * Refused 74 before the cut, and until a write quorum of each group has acknowledged its install; 75 of a writer. */
+uint8_t volume_recovery_open(struct volume_handle *recovery);
+
+/* Issues a transaction of 1 to 32 changes: a record for each, all or none, of which the last is a consistency point.
+ * The Write messages are handed out by volume_next_message, in the order of the changes; send each to all members of
+ * its group. The commit is durable once volume_writer_acknowledged says so of the last record's LSN.
+ *
+ * Refused 70 of a recovery, 72 where it isn't a transaction of good changes, 77 where a group hasn't joined, 73 where
+ * no LSNs are left, 71 where the log would run further ahead of the durable point than the plan allows; 94 where a
+ * change hasn't 1 to 64 bytes; 91 while there are messages to hand out. */
+uint8_t volume_writer_issue(struct volume_handle *writer, const struct volume_change *given, size_t given_count);
+
+/* Makes the Write of a record of the log once more, for members that it may not have reached.
+ *
+ * Refused 70 of a recovery, 76 where the log has no record with this LSN. */
+uint8_t volume_writer_resend(struct volume_handle *writer, uint64_t lsn);
+
+/* Makes a PageAsk for a block as it is at the durable point. Send it to a full member of the group.
+ *
+ * Refused 70 of a recovery, 42 where the writer knows no such group. */
+uint8_t volume_writer_read(struct volume_handle *writer, uint8_t group, uint32_t block);
+
+/* Gives the points of a writer's log.
+ *
+ * Refused 70 of a recovery. */
+uint8_t volume_writer_points(struct volume_handle *writer, struct volume_points *points);
+
+/* Gives the LSN up to which a group's records are acknowledged by a write quorum.
+ *
+ * Refused 70 of a recovery, 42 where the writer knows no such group. */
+uint8_t volume_writer_group_point(struct volume_handle *writer, uint8_t group, uint64_t *point);
+
+/* Says whether the commit at an LSN is durable: the LSN is that of a consistency point of the log, and not above the
+ * durable point. No recovery will lose it then.
+ *
+ * Refused 70 of a recovery. */
+uint8_t volume_writer_acknowledged(struct volume_handle *writer, uint64_t lsn, bool *acknowledged);
+
+/* Makes the authority of a new volume: volume epoch 1 is assigned, and each group that is there at birth stands at its
+ * first configuration. A volume has one authority; call it once in the life of the volume. out, which must be empty,
+ * holds the authority then. */
+uint8_t volume_authority_new(struct volume_handle *plan, struct volume_handle *out);
+
+/* Makes an authority from the bytes that volume_authority_snapshot gave: the one that was saved. out, which must be
+ * empty, holds the authority then.
+ *
+ * Refused 1, 2 or 3 where the bytes aren't a snapshot's, 2 at volume epoch 0, 42 where fewer groups have joined than
+ * the plan has at birth, or more than it has. */
+uint8_t volume_authority_resume(struct volume_handle *plan, const uint8_t *bytes, size_t bytes_length,
+    struct volume_handle *out);
+
+/* Assigns the next volume epoch, and makes the View for its recovery. Put a snapshot of the authority on the disk
+ * before the View leaves; else close the handle and resume.
+ *
+ * Refused 43 where no volume epoch is left. */
+uint8_t volume_authority_assign(struct volume_handle *authority);
+
+/* Advances a group to a child of its configuration, which is named by its number in the group's list, and makes the
+ * StepTo for the nodes of the group, those of the old and of the new configuration. Put a snapshot of the authority on
+ * the disk before the message leaves.
+ *
+ * Refused 42 where no such group has joined, 41 where the group's configuration has no such child. */
+uint8_t volume_authority_advance(struct volume_handle *authority, uint8_t group, uint32_t configuration);
+
+/* Makes a View of the groups' places for the client of the last volume epoch, which takes it by volume_client_take.
+ *
+ * Refused 40 for any other volume epoch. */
+uint8_t volume_authority_refresh(struct volume_handle *authority, uint32_t volume);
+
+/* Lets the plan's next group join, at its first configuration. Put a snapshot of the authority on the disk before the
+ * next View leaves.
+ *
+ * Refused 44 where every group of the plan has joined. */
+uint8_t volume_authority_grow(struct volume_handle *authority);
+
+/* Writes the state of an authority, as docs/WIRE.md lays it out: 23 bytes at most. needed is the length; 92 where out
+ * is shorter. */
+uint8_t volume_authority_snapshot(struct volume_handle *authority, uint8_t *out, size_t out_length, size_t *needed);
+
+#ifdef __cplusplus
+}
+#endif
+
+#endif
