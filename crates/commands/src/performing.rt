@@ -335,7 +335,7 @@ pub fn perform<
         (AnswersOf (file_of P.remaining job.now.plan.now plan.old plan.new) SearchesTo) result out.old out.new err.old
         err.new }
 
-    // An explanation of a plan answers what a check does, and prints the plan in words above that; one of a number
+    // An explanation of a plan's text has the status and the last line of a check, on the same output; one of a number
     // prints the refusal with that number in words.
     ensures explains { job.now.action ≡ Explain → Ends O.contents E.contents
         (ExplainsJob P.remaining job.now.plan.now plan.old plan.new) result out.old out.new err.old err.new }
