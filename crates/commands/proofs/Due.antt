@@ -52,6 +52,7 @@ memory_out E file stop e = unmade (ap stop_answer e)
 pub fault_due : (P : PlanFault → Type 0) (E : List ℕ → Answer → Type 0) (file : File) (h : IsRead file (λ text. (fault : PlanFault) → P fault → E text (fault_answer fault))) (stop : Stop) → StopsBy P stop → AnswersOf file E (stop_answer stop)
 fault_due P E file h (stops.Unreadable name) bad = absurd bad
 fault_due P E file h (stops.Plan fault) p = read h.text h.whole h.is_text (h.is_so fault p)
+fault_due P E file h (stops.Placed lines fault) bad = absurd bad
 fault_due P E file h (stops.Line number) bad = absurd bad
 fault_due P E file h (stops.Number number) bad = absurd bad
 fault_due P E file h stops.NoMemory p = unmade refl
@@ -86,6 +87,7 @@ line_stops text (scripts.Line number) stop e h = subst (λ (s : Stop). StopsAtLi
 line_due : (file : File) (text : List ℕ) (h : IsRead file (λ t. text ≡ t)) (stop : Stop) → StopsAtLine text stop → AnswersOf file IsBadScript (stop_answer stop)
 line_due file text h (stops.Unreadable name) bad = absurd bad
 line_due file text h (stops.Plan fault) bad = absurd bad
+line_due file text h (stops.Placed lines fault) bad = absurd bad
 line_due file text h (stops.Line number) bad = read h.text h.whole h.is_text (record { number = number; first = subst (λ t. IsFirstBad t number) h.is_so bad; answered = refl })
 line_due file text h (stops.Number number) bad = absurd bad
 line_due file text h stops.NoMemory bad = unmade refl

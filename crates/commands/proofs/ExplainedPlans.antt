@@ -1,9 +1,10 @@
 -- What an explanation says of a plan.
-use Rattle.std.proofs.Common.{◌≡◌, ◌∙◌, ap, sym, subst, refl, ℕ, List, [], ◌++◌, Bool, true, false, Some, Result, Ok, Err, IfOk, IfErr, None, string_bytes}
+use Rattle.std.proofs.Common.{◌≡◌, ◌∙◌, ap, inl, inr, sym, subst, refl, ℕ, List, [], ◌∷◌, ◌++◌, append_assoc, Bool, true, false, codes, Some, Result, Ok, Err, IfOk, IfErr, None, string_bytes}
 use Rattle.plan.specs.CheckedModel.{checked_model}
 use Rattle.plan.specs.FaultKinds.{is_input}
 use Rattle.plan.specs.Plan.{plan_data}
 use Rattle.plan.specs.PlanData.{PlanData}
+use Rattle.plan.specs.PlanFaultText.{plan_fault_text}
 use Rattle.plan.specs.PlanFaults.{plan_fault}
 use Rattle.plan.specs.PlanText.{plan_of}
 use Rattle.plan.specs.declared.checked.CheckedPlan.{CheckedPlan}
@@ -14,20 +15,62 @@ use Rattle.commands.specs.Answer.{Answer, fault_answer, line_answer, printed}
 use Rattle.commands.specs.Answers.{AnswersOf, ChecksTo, File}
 use Rattle.commands.specs.Answers.AnswersOf.{read, unread, unmade}
 use Rattle.commands.specs.Answers.PlanAnswers.{faulty, certified}
-use Rattle.commands.specs.Explains.{ExplainsTo, below}
+use Rattle.commands.specs.Explains.{ExplainsTo, IsExplained, above, below}
 use Rattle.commands.specs.Read.{IsPlanOf, IsRead}
 use Rattle.commands.specs.RunText.{plan_line}
-use Rattle.commands.specs.Stops.{StopsBy, answer_of, is_input_stop, stop_line}
+use Rattle.commands.specs.Stops.{StopsBy, answer_of, is_input_stop, stop_answer, stop_line}
 use Rattle.commands.specs.Verdict.{first_fault, text_fault}
 use Rattle.commands.specs.declared.reply.Reply.{Reply}
 use Rattle.commands.specs.declared.reply.Stop.{Stop}
 use Rattle.commands.specs.declared.reply.Stop.TheVariants as stops
-use Rattle.commands.proofs.Due.{fault_due, whole_text}
+use Rattle.commands.proofs.Due.{whole_text}
 
--- the words, and the line of a plan without a fault
-pub explains_yes : (text words line all : List ℕ) (plan : CheckedPlan) → IsPlanOf text plan → line ≡ plan_line (checked_model plan) → all ≡ words ++ line → ExplainsTo text (printed 0 all)
+-- a line isn't empty
+above_line : (lines line : List ℕ) → above lines (line ++ codes "\n") ≡ lines ++ (line ++ codes "\n")
+above_line lines [] = refl
+above_line lines (x ∷ xs) = refl
+
+-- the line of a fault, with lines above it
+lined : (lines line : List ℕ) (input : Bool) → line_answer input (lines ++ (line ++ codes "\n")) ≡ below lines (line_answer input (line ++ codes "\n"))
+lined lines line true = ap (λ t. line_answer true t) (sym (above_line lines line))
+lined lines line false = ap (λ t. line_answer false t) (sym (above_line lines line))
+
+-- the same of the text's first fault
+explains_fault : (text lines : List ℕ) (fault : PlanFault) → text_fault text ≡ Some fault → ExplainsTo text (line_answer (is_input fault) (lines ++ (plan_fault_text fault ++ codes "\n")))
+explains_fault text lines fault is = record {
+  lines = lines;
+  checked = fault_answer fault;
+  due = faulty fault is refl;
+  is = lined lines (plan_fault_text fault) (is_input fault);
+}
+
+-- the fault of a text, and its place
+pub explains_placed : (text lines : List ℕ) (fault : PlanFault) → plan_of text ≡ Err fault → ExplainsTo text (line_answer (is_input fault) (lines ++ plan_fault_text fault ++ codes "\n"))
+explains_placed text lines fault is =
+    subst (λ t. ExplainsTo text (line_answer (is_input fault) t)) (sym (append_assoc lines (plan_fault_text fault) (codes "\n"))) (explains_fault text lines fault (ap first_fault is))
+
+-- a text without a plan, or running out of memory
+pub stop_explained : (text : List ℕ) (stop : Stop) → StopsBy (λ fault. text_fault text ≡ Some fault) stop → IsExplained text (stop_answer stop)
+stop_explained text (stops.Unreadable name) bad = absurd bad
+stop_explained text (stops.Placed lines fault) bad = absurd bad
+stop_explained text (stops.Line number) bad = absurd bad
+stop_explained text (stops.Number number) bad = absurd bad
+stop_explained text stops.NoMemory bad = inr refl
+stop_explained text (stops.Plan fault) is = inl (explains_fault text [] fault is)
+
+-- the same where a plan couldn't be read
+pub unread_explained : (text : List ℕ) (stop : Stop) → StopsBy (λ fault. plan_of text ≡ Err fault) stop → IsExplained text (stop_answer stop)
+unread_explained text (stops.Unreadable name) bad = absurd bad
+unread_explained text (stops.Placed lines fault) bad = absurd bad
+unread_explained text (stops.Line number) bad = absurd bad
+unread_explained text (stops.Number number) bad = absurd bad
+unread_explained text stops.NoMemory bad = inr refl
+unread_explained text (stops.Plan fault) is = stop_explained text (stops.Plan fault) (ap first_fault is)
+
+-- lines, and the line of a plan without a fault
+explains_yes : (text words line all : List ℕ) (plan : CheckedPlan) → IsPlanOf text plan → line ≡ plan_line (checked_model plan) → all ≡ words ++ line → ExplainsTo text (printed 0 all)
 explains_yes text words line all plan h l e = record {
-  words = words;
+  lines = words;
   checked = printed 0 (plan_line (checked_model plan));
   due = certified (whole_text text plan h) refl;
   is = ap (printed 0) (e ∙ ap (λ t. words ++ t) l);
@@ -41,45 +84,41 @@ explains_checked text words line shown all plan checked spelled same faultless h
     (record { spelled = spelled ∙ ap (λ p. Ok (plan_data p)) (sym same); faultless = ap (λ p. plan_fault (plan_data p)) same ∙ faultless; certified = holds })
     l (e ∙ ap (λ t. words ++ t) s)
 
--- a line of a refusal, with words above it
-refusal_below : (words line : List ℕ) (input : Bool) → input ≡ false → printed 1 (words ++ line) ≡ below words (line_answer input line)
-refusal_below words line true e = absurd cc
-refusal_below words line false e = refl
-
--- the words, and the line of the plan's first fault
-pub explains_no : (text words all : List ℕ) (plan : PlanData) (stop : Stop) → plan_of text ≡ Ok plan → StopsBy (λ fault. plan_fault plan ≡ Some fault) stop → is_input_stop stop ≡ false → all ≡ words ++ stop_line stop
+-- lines, and the line of the plan's first fault
+pub explains_no : (text lines all : List ℕ) (plan : PlanData) (stop : Stop) → plan_of text ≡ Ok plan → StopsBy (λ fault. plan_fault plan ≡ Some fault) stop → is_input_stop stop ≡ false → all ≡ lines ++ stop_line stop
     → ExplainsTo text (printed 1 all)
-explains_no text words all plan (stops.Unreadable name) spelled bad refused e = absurd bad
-explains_no text words all plan (stops.Line number) spelled bad refused e = absurd bad
-explains_no text words all plan (stops.Number number) spelled bad refused e = absurd bad
-explains_no text words all plan stops.NoMemory spelled bad refused e = absurd cc
-explains_no text words all plan (stops.Plan fault) spelled is refused e = record {
-  words = words;
-  checked = fault_answer fault;
-  due = faulty fault (ap first_fault spelled ∙ is) refl;
-  is = ap (printed 1) e ∙ refusal_below words (stop_line (stops.Plan fault)) (is_input fault) refused;
-}
+explains_no text lines all plan (stops.Unreadable name) spelled bad refused e = absurd bad
+explains_no text lines all plan (stops.Placed place fault) spelled bad refused e = absurd bad
+explains_no text lines all plan (stops.Line number) spelled bad refused e = absurd bad
+explains_no text lines all plan (stops.Number number) spelled bad refused e = absurd bad
+explains_no text lines all plan stops.NoMemory spelled bad refused e = absurd cc
+explains_no text lines all plan (stops.Plan fault) spelled is refused e =
+    subst (λ a. ExplainsTo text a) (ap (λ input. line_answer input (lines ++ stop_line (stops.Plan fault))) refused ∙ ap (printed 1) (sym e))
+    (explains_fault text lines fault (ap first_fault spelled ∙ is))
 
--- a check's answer alone
-alone : (a : Answer) → a ≡ below [] a
-alone a = refl
+-- the same of a fault that stops a check of the plan
+plan_stopped : (text : List ℕ) (plan : PlanData) (stop : Stop) → plan_of text ≡ Ok plan → StopsBy (λ fault. plan_fault plan ≡ Some fault) stop → IsExplained text (stop_answer stop)
+plan_stopped text plan (stops.Unreadable name) spelled bad = absurd bad
+plan_stopped text plan (stops.Placed lines fault) spelled bad = absurd bad
+plan_stopped text plan (stops.Line number) spelled bad = absurd bad
+plan_stopped text plan (stops.Number number) spelled bad = absurd bad
+plan_stopped text plan stops.NoMemory spelled bad = inr refl
+plan_stopped text plan (stops.Plan fault) spelled is = stop_explained text (stops.Plan fault) (ap first_fault spelled ∙ is)
 
--- the explanation of a file's text, or its fault
-pub explains_text : (file : File) (items text : List ℕ) (r : Result Reply Stop) → IsRead file (λ t. items ≡ t) → text ≡ items → IfOk r (λ reply. ExplainsTo text (printed reply.status (string_bytes reply.text)))
-    → IfErr r (StopsBy (λ fault. text_fault text ≡ Some fault)) → AnswersOf file ExplainsTo (answer_of r)
-explains_text file items text (Ok reply) h e said s =
-    read h.text h.whole h.is_text (subst (λ t. ExplainsTo t (printed reply.status (string_bytes reply.text))) (e ∙ h.is_so) said)
-explains_text file items text (Err stop) h e said s =
-    fault_due (λ fault. text_fault text ≡ Some fault) ExplainsTo file
-    (record {
-      text = h.text;
-      whole = h.whole;
-      is_text = h.is_text;
-      is_so = λ fault is. record { words = []; checked = fault_answer fault; due = faulty fault (ap text_fault (sym (e ∙ h.is_so)) ∙ is) refl; is = alone (fault_answer fault) };
-    }) stop s
+-- the explanation of a text that spells a plan
+pub plan_explained : (text : List ℕ) (plan : PlanData) (r : Result Reply Stop) → plan_of text ≡ Ok plan → (plan_of text ≡ Ok plan → IfOk r (λ reply. ExplainsTo text (printed reply.status (string_bytes reply.text))))
+    → IfErr r (StopsBy (λ fault. plan_fault plan ≡ Some fault)) → IsExplained text (answer_of r)
+plan_explained text plan (Ok reply) spelled said stopped = inl (said spelled)
+plan_explained text plan (Err stop) spelled said stopped = plan_stopped text plan stop spelled stopped
 
--- an explanation has the status of a check, and its text on standard error
-pub as_checked : (file : File) (a : Answer) → AnswersOf file ExplainsTo a → (checked : Answer) × AnswersOf file ChecksTo checked × (a.status ≡ checked.status) × (a.err ≡ checked.err)
-as_checked file a (read text whole is due) = (due.checked, read text whole is due.due, ap (λ (b : Answer). b.status) due.is, ap (λ (b : Answer). b.err) due.is)
-as_checked file a (unread failed is) = (a, unread failed is, refl, refl)
-as_checked file a (unmade is) = (a, unmade is, refl, refl)
+-- the explanation of a file's text
+pub explains_text : (file : File) (items text : List ℕ) (answer : Answer) → IsRead file (λ t. items ≡ t) → text ≡ items → IsExplained text answer → AnswersOf file ExplainsTo answer
+explains_text file items text answer h e (inl due) = read h.text h.whole h.is_text (subst (λ t. ExplainsTo t answer) (e ∙ h.is_so) due)
+explains_text file items text answer h e (inr out) = unmade out
+
+-- an explanation has the status of a check, and says nothing to standard error where that says nothing
+pub as_checked : (file : File) (a : Answer) → AnswersOf file ExplainsTo a → (checked : Answer) × AnswersOf file ChecksTo checked × (a.status ≡ checked.status) × (checked.err ≡ [] → a.err ≡ [])
+as_checked file a (read text whole is due) =
+    (due.checked, read text whole is due.due, ap (λ (b : Answer). b.status) due.is, λ quiet. ap (λ (b : Answer). b.err) due.is ∙ ap (λ t. above due.lines t) quiet)
+as_checked file a (unread failed is) = (a, unread failed is, refl, λ quiet. quiet)
+as_checked file a (unmade is) = (a, unmade is, refl, λ quiet. quiet)

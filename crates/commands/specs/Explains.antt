@@ -1,15 +1,25 @@
 -- What an explanation answers.
-use Rattle.std.specs.Prelude.{◌≡◌, ℕ, List, ◌++◌}
-use Rattle.commands.specs.Answer.{Answer}
+use Rattle.std.specs.Prelude.{◌≡◌, ◌⊎◌, ℕ, List, [], ◌∷◌, ◌++◌}
+use Rattle.commands.specs.Answer.{Answer, no_memory}
 use Rattle.commands.specs.Answers.{ChecksTo}
 
--- an answer whose lines on standard output come below these
-abbrev pub below : List ℕ → Answer → Answer
-below lines answer = record { status = answer.status; out = lines ++ answer.out; err = answer.err }
+-- a text with these lines above it, unless it is empty
+abbrev pub above : List ℕ → List ℕ → List ℕ
+above lines [] = []
+above lines (x ∷ xs) = lines ++ x ∷ xs
 
--- What an explanation answers to a plan's text: what a check answers, with the plan in words above it.
+-- an answer with these lines above its own, on the output to which its own go
+abbrev pub below : List ℕ → Answer → Answer
+below lines answer = record { status = answer.status; out = above lines answer.out; err = above lines answer.err }
+
+-- What an explanation answers to a plan's text: what a check answers, with lines above it: the plan in words, or where
+-- the text isn't a plan's.
 pub record ExplainsTo (text : List ℕ) (answer : Answer) : Type 0 where
-  pub words : List ℕ
+  pub lines : List ℕ
   pub checked : Answer
   pub due : ChecksTo text checked
-  pub is : answer ≡ below words checked
+  pub is : answer ≡ below lines checked
+
+-- The answer is that, or memory ran out.
+abbrev pub IsExplained : List ℕ → Answer → Type 0
+IsExplained text answer = ExplainsTo text answer ⊎ (answer ≡ no_memory)

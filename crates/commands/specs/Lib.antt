@@ -6,6 +6,7 @@ pub mod Stops
 pub mod Failures
 pub mod Streams
 pub mod Verdict
+pub mod Held
 pub mod RunText
 pub mod RunLines
 pub mod FleetText

@@ -12,20 +12,22 @@ use Rattle.script.specs.declared.reading.ScriptFault.TheVariants as scripts
 use Rattle.commands.specs.Answer.{Answer, line_answer, printed}
 use Rattle.commands.specs.declared.reply.Reply.{Reply}
 use Rattle.commands.specs.declared.reply.Stop.{Stop}
-use Rattle.commands.specs.declared.reply.Stop.TheVariants.{Unreadable, Plan, Line, Number, NoMemory}
+use Rattle.commands.specs.declared.reply.Stop.TheVariants.{Unreadable, Plan, Placed, Line, Number, NoMemory}
 
 -- an input can't be used
 abbrev pub is_input_stop : Stop → Bool
 is_input_stop (Unreadable name) = true
 is_input_stop (Plan fault) = is_input fault
+is_input_stop (Placed lines fault) = is_input fault
 is_input_stop (Line number) = true
 is_input_stop (Number number) = true
 is_input_stop NoMemory = true
 
--- the line of why a job ends
+-- the line of why a job ends, and above it those of the place
 abbrev pub stop_line : Stop → List ℕ
 stop_line (Unreadable name) = codes "input: cannot read " ++ name.now ++ codes "\n"
 stop_line (Plan fault) = plan_fault_text fault ++ codes "\n"
+stop_line (Placed lines fault) = string_bytes lines ++ plan_fault_text fault ++ codes "\n"
 stop_line (Line number) = codes "input: line " ++ decimal number ++ codes "\n"
 stop_line (Number number) = codes "input: no refusal has the number " ++ decimal number ++ codes "\n"
 stop_line NoMemory = codes "input: 9 NoMemory\n"
@@ -52,6 +54,7 @@ script_stop scripts.NoMemory = NoMemory
 abbrev pub StopsAtLine : List ℕ → Stop → Type 0
 StopsAtLine text (Unreadable name) = ⊥
 StopsAtLine text (Plan fault) = ⊥
+StopsAtLine text (Placed lines fault) = ⊥
 StopsAtLine text (Line number) = IsFirstBad text number
 StopsAtLine text (Number number) = ⊥
 StopsAtLine text NoMemory = Unit {0}
@@ -60,6 +63,7 @@ StopsAtLine text NoMemory = Unit {0}
 abbrev pub StopsBy : (PlanFault → Type 0) → Stop → Type 0
 StopsBy IsSo (Unreadable name) = ⊥
 StopsBy IsSo (Plan fault) = IsSo fault
+StopsBy IsSo (Placed lines fault) = ⊥
 StopsBy IsSo (Line number) = ⊥
 StopsBy IsSo (Number number) = ⊥
 StopsBy IsSo NoMemory = Unit {0}

@@ -1,18 +1,18 @@
 //! A job, done on the contents of its files.
 
-ghost use Rattle.std.specs.Prelude.{◌≡◌, ◌≢◌, ◌≤◌, ◌<◌, IfErr, IfOk, IfSome, string_bytes, take};
+ghost use Rattle.std.specs.Prelude.{◌≡◌, ◌≢◌, ◌≤◌, ◌<◌, IfErr, IfOk, string_bytes};
 ghost use Rattle.plan.specs.CheckedModel.{checked_model};
 ghost use Rattle.commands.specs.declared.action.Action.TheVariants.{Check, Explain, Fleet, Run, Search};
 ghost use Rattle.commands.specs.Answer.{IsSaid};
 ghost use Rattle.commands.specs.Answers.{AnswersOf, ChecksTo, FleetsTo, RunsTo, file_of, script_name};
 ghost use Rattle.commands.specs.Explains.{ExplainsTo};
 ghost use Rattle.commands.specs.FaultQuery.{ExplainsJob, HasFile, IsFileName};
+ghost use Rattle.commands.specs.Held.{HoldsCertified, HoldsFault};
 ghost use Rattle.commands.specs.Searched.{SearchesTo};
 ghost use Rattle.commands.specs.ShownName.{shown_name};
 ghost use Rattle.commands.specs.Stops.{answer_of, stop_answer};
-ghost use Rattle.commands.specs.Streams.{Ends, FailsByRead, FailsByWrite, left_of};
+ghost use Rattle.commands.specs.Streams.{Ends, FailsByRead, FailsByWrite};
 ghost use Rattle.commands.specs.RunText.{plan_line};
-ghost use Rattle.commands.specs.Verdict.{IsCertifiedText, IsFaultyText};
 ghost use Rattle.commands.specs.declared.reply.Stop.TheVariants.{NoMemory};
 
 use crate::explaining::explain;
@@ -108,8 +108,8 @@ fn perform_check<P: FallibleRead, O: FallibleWrite, E: FallibleWrite>(
     err: &mut Output<E>,
 ) -> u8
     ensures status { result ≤ 2 }
-    ensures yes { result ≡ 0 → IfSome (left_of P.remaining plan.old) (λ bytes. IsCertifiedText (take 16777217 bytes)) }
-    ensures no { result ≡ 1 → IfSome (left_of P.remaining plan.old) (λ bytes. IsFaultyText (take 16777217 bytes)) }
+    ensures yes { result ≡ 0 → HoldsCertified P.remaining plan.old }
+    ensures no { result ≡ 1 → HoldsFault P.remaining plan.old }
     ensures quiet { result < 2 → err.new ≡ err.old }
     ensures ends { Ends O.contents E.contents (AnswersOf (file_of P.remaining job.now.plan.now plan.old plan.new)
         ChecksTo) result out.old out.new err.old err.new }
@@ -131,7 +131,7 @@ fn perform_run<P: FallibleRead, S: FallibleRead, O: FallibleWrite, E: FallibleWr
     err: &mut Output<E>,
 ) -> u8
     ensures status { result ≤ 2 }
-    ensures yes { result ≡ 0 → IfSome (left_of P.remaining plan.old) (λ bytes. IsCertifiedText (take 16777217 bytes)) }
+    ensures yes { result ≡ 0 → HoldsCertified P.remaining plan.old }
     ensures quiet { result < 2 → err.new ≡ err.old }
     ensures ends { Ends O.contents E.contents (AnswersOf (file_of P.remaining job.now.plan.now plan.old plan.new)
         (RunsTo (file_of S.remaining (script_name job.now) script.old script.new))) result out.old out.new err.old
@@ -162,7 +162,7 @@ fn perform_fleet<
     err: &mut Output<E>,
 ) -> u8
     ensures status { result ≤ 2 }
-    ensures yes { result ≡ 0 → IfSome (left_of P.remaining plan.old) (λ bytes. IsCertifiedText (take 16777217 bytes)) }
+    ensures yes { result ≡ 0 → HoldsCertified P.remaining plan.old }
     ensures quiet { result < 2 → err.new ≡ err.old }
     ensures ends { Ends O.contents E.contents (AnswersOf (file_of P.remaining job.now.plan.now plan.old plan.new)
         (FleetsTo (file_of S.remaining (script_name job.now) script.old script.new))) result out.old out.new err.old
@@ -214,7 +214,7 @@ fn perform_explain_plan<P: FallibleRead, O: FallibleWrite, E: FallibleWrite>(
     err: &mut Output<E>,
 ) -> u8
     ensures status { result ≤ 2 }
-    ensures yes { result ≡ 0 → IfSome (left_of P.remaining plan.old) (λ bytes. IsCertifiedText (take 16777217 bytes)) }
+    ensures yes { result ≡ 0 → HoldsCertified P.remaining plan.old }
     ensures quiet { result < 2 → err.new ≡ err.old }
     ensures ends { Ends O.contents E.contents (AnswersOf (file_of P.remaining name.now plan.old plan.new)
         ExplainsTo) result out.old out.new err.old err.new }
@@ -235,7 +235,7 @@ fn perform_explain_file<P: FallibleRead, O: FallibleWrite, E: FallibleWrite>(
     err: &mut Output<E>,
 ) -> u8
     ensures status { result ≤ 2 }
-    ensures yes { result ≡ 0 → IfSome (left_of P.remaining plan.old) (λ bytes. IsCertifiedText (take 16777217 bytes)) }
+    ensures yes { result ≡ 0 → HoldsCertified P.remaining plan.old }
     ensures quiet { result < 2 → err.new ≡ err.old }
     ensures ends { Ends O.contents E.contents (AnswersOf (file_of P.remaining (shown_name name.now) plan.old plan.new)
         ExplainsTo) result out.old out.new err.old err.new }
@@ -258,11 +258,10 @@ fn perform_explain<P: FallibleRead, O: FallibleWrite, E: FallibleWrite>(
     err: &mut Output<E>,
 ) -> u8
     ensures status { result ≤ 2 }
-    ensures yes { IsFileName job.now.plan.now → result ≡ 0 → IfSome (left_of P.remaining plan.old)
-        (λ bytes. IsCertifiedText (take 16777217 bytes)) }
+    ensures yes { IsFileName job.now.plan.now → result ≡ 0 → HoldsCertified P.remaining plan.old }
     ensures quiet { result < 2 → err.new ≡ err.old }
-    ensures ends { Ends O.contents E.contents (ExplainsJob P.remaining job.now.plan.now plan.old plan.new) result out.old
-        out.new err.old err.new }
+    ensures ends { Ends O.contents E.contents (ExplainsJob P.remaining job.now.plan.now plan.old plan.new) result
+        out.old out.new err.old err.new }
     ensures plan_read { FailsByRead P.answers plan.old plan.new }
     ensures out_written { FailsByWrite O.answers out.old out.new }
     ensures err_written { FailsByWrite E.answers err.old err.new }
@@ -297,13 +296,13 @@ pub fn perform<
 ) -> u8
     ensures status { result ≤ 2 }
 
-    // The status 0 of a check, an explanation of a plan, a run or a fleet says that the plan's text spells a plan without a fault, whose quorums all meet.
-    ensures yes { job.now.action ≢ Search → HasFile job.now → result ≡ 0 → IfSome (left_of P.remaining plan.old)
-        (λ bytes. IsCertifiedText (take 16777217 bytes)) }
+    // The status 0 of a check, an explanation of a plan, a run or a fleet says that the plan's text spells a plan
+    // without a fault, whose quorums all meet.
+    ensures yes { job.now.action ≢ Search → HasFile job.now → result ≡ 0
+        → HoldsCertified P.remaining plan.old }
 
     // A check answers 1 only where the text has a fault.
-    ensures no { job.now.action ≡ Check → result ≡ 1 → IfSome (left_of P.remaining plan.old)
-        (λ bytes. IsFaultyText (take 16777217 bytes)) }
+    ensures no { job.now.action ≡ Check → result ≡ 1 → HoldsFault P.remaining plan.old }
     ensures quiet { job.now.action ≢ Search → result < 2 → err.new ≡ err.old }
 
     // With the status 0 nothing is written to `err`, by a search neither.
@@ -322,26 +321,27 @@ pub fn perform<
         (RunsTo (file_of S.remaining (script_name job.now) script.old script.new))) result out.old out.new err.old
         err.new }
 
-    // A fleet prints the line of the plan's first fault; else the number of the script's first bad line; else the lines
-    // of a run on threads of as many events as the script has.
+    // A fleet prints the line of the plan's first fault; else the number of the script's first bad line; else the
+    // lines of a run on threads of as many events as the script has.
     ensures fleets { job.now.action ≡ Fleet → Ends O.contents E.contents
         (AnswersOf (file_of P.remaining job.now.plan.now plan.old plan.new)
         (FleetsTo (file_of S.remaining (script_name job.now) script.old script.new))) result out.old out.new err.old
         err.new }
 
-    // A search prints the line of the first fault of the plan or of its claims; else the plan with the certificates that
-    // were found, each expression as the text of the file spells it, and a line for each claim without a certificate.
+    // A search prints the line of the first fault of the plan or of its claims; else the plan with the certificates
+    // that were found, each expression as the text of the file spells it, and a line for each claim without a
+    // certificate.
     ensures searches { job.now.action ≡ Search → Ends O.contents E.contents
         (AnswersOf (file_of P.remaining job.now.plan.now plan.old plan.new) SearchesTo) result out.old out.new err.old
         err.new }
 
-    // An explanation of a plan answers what a check does, and prints the plan in words above that; one of a number prints
-    // the refusal with that number in words.
+    // An explanation of a plan's text has the status and the last line of a check, on the same output; one of a number
+    // prints the refusal with that number in words.
     ensures explains { job.now.action ≡ Explain → Ends O.contents E.contents
         (ExplainsJob P.remaining job.now.plan.now plan.old plan.new) result out.old out.new err.old err.new }
 
-    // A file is said to be one that can't be read only where it couldn't be opened, or a read of it failed; and an output one that can't be
-    // written only where a write to it failed, or took none of its bytes.
+    // A file is said to be one that can't be read only where it couldn't be opened, or a read of it failed; and an
+    // output one that can't be written only where a write to it failed, or took none of its bytes.
     ensures plan_read { FailsByRead P.answers plan.old plan.new }
     ensures script_read { FailsByRead S.answers script.old script.new }
     ensures out_written { FailsByWrite O.answers out.old out.new }

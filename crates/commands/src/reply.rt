@@ -33,6 +33,8 @@ pub enum Stop<'a> {
     Unreadable(&'a str),
     /// The plan has this fault, or its text isn't a plan's.
     Plan(PlanFault),
+    /// The plan's text has this fault; the lines say where.
+    Placed(String, PlanFault),
     /// The script's line with this number is bad.
     Line(usize),
     /// No refusal has this number.
@@ -41,7 +43,7 @@ pub enum Stop<'a> {
     NoMemory,
 }
 
-/// Writes its line.
+/// Writes its line, and above it those of the place.
 impl fmt::Display for Stop<'_> {
     ghost use Rattle.std.specs.Prelude.{Some};
     ghost use Rattle.commands.specs.Stops.{stop_line};
@@ -52,6 +54,7 @@ impl fmt::Display for Stop<'_> {
         match self {
             Stop::Unreadable(name) => write!(f, "input: cannot read {name}\n"),
             Stop::Plan(fault) => write!(f, "{fault}\n"),
+            Stop::Placed(lines, fault) => write!(f, "{lines}{fault}\n"),
             Stop::Line(line) => write!(f, "input: line {line}\n"),
             Stop::Number(number) => { write!(f, "input: no refusal has the number {number}\n") }
             Stop::NoMemory => f.write_str("input: 9 NoMemory\n"),
@@ -113,7 +116,7 @@ impl Stop<'_> {
         ensures { result ≡ is_input_stop self.now }
     {
         match self {
-            Stop::Plan(fault) => fault.is_input(),
+            Stop::Plan(fault) | Stop::Placed(_, fault) => fault.is_input(),
             _ => true,
         }
     }

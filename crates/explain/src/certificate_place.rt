@@ -2,16 +2,8 @@
 
 use crate::trail::Trail;
 use json_node::{Node, TapeNode, count_items};
+use refutation::{MAX_DEPTH, MAX_LIST, MAX_NODES, has_keys, number_to};
 use std::alloc::AllocError;
-
-/// The most levels of a certificate.
-const LEVELS: u8 = 40;
-
-/// One more than the most rules of a certificate.
-const RULES: u32 = 100_001;
-
-/// The most entries of a list.
-const ENTRIES: usize = 255;
 
 const ITEM: &str = "an item's number, from 0 to 65,535";
 
@@ -20,15 +12,7 @@ const BRANCHES: &str = "an array of rules";
 /// Returns whether the value at a key is a whole number up to a limit.
 fn has_number(node: &TapeNode<'_, '_>, key: &str, most: u64) -> bool {
     match node.get(key) {
-        Some(value) => is_number_to(&value, most),
-        None => false,
-    }
-}
-
-/// Returns whether a value is a whole number up to a limit.
-fn is_number_to(value: &TapeNode<'_, '_>, most: u64) -> bool {
-    match value.as_u64() {
-        Some(number) => number <= most,
+        Some(value) => number_to(&value, most).is_ok(),
         None => false,
     }
 }
@@ -38,10 +22,10 @@ fn has_numbers(value: &TapeNode<'_, '_>) -> bool {
     let Some(mut rest) = value.items() else {
         return false;
     };
-    for _ in 0..=ENTRIES {
+    for _ in 0..=MAX_LIST {
         match TapeNode::next(&mut rest) {
             Some(number) => {
-                if !is_number_to(&number, 255) {
+                if number_to(&number, 255).is_err() {
                     return false;
                 }
             }
@@ -56,7 +40,7 @@ fn has_pairs(value: &TapeNode<'_, '_>) -> bool {
     let Some(mut rest) = value.items() else {
         return false;
     };
-    for _ in 0..=ENTRIES {
+    for _ in 0..=MAX_LIST {
         match TapeNode::next(&mut rest) {
             Some(pair) => {
                 if count_items(&pair, 3) != 2 || !has_numbers(&pair) {
@@ -110,7 +94,7 @@ fn lists_fault(
     } else {
         has_numbers(&list)
     };
-    if !is_good || count_items(&list, ENTRIES + 1) > ENTRIES {
+    if !is_good || count_items(&list, MAX_LIST + 1) > MAX_LIST {
         return trail.expect_at(
             key,
             if is_pairs {
@@ -122,7 +106,7 @@ fn lists_fault(
     }
     match node.get("then") {
         Some(then) if then.items().is_some() => {
-            if count_items(&then, ENTRIES + 1) > ENTRIES {
+            if count_items(&then, MAX_LIST + 1) > MAX_LIST {
                 return trail.expect_at("then", "at most 255 rules");
             }
             Ok(false)
@@ -137,7 +121,7 @@ fn keys_fault(
     count: usize,
     trail: &mut Trail,
 ) -> Result<bool, AllocError> {
-    if count > 5 || node.keys(count + 1) == Some(count) {
+    if count > 5 || has_keys(node, count).is_ok() {
         return Ok(false);
     }
     trail.expect("the keys of its rule, and no others")
@@ -217,7 +201,7 @@ fn branches_fault(
     let Some(mut rest) = then.items() else {
         return trail.expect_at("then", BRANCHES);
     };
-    for item in 0..ENTRIES {
+    for item in 0..MAX_LIST {
         let Some(branch) = TapeNode::next(&mut rest) else {
             return Ok(false);
         };
@@ -267,8 +251,8 @@ pub(crate) fn certificate_fault(
     node: &TapeNode<'_, '_>,
     trail: &mut Trail,
 ) -> Result<bool, AllocError> {
-    let mut room = RULES;
-    if rule_fault(node, LEVELS, &mut room, trail)? {
+    let mut room = MAX_NODES + 1;
+    if rule_fault(node, MAX_DEPTH, &mut room, trail)? {
         return Ok(true);
     }
     if room == 0 {

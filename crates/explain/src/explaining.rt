@@ -9,7 +9,8 @@ use plan::{ClaimRef, Plan, PlanFault, lent_claims};
 use std::alloc::{AllocError, Global};
 use volume_model::Fault;
 
-/// How many members and thresholds are looked at to find what the expressions of a plan survive, and whether its claims hold.
+/// How many members and thresholds are looked at to find what the expressions of a plan survive, and whether its claims
+/// hold.
 const LOOKS: u64 = 400_000_000;
 
 /// A plan in words.

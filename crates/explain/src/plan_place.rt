@@ -4,7 +4,9 @@ use crate::certificate_place::certificate_fault;
 use crate::expression_place::expression_fault;
 use crate::trail::{Step, Trail};
 use json_node::{Node, TapeNode, count_items};
+use plan::Format;
 use quorum_expr::{Lists, MemberSet};
+use refutation::has_keys;
 use std::alloc::AllocError;
 
 const PLAN: &str = "an object with the keys \"format\", \"groups\" and \"lal\", and no others";
@@ -23,14 +25,6 @@ const CONFIGURATION: &str =
 const MEMBERS: &str = "an array of one or more members";
 
 const MEMBER: &str = "a whole number from 0 to 63, greater than the one before it";
-
-/// The format of a plan.
-#[derive(Clone, Copy, PartialEq, Eq)]
-enum Format {
-    Plain,
-    Weighted,
-    Growing,
-}
 
 /// Returns the format that a node spells.
 fn format_of(node: &TapeNode<'_, '_>) -> Option<Format> {
@@ -114,7 +108,7 @@ fn lists_of(
 
 /// Returns whether an object has the seven keys of a configuration.
 fn has_fields(node: &TapeNode<'_, '_>) -> bool {
-    if node.keys(8) != Some(7) {
+    if has_keys(node, 7).is_err() {
         return false;
     }
     for key in [
@@ -204,7 +198,7 @@ fn group_fault(
     let Some(list) = node.get("configurations") else {
         return trail.expect(GROUP);
     };
-    if node.keys(2) != Some(1) {
+    if has_keys(node, 1).is_err() {
         return trail.expect(GROUP);
     }
     let count = count_items(&list, 65);
@@ -263,7 +257,7 @@ fn groups_fault(
             return Ok(false);
         };
         trail.enter_item("groups", number)?;
-        if group_fault(&group, format != Format::Plain, trail)? {
+        if group_fault(&group, format.is_weighted(), trail)? {
             return Ok(true);
         }
         trail.leave_item();
@@ -284,7 +278,7 @@ pub(crate) fn plan_fault(node: &TapeNode<'_, '_>, trail: &mut Trail) -> Result<b
         Format::Growing => (4, GROWING_PLAN),
     };
     let has_born = format != Format::Growing || node.get("born").is_some();
-    if node.keys(keys + 1) != Some(keys) || !has_born || node.get("groups").is_none() {
+    if has_keys(node, keys).is_err() || !has_born || node.get("groups").is_none() {
         return trail.expect(shape);
     }
     let Some(lal) = node.get("lal") else {

@@ -32,7 +32,8 @@ pub fn survival_of<A: Allocator>(
     budget: u64,
 ) -> Result<Survival, Fault>
     ensures smallest { IfOk result (λ s. IfSome s.smallest (IsLeastLoss (formula_of expr.now) members)) }
-    ensures alone { IfOk result (λ s. (x : ℕ) → contains s.alone x ≡ is_stopping (formula_of expr.now) members x) }
+    ensures alone { IfOk result (λ s. (x : ℕ) → contains s.alone x
+        ≡ is_stopping (formula_of expr.now) members x) }
 {
     let smallest = stopping_set(alloc, expr, members, budget)?;
     let alone = stopping_members(expr, members);

@@ -1,14 +1,12 @@
 //! The place of a fault in a plan's text.
 
+use crate::json_walk::{LEVELS, walk_over};
 use crate::plan_place::plan_fault;
 use crate::trail::{Step, Trail, add_path};
-use json::{Reader, Scratch, Tape, Token};
+use json::{Reader, Scratch, Tape};
 use json_node::tape_root;
 use plan::PLAN_BYTES;
 use std::alloc::{AllocError, Global};
-
-/// The most levels of arrays and objects.
-const LEVELS: usize = 127;
 
 /// The place of a fault in a plan's text.
 #[derive(Drop)]
@@ -17,6 +15,8 @@ pub struct FaultPlace {
     pub line: usize,
     /// The column, from 1, in bytes.
     pub column: usize,
+    /// Whether the text ends there.
+    pub is_end: bool,
     /// The path of keys and items, as `groups[0].configurations[1].read`; empty for the whole text.
     pub path: String,
     /// What is expected there.
@@ -35,7 +35,8 @@ fn blanks(text: &str) -> usize {
     count
 }
 
-/// Returns the offset of the value at a key of the object that a text begins with: of the last one, if the key is repeated.
+/// Returns the offset of the value at a key of the object that a text begins with: of the last one, if the key is
+/// repeated.
 fn offset_of_key(
     text: &str,
     key: &str,
@@ -94,8 +95,8 @@ fn offset_of(text: &str, steps: &[Step], scratch: &mut Scratch) -> Result<usize,
     Ok(at)
 }
 
-/// Returns the place at an offset of a text.
-fn place_at(alloc: Global, text: &[u8], offset: usize, expected: &'static str) -> FaultPlace {
+/// Returns the line and the column of an offset of a text, both from 1.
+pub(crate) fn position(text: &[u8], offset: usize) -> (usize, usize) {
     let (mut line, mut column) = (1usize, 1usize);
     for byte in text.iter().take(offset) {
         if *byte == b'\n' {
@@ -105,32 +106,33 @@ fn place_at(alloc: Global, text: &[u8], offset: usize, expected: &'static str) -
             column = column.saturating_add(1);
         }
     }
+    (line, column)
+}
+
+/// Returns the place at an offset of a text.
+fn place_at(alloc: Global, text: &[u8], offset: usize, expected: &'static str) -> FaultPlace {
+    let (line, column) = position(text, offset);
     FaultPlace {
         line,
         column,
+        is_end: offset >= text.len(),
         path: String::new(alloc),
         expected,
     }
 }
 
-/// Returns the place at which a text ceases to be JSON.
+/// Returns the place at which a text ceases to be JSON. If it is JSON, `otherwise` is expected of the whole text.
 fn syntax_place(
     alloc: Global,
     text: &str,
-    scratch: &mut Scratch,
+    otherwise: &'static str,
 ) -> Result<FaultPlace, AllocError> {
-    let mut reader = Reader::new(text, scratch)?;
-    let is_value = reader.skip_value(LEVELS).is_ok();
-    let offset = reader.offset();
-    let offset = offset.saturating_add(blanks(text.get(offset..).unwrap_or("")));
-    let expected = if is_value {
-        "nothing after the plan"
-    } else if offset >= text.len() {
-        "the rest of the plan: the text ends here"
-    } else {
-        "JSON: a value, a key in quotes, `:`, `,` or a closing bracket"
-    };
-    Ok(place_at(alloc, text.as_bytes(), offset, expected))
+    let mut scratch = Scratch::new(alloc);
+    let walked = walk_over(alloc, text, &mut scratch)?;
+    Ok(match walked.fault {
+        Some(fault) => place_at(alloc, text.as_bytes(), fault.offset, fault.expected),
+        None => place_at(alloc, text.as_bytes(), 0, otherwise),
+    })
 }
 
 /// Returns the place of the first fault of a text that is JSON, `None` if it is a plan.
@@ -140,12 +142,8 @@ fn value_place(
     tape: &Tape<'_>,
 ) -> Result<Option<FaultPlace>, AllocError> {
     let Some(root) = tape_root(tape) else {
-        return Ok(Some(place_at(
-            alloc,
-            text.as_bytes(),
-            0,
-            "numbers within the range of 64-bit floats, and at most 127 levels",
-        )));
+        let otherwise = "numbers within the range of 64-bit floats";
+        return Ok(Some(syntax_place(alloc, text, otherwise)?));
     };
     let mut trail = Trail {
         steps: Vec::new(alloc),
@@ -177,9 +175,6 @@ pub fn fault_place(alloc: Global, text: &[u8]) -> Result<Option<FaultPlace>, All
     match Tape::parse(text, &mut scratch, Vec::new(alloc)) {
         Ok(tape) => value_place(alloc, text, &tape),
         Err(json::Error::OutOfMemory) => Err(AllocError),
-        Err(_) => {
-            let mut scratch = Scratch::new(alloc);
-            Ok(Some(syntax_place(alloc, text, &mut scratch)?))
-        }
+        Err(_) => Ok(Some(syntax_place(alloc, text, "JSON")?)),
     }
 }

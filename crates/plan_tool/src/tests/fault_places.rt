@@ -214,28 +214,30 @@ const TYPOS: &[Typo] = &[
     ),
 ];
 
-/// A text that isn't JSON: a part of the plan, what stands in its place, and the line of the fault.
-type Misspelling = (&'static str, &'static str, usize);
+/// A text that isn't JSON: a part of the plan, what stands in its place, and the line and the column of the fault.
+type Misspelling = (&'static str, &'static str, usize, usize);
 
 const MISSPELLINGS: &[Misspelling] = &[
-    (r#""parent":null,"#, r#""parent":null "#, 2),
+    (r#""parent":null,"#, r#""parent":null "#, 2, 16),
     (
         r#"]}]}
 "#,
         r#"]}]"#,
         9,
+        4,
     ),
-    (r#""members":[0,1,3]"#, r#""members":[0,1,3,]"#, 5),
-    (r#""lal":10"#, r#""lal":010"#, 1),
-    (r#""format""#, r#"'format'"#, 1),
-    (r#""parent":null"#, r#""parent":nul"#, 2),
-    (r#""full":[0]"#, r#""full":[0"#, 6),
+    (r#""members":[0,1,3]"#, r#""members":[0,1,3,]"#, 5, 30),
+    (r#""lal":10"#, r#""lal":010"#, 1, 19),
+    (r#""format""#, r#"'format'"#, 1, 2),
+    (r#""parent":null"#, r#""parent":nul"#, 2, 11),
+    (r#""full":[0]"#, r#""full":[0"#, 6, 1),
     (
         r#"]}]}
 "#,
         r#"]}]}}
 "#,
         9,
+        5,
     ),
 ];
 
@@ -268,15 +270,15 @@ fn is_found(alloc: Global, typo: &Typo) -> Result<bool, AllocError> {
     }
 }
 
-/// Returns whether a text is no plan, and the place of its fault is in this line and has no path.
+/// Returns whether a text is no plan, and the place of its fault is at this line and column and has no path.
 fn is_seen(alloc: Global, misspelling: &Misspelling) -> Result<bool, AllocError> {
-    let (part, other, line) = *misspelling;
+    let (part, other, line, column) = *misspelling;
     let text = edited(alloc, part, other)?;
     if read_plan(alloc, text.as_bytes()).is_ok() {
         return Ok(false);
     }
     match fault_place(alloc, text.as_bytes())? {
-        Some(found) => Ok(found.line == line && found.path.is_empty()),
+        Some(found) => Ok(found.line == line && found.column == column && found.path.is_empty()),
         None => Ok(false),
     }
 }

@@ -1,8 +1,9 @@
 use Rattle.commands.specs.Answers.{file_of}
+use Rattle.commands.specs.Stops.{answer_of}
 use Rattle.commands.proofs.ExplainedPlans.{explains_text}
 use Rattle.commands.proofs.explaining.explain.Goals as goal
 
 pub returns-clause-answers : goal.returns-clause-answers
 returns-clause-answers g c =
-    explains_text (file_of g.P.Read.remaining c.args.name.now c.args.plan.now c.contents.new.file) c.in_ok-text.text.items c.as_slice.result.now c.explained_text.result c.in_ok-text.ensures.read c.as_slice.ensures.value
-    c.explained_text.ensures.reply c.explained_text.ensures.stop
+    explains_text (file_of g.P.Read.remaining c.args.name.now c.args.plan.now c.contents.new.file) c.in_ok-text.text.items c.as_slice.result.now (answer_of c.explained_text.result) c.in_ok-text.ensures.read c.as_slice.ensures.value
+    c.explained_text.ensures

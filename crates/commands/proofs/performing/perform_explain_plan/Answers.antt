@@ -27,4 +27,4 @@ returns-clause-quiet g c small =
     let file = file_of g.P.Read.remaining c.args.name.now c.args.plan.now c.explain-answer.new.plan in
     let end = ends_below g.O.Write.contents g.E.Write.contents (AnswersOf file ExplainsTo) c.finish.result c.args.out.now c.finish.new.out c.args.err.now c.finish.new.err (returns-clause-ends g c) small in
     let due = as_checked file end.0 end.1 in
-    end.3.untouched (due.3 ∙ quiet_due file due.0 due.1 (omega (arith, due.2, end.2)))
+    end.3.untouched (due.3 (quiet_due file due.0 due.1 (omega (arith, due.2, end.2))))

@@ -1,0 +1,71 @@
+//! The place of a fault in a plan's text, in words.
+
+use crate::json_walk::walk_over;
+use crate::page::Page;
+use crate::text_place::{FaultPlace, fault_place, position};
+use json::Scratch;
+use plan::PLAN_BYTES;
+use std::alloc::{AllocError, Global};
+
+/// Returns the offset of the first key of a text that its object has already.
+fn repeated_key(alloc: Global, text: &[u8]) -> Result<Option<usize>, AllocError> {
+    if text.len() > PLAN_BYTES as usize {
+        return Ok(None);
+    }
+    let Ok(text) = simdutf8::basic::from_utf8(text) else {
+        return Ok(None);
+    };
+    let mut scratch = Scratch::new(alloc);
+    let walked = walk_over(alloc, text, &mut scratch)?;
+    Ok(walked.repeated)
+}
+
+/// Appends where a key comes twice in one object, if one does.
+fn add_warning(alloc: Global, page: &mut Page, text: &[u8]) -> Result<(), AllocError> {
+    let Some(offset) = repeated_key(alloc, text)? else {
+        return Ok(());
+    };
+    let (line, column) = position(text, offset);
+    let mut warning = format!(in alloc; "warning: line {line}, column {column}: ")?;
+    warning.push_str("the object has this key already: its last value counts")?;
+    page.add(0, warning.as_str())
+}
+
+/// Appends a place, and what is expected there.
+fn add_place(alloc: Global, page: &mut Page, place: &FaultPlace) -> Result<(), AllocError> {
+    let (line, column) = (place.line, place.column);
+    let mut text = format!(in alloc; "line {line}, column {column}: ")?;
+    if !place.path.is_empty() {
+        text.push_str(place.path.as_str())?;
+        text.push_str(": ")?;
+    }
+    text.push_str("expected ")?;
+    text.push_str(place.expected)?;
+    if place.is_end {
+        text.push_str(", but the text ends")?;
+    }
+    page.add(0, text.as_str())
+}
+
+/// Returns the line of a key that comes twice in one object of a plan's text, or no line.
+///
+/// # Errors
+/// Memory ran out.
+pub fn warning_lines(alloc: Global, text: &[u8]) -> Result<String, AllocError> {
+    let mut page = Page::new(alloc);
+    add_warning(alloc, &mut page, text)?;
+    Ok(page.into_text())
+}
+
+/// Returns the same line of a text that isn't a plan's, and below it the place of its fault.
+///
+/// # Errors
+/// Memory ran out.
+pub fn place_lines(alloc: Global, text: &[u8]) -> Result<String, AllocError> {
+    let mut page = Page::new(alloc);
+    add_warning(alloc, &mut page, text)?;
+    if let Some(place) = fault_place(alloc, text)? {
+        add_place(alloc, &mut page, &place)?;
+    }
+    Ok(page.into_text())
+}
