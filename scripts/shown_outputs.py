@@ -5,8 +5,8 @@
 
 A shown command is an indented line that begins with `$`; the indented lines behind it are its output, standard output and standard error
 together, and a line `..` stands for any number of lines. Commands of one page run in one folder, one after the other, in which the
-examples lie and `plan_tool` is on the path; what a command writes to a file is there for the next one. A line in brackets, such as
-`(cd crates/tester && rt run -- 1 60)`, is left out: it needs the kit.
+examples lie and `plan_tool` is on the path; what a command writes to a file is there for the next one. A line in brackets, which
+needs the kit, is left out.
 """
 import os
 import pathlib
