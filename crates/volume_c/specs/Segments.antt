@@ -1,13 +1,13 @@
 -- What the calls of a segment are to give.
-use Rattle.std.specs.Prelude.{ℕ, List, [], Result, Ok, Err}
+use Rattle.std.specs.Prelude.{◌≡◌, ℕ, List, [], Result, Ok, Err}
 use Rattle.volume_model.specs.declared.fault.Fault.{Fault}
 use Rattle.volume_model.specs.Plan.{Plan}
 use Rattle.volume_model.specs.Message as model
 use Rattle.volume_model.specs.Redo.{scl}
-use Rattle.volume_model.specs.Node.{Node, restarted}
+use Rattle.volume_model.specs.Node.{Node, NodeAnswer, restarted}
 use Rattle.segment_core.specs.Segment.{born, paged}
 use Rattle.segment_core.specs.Snapshot.{resumed}
-use Rattle.volume_c.specs.View.{View, ANode}
+use Rattle.volume_c.specs.View.{View, Nothing, APlan, ANode, AClient, AnAuthority}
 use Rattle.volume_c.specs.Calls.{Step, Value, of_plan, of_node, with_value}
 use Rattle.volume_c.specs.Saved.{segment_in, segment_spelled}
 
@@ -33,6 +33,14 @@ page_value block point = of_node (λ plan group member node. paged plan group me
 abbrev pub scl_value : View → Value ℕ
 scl_value = of_node (λ plan group member node. Ok (scl node.contents.records))
 
--- the bytes of the snapshot
-abbrev pub snapshot_value : View → Value (List ℕ)
-snapshot_value = of_node (λ plan group member node. Ok (segment_spelled (restarted node)))
+-- a node that drops its pieces, as at a restart
+abbrev pub dropped : Plan → ℕ → ℕ → Node → NodeAnswer
+dropped plan group member node = Ok (record { made = []; node = restarted node })
+
+-- the bytes are those of the node that is held, and are read back as it
+abbrev pub IsSaved : List ℕ → View → Type 0
+IsSaved bytes Nothing = ⊥
+IsSaved bytes (APlan plan) = ⊥
+IsSaved bytes (ANode plan group member node) = (bytes ≡ segment_spelled node) × (segment_in bytes ≡ Ok node)
+IsSaved bytes (AClient plan volume client) = ⊥
+IsSaved bytes (AnAuthority plan authority) = ⊥

@@ -4,7 +4,7 @@ ghost use Rattle.std.specs.Prelude.{◌≡◌, ◌≢◌, [], Some, take};
 ghost use Rattle.volume_model.specs.Node.{hydrated, offered, reaction};
 ghost use Rattle.volume_c.specs.View.{seen, unsent};
 ghost use Rattle.volume_c.specs.Calls.{node_does, with_message, Does, Makes, Reads};
-ghost use Rattle.volume_c.specs.Segments.{born_step, resumed_step, page_value, scl_value, snapshot_value};
+ghost use Rattle.volume_c.specs.Segments.{born_step, dropped, page_value, resumed_step, scl_value, IsSaved};
 
 use crate::actor::{Actor, Held};
 use crate::acts::{deliver_step, segment_step};
@@ -13,10 +13,11 @@ use crate::constructors::{hold, plan_in};
 use crate::handle::Handle;
 use crate::outbox::Outbox;
 use crate::saved::{read_segment, segment_bytes};
-use crate::status::{TOO_SMALL, WRONG_HANDLE};
+use crate::status::{BAD_LENGTH, TOO_SMALL, UNSENT, WRONG_HANDLE};
 use message_bytes::decode;
 use segment_core::{NodeAction, Segment};
 use std::alloc::Global;
+use volume_model::Fault;
 use wire::Messages;
 
 /// The bytes of a block.
@@ -223,24 +224,37 @@ pub extern "C" fn volume_segment_scl(alloc: Global, segment: &mut Handle, scl: &
     status
 }
 
-/// Writes the snapshot of what is held.
-fn snapshot_of_held(alloc: Global, held: &mut Held, out: &mut [u8], needed: &mut usize) -> u8
-    ensures reads { Reads (snapshot_value (seen (Some held.old))) (take needed.new out.new) result (Some held.old)
-        (Some held.new) }
+/// Saves the segment that is held.
+fn save_held(alloc: Global, held: &mut Held, out: &mut [u8], needed: &mut usize) -> u8
+    ensures does { Does (node_does dropped (seen (Some held.old))) result (Some held.old) (Some held.new) }
+    ensures saved { result ≡ 0 → IsSaved (take needed.new out.new) (seen (Some held.new)) }
     ensures out { result ≢ 0 → out.new ≡ out.old }
 {
+    if !held.outbox.is_empty() {
+        return UNSENT;
+    }
     match &mut held.actor {
         Actor::Segment(segment) => match segment_bytes(alloc, segment) {
-            Ok(bytes) => copy_out(bytes.as_slice(), out, needed),
-            Err(fault) => fault.number(),
+            Ok(bytes) => {
+                let status = copy_out(bytes.as_slice(), out, needed);
+                if status == 0 {
+                    segment.restart();
+                }
+                status
+            }
+            Err(Fault::NoMemory) => Fault::NoMemory.number(),
+            Err(_) => BAD_LENGTH,
         },
         _ => WRONG_HANDLE,
     }
 }
 
-/// Writes the state of a segment that survives a restart, all of it but the pieces of copies and installs that it was
-/// sent, as docs/WIRE.md lays it out. With a log of the messages that it took since, the segment can be resumed.
-/// `needed` is the length; 92 where `out` is shorter. It takes some 109 bytes a record at most.
+/// Writes the state of a segment, as docs/WIRE.md lays it out, and drops the pieces of copies and installs that are
+/// under way, as a restart does: what the handle holds then is exactly what the bytes are resumed to. So a resumed
+/// segment that takes the messages that were logged since, in order, becomes the segment that took them. `needed` is
+/// the length, some 109 bytes a record at most.
+///
+/// Refused 92 where `out` is shorter than `needed`; 91 while there are messages to hand out.
 #[unsafe(no_mangle)]
 pub extern "C" fn volume_segment_snapshot(
     alloc: Global,
@@ -248,15 +262,16 @@ pub extern "C" fn volume_segment_snapshot(
     out: &mut [u8],
     needed: &mut usize,
 ) -> u8
-    ensures reads { Reads (snapshot_value (seen segment.old.seal.held)) (take needed.new out.new) result
-        segment.old.seal.held segment.new.seal.held }
+    ensures does { Does (node_does dropped (seen segment.old.seal.held)) result segment.old.seal.held
+        segment.new.seal.held }
+    ensures saved { result ≡ 0 → IsSaved (take needed.new out.new) (seen segment.new.seal.held) }
     ensures out { result ≢ 0 → out.new ≡ out.old }
 {
     *needed = 0;
     let Some(mut held) = segment.take(alloc) else {
         return WRONG_HANDLE;
     };
-    let status = snapshot_of_held(alloc, &mut held, out, needed);
+    let status = save_held(alloc, &mut held, out, needed);
     segment.put(held);
     status
 }
