@@ -190,9 +190,12 @@ uint8_t volume_segment_page(struct volume_handle *segment, uint32_t block, uint6
 /* Gives the segment complete point (SCL): the greatest LSN up to which the segment holds all records of its group. */
 uint8_t volume_segment_scl(struct volume_handle *segment, uint64_t *scl);
 
-/* Writes the state of a segment that survives a restart, all of it but the pieces of copies and installs that it was
- * sent, as docs/WIRE.md lays it out. With a log of the messages that it took since, the segment can be resumed. needed
- * is the length; 92 where out is shorter. It takes some 109 bytes a record at most. */
+/* Writes the state of a segment, as docs/WIRE.md lays it out, and drops the pieces of copies and installs that are
+ * under way, as a restart does: what the handle holds then is exactly what the bytes are resumed to. So a resumed
+ * segment that takes the messages that were logged since, in order, becomes the segment that took them. needed is the
+ * length, some 109 bytes a record at most.
+ *
+ * Refused 92 where out is shorter than needed; 91 while there are messages to hand out. */
 uint8_t volume_segment_snapshot(struct volume_handle *segment, uint8_t *out, size_t out_length, size_t *needed);
 
 /* Makes the writer that a volume is born with: volume epoch 1, no record. Call it once in the life of the volume; each

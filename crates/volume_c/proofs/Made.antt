@@ -1,5 +1,5 @@
 -- Handles that are filled.
-use Rattle.std.proofs.Common.{◌≡◌, ◌≢◌, ◌<◌, ℕ, Bool, false, List, [], Option, Some, None, Result, Ok, Err, refl, sym, ap, ◌∙◌, subst, arith, inl, inr, ◌⊎◌}
+use Rattle.std.proofs.Common.{◌≡◌, ◌≢◌, ◌<◌, ℕ, Bool, false, not, List, [], Option, Some, None, Result, Ok, Err, refl, sym, ap, ◌∙◌, subst, arith, inl, inr, ◌⊎◌}
 use Rattle.std.specs.Prelude.{is_some, nat_le, option_map}
 use Rattle.std.proofs.lemmas.Bool.{true≢false}
 use Rattle.std.proofs.lemmas.Bool.Decides.{nat_tests}
@@ -7,7 +7,8 @@ use Rattle.volume_model.specs.Answer.{Fails}
 use Rattle.volume_model.specs.Numbers.{number_of}
 use Rattle.volume_model.specs.Message as model
 use Rattle.volume_model.specs.declared.fault.Fault.{Fault}
-use Rattle.volume_model.specs.declared.fault.Fault.TheVariants.{NoMemory}
+use Rattle.volume_model.specs.declared.fault.Fault.TheVariants.{NoMemory, NotOpen}
+use Rattle.volume_model.specs.Refusal.{refuse_if}
 use Rattle.volume_c.specs.declared.actor.Held.{Held}
 use Rattle.volume_model.specs.Plan.{Plan}
 use Rattle.volume_model.specs.Client as client
@@ -27,10 +28,10 @@ use Rattle.world.specs.declared.client.Client.{Client}
 use Rattle.world.specs.Clients.{client_plan, client_volume, seen_client, IsClientOf, IsSameClient}
 use Rattle.volume_c.specs.declared.actor.Actor.TheVariants as actor
 use Rattle.volume_c.specs.View.{View, Nothing, APlan, ANode, AClient, AnAuthority, client_in, held_now, view_of, seen, unsent}
-use Rattle.volume_c.specs.Calls.{Step, Value, IsRefusal, Does, Makes, Reads, client_step, of_client}
+use Rattle.volume_c.specs.Calls.{Step, Value, IsRefusal, Refuses, Does, Makes, Reads, client_step, of_client}
 use Rattle.volume_c.specs.Authorities.{authority_made}
 use Rattle.volume_c.specs.Segments.{node_made}
-use Rattle.volume_c.specs.Clients.{birth_in}
+use Rattle.volume_c.specs.Clients.{birth_in, if_open, IsNoWriter}
 use Rattle.volume_c.proofs.Statuses.{number-some, stays}
 
 none-some : {X : Type 0} (x : X) → None ≡ Some x → ⊥
@@ -144,11 +145,30 @@ not-le n m l = grind (arith, nat_tests)
 
 -- a call that reads and gives its value
 pub gave : {A : Type 0} (defined : Value A) (value : A) (held : Option Held) → defined ≡ Some (Ok value) → Reads defined value 0 held held
-gave defined value held is = record { ok = λ _. is; same = (refl, refl) }
+gave defined value held is = record { ok = λ _. is; refused = λ some _. absurd (some refl); same = (refl, refl) }
 
--- a call that reads and gives nothing
-pub gave-none : {A : Type 0} (defined : Value A) (value : A) (status : ℕ) (held : Option Held) → status ≢ 0 → Reads defined value status held held
-gave-none defined value status held some = record { ok = λ none. absurd (some none); same = (refl, refl) }
+no-writer-some : (view : View) (status : ℕ) → IsNoWriter status view → status ≢ 0
+no-writer-some Nothing status is none = absurd (omega (arith, is, none))
+no-writer-some (APlan plan) status is none = absurd (omega (arith, is, none))
+no-writer-some (ANode plan group member node) status is none = absurd (omega (arith, is, none))
+no-writer-some (AClient plan volume now) status is none = let n : status ≡ 70 = is.0 in absurd (omega (arith, n, none))
+no-writer-some (AnAuthority plan authority) status is none = absurd (omega (arith, is, none))
+
+no-writer : {A : Type 0} (give : client.Client → Result A Fault) (view : View) (status : ℕ) → IsNoWriter status view → Refuses (of_client (λ plan volume now. if_open now (give now)) view) status
+no-writer give Nothing status is some few = absurd (omega (arith, is, few))
+no-writer give (APlan plan) status is some few = absurd (omega (arith, is, few))
+no-writer give (ANode plan group member node) status is some few = absurd (omega (arith, is, few))
+no-writer give (AClient plan volume now) status is some few = (NotOpen, is.0, ap (λ (b : Bool). refuse_if (not b) NotOpen (give now)) is.1)
+no-writer give (AnAuthority plan authority) status is some few = absurd (omega (arith, is, few))
+
+-- a call that reads where no writer is held
+pub gave-none : {A : Type 0} (give : client.Client → Result A Fault) (view : View) (value : A) (status : ℕ) (held : Option Held) → IsNoWriter status view
+    → Reads (of_client (λ plan volume now. if_open now (give now)) view) value status held held
+gave-none give view value status held is = record {
+  ok = λ none. absurd (no-writer-some view status is none);
+  refused = no-writer give view status is;
+  same = (refl, refl);
+}
 
 -- changes that C's structs aren't, or for which there is no memory
 pub not-changed : (defined : Step) (status : ℕ) (held : Option Held) → (status ≡ 94) ⊎ (status ≡ 9) → Does defined status held held

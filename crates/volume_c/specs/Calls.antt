@@ -109,4 +109,5 @@ pub record Makes (defined : Step) (status : ℕ) (old new : Option Held) : Type 
 -- A call that reads. Status 0: it gave the value that is defined. The handle holds the same in any case.
 pub record Reads {A : Type 0} (defined : Value A) (value : A) (status : ℕ) (old new : Option Held) : Type 0 where
   pub ok : status ≡ 0 → defined ≡ Some (Ok value)
+  pub refused : Refuses defined status
   pub same : (seen new ≡ seen old) × (unsent new ≡ unsent old)

@@ -1,5 +1,5 @@
 -- What the calls of a client are to give.
-use Rattle.std.specs.Prelude.{ℕ, Bool, not, List, [], Result, Ok, nat_le, length}
+use Rattle.std.specs.Prelude.{◌≡◌, ℕ, Bool, false, not, List, [], Result, Ok, nat_le, length}
 use Rattle.volume_model.specs.declared.fault.Fault.{Fault}
 use Rattle.volume_model.specs.declared.fault.Fault.TheVariants.{NotOpen, NoGroup}
 use Rattle.volume_model.specs.Refusal.{refuse_if}
@@ -11,7 +11,7 @@ use Rattle.volume_model.specs.Client.{Client, first_writer, group_point_of, is_o
 use Rattle.volume_model.specs.ClientPoints.{acknowledged, complete_point, durable_point}
 use Rattle.recovery.specs.Recoveries.{birth_of, view_volume}
 use Rattle.volume_c.specs.declared.client_calls.VolumePoints.{VolumePoints}
-use Rattle.volume_c.specs.View.{View, AClient}
+use Rattle.volume_c.specs.View.{View, Nothing, APlan, ANode, AClient, AnAuthority}
 use Rattle.volume_c.specs.Calls.{Step, Value, client_step, of_plan, of_client, with_message}
 
 -- the writer that a volume is born with
@@ -36,6 +36,14 @@ points_of p = (p.complete, p.durable, p.start, p.last)
 -- what an open writer gives
 abbrev pub if_open : {A : Type 0} → Client → Result A Fault → Result A Fault
 if_open client rest = refuse_if (not (is_open client.stage)) NotOpen rest
+
+-- why a writer isn't held: the client isn't open, or there is no client
+abbrev pub IsNoWriter : ℕ → View → Type 0
+IsNoWriter status Nothing = status ≡ 90
+IsNoWriter status (APlan plan) = status ≡ 90
+IsNoWriter status (ANode plan group member node) = status ≡ 90
+IsNoWriter status (AClient plan volume client) = (status ≡ 70) × (is_open client.stage ≡ false)
+IsNoWriter status (AnAuthority plan authority) = status ≡ 90
 
 abbrev pub points_value : View → Value Points
 points_value = of_client

@@ -14,7 +14,7 @@ ghost use Rattle.volume_c.specs.View.{client_in, held_now, seen, unsent};
 ghost use Rattle.volume_c.specs.Calls.{client_does, with_message, Does, Makes, Reads};
 ghost use Rattle.volume_c.specs.Changes.{given_change};
 ghost use Rattle.volume_c.specs.Clients.{acknowledged_value, birth_in, birth_step, first_step};
-ghost use Rattle.volume_c.specs.Clients.{point_value, points_of, points_value};
+ghost use Rattle.volume_c.specs.Clients.{point_value, points_of, points_value, IsNoWriter};
 
 use crate::actor::{Actor, Held};
 use crate::acts::client_step;
@@ -218,7 +218,7 @@ pub extern "C" fn volume_writer_read(
 /// Returns the writer that is held, or a status.
 fn writer_of(held: &Held) -> Result<&Writer, u8>
     ensures writer { IfOk result (λ writer. client_in (seen (Some held.now)) ≡ Some (client_of writer.now)) }
-    ensures status { IfErr result (λ status. status ≢ 0) }
+    ensures status { IfErr result (λ status. IsNoWriter status (seen (Some held.now))) }
 {
     match &held.actor {
         Actor::Client(client) => match client.state() {

@@ -1,8 +1,9 @@
 //! The bytes of snapshots.
 
-ghost use Rattle.std.specs.Prelude.{◌≡◌, Ok, IfOk};
+ghost use Rattle.std.specs.Prelude.{◌≡◌, Ok, IfErr, IfOk};
 ghost use Rattle.volume_model.specs.Answer.{Gives};
 ghost use Rattle.volume_model.specs.Node.{restarted};
+ghost use Rattle.volume_model.specs.declared.fault.Fault.TheVariants.{NoMemory};
 ghost use Rattle.epochs.specs.Authority.{authority_of};
 ghost use Rattle.epochs.specs.Snapshot.{authority_in as snapshot_authority};
 ghost use Rattle.segment_core.specs.Segment.{node_of, IsSameActor};
@@ -133,6 +134,7 @@ pub fn read_authority(alloc: Global, bytes: &[u8]) -> Result<AuthoritySnapshot, 
 pub fn authority_bytes(alloc: Global, authority: &Authority) -> Result<Vec<u8>, Fault>
     ensures text { IfOk result (λ text. text.items ≡ authority_spelled (authority_of authority.now)) }
     ensures reads { IfOk result (λ text. authority_in text.items ≡ Ok (authority_of authority.now)) }
+    ensures own { IfErr result (λ fault. fault ≡ NoMemory) }
 {
     let snapshot = authority.snapshot(alloc)?;
     let mut out = Vec::from_slice(alloc, &[VERSION, AUTHORITY])?;

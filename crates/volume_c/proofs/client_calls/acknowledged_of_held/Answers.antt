@@ -17,4 +17,4 @@ returns-in-Ok-clause-reads c =
 
 pub returns-in-Err-clause-reads : goal.returns-in-Err-clause-reads
 returns-in-Err-clause-reads c =
-    gave-none (acknowledged_value c.args.lsn (view_of c.args.held.now.actor)) c.args.acknowledged.now c.in-Err.status (Some c.args.held.now) c.in-Err.ensures.status
+    gave-none (λ (now : client.Client). Ok (acknowledged now c.args.lsn)) (view_of c.args.held.now.actor) c.args.acknowledged.now c.in-Err.status (Some c.args.held.now) c.in-Err.ensures.status

@@ -20,4 +20,4 @@ returns-in-Ok-group_point-clause-reads c =
 
 pub returns-in-Err-clause-reads : goal.returns-in-Err-clause-reads
 returns-in-Err-clause-reads c =
-    gave-none (point_value c.args.group (view_of c.args.held.now.actor)) c.args.point.now c.in-Err.status (Some c.args.held.now) c.in-Err.ensures.status
+    gave-none (λ (now : client.Client). refuse_if (nat_le (length now.groups) c.args.group) NoGroup (Ok (group_point_of now.groups c.args.group))) (view_of c.args.held.now.actor) c.args.point.now c.in-Err.status (Some c.args.held.now) c.in-Err.ensures.status

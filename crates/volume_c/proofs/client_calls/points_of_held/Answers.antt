@@ -23,4 +23,4 @@ returns-in-Ok-clause-reads c =
 
 pub returns-in-Err-clause-reads : goal.returns-in-Err-clause-reads
 returns-in-Err-clause-reads c =
-    gave-none (points_value (view_of c.args.held.now.actor)) (points_of c.args.points.now) c.in-Err.status (Some c.args.held.now) c.in-Err.ensures.status
+    gave-none (λ (now : client.Client). Ok (complete_point now, durable_point now, last_start now.lineage, last_lsn now.log)) (view_of c.args.held.now.actor) (points_of c.args.points.now) c.in-Err.status (Some c.args.held.now) c.in-Err.ensures.status
