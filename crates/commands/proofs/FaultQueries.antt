@@ -3,7 +3,6 @@ use Rattle.std.proofs.Common.{◌≡◌, inl, inr, subst, sym, ℕ, List, Option
 use Rattle.commands.specs.Answer.{Answer, IsSaid}
 use Rattle.commands.specs.Answers.{AnswersOf, File}
 use Rattle.commands.specs.Answers.AnswersOf.{unmade}
-use Rattle.commands.specs.Explains.{ExplainsTo}
 use Rattle.commands.specs.FaultQuery.{AnswersNumber}
 use Rattle.commands.specs.FaultQuery.AnswersNumber.{unmade as unmade_number}
 use Rattle.commands.specs.Stops.{stop_answer}
@@ -15,6 +14,6 @@ number_said number a said h (inl e) = subst (λ b. AnswersNumber number b) (sym 
 number_said number a said h (inr e) = unmade_number e
 
 -- memory ran out before the file was read
-pub never_read : (file : File) (said : Answer) → IsSaid (stop_answer stops.NoMemory) said → AnswersOf file ExplainsTo said
-never_read file said (inl e) = unmade e
-never_read file said (inr e) = unmade e
+pub never_read : (E : List ℕ → Answer → Type 0) (file : File) (said : Answer) → IsSaid (stop_answer stops.NoMemory) said → AnswersOf file E said
+never_read E file said (inl e) = unmade e
+never_read E file said (inr e) = unmade e

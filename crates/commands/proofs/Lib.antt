@@ -1,6 +1,7 @@
 pub mod Entered
 pub mod Numbers
 pub mod Refused
+pub mod Reported
 pub mod Calls
 pub mod Due
 pub mod ExplainedPlans

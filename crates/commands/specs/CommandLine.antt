@@ -4,7 +4,7 @@ use Rattle.clap.specs.Words.{App, Rule, Text, app_of, new_app, new_rule, with_ru
 use Rattle.clap.specs.Simple.{on_top}
 use Rattle.clap.specs.declared.builder.command.Command.{Command}
 use Rattle.clap.specs.declared.builder.command.Command.TheViews.{out-Command}
-use Rattle.clap.specs.declared.builder.action.ArgAction.TheVariants.{Set}
+use Rattle.clap.specs.declared.builder.action.ArgAction.TheVariants.{Set, SetTrue}
 use Rattle.clap.specs.declared.builder.value_parser.ValueParser.TheVariants as parsers
 
 abbrev pub file_rule : Text → Rule
@@ -34,6 +34,14 @@ workers_leaf name = with_rule (file_leaf name) workers_rule
 abbrev pub fleet_leaf : Text → App
 fleet_leaf name = with_rule (script_leaf name) workers_rule
 
+-- whether a plan is explained as JSON: --json
+abbrev pub json_rule : Rule
+json_rule = record (new_rule (codes "json")) { long = Some (codes "json"); action = Some SetTrue }
+
+-- a subcommand of a plan's file that may write JSON
+abbrev pub json_leaf : Text → App
+json_leaf name = with_rule (file_leaf name) json_rule
+
 -- a subcommand as it stands before it is added
 pub record IsLeaf (a : App) (c : Command) : Type 0 where
   pub app : app_of c ≡ a
@@ -53,6 +61,6 @@ with_fleet = with_subcommand with_runs (fleet_leaf (codes "fleet")).top
 abbrev pub with_search : App
 with_search = with_subcommand with_fleet (workers_leaf (codes "search")).top
 
--- check FILE, run PLAN SCRIPT, fleet PLAN SCRIPT -w N, search FILE -w N, explain FILE
+-- check FILE, run PLAN SCRIPT, fleet PLAN SCRIPT -w N, search FILE -w N, explain FILE --json
 abbrev pub tool : App
-tool = with_subcommand with_search (file_leaf (codes "explain")).top
+tool = with_subcommand with_search (json_leaf (codes "explain")).top

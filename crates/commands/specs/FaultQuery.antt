@@ -6,8 +6,8 @@ use Rattle.volume_model.specs.Numbers.{number_of}
 use Rattle.volume_model.specs.declared.fault.Fault.{Fault}
 use Rattle.commands.specs.Answer.{Answer, line_answer, no_memory, printed}
 use Rattle.commands.specs.Answers.{AnswersOf, file_of}
-use Rattle.commands.specs.Explains.{ExplainsTo}
 use Rattle.commands.specs.Jobs.{IsNumberOf}
+use Rattle.commands.specs.Reports.{ExplainsAs}
 use Rattle.commands.specs.ShownName.{shown_name}
 use Rattle.commands.specs.declared.action.Action.TheVariants.{Explain}
 use Rattle.commands.specs.declared.action.Job.{Job}
@@ -33,10 +33,11 @@ pub data AnswersNumber (number : ℕ) (answer : Answer) : Type 0 where
   unmade : answer ≡ no_memory → AnswersNumber number answer
 
 -- What an explanation answers: of a number, to that; else, to the text of the file, by its name without control
--- characters.
-pub data ExplainsJob {R : Type 0} (remaining : R → Option (List ℕ)) (name : List ℕ) (old new : Source R)
+-- characters, as JSON or in words.
+pub data ExplainsJob {R : Type 0} (remaining : R → Option (List ℕ)) (job : Job) (old new : Source R)
     (answer : Answer) : Type 0 where
-  of_number : (number : ℕ) → IsNumberOf (Some name) number → AnswersNumber number answer → ExplainsJob remaining name
-      old new answer
-  of_file : IsFileName name → AnswersOf (file_of remaining (shown_name name) old new) ExplainsTo answer
-      → ExplainsJob remaining name old new answer
+  of_number : (number : ℕ) → IsNumberOf (Some job.plan.now) number → AnswersNumber number answer
+      → ExplainsJob remaining job old new answer
+  of_file : IsFileName job.plan.now
+      → AnswersOf (file_of remaining (shown_name job.plan.now) old new) (ExplainsAs job.json) answer
+      → ExplainsJob remaining job old new answer

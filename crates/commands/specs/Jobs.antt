@@ -1,5 +1,6 @@
 -- What a job has of the words that named it.
-use Rattle.std.specs.Prelude.{◌≡◌, ℕ, List, Option, Some, None, codes, option_map}
+use Rattle.std.specs.Prelude.{◌≡◌, ℕ, List, Bool, false, Option, Some, None, codes, option_map}
+use Rattle.std.specs.Str.{bytes_eq}
 use Rattle.std.specs.Str.Parse.{IsNumeral, digits_value, without_leading_plus}
 use Rattle.clap.specs.Words.{Row, Text, first_of, one_of}
 use Rattle.commands.specs.declared.action.Action.{Action}
@@ -19,6 +20,11 @@ abbrev pub IsNumberOf : Option Text → ℕ → Type 0
 IsNumberOf None n = n ≡ 4
 IsNumberOf (Some text) n = IsNumeral 10 (without_leading_plus text) × (n ≡ digits_value 10 (without_leading_plus text))
 
+-- an option without a value stands there
+abbrev pub is_asked : Option Text → Bool
+is_asked None = false
+is_asked (Some text) = bytes_eq text (codes "true")
+
 -- the subcommand that clap entered, and what it has for each id
 pub record IsJob (found : Option (Text × List Row)) (j : Job) : Type 0 where
   pub rows : List Row
@@ -26,3 +32,4 @@ pub record IsJob (found : Option (Text × List Row)) (j : Job) : Type 0 where
   pub plan : first_of (codes "plan") rows ≡ Some j.plan.now
   pub script : option_map (λ w. w.now) j.script ≡ first_of (codes "script") rows
   pub workers : IsNumberOf (one_of (codes "workers") rows) j.workers
+  pub json : j.json ≡ is_asked (first_of (codes "json") rows)

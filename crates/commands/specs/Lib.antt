@@ -16,5 +16,6 @@ pub mod Unfound
 pub mod Searched
 pub mod UsageText
 pub mod Explains
+pub mod Reports
 pub mod ShownName
 pub mod FaultQuery

@@ -28,6 +28,8 @@ pub struct Job<'a> {
     pub script: Option<&'a str>,
     /// How many workers do it, 4 where the action takes no number of them.
     pub workers: u8,
+    /// Whether a plan is explained as JSON.
+    pub json: bool,
     ghost some: { 1 ≤ workers },
     ghost few: { workers ≤ 16 },
 }

@@ -28,8 +28,8 @@ fn words_of(alloc: Global, text: &[u8], plan: &Plan) -> Result<String, Stop<'sta
 {
     let mut words = warning_lines(alloc, text)?;
     match explain::explain(alloc, plan) {
-        Ok(explanation) => {
-            words.push_str(explanation.text.as_str())?;
+        Ok(said) => {
+            words.push_str(said.as_str())?;
             Ok(words)
         }
         Err(PlanFault::Text(_)) => Err(Stop::NoMemory),

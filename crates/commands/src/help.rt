@@ -59,8 +59,9 @@ Example: plan_tool search examples/uncertified.json -w 4 > certified.json";
 pub const EXPLAIN: &str = "\
 Reads the plan, and prints of each configuration its members, its expressions with how many members each can lose, the
 step from its parent, and of each claim whether it is certified, or two sets that show why it fails; of a text that
-isn't a plan's, the place of its fault; then the line that `check` prints. The file `-` is standard input. With a number
-below 256 in place of a file it prints what the refusal with that number means.
+isn't a plan's, the place of its fault; then the line that `check` prints. With --json it prints the same as one line
+of JSON on standard output. The file `-` is standard input. With a number below 256 in place of a file it prints what
+the refusal with that number means.
 
 Exit status, as of `check`: 0 for yes; 1 for a fault; 2 where the file can't be read or its text isn't a plan's, or no
 refusal has the number (told on standard error).

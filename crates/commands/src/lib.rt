@@ -14,6 +14,7 @@ mod names;
 mod outputs;
 mod performing;
 mod reply;
+mod reporting;
 mod run_text;
 mod running;
 mod search;

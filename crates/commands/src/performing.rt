@@ -8,6 +8,7 @@ ghost use Rattle.commands.specs.Answers.{AnswersOf, ChecksTo, FleetsTo, RunsTo, 
 ghost use Rattle.commands.specs.Explains.{ExplainsTo};
 ghost use Rattle.commands.specs.FaultQuery.{ExplainsJob, HasFile, IsFileName};
 ghost use Rattle.commands.specs.Held.{HoldsCertified, HoldsFault};
+ghost use Rattle.commands.specs.Reports.{ExplainsAs, ReportsTo};
 ghost use Rattle.commands.specs.Searched.{SearchesTo};
 ghost use Rattle.commands.specs.ShownName.{shown_name};
 ghost use Rattle.commands.specs.Stops.{answer_of, stop_answer};
@@ -24,6 +25,7 @@ use crate::leaking::leak;
 use crate::names::shown_name;
 use crate::outputs::{Output, deliver};
 use crate::reply::{Reply, Stop};
+use crate::reporting::reported;
 use crate::run_text::checked_line;
 use crate::running::{fleet, run};
 use crate::search::search;
@@ -226,8 +228,8 @@ fn perform_explain_plan<P: FallibleRead, O: FallibleWrite, E: FallibleWrite>(
     finish(alloc, &answer, out, err)
 }
 
-/// Performs an explanation of a plan's file with this name.
-fn perform_explain_file<P: FallibleRead, O: FallibleWrite, E: FallibleWrite>(
+/// Performs the report of a plan as JSON, whose file is printed with this name.
+fn perform_report<P: FallibleRead, O: FallibleWrite, E: FallibleWrite>(
     alloc: Global,
     name: &str,
     plan: &mut Source<P>,
@@ -237,14 +239,69 @@ fn perform_explain_file<P: FallibleRead, O: FallibleWrite, E: FallibleWrite>(
     ensures status { result ≤ 2 }
     ensures yes { result ≡ 0 → HoldsCertified P.remaining plan.old }
     ensures quiet { result < 2 → err.new ≡ err.old }
+    ensures ends { Ends O.contents E.contents (AnswersOf (file_of P.remaining name.now plan.old plan.new)
+        ReportsTo) result out.old out.new err.old err.new }
+    ensures plan_read { FailsByRead P.answers plan.old plan.new }
+    ensures out_written { FailsByWrite O.answers out.old out.new }
+    ensures err_written { FailsByWrite E.answers err.old err.new }
+{
+    match reported(alloc, name, plan) {
+        Ok(report) => deliver(
+            report.status,
+            report.value.as_bytes(),
+            report.line.as_bytes(),
+            out,
+            err,
+        ),
+        Err(stop) => refuse(alloc, &stop, out, err),
+    }
+}
+
+/// Performs an explanation of a plan whose file is printed with this name, as JSON or in words.
+fn perform_explain_as<P: FallibleRead, O: FallibleWrite, E: FallibleWrite>(
+    alloc: Global,
+    json: bool,
+    name: &str,
+    plan: &mut Source<P>,
+    out: &mut Output<O>,
+    err: &mut Output<E>,
+) -> u8
+    ensures status { result ≤ 2 }
+    ensures yes { result ≡ 0 → HoldsCertified P.remaining plan.old }
+    ensures quiet { result < 2 → err.new ≡ err.old }
+    ensures ends { Ends O.contents E.contents (AnswersOf (file_of P.remaining name.now plan.old plan.new)
+        (ExplainsAs json)) result out.old out.new err.old err.new }
+    ensures plan_read { FailsByRead P.answers plan.old plan.new }
+    ensures out_written { FailsByWrite O.answers out.old out.new }
+    ensures err_written { FailsByWrite E.answers err.old err.new }
+{
+    if json {
+        perform_report(alloc, name, plan, out, err)
+    } else {
+        perform_explain_plan(alloc, name, plan, out, err)
+    }
+}
+
+/// Performs an explanation of a plan's file with this name, as JSON or in words.
+fn perform_explain_file<P: FallibleRead, O: FallibleWrite, E: FallibleWrite>(
+    alloc: Global,
+    json: bool,
+    name: &str,
+    plan: &mut Source<P>,
+    out: &mut Output<O>,
+    err: &mut Output<E>,
+) -> u8
+    ensures status { result ≤ 2 }
+    ensures yes { result ≡ 0 → HoldsCertified P.remaining plan.old }
+    ensures quiet { result < 2 → err.new ≡ err.old }
     ensures ends { Ends O.contents E.contents (AnswersOf (file_of P.remaining (shown_name name.now) plan.old plan.new)
-        ExplainsTo) result out.old out.new err.old err.new }
+        (ExplainsAs json)) result out.old out.new err.old err.new }
     ensures plan_read { FailsByRead P.answers plan.old plan.new }
     ensures out_written { FailsByWrite O.answers out.old out.new }
     ensures err_written { FailsByWrite E.answers err.old err.new }
 {
     match shown_name(alloc, name) {
-        Ok(shown) => perform_explain_plan(alloc, shown.as_str(), plan, out, err),
+        Ok(shown) => perform_explain_as(alloc, json, shown.as_str(), plan, out, err),
         Err(_) => refuse(alloc, &Stop::NoMemory, out, err),
     }
 }
@@ -260,8 +317,8 @@ fn perform_explain<P: FallibleRead, O: FallibleWrite, E: FallibleWrite>(
     ensures status { result ≤ 2 }
     ensures yes { IsFileName job.now.plan.now → result ≡ 0 → HoldsCertified P.remaining plan.old }
     ensures quiet { result < 2 → err.new ≡ err.old }
-    ensures ends { Ends O.contents E.contents (ExplainsJob P.remaining job.now.plan.now plan.old plan.new) result
-        out.old out.new err.old err.new }
+    ensures ends { Ends O.contents E.contents (ExplainsJob P.remaining job.now plan.old plan.new) result out.old
+        out.new err.old err.new }
     ensures plan_read { FailsByRead P.answers plan.old plan.new }
     ensures out_written { FailsByWrite O.answers out.old out.new }
     ensures err_written { FailsByWrite E.answers err.old err.new }
@@ -271,7 +328,7 @@ fn perform_explain<P: FallibleRead, O: FallibleWrite, E: FallibleWrite>(
             let answer = explain_number(alloc, number);
             finish(alloc, &answer, out, err)
         }
-        None => perform_explain_file(alloc, job.plan, plan, out, err),
+        None => perform_explain_file(alloc, job.json, job.plan, plan, out, err),
     }
 }
 
@@ -335,10 +392,10 @@ pub fn perform<
         (AnswersOf (file_of P.remaining job.now.plan.now plan.old plan.new) SearchesTo) result out.old out.new err.old
         err.new }
 
-    // An explanation of a plan's text has the status and the last line of a check, on the same output; one of a number
-    // prints the refusal with that number in words.
+    // An explanation of a plan's text has the status and the last line of a check, on the same output; as JSON, the
+    // status and what a check prints to standard error. One of a number prints the refusal with that number in words.
     ensures explains { job.now.action ≡ Explain → Ends O.contents E.contents
-        (ExplainsJob P.remaining job.now.plan.now plan.old plan.new) result out.old out.new err.old err.new }
+        (ExplainsJob P.remaining job.now plan.old plan.new) result out.old out.new err.old err.new }
 
     // A file is said to be one that can't be read only where it couldn't be opened, or a read of it failed; and an
     // output one that can't be written only where a write to it failed, or took none of its bytes.

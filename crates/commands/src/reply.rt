@@ -26,6 +26,15 @@ pub struct Found {
     ghost few: { status ≤ 1 },
 }
 
+/// The answer of `explain --json`: the exit status, a JSON value for standard output, and a line for standard error.
+#[derive(Drop)]
+pub struct Report {
+    pub status: u8,
+    pub value: String,
+    pub line: String,
+    ghost known: { status ≤ 2 },
+}
+
 /// Why a job ends before its own answer.
 #[derive(Drop)]
 pub enum Stop<'a> {

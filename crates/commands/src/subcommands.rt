@@ -3,7 +3,8 @@
 ghost use Rattle.std.specs.Prelude.{◌≡◌, IfOk, false};
 ghost use Rattle.clap.specs.Words.{app_of, rule_of, with_subcommand};
 ghost use Rattle.clap.specs.declared.builder.command.Command.TheViews.{out-Command as fields_of};
-ghost use Rattle.commands.specs.CommandLine.{IsLeaf, file_rule, tool, program, file_leaf, fleet_leaf, script_leaf, workers_leaf, workers_rule};
+ghost use Rattle.commands.specs.CommandLine.{IsLeaf, file_rule, json_leaf, json_rule, tool, program};
+ghost use Rattle.commands.specs.CommandLine.{file_leaf, fleet_leaf, script_leaf, workers_leaf, workers_rule};
 
 use crate::help;
 use clap::{Arg, ArgAction, Command, value_parser};
@@ -100,6 +101,29 @@ fn of_fleet<'a>(
     ))
 }
 
+/// Returns the option of JSON.
+fn json<'a>(alloc: Global) -> Arg<'a>
+    ensures rule { rule_of result ≡ json_rule }
+    ensures local { result.global ≡ false }
+{
+    Arg::new(alloc, "json")
+        .long("json")
+        .action(ArgAction::SetTrue)
+        .help("Print a plan as one line of JSON, of the form in docs/EXPLAIN.md")
+}
+
+/// Returns a subcommand of a plan's file that may write JSON.
+fn of_json<'a>(
+    alloc: Global,
+    name: &'a str,
+    about: &'a str,
+    notes: &'a str,
+) -> Result<Command<'a>, AllocError>
+    ensures { IfOk result (IsLeaf (json_leaf name.entry.now)) }
+{
+    of_file(alloc, name, about, notes)?.arg(json(alloc))
+}
+
 fn add<'a>(command: Command<'a>, leaf: Command<'a>) -> Result<Command<'a>, AllocError>
     requires { (fields_of leaf).has_globals ≡ false }
     ensures { IfOk result
@@ -136,7 +160,7 @@ pub fn command_line<'a>(alloc: Global) -> Result<Command<'a>, AllocError>
         help::SEARCH,
     )?;
     let command = add(command, search)?;
-    let explain = of_file(
+    let explain = of_json(
         alloc,
         "explain",
         "Says what a plan survives and why its claims fail, or what a refusal means",

@@ -3,7 +3,7 @@
 ghost use Rattle.std.specs.Prelude.{◌≡◌, ◌≢◌, ◌≤◌, ◌<◌, ◌^◌, ℕ, IfErr, IfNone, IfOk, IfSome, codes, map, option_map};
 ghost use Rattle.clap.specs.Words.{first_of, found_of, one_of, rows_of, subcommand_of, subcommand_rows_of};
 ghost use Rattle.commands.specs.CommandLine.{tool};
-ghost use Rattle.commands.specs.Jobs.{IsJob, IsNumberOf, name_of};
+ghost use Rattle.commands.specs.Jobs.{IsJob, IsNumberOf, is_asked, name_of};
 ghost use Rattle.commands.specs.Usage.{IsMissing, IsRefusal, IsRightFor};
 ghost use Rattle.commands.specs.declared.action.Action.{Action as ActionName};
 
@@ -90,6 +90,16 @@ fn workers_of(matches: &ArgMatches<'_>) -> Option<u8>
     }
 }
 
+/// Returns whether the option of JSON stands there.
+fn json_of(matches: &ArgMatches<'_>) -> bool
+    ensures { result ≡ is_asked (first_of (codes "json") (rows_of (found_of matches.now))) }
+{
+    match text_of(matches, "json") {
+        Some(text) => text == "true",
+        None => false,
+    }
+}
+
 fn job_of<'a>(matches: &ArgMatches<'a>) -> Result<Job<'a>, Usage>
     ensures job { IfOk result (IsJob (subcommand_rows_of matches.now)) }
     ensures refused { IfErr result (IsMissing (subcommand_rows_of matches.now)) }
@@ -112,5 +122,6 @@ fn job_of<'a>(matches: &ArgMatches<'a>) -> Result<Job<'a>, Usage>
         plan,
         script,
         workers,
+        json: json_of(inner),
     })
 }

@@ -1,14 +1,14 @@
-//! Whether a claim is certified, and why it fails.
+//! Whether a claim holds, and why it fails.
 
-ghost use Rattle.std.specs.Prelude.{◌≤◌, IfOk};
+ghost use Rattle.std.specs.Prelude.{IfOk};
 ghost use Rattle.plan.specs.LentClaims.{lent_state};
 ghost use Rattle.explain.specs.Answers.{IsClaimAnswer};
 
-use crate::page::Page;
-use crate::wording::{add_set, nodes};
-use plan::{ClaimRef, claim_name};
+use crate::facts::{ClaimFacts, ClaimState, Members, WitnessFacts};
+use crate::wording::nodes;
+use plan::ClaimRef;
 use refutation::Certificate;
-use std::alloc::{AllocError, Global};
+use std::alloc::Global;
 use volume_model::Fault;
 use witness::{Decision, Witness, decide, no_certificate};
 
@@ -86,67 +86,20 @@ pub fn answer_claim(
     }
 }
 
-/// How far to the right the lines of a claim stand: those of `meets` below a configuration, those of `step` below its
-/// step.
-fn indent_of(is_step: bool) -> usize
-    ensures { result ≤ 6 }
-{
-    if is_step { 6 } else { 4 }
-}
-
-/// Appends the two sets that show that a step fails, and what to do.
-fn add_step_witness(text: &mut String, witness: &Witness) -> Result<&'static str, AllocError> {
-    text.push_str("step fails: read ")?;
-    add_set(text, witness.left)?;
-    text.push_str(" contains no read set of the parent, each of which has one of ")?;
-    add_set(text, witness.right)?;
-    Ok(
-        "do: step to a joint configuration first, whose writes satisfy the old and the new expression",
-    )
-}
-
-/// Appends the two sets that show that read sets don't meet write sets, and what to do.
-fn add_meets_witness(text: &mut String, witness: &Witness) -> Result<&'static str, AllocError> {
-    text.push_str("meets fails: read ")?;
-    add_set(text, witness.left)?;
-    text.push_str(" and write ")?;
-    add_set(text, witness.right)?;
-    text.push_str(" are disjoint")?;
-    Ok("do: ask for more members in `write` or in `read`")
-}
-
-/// Appends the two sets that show that a claim fails, and what to do.
-fn add_witness(
-    alloc: Global,
-    page: &mut Page,
-    is_step: bool,
-    witness: &Witness,
-) -> Result<(), AllocError> {
-    let mut text = String::new(alloc);
-    let advice = if is_step {
-        add_step_witness(&mut text, witness)?
-    } else {
-        add_meets_witness(&mut text, witness)?
+/// Returns what is printed of a claim.
+pub(crate) fn claim_facts(answer: &ClaimAnswer) -> ClaimFacts {
+    let state = match answer {
+        ClaimAnswer::Certified => ClaimState::Certified,
+        ClaimAnswer::Uncertified => ClaimState::Holds,
+        ClaimAnswer::Fails(_) => ClaimState::Fails,
+        ClaimAnswer::Unknown => ClaimState::Unknown,
     };
-    let indent = indent_of(is_step);
-    page.add(indent, text.as_str())?;
-    page.add(indent + 2, advice)
-}
-
-/// Appends what is known of a claim.
-pub fn add_claim(
-    alloc: Global,
-    page: &mut Page,
-    is_step: bool,
-    answer: &ClaimAnswer,
-) -> Result<(), AllocError> {
-    let name = claim_name(is_step);
-    let words = match answer {
-        ClaimAnswer::Certified => "certified",
-        ClaimAnswer::Uncertified => "holds, but no certificate shows it: let `search` find one",
-        ClaimAnswer::Fails(witness) => return add_witness(alloc, page, is_step, witness),
-        ClaimAnswer::Unknown => "not certified: whether it holds is unknown",
+    let witness = match answer {
+        ClaimAnswer::Fails(witness) => Some(WitnessFacts {
+            read: Members(witness.left),
+            other: Members(witness.right),
+        }),
+        _ => None,
     };
-    let text = format!(in alloc; "{name} {words}")?;
-    page.add(indent_of(is_step), text.as_str())
+    ClaimFacts { state, witness }
 }

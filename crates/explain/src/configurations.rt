@@ -1,91 +1,79 @@
-//! One configuration in words.
+//! What is known of the configurations of a plan.
 
-use crate::page::Page;
-use crate::survival::{add_blocks, add_survival};
-use crate::wording::{add_expr, add_members, nodes};
-use plan::Configuration;
-use quorum_expr::{Expr, MemberSet};
-use std::alloc::{AllocError, Global};
+use crate::claims::{answer_claim, claim_facts};
+use crate::facts::{ClaimFacts, ConfigurationFacts, Members, StepFacts};
+use crate::survival::quorum_facts;
+use plan::{ClaimRef, Configuration, Plan, PlanFault, lent_claims};
+use std::alloc::Global;
 use volume_model::Fault;
 
-/// Appends these words and the members of a set, unless it has none.
-fn add_kind(text: &mut String, word: &str, members: MemberSet) -> Result<(), AllocError> {
-    if members.is_empty() {
-        return Ok(());
-    }
-    text.push_str(word)?;
-    add_members(text, members)
-}
+/// How many members and thresholds are looked at to find what the expressions of a plan survive, and whether its claims
+/// hold.
+const LOOKS: u64 = 400_000_000;
 
-/// Appends its members: which keep whole pages, and which the log alone.
-fn add_membership(alloc: Global, page: &mut Page, this: &Configuration) -> Result<(), AllocError> {
-    let mut text = String::new(alloc);
-    text.push_str("members ")?;
-    add_members(&mut text, this.members)?;
-    add_kind(&mut text, ", full ", this.full)?;
-    add_kind(&mut text, ", tail ", this.members.difference(this.full))?;
-    page.add(4, text.as_str())
-}
-
-/// Appends one of its expressions and what it survives.
-fn add_quorum(
+/// Returns what is known of the configuration of a claim that read sets meet write sets.
+fn configuration_facts(
     alloc: Global,
-    page: &mut Page,
-    word: &str,
-    expr: &Expr<Global>,
-    members: MemberSet,
+    claim: &ClaimRef<'_>,
+    budget: u64,
+) -> Result<ConfigurationFacts, Fault> {
+    let this = claim.this;
+    let read = quorum_facts(alloc, &this.read, this.members, budget)?;
+    let write = quorum_facts(alloc, &this.write, this.members, budget)?;
+    let meets = answer_claim(alloc, claim, this.meets.as_ref(), budget)?;
+    Ok(ConfigurationFacts {
+        group: claim.group,
+        configuration: claim.configuration,
+        members: Members(this.members),
+        full: Members(this.full),
+        tail: Members(this.members.difference(this.full)),
+        read,
+        write,
+        meets: claim_facts(&meets),
+        step: None,
+    })
+}
+
+/// Returns what is known of a step.
+fn step_facts(this: &Configuration, parent: &Configuration, claim: ClaimFacts) -> StepFacts {
+    StepFacts {
+        parent: this.parent,
+        adds: Members(this.members.difference(parent.members)),
+        drops: Members(parent.members.difference(this.members)),
+        claim,
+    }
+}
+
+/// Appends what is known of a claim: a configuration, or the step to the last one.
+fn add_claim(
+    alloc: Global,
+    configurations: &mut Vec<ConfigurationFacts>,
+    claim: &ClaimRef<'_>,
     budget: u64,
 ) -> Result<(), Fault> {
-    let mut text = String::new(alloc);
-    write!(text, "{word} ")?;
-    add_expr(&mut text, expr)?;
-    page.add(4, text.as_str())?;
-    add_survival(alloc, page, expr, members, budget / nodes(expr))?;
-    add_blocks(alloc, page, expr, members)?;
+    let this = claim.this;
+    let Some(parent) = claim.parent else {
+        configurations.push(configuration_facts(alloc, claim, budget)?)?;
+        return Ok(());
+    };
+    let answer = answer_claim(alloc, claim, this.step.as_ref(), budget)?;
+    if let Some(last) = configurations.last_mut() {
+        last.step = Some(step_facts(this, parent, claim_facts(&answer)));
+    }
     Ok(())
 }
 
-/// Appends what a configuration is, and what it survives. `budget` bounds how many members and thresholds are looked
-/// at for each of its expressions.
+/// Returns what is known of each configuration of a plan: its members, what its expressions ask for and survive, its
+/// step, and whether its claims hold. All claims are judged, not only the first without a certificate.
 ///
 /// # Errors
-/// [`NoMemory`](Fault::NoMemory).
-pub fn add_configuration(
-    alloc: Global,
-    page: &mut Page,
-    number: u8,
-    this: &Configuration,
-    budget: u64,
-) -> Result<(), Fault> {
-    let mut text = String::new(alloc);
-    write!(text, "configuration {number}")?;
-    page.add(2, text.as_str())?;
-    add_membership(alloc, page, this)?;
-    add_quorum(alloc, page, "read", &this.read, this.members, budget)?;
-    add_quorum(alloc, page, "write", &this.write, this.members, budget)
-}
-
-/// Appends the step from its parent: which members it adds, all of them fresh, and which it drops.
-pub fn add_step(
-    alloc: Global,
-    page: &mut Page,
-    this: &Configuration,
-    parent: &Configuration,
-) -> Result<(), AllocError> {
-    let mut text = String::new(alloc);
-    match this.parent {
-        Some(number) => write!(text, "step from configuration {number}")?,
-        None => text.push_str("step")?,
+/// The plan's first fault of parents or fresh members, or [`NoMemory`](Fault::NoMemory).
+pub fn plan_facts(alloc: Global, plan: &Plan) -> Result<Vec<ConfigurationFacts>, PlanFault> {
+    let claims = lent_claims(alloc, plan)?;
+    let budget = LOOKS / (claims.len() as u64).max(1);
+    let mut configurations = Vec::new(alloc);
+    for claim in &claims {
+        add_claim(alloc, &mut configurations, claim, budget)?;
     }
-    add_kind(
-        &mut text,
-        ", adds ",
-        this.members.difference(parent.members),
-    )?;
-    add_kind(
-        &mut text,
-        ", drops ",
-        parent.members.difference(this.members),
-    )?;
-    page.add(4, text.as_str())
+    Ok(configurations)
 }

@@ -90,7 +90,7 @@ fn threshold_fault(
 ) -> Result<bool, AllocError> {
     let is_keyed = match node.keys(4) {
         Some(2) => true,
-        Some(3) => lists.is_weighted,
+        Some(3) => lists.is_weighted && node.get("weights").is_some(),
         _ => false,
     };
     let (Some(k), Some(of)) = (node.get("k"), node.get("of")) else {

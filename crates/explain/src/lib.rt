@@ -6,21 +6,29 @@ mod claims;
 mod configurations;
 mod explaining;
 mod expression_place;
+mod facts;
 mod faults;
 mod json_walk;
 mod page;
 mod placing;
 mod plan_place;
+mod report;
 mod survival;
 mod text_place;
 mod trail;
 mod wording;
 
 pub use claims::{ClaimAnswer, answer_claim};
-pub use explaining::{Explanation, explain};
+pub use configurations::plan_facts;
+pub use explaining::explain;
+pub use facts::{
+    BlockFacts, ClaimFacts, ClaimState, ConfigurationFacts, Members, QuorumFacts, StepFacts,
+    WitnessFacts,
+};
 pub use faults::{FaultWords, fault_lines, fault_words};
 pub use page::{COLUMNS, Page};
 pub use placing::{place_lines, warning_lines};
+pub use report::{json_report, known_configurations};
 pub use survival::{Survival, survival_of};
 pub use text_place::{FaultPlace, fault_place};
 pub use wording::{add_expr, add_members};

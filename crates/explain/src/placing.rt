@@ -8,7 +8,7 @@ use plan::PLAN_BYTES;
 use std::alloc::{AllocError, Global};
 
 /// Returns the offset of the first key of a text that its object has already.
-fn repeated_key(alloc: Global, text: &[u8]) -> Result<Option<usize>, AllocError> {
+pub(crate) fn repeated_key(alloc: Global, text: &[u8]) -> Result<Option<usize>, AllocError> {
     if text.len() > PLAN_BYTES as usize {
         return Ok(None);
     }

@@ -5,8 +5,8 @@ ghost use Rattle.std.specs.FinSet.{contains};
 ghost use Rattle.quorum_expr.specs.Expr.{formula_of};
 ghost use Rattle.witness.specs.Tolerance.{IsLeastLoss, is_stopping};
 
-use crate::page::Page;
-use crate::wording::add_set;
+use crate::facts::{BlockFacts, Members, QuorumFacts};
+use crate::wording::{add_expr, nodes};
 use quorum_expr::{Expr, MemberSet, holds};
 use std::alloc::{AllocError, Allocator, Global};
 use volume_model::Fault;
@@ -40,87 +40,55 @@ pub fn survival_of<A: Allocator>(
     Ok(Survival { smallest, alone })
 }
 
-/// Appends how many members an expression can lose.
-fn add_smallest(text: &mut String, smallest: Option<MemberSet>) -> Result<(), AllocError> {
-    let Some(smallest) = smallest else {
-        return text.push_str("how many losses it survives is unknown");
-    };
-    match smallest.len().saturating_sub(1) {
-        0 => text.push_str("survives no loss")?,
-        1 => text.push_str("survives the loss of any 1 member")?,
-        most => write!(text, "survives the loss of any {most} members")?,
-    }
-    text.push_str("; the loss of ")?;
-    add_set(text, smallest)?;
-    text.push_str(" stops it")
-}
-
-/// Appends a smallest set whose loss stops an expression, and the members of which each one does, if they are several.
-fn add_losses(
+/// Returns each list in an expression's list, such as a zone, and whether it survives the loss of all members that the
+/// list names.
+fn blocks_of(
     alloc: Global,
-    page: &mut Page,
-    smallest: Option<MemberSet>,
-    alone: MemberSet,
-) -> Result<(), AllocError> {
-    let mut text = String::new(alloc);
-    add_smallest(&mut text, smallest)?;
-    page.add(6, text.as_str())?;
-    if alone.len() < 2 {
-        return Ok(());
-    }
-    let mut text = String::new(alloc);
-    text.push_str("the loss of any one of ")?;
-    add_set(&mut text, alone)?;
-    text.push_str(" stops it")?;
-    page.add(6, text.as_str())
-}
-
-/// Appends what an expression survives over these members. `budget` bounds how many losses are tried.
-pub fn add_survival(
-    alloc: Global,
-    page: &mut Page,
     expr: &Expr<Global>,
     members: MemberSet,
-    budget: u64,
-) -> Result<(), Fault> {
-    let found = survival_of(alloc, expr, members, budget)?;
-    add_losses(alloc, page, found.smallest, found.alone)?;
-    Ok(())
-}
-
-/// Appends whether an expression survives the loss of all members that a part of it names.
-fn add_block(
-    alloc: Global,
-    page: &mut Page,
-    is_survived: bool,
-    block: MemberSet,
-) -> Result<(), AllocError> {
-    let mut text = String::new(alloc);
-    if is_survived {
-        text.push_str("survives the loss of the whole block ")?;
-    } else {
-        text.push_str("doesn't survive the loss of the whole block ")?;
-    }
-    add_set(&mut text, block)?;
-    page.add(6, text.as_str())
-}
-
-/// Appends whether an expression survives the loss of each list in its list, as of a zone.
-pub fn add_blocks(
-    alloc: Global,
-    page: &mut Page,
-    expr: &Expr<Global>,
-    members: MemberSet,
-) -> Result<(), AllocError> {
+) -> Result<Vec<BlockFacts>, AllocError> {
+    let mut blocks = Vec::new(alloc);
     let Expr::KOf { of, .. } = expr else {
-        return Ok(());
+        return Ok(blocks);
     };
     for (_, child) in of {
         if let Expr::KOf { .. } = child {
             let block = members_named(child);
-            let is_survived = holds(expr, members.difference(block));
-            add_block(alloc, page, is_survived, block)?;
+            blocks.push(BlockFacts {
+                members: Members(block),
+                survived: holds(expr, members.difference(block)),
+            })?;
         }
     }
-    Ok(())
+    Ok(blocks)
+}
+
+/// Returns what is known of an expression over these members. `budget` bounds how many members and thresholds are
+/// looked at.
+///
+/// # Errors
+/// [`NoMemory`](Fault::NoMemory).
+pub(crate) fn quorum_facts(
+    alloc: Global,
+    expr: &Expr<Global>,
+    members: MemberSet,
+    budget: u64,
+) -> Result<QuorumFacts, Fault> {
+    let mut expression = String::new(alloc);
+    add_expr(&mut expression, expr)?;
+    let survival = survival_of(alloc, expr, members, budget / nodes(expr))?;
+    let blocks = blocks_of(alloc, expr, members)?;
+    Ok(QuorumFacts {
+        expression,
+        survives: match survival.smallest {
+            Some(smallest) => Some(smallest.len().saturating_sub(1)),
+            None => None,
+        },
+        stopped_by: match survival.smallest {
+            Some(smallest) => Some(Members(smallest)),
+            None => None,
+        },
+        single: Members(survival.alone),
+        blocks,
+    })
 }

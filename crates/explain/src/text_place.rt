@@ -6,10 +6,11 @@ use crate::trail::{Step, Trail, add_path};
 use json::{Reader, Scratch, Tape};
 use json_node::tape_root;
 use plan::PLAN_BYTES;
+use serde::Serialize;
 use std::alloc::{AllocError, Global};
 
 /// The place of a fault in a plan's text.
-#[derive(Drop)]
+#[derive(Drop, Serialize)]
 pub struct FaultPlace {
     /// The line, from 1.
     pub line: usize,

@@ -16,6 +16,7 @@ pub fn check() -> Job<'static> {
         plan: "plan",
         script: None,
         workers: 1,
+        json: false,
     }
 }
 
@@ -26,6 +27,7 @@ pub fn run() -> Job<'static> {
         plan: "plan",
         script: Some("script"),
         workers: 1,
+        json: false,
     }
 }
 
@@ -39,6 +41,7 @@ pub fn fleet(workers: u8) -> Job<'static>
         plan: "plan",
         script: Some("script"),
         workers,
+        json: false,
     }
 }
 

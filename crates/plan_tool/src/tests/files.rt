@@ -206,6 +206,7 @@ fn empty_names(rt: HostRuntime) {
             plan: "",
             script: None,
             workers: 4,
+            json: false,
         };
         assert!(rt; done(&rt, alloc, &job, opened(&rt, Some("")), missing()).is(2, UNNAMED));
     }
@@ -214,6 +215,7 @@ fn empty_names(rt: HostRuntime) {
         plan: "p.json",
         script: Some(""),
         workers: 4,
+        json: false,
     };
     let plan = source_of(File::Has(SIX_COPIES.as_bytes()));
     assert!(rt; done(&rt, alloc, &job, plan, opened(&rt, Some(""))).is(2, UNNAMED));

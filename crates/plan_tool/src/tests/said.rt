@@ -73,6 +73,7 @@ pub fn job_of(action: Action, workers: u8) -> Job<'static>
         plan: "p.json",
         script: Some("s.txt"),
         workers,
+        json: false,
     }
 }
 

@@ -25,6 +25,7 @@ const SEARCH: Job<'static> = Job {
     plan: "p.json",
     script: None,
     workers: 1,
+    json: false,
 };
 
 /// The status of the search, and how many bytes standard output can still take, where both outputs take so many.

@@ -1,0 +1,113 @@
+//! A plan as JSON: `explain --json`.
+
+ghost use Rattle.std.specs.Prelude.{◌≡◌, ◌≤◌, Err, IfErr, IfOk, Ok, Some};
+ghost use Rattle.plan.specs.FaultKinds.{is_input};
+ghost use Rattle.plan.specs.Plan.{plan_data};
+ghost use Rattle.plan.specs.PlanFaults.{plan_fault};
+ghost use Rattle.plan.specs.PlanText.{plan_of};
+ghost use Rattle.commands.specs.Answers.{AnswersOf, file_of};
+ghost use Rattle.commands.specs.Reports.{IsReport, IsReported, ReportsTo, made_of, report_answer, status_of};
+ghost use Rattle.commands.specs.Stops.{StopsBy};
+ghost use Rattle.commands.specs.Streams.{FailsByRead};
+ghost use Rattle.commands.specs.declared.reply.Stop.TheVariants.{NoMemory};
+
+use crate::fallible::FallibleRead;
+use crate::files::Source;
+use crate::inputs::{checked_plan, contents, plan_in};
+use crate::leaking::leak;
+use crate::reply::{Report, Stop};
+use crate::run_text::checked_line;
+use explain::{ConfigurationFacts, json_report, known_configurations};
+use plan::{Plan, PlanFault};
+use std::alloc::Global;
+
+/// Returns the report of a text with what is known of its configurations, beside the status and the line of a check.
+fn made(
+    alloc: Global,
+    text: &[u8],
+    known: Option<Vec<ConfigurationFacts>>,
+    status: u8,
+    line: &str,
+) -> Result<Report, Stop<'static>>
+    requires { status ≤ 2 }
+    ensures report { IfOk result (IsReport status line.now) }
+    ensures stop { IfErr result (λ stop. stop ≡ NoMemory) }
+{
+    let value = json_report(alloc, text, known, status, line)?;
+    let shown = if status < 2 { "" } else { line };
+    let line = String::from_str(alloc, shown)?;
+    Ok(Report {
+        status,
+        value,
+        line,
+    })
+}
+
+/// Returns the report of a text that spells a plan.
+fn reported_plan(alloc: Global, text: &[u8], plan: Plan) -> Result<Report, Stop<'static>>
+    ensures report { plan_of text.now ≡ Ok (plan_data plan)
+        → IfOk result (λ report. ReportsTo text.now (made_of report)) }
+    ensures stop { IfErr result (StopsBy (λ fault. plan_fault (plan_data plan) ≡ Some fault)) }
+{
+    let known = Some(known_configurations(alloc, &plan)?);
+    match checked_plan(alloc, plan) {
+        Ok(plan) => {
+            let line = checked_line(alloc, &plan)?;
+            leak(plan);
+            made(alloc, text, known, 0, line.as_str())
+        }
+        Err(stop) => {
+            if stop.is_input() {
+                return Err(stop);
+            }
+            let line = format!(in alloc; "{stop}")?;
+            made(alloc, text, known, 1, line.as_str())
+        }
+    }
+}
+
+/// Returns the status of a check that finds a fault.
+fn status_of(fault: &PlanFault) -> u8
+    ensures { result ≡ status_of (is_input fault.now) }
+{
+    match fault.is_input() {
+        true => 2,
+        false => 1,
+    }
+}
+
+/// Returns the report of a text that isn't a plan's.
+fn reported_fault(alloc: Global, text: &[u8], fault: PlanFault) -> Result<Report, Stop<'static>>
+    ensures report { plan_of text.now ≡ Err fault
+        → IfOk result (λ report. ReportsTo text.now (made_of report)) }
+    ensures stop { IfErr result (λ stop. stop ≡ NoMemory) }
+{
+    let status = status_of(&fault);
+    let line = format!(in alloc; "{fault}\n")?;
+    made(alloc, text, None, status, line.as_str())
+}
+
+/// Returns the report of a text.
+fn reported_text(alloc: Global, text: &[u8]) -> Result<Report, Stop<'static>>
+    ensures { IsReported text.now (report_answer result) }
+{
+    match plan_in(alloc, text) {
+        Ok(plan) => reported_plan(alloc, text, plan),
+        Err(Stop::Plan(fault)) => reported_fault(alloc, text, fault),
+        Err(stop) => Err(stop),
+    }
+}
+
+/// Returns the answer of `explain --json`.
+pub fn reported<'a, P: FallibleRead>(
+    alloc: Global,
+    name: &'a str,
+    plan: &mut Source<P>,
+) -> Result<Report, Stop<'a>>
+    ensures answers { AnswersOf (file_of P.remaining name.entry.now plan.old plan.new) ReportsTo
+        (report_answer result) }
+    ensures reason { FailsByRead P.answers plan.old plan.new }
+{
+    let text = contents(alloc, name, plan)?;
+    reported_text(alloc, text.as_slice())
+}

@@ -1,0 +1,98 @@
+//! What is known of a plan's text, as JSON.
+
+use crate::configurations::plan_facts;
+use crate::facts::ConfigurationFacts;
+use crate::placing::repeated_key;
+use crate::text_place::{FaultPlace, fault_place, position};
+use plan::{Plan, PlanFault};
+use serde::Serialize;
+use std::alloc::{AllocError, Global};
+
+/// A place in a text.
+#[derive(Clone, Copy, Serialize)]
+struct TextPosition {
+    /// The line, from 1.
+    line: usize,
+    /// The column, from 1, in bytes.
+    column: usize,
+}
+
+/// What is known of a plan's text.
+#[derive(Drop, Serialize)]
+struct Report<'a> {
+    /// The exit status of `check`.
+    status: u8,
+    /// The line of `check`.
+    verdict: &'a str,
+    /// The first key that its object has already.
+    repeated_key: Option<TextPosition>,
+    /// The first fault of the text, if it isn't a plan's.
+    fault: Option<FaultPlace>,
+    /// The configurations of all groups. There is none if the plan has a fault of its text, its parents or its fresh
+    /// members.
+    configurations: Vec<ConfigurationFacts>,
+}
+
+/// Returns the place of the first key that its object has already.
+fn repeated(alloc: Global, text: &[u8]) -> Result<Option<TextPosition>, AllocError> {
+    let Some(offset) = repeated_key(alloc, text)? else {
+        return Ok(None);
+    };
+    let (line, column) = position(text, offset);
+    Ok(Some(TextPosition { line, column }))
+}
+
+/// Returns what is known of the configurations of a plan, nothing if its parents or fresh members have a fault.
+///
+/// # Errors
+/// Memory ran out.
+pub fn known_configurations(
+    alloc: Global,
+    plan: &Plan,
+) -> Result<Vec<ConfigurationFacts>, AllocError> {
+    match plan_facts(alloc, plan) {
+        Ok(configurations) => Ok(configurations),
+        Err(PlanFault::Text(_)) => Err(AllocError),
+        Err(_) => Ok(Vec::new(alloc)),
+    }
+}
+
+/// Writes a report as one line.
+fn line_of(alloc: Global, report: &Report<'_>) -> Result<String, AllocError> {
+    match serde_json::to_string(alloc, report) {
+        Ok(mut line) => {
+            line.push_str("\n")?;
+            Ok(line)
+        }
+        Err(_) => Err(AllocError),
+    }
+}
+
+/// Returns what is known of a text as one line of JSON, beside the status and the line of `check`: the configurations
+/// of the plan that it spells, or the place of its fault.
+///
+/// # Errors
+/// Memory ran out.
+pub fn json_report(
+    alloc: Global,
+    text: &[u8],
+    configurations: Option<Vec<ConfigurationFacts>>,
+    status: u8,
+    verdict: &str,
+) -> Result<String, AllocError> {
+    let fault = match &configurations {
+        Some(_) => None,
+        None => fault_place(alloc, text)?,
+    };
+    let report = Report {
+        status,
+        verdict: verdict.trim_end(),
+        repeated_key: repeated(alloc, text)?,
+        fault,
+        configurations: match configurations {
+            Some(configurations) => configurations,
+            None => Vec::new(alloc),
+        },
+    };
+    line_of(alloc, &report)
+}
