@@ -2,7 +2,8 @@
 //! without threads, sockets or a disk. The engine carries the messages, which are bytes, and keeps the state on its own
 //! disk.
 //!
-//! This crate is a thin, safe layer over `include/volume.h`. The library behind the header is proved; this layer isn't.
+//! This crate is a thin, safe layer over `include/volume.h`. `scripts/build_library` makes the library behind the
+//! header only over its proof; this layer isn't proved.
 //! `docs/EMBEDDING.md` says which calls an engine makes in which order, and what it owes: the plan is the same
 //! everywhere, messages aren't forged, a message is logged before its answers leave, and there is one authority.
 //!
@@ -280,7 +281,8 @@ impl Recovery {
     /// Makes a recovery from a View of the authority. Its Fences are handed out by [`Recovery::messages`].
     ///
     /// # Errors
-    /// 1, 2 or 3 where the bytes aren't a message's; 81 where they aren't a View's; 41 where its places aren't the plan's.
+    /// 1, 2 or 3 where the bytes aren't a message's; 81 where they aren't a View's; 41 where its places aren't the
+    /// plan's.
     pub fn new(plan: &mut Plan, view: &[u8]) -> Result<Recovery, Fault> {
         let plan = &mut plan.0 .0;
         Handle::made(|out| unsafe {
@@ -301,7 +303,8 @@ impl Recovery {
     /// Cuts the log that the reports hold, and makes the Installs of it.
     ///
     /// # Errors
-    /// 74 until the senders of the reports are a read quorum of each group; 75 after the cut; 73 where no LSNs are left.
+    /// 74 until the senders of the reports are a read quorum of each group; 75 after the cut; 73 where no LSNs are
+    /// left.
     pub fn cut(&mut self) -> Result<(), Fault> {
         checked(unsafe { raw::volume_recovery_cut(&mut self.0 .0) })
     }
@@ -495,8 +498,8 @@ impl Authority {
         checked(unsafe { raw::volume_authority_assign(&mut self.0 .0) })
     }
 
-    /// Advances a group to a child of its configuration, and makes the StepTo for the nodes of the group. Put a snapshot
-    /// on the disk before it leaves.
+    /// Advances a group to a child of its configuration, and makes the StepTo for the nodes of the group. Put a
+    /// snapshot on the disk before it leaves.
     ///
     /// # Errors
     /// 42 where no such group has joined; 41 where the group's configuration has no such child.

@@ -1,0 +1,239 @@
+/* Measures calls of the C library, in nanoseconds of a processor each, the least of several rounds.
+ *
+ *     library_calls PLAN RECORDS
+ *
+ * PLAN is examples/long_log.json. A line is a call's name and its price. bench/library_calls.py runs it. */
+#define _POSIX_C_SOURCE 199309L
+
+#include "support.h"
+
+#include <time.h>
+
+enum { ROUNDS = 20, MOST_BYTES = 128, BATCH = 32, COPIES = 3, CALLS = 200000, READS = 2000 };
+
+static struct volume_handle plan, writer, segments[COPIES];
+static struct bytes *writes; /* the Write of each record, in order */
+static struct bytes *acks;   /* the Ack of segment 0 to each */
+static size_t records;
+
+static double now(void) {
+    struct timespec time;
+    WANT(clock_gettime(CLOCK_PROCESS_CPUTIME_ID, &time) == 0);
+    return 1e9 * (double)time.tv_sec + (double)time.tv_nsec;
+}
+
+static void price(const char *name, double least) {
+    printf("%s\t%.0f\n", name, least);
+}
+
+/* The messages that a batch makes. */
+static uint8_t made[BATCH][MOST_BYTES];
+static size_t lengths[BATCH];
+
+static void take_out(struct volume_handle *actor, size_t i) {
+    DO(volume_next_message(actor, made[i], MOST_BYTES, &lengths[i]));
+}
+
+static void keep(struct bytes *kept) {
+    for (size_t i = 0; i < BATCH; i++) {
+        free_bytes(&kept[i]);
+        kept[i] = bytes_of(made[i], lengths[i]);
+    }
+}
+
+static struct volume_change change_of(size_t number) {
+    struct volume_change change = {.block = (uint32_t)(number % 64), .offset = (uint16_t)(number % 448), .length = 64};
+    memset(change.bytes, (int)(number % 251), sizeof change.bytes);
+    return change;
+}
+
+static void open_all(void) {
+    DO(volume_writer_first(&plan, &writer));
+    for (uint8_t member = 0; member < COPIES; member++)
+        DO(volume_segment_new(&plan, 0, member, &segments[member]));
+}
+
+static void close_all(void) {
+    volume_close(&writer);
+    for (int member = 0; member < COPIES; member++)
+        volume_close(&segments[member]);
+}
+
+/* A transaction, whose Writes are kept; returns the time of the calls. */
+static double issue_batch(size_t first) {
+    struct volume_change changes[BATCH];
+    for (size_t i = 0; i < BATCH; i++)
+        changes[i] = change_of(first + i);
+    double start = now();
+    DO(volume_writer_issue(&writer, changes, BATCH));
+    for (size_t i = 0; i < BATCH; i++)
+        take_out(&writer, i);
+    double spent = now() - start;
+    keep(&writes[first]);
+    return spent;
+}
+
+/* A segment takes records, and its Acks are taken out; returns the time of the calls. */
+static double take_batch(int member, size_t first) {
+    double start = now();
+    for (size_t i = 0; i < BATCH; i++) {
+        DO(volume_segment_take(&segments[member], writes[first + i].at, writes[first + i].length));
+        take_out(&segments[member], i);
+    }
+    return now() - start;
+}
+
+/* The writer takes the Acks of a batch: each of segment 0, which alone make nothing durable, and the last of
+ * segment 1. Returns the time of the former. */
+static double acknowledge_batch(size_t first) {
+    struct bytes last = bytes_of(acks[first + BATCH - 1].at, acks[first + BATCH - 1].length);
+    double start = now();
+    for (size_t i = first; i < first + BATCH; i++)
+        DO(volume_client_take(&writer, acks[i].at, acks[i].length));
+    double spent = now() - start;
+    last.at[11] = 1; /* the sender: segment 1 took the same */
+    DO(volume_client_take(&writer, last.at, last.length));
+    free_bytes(&last);
+    return spent;
+}
+
+struct prices {
+    double issued, fresh, held, acknowledged;
+};
+
+static void lower(double *least, double found) {
+    if (*least == 0 || found < *least)
+        *least = found;
+}
+
+/* Writes all records once. */
+static void round_of_writes(struct prices *least) {
+    struct prices spent = {0};
+    double count = (double)records;
+    open_all();
+    for (size_t first = 0; first < records; first += BATCH) {
+        spent.issued += issue_batch(first);
+        spent.fresh += take_batch(0, first);
+        keep(&acks[first]);
+        (void)take_batch(1, first);
+        spent.held += take_batch(0, first);
+        spent.acknowledged += acknowledge_batch(first);
+    }
+    lower(&least->issued, spent.issued / count);
+    lower(&least->fresh, spent.fresh / count);
+    lower(&least->held, spent.held / count);
+    lower(&least->acknowledged, spent.acknowledged / count);
+}
+
+/* Calls that do nothing. */
+static void refusals(void) {
+    struct volume_handle none = {0};
+    uint64_t scl = 0;
+    double closed = 0, refused = 0, read = 0;
+    for (int round = 0; round < ROUNDS; round++) {
+        double start = now();
+        for (int i = 0; i < CALLS; i++)
+            volume_close(&none);
+        double middle = now();
+        for (int i = 0; i < CALLS; i++)
+            (void)volume_segment_scl(&none, &scl);
+        double later = now();
+        for (int i = 0; i < CALLS; i++)
+            (void)volume_segment_scl(&segments[0], &scl);
+        lower(&closed, (middle - start) / CALLS);
+        lower(&refused, (later - middle) / CALLS);
+        lower(&read, (now() - later) / CALLS);
+    }
+    price("closing an empty handle", closed);
+    price("a refused call", refused);
+    price("`volume_segment_scl`", read);
+}
+
+/* Pages and the snapshot of a segment that holds all records. */
+static void whole_segment(void) {
+    struct volume_handle again = {0};
+    struct bytes snapshot = segment_snapshot(&segments[0]);
+    uint8_t page[BLOCK];
+    double saved = 0, resumed = 0, paged = 0;
+    for (int round = 0; round < ROUNDS; round++) {
+        size_t needed = 0;
+        double start = now();
+        DO(volume_segment_snapshot(&segments[0], snapshot.at, snapshot.length, &needed));
+        double middle = now();
+        DO(volume_segment_resume(&plan, 0, 0, snapshot.at, snapshot.length, &again));
+        double later = now();
+        for (uint32_t i = 0; i < READS; i++)
+            DO(volume_segment_page(&segments[0], i % 64, records, page, sizeof page));
+        lower(&saved, (middle - start) / (double)records);
+        lower(&resumed, (later - middle) / (double)records);
+        lower(&paged, (now() - later) / READS);
+        volume_close(&again);
+    }
+    price("`volume_segment_snapshot`, a record", saved);
+    price("`volume_segment_resume`, a record", resumed);
+    price("`volume_segment_page`, a block that many records changed", paged);
+    free_bytes(&snapshot);
+}
+
+/* Messages of 256 records: a copy's pieces are written for a buffer that is too small, and read by a segment that is
+ * whole, which refuses them. */
+static void full_messages(void) {
+    static const uint8_t ask[] = {1, COPY_ASK, 0, 0, 0, 0, 1};
+    struct bytes piece;
+    uint8_t none[1];
+    double written = 0, read = 0;
+    size_t needed = 0;
+    DO(volume_segment_take(&segments[0], ask, sizeof ask));
+    for (int round = 0; round < ROUNDS; round++) {
+        double start = now();
+        for (int i = 0; i < READS; i++)
+            (void)volume_next_message(&segments[0], none, 0, &needed);
+        lower(&written, (now() - start) / READS);
+    }
+    WANT(next_message(&segments[0], &piece));
+    for (int round = 0; round < ROUNDS; round++) {
+        double start = now();
+        for (int i = 0; i < READS; i++)
+            GIVES(VOLUME_ALREADY_WHOLE, volume_segment_take(&segments[1], piece.at, piece.length));
+        lower(&read, (now() - start) / READS);
+    }
+    price("writing a message of 256 records", written);
+    price("reading a message of 256 records", read);
+    free_bytes(&piece);
+}
+
+int main(int count, char **words) {
+    struct prices least = {0};
+    uint8_t line[100];
+    size_t needed = 0;
+    WANT(count == 3);
+    struct bytes text = read_file(words[1]);
+    records = strtoull(words[2], NULL, 10) / BATCH * BATCH;
+    WANT(records > 0);
+    writes = memory(NULL, records * sizeof *writes);
+    acks = memory(NULL, records * sizeof *acks);
+    memset(writes, 0, records * sizeof *writes);
+    memset(acks, 0, records * sizeof *acks);
+    DO(volume_plan_read(text.at, text.length, &plan, line, sizeof line, &needed));
+    for (int round = 0; round < ROUNDS; round++) {
+        close_all();
+        round_of_writes(&least);
+    }
+    refusals();
+    price("`volume_writer_issue`, a record of 32, with its Write", least.issued);
+    price("`volume_segment_take` of a record that is new, in order, with its Ack", least.fresh);
+    price("`volume_segment_take` of a record that it holds, with its Ack", least.held);
+    price("`volume_client_take` of an Ack", least.acknowledged);
+    whole_segment();
+    full_messages();
+    close_all();
+    volume_close(&plan);
+    for (size_t i = 0; i < records; i++) {
+        free_bytes(&writes[i]);
+        free_bytes(&acks[i]);
+    }
+    free(writes);
+    free(acks);
+    free_bytes(&text);
+    return 0;
+}
