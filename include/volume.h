@@ -14,8 +14,8 @@
  * doesn't fit into the buffer, 92 is returned, nothing is done, and `needed` says how many bytes it takes.
  *
  * Messages. Calls that change an actor may make messages, which wait in its handle: take each by volume_next_message.
- * Until all are taken, calls that would make others return 91. Messages may be lost, repeated and reordered on their
- * way, and must not be forged. docs/WIRE.md lays out their bytes.
+ * Until all are taken, calls that would make others return 91, also with a handle of another kind. Messages may be
+ * lost, repeated and reordered on their way, and must not be forged. docs/WIRE.md lays out their bytes.
  */
 #ifndef VOLUME_H
 #define VOLUME_H

@@ -60,9 +60,21 @@ void cluster_save(struct cluster *cluster, uint8_t member) {
     free_messages(&node->log);
 }
 
+/* The state of a node that is compared: its snapshot or, where it took copies, which a snapshot drops, its complete
+ * point. */
+static struct bytes state_of(struct node *node) {
+    struct bytes state = {0};
+    uint64_t scl = 0;
+    if (!node->has_copies)
+        return segment_snapshot(&node->segment);
+    DO(volume_segment_scl(&node->segment, &scl));
+    append(&state, &scl, sizeof scl);
+    return state;
+}
+
 void cluster_resume(struct cluster *cluster, uint8_t member) {
     struct node *node = &cluster->nodes[member];
-    struct bytes answer, before = segment_snapshot(&node->segment), after;
+    struct bytes answer, before = state_of(node), after;
     volume_close(&node->segment);
     DO(volume_segment_resume(&cluster->plan, 0, member, node->snapshot.at, node->snapshot.length, &node->segment));
     for (size_t i = 0; i < node->log.count; i++) {
@@ -70,7 +82,7 @@ void cluster_resume(struct cluster *cluster, uint8_t member) {
         while (next_message(&node->segment, &answer))
             free_bytes(&answer);
     }
-    after = segment_snapshot(&node->segment);
+    after = state_of(node);
     WANT(are_same(&before, &after));
     free_bytes(&before);
     free_bytes(&after);

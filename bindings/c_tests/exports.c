@@ -351,12 +351,14 @@ static void unsent(struct volume_handle handles[HOLDERS]) {
     GIVES(VOLUME_UNSENT, call_writer_resend(&handles[WRITER]));
     GIVES(VOLUME_UNSENT, call_writer_read(&handles[WRITER]));
     GIVES(VOLUME_UNSENT, call_client_take(&handles[WRITER]));
+    GIVES(VOLUME_UNSENT, call_segment_take(&handles[WRITER]));
     DO(call_writer_points(&handles[WRITER]));
     short_message_buffers(&handles[WRITER]);
     DO(volume_segment_take(&handles[SEGMENT], page_ask, sizeof page_ask));
     GIVES(VOLUME_UNSENT, call_segment_take(&handles[SEGMENT]));
     GIVES(VOLUME_UNSENT, call_segment_offer(&handles[SEGMENT]));
     GIVES(VOLUME_UNSENT, volume_segment_hydrate(&handles[SEGMENT]));
+    GIVES(VOLUME_UNSENT, call_segment_snapshot(&handles[SEGMENT]));
     drop_messages(&handles[SEGMENT]);
     DO(volume_authority_assign(&handles[AUTHORITY]));
     GIVES(VOLUME_UNSENT, volume_authority_assign(&handles[AUTHORITY]));
@@ -415,6 +417,56 @@ static void grown(const struct bytes *growing) {
     GIVES(VOLUME_NOT_JOINED, volume_writer_issue(&handles[WRITER], &change, 1));
     free_bytes(&view);
     close_all(handles);
+}
+
+/* The message that an actor made of another. */
+static struct bytes answer(struct volume_handle *segment, const struct bytes *message) {
+    struct bytes made_of = {0};
+    DO(volume_segment_take(segment, message->at, message->length));
+    WANT(next_message(segment, &made_of));
+    return made_of;
+}
+
+/* The fresh member takes the copies that it asks for. */
+static void take_copies(struct volume_handle *fresh, struct volume_handle *whole, size_t count,
+    const struct bytes *ask) {
+    for (size_t i = 0; i < count; i++) {
+        struct bytes copy = answer(&whole[i], ask);
+        DO(volume_segment_take(fresh, copy.at, copy.length));
+        free_bytes(&copy);
+    }
+}
+
+/* A snapshot that is written drops the copies that a fresh member took, and one that doesn't fit leaves them. */
+static void copies_and_snapshots(const struct bytes *text) {
+    struct volume_handle plan = {0}, authority = {0}, fresh = {0}, again = {0}, whole[3] = {{0}};
+    struct bytes step;
+    uint8_t out[1];
+    size_t needed;
+    read_plan(text, &plan);
+    DO(volume_authority_new(&plan, &authority));
+    DO(volume_authority_advance(&authority, 0, 1));
+    WANT(next_message(&authority, &step));
+    DO(volume_segment_new(&plan, 0, FRESH, &fresh));
+    struct bytes ask = answer(&fresh, &step);
+    for (uint8_t member = 0; member < 3; member++) {
+        DO(volume_segment_new(&plan, 0, member, &whole[member]));
+        DO(volume_segment_take(&whole[member], step.at, step.length));
+    }
+    take_copies(&fresh, whole, 3, &ask);
+    struct bytes snapshot = segment_snapshot(&fresh);
+    DO(volume_segment_resume(&plan, 0, FRESH, snapshot.at, snapshot.length, &again));
+    GIVES(VOLUME_NOT_ENOUGH, volume_segment_hydrate(&again));
+    GIVES(VOLUME_NOT_ENOUGH, volume_segment_hydrate(&fresh));
+    take_copies(&fresh, whole, 3, &ask);
+    GIVES(VOLUME_TOO_SMALL, volume_segment_snapshot(&fresh, out, sizeof out, &needed));
+    DO(volume_segment_hydrate(&fresh));
+    struct volume_handle *const all[] = {&plan, &authority, &fresh, &again, &whole[0], &whole[1], &whole[2]};
+    for (size_t i = 0; i < sizeof all / sizeof *all; i++)
+        volume_close(all[i]);
+    free_bytes(&step);
+    free_bytes(&ask);
+    free_bytes(&snapshot);
 }
 
 /* The first messages of each kind that a run makes. */
@@ -496,6 +548,7 @@ int main(int count, char **words) {
     short_lines();
     names();
     grown(&growing);
+    copies_and_snapshots(&text);
     messages_of_a_run(&text);
     free_bytes(&text);
     free_bytes(&growing);

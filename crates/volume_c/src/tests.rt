@@ -64,11 +64,12 @@ fn a_record_is_written_and_resumed(rt: HostRuntime) {
     let status = volume_writer_acknowledged(alloc, &mut writer, 1, &mut acknowledged);
     assert_eq!(rt; status, 0);
     assert!(rt; acknowledged);
-    let status = volume_segment_snapshot(alloc, &mut segment, &mut message, &mut needed);
+    let mut saved = [0u8; 94];
+    let status = volume_segment_snapshot(alloc, &mut segment, &mut saved, &mut needed);
     assert_eq!(rt; status, 0);
     assert_eq!(rt; needed, 94);
     volume_close(alloc, &mut segment);
-    let status = volume_segment_resume(alloc, &mut plan, 0, 0, &message[..94], &mut again);
+    let status = volume_segment_resume(alloc, &mut plan, 0, 0, &saved, &mut again);
     assert_eq!(rt; status, 0);
     let mut page = [0u8; 512];
     assert_eq!(rt; volume_segment_page(alloc, &mut again, 7, 1, &mut page), 0);
