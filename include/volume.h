@@ -1,17 +1,19 @@
 /* The actors of a volume of replicated logs, by opaque handles. Made by scripts/header.py: edit the exports of
  * crates/volume_c instead. docs/EMBEDDING.md says which calls an engine makes in which order.
  *
- * Results. A function returns 0, or a number of the list below and changes nothing then, unless its comment says
- * otherwise. 9 says that memory ran out; the same call may be made again.
+ * docs/MODEL.md defines the terms (View, label, consistency point, whole, lineage).
+ *
+ * Results. A function returns 0 or a number of `enum volume_status`. On any number but 0 it changes nothing, unless its
+ * comment says otherwise. 9 says that memory ran out; the same call may be made again.
  *
  * Handles. A handle is all zeros before its first use (`struct volume_handle h = {0};`) and after volume_close. It owns
  * what it holds. Never copy one that holds something, and never change its fields. It may move to another thread; calls
- * with the same handle are made one at a time. The handles of one call are different ones. A function that is given a
- * handle of another kind, an empty one, or a full one where it must be empty returns 90.
+ * with the same handle are made one at a time. Two arguments of one call must not be the same handle. A function returns
+ * 90 if a handle holds another kind of actor, if it is empty, or if it is full where it must be empty.
  *
- * Buffers. Bytes are given as a pointer and their number, and aren't kept after the call. A pointer isn't null, even
- * where the number is 0, and the memory behind a pointer that isn't const is written by this call alone. Where a result
- * doesn't fit into the buffer, 92 is returned, nothing is done, and `needed` says how many bytes it takes.
+ * Buffers. Bytes are a pointer and a length. The library keeps no pointer after the call. A pointer must not be null,
+ * even if the length is 0, and during the call nothing else may write the memory behind a pointer that isn't const. If a
+ * result doesn't fit into its buffer, the function returns 92 and does nothing, and `needed` is the length that it needs.
  *
  * Messages. Calls that change an actor may make messages, which wait in its handle: take each by volume_next_message.
  * Until all are taken, calls that would make others return 91, also with a handle of another kind. Messages may be
