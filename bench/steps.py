@@ -400,7 +400,7 @@ abbrev pub ghosts-on_fleet-L-FleetSite : goal.ghosts-on_fleet-L-FleetSite
 ghosts-on_fleet-L-FleetSite g a = record { mail = mail_in a.base }
 """
 
-CRATES = ["volume_model", "plan", "redo_record", "wire", "epochs", "writer_core", "world", "board", "journal", "fleet_actors", "node_fleet"]
+CRATES = ["volume_model", "plan", "redo_record", "wire", "epochs", "segment_core", "writer_core", "world", "board", "journal", "fleet_actors", "node_fleet"]
 
 # Changes a transaction, passes, rounds.
 JOBS = [(1, 1, 200), (1, 4, 200), (8, 1, 30), (8, 4, 30)]
