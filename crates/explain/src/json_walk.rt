@@ -1,17 +1,17 @@
-//! A walk over the tokens of a text: where it ceases to be JSON, and which key comes twice.
+//! A walk over the tokens of a text: it finds the first place that isn't JSON and the first repeated key.
 
 use json::{Reader, Scratch, Token};
 use std::alloc::{AllocError, Global};
 
-/// The most levels of arrays and objects.
+/// The nesting limit of arrays and objects.
 pub(crate) const LEVELS: usize = 127;
 
-/// Among how many keys of an object a repeated one is found. No object of a plan has more keys.
+/// The number of keys of an object among which a repeated key is found. No object of a plan has more keys.
 const KEYS: usize = 8;
 
 const TOO_DEEP: &str = "at most 127 levels of arrays and objects";
 
-/// What is due next in a text.
+/// The tokens that may come next in a text.
 #[derive(Clone, Copy, PartialEq, Eq)]
 enum Due {
     Plan,
@@ -26,7 +26,7 @@ enum Due {
 }
 
 impl Due {
-    /// Returns what is due, in words.
+    /// Returns the words for the tokens that may come next.
     fn expected(self) -> &'static str {
         match self {
             Due::Plan => "an object in `{` and `}`",
@@ -43,7 +43,7 @@ impl Due {
         }
     }
 
-    /// Returns whether a value is due.
+    /// Returns whether a value may come next.
     fn is_value(self) -> bool {
         matches!(
             self,
@@ -51,7 +51,7 @@ impl Due {
         )
     }
 
-    /// Returns whether a token is due.
+    /// Returns whether this token may come next.
     fn accepts(self, token: &Token<'_>) -> bool {
         match token {
             Token::Key(_) => matches!(self, Due::FirstKey | Due::NextKey),
@@ -63,43 +63,43 @@ impl Due {
     }
 }
 
-/// An array or object that isn't closed yet.
+/// An array or an object that isn't closed yet.
 #[derive(Clone, Copy)]
 struct Open {
     is_object: bool,
-    /// How many keys the objects around it have.
+    /// The number of keys kept of the objects around it.
     keys: usize,
 }
 
-/// A text ceases to be JSON here.
+/// The first place at which a text isn't JSON.
 #[derive(Clone, Copy)]
 pub(crate) struct SyntaxFault {
-    /// The offset, in bytes.
+    /// The offset, in bytes from the beginning.
     pub offset: usize,
     /// What is expected there.
     pub expected: &'static str,
 }
 
-/// What a walk over a text found.
+/// The result of a walk over a text.
 #[derive(Clone, Copy)]
 pub(crate) struct Walked {
-    /// Where the text ceases to be JSON.
+    /// The first place at which the text isn't JSON.
     pub fault: Option<SyntaxFault>,
-    /// The offset of the first key that its object has already.
+    /// The offset of the first key that its object already has.
     pub repeated: Option<usize>,
 }
 
-/// A walk over a text.
+/// The state of a walk over a text.
 #[derive(Drop)]
 struct Walk<'a> {
     open: Vec<Open>,
-    /// The first keys of each open object.
+    /// The first keys of each open object, from the outermost in.
     keys: Vec<&'a str>,
     due: Due,
     repeated: Option<usize>,
 }
 
-/// Returns whether a comma stands before an offset of a text, blanks aside.
+/// Returns whether the last byte before an offset that isn't a blank is a comma.
 fn is_behind_comma(text: &str, offset: usize) -> bool {
     let before = text.get(..offset).unwrap_or("");
     for byte in before.as_bytes().iter().rev() {
@@ -113,7 +113,7 @@ fn is_behind_comma(text: &str, offset: usize) -> bool {
 }
 
 impl<'a> Walk<'a> {
-    /// Enters an array or an object. Returns whether it isn't nested too deep.
+    /// Enters an array or an object. Returns `false` if it is beyond the nesting limit.
     fn enter(&mut self, is_object: bool) -> Result<bool, AllocError> {
         if self.open.len() >= LEVELS {
             return Ok(false);
@@ -135,7 +135,7 @@ impl<'a> Walk<'a> {
         }
     }
 
-    /// Takes a key of the innermost object, which stands at this offset.
+    /// Consumes a key of the innermost object. The key begins at `offset`.
     fn take_key(&mut self, key: &'a str, offset: usize) -> Result<(), AllocError> {
         self.due = Due::Member;
         let first = match self.open.last() {
@@ -155,7 +155,7 @@ impl<'a> Walk<'a> {
         Ok(())
     }
 
-    /// Says what is due behind a value that ends before this offset.
+    /// Sets what may come next after a value. `offset` is that of the token after the value.
     fn pass(&mut self, text: &str, offset: usize) {
         let has_comma = is_behind_comma(text, offset);
         self.due = match self.open.last() {
@@ -177,7 +177,7 @@ impl<'a> Walk<'a> {
         };
     }
 
-    /// Returns what the walk found if it ends by a fault.
+    /// Returns the result of a walk that ends at this fault.
     fn ended(&self, offset: usize, expected: &'static str) -> Walked {
         Walked {
             fault: Some(SyntaxFault { offset, expected }),
@@ -185,8 +185,8 @@ impl<'a> Walk<'a> {
         }
     }
 
-    /// Takes a token that is due, which stands at an offset and is followed by another one at `next`. Returns whether
-    /// it isn't nested too deep.
+    /// Consumes a token that may come next. The token begins at `offset`, the one after it at `next`. Returns `false`
+    /// if the token opens an array or an object beyond the nesting limit.
     fn take(
         &mut self,
         text: &str,
@@ -209,7 +209,7 @@ impl<'a> Walk<'a> {
     }
 }
 
-/// Walks over a text.
+/// Walks over the tokens of a text.
 pub(crate) fn walk_over(
     alloc: Global,
     text: &str,
