@@ -1,4 +1,4 @@
-"""Times `plan_tool run` on scripts of four kinds, each of about 1,000, 10,000 and 100,000 lines, in one run on one core.
+"""Times `plan_tool run` on scripts of five kinds, each of about 1,000, 10,000 and 100,000 lines, in one run on one core.
 
     python3 bench/scripts.py [crates/plan_tool/out/plan_tool]
 
@@ -113,6 +113,20 @@ def steady(size):
     """One writer, one group of six: all goes to four members, whose acknowledgements are all taken."""
     script = Script("steady writing")
     write_until(script, size, one_group, four_from(0))
+    return script
+
+
+def reverse(size):
+    """Like `steady`, but the records of a hundredth of the lines' transactions are issued first, and then delivered last first."""
+    script = Script("records in reverse")
+    window = size // 100
+    lines = window + 8 * sum(1 + k % 4 for k in range(window + 3))
+    while len(script.lines) + lines <= size:
+        messages = [message for _ in range(window) for message in script.issue(one_group(script))[1]]
+        for message in reversed(messages):
+            script.take(script.deliver(0, four_from(0), message))
+        script.durable = script.last
+        script.records += len(messages)
     return script
 
 
@@ -292,6 +306,7 @@ def main():
     with tempfile.TemporaryDirectory() as folder:
         went = [
             measure_kind(tool, "steady writing", steady, six_copies(1), folder),
+            measure_kind(tool, "records in reverse", reverse, six_copies(1), folder),
             measure_kind(tool, "recoveries between", recoveries, six_copies(1), folder),
             measure_kind(tool, "a member replaced", replaced, member_replaced(), folder),
             measure_kind(tool, "four groups", four_groups, six_copies(GROUPS), folder),

@@ -75,10 +75,10 @@ fn records_come_in_order_again(rt: HostRuntime) -> Result<(), Fail> {
     Ok(())
 }
 
-// The records 2, 4 to 8192, which fill a run.
+// The records 2, 4 to 1024, which fill a run.
 fn evens(alloc: Global) -> Result<RecordSet, Fail> {
     let mut set = RecordSet::new(alloc);
-    for k in 1..4097 {
+    for k in 1..513 {
         set.insert(packet(alloc, 2 * k, 0)?)?;
     }
     Ok(set)
@@ -88,12 +88,12 @@ fn evens(alloc: Global) -> Result<RecordSet, Fail> {
 #[test]
 fn a_full_run_takes_one_more(rt: HostRuntime) -> Result<(), Fail> {
     let set = evens(rt.alloc())?;
-    for k in 0..257 {
+    for k in 0..33 {
         let mut runs = Runs::from_set(rt.alloc(), &set)?;
         assert_eq!(rt; runs.runs().len(), 1);
         assert!(rt; take(rt.alloc(), &mut runs, packet(rt.alloc(), 32 * k + 1, 0)?)?);
         assert_eq!(rt; runs.runs().len(), 2);
-        assert_eq!(rt; runs.len(), 4097);
+        assert_eq!(rt; runs.len(), 513);
         assert!(rt; runs.record_at(32 * k + 1).is_some());
     }
     Ok(())
@@ -102,11 +102,11 @@ fn a_full_run_takes_one_more(rt: HostRuntime) -> Result<(), Fail> {
 #[test]
 fn records_of_one_number_stand_together(rt: HostRuntime) -> Result<(), Fail> {
     let mut runs = Runs::from_set(rt.alloc(), &evens(rt.alloc())?)?;
-    assert!(rt; !take(rt.alloc(), &mut runs, packet(rt.alloc(), 4096, 0)?)?);
+    assert!(rt; !take(rt.alloc(), &mut runs, packet(rt.alloc(), 512, 0)?)?);
     for block in 1..5 {
-        assert!(rt; take(rt.alloc(), &mut runs, packet(rt.alloc(), 4096, block)?)?);
+        assert!(rt; take(rt.alloc(), &mut runs, packet(rt.alloc(), 512, block)?)?);
     }
-    assert_eq!(rt; count_of(&runs, 4096), 5);
-    assert_eq!(rt; count_of(&runs, 4097), 0);
+    assert_eq!(rt; count_of(&runs, 512), 5);
+    assert_eq!(rt; count_of(&runs, 513), 0);
     Ok(())
 }
