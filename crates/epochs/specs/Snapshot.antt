@@ -1,5 +1,5 @@
 -- The state of an authority that survives a restart.
-use Rattle.std.specs.Prelude.{ℕ, ◌==◌, ◌||◌, nat_lt, length, Result, Ok}
+use Rattle.std.specs.Prelude.{◌==◌, ◌||◌, nat_lt, length, Result, Ok}
 use Rattle.volume_model.specs.Plan.{Plan}
 use Rattle.volume_model.specs.World as model
 use Rattle.volume_model.specs.Refusal.{refuse_if}

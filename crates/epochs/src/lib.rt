@@ -4,5 +4,5 @@
 mod authority;
 mod snapshot;
 
-pub use authority::Authority;
+pub use authority::{Authority, Readiness, waiting_keeps_readers};
 pub use snapshot::AuthoritySnapshot;

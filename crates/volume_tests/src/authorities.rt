@@ -3,7 +3,8 @@
 use super::said::Said::{self, Count, Step, View, Yes};
 use super::said::said_by;
 use super::texts::{GROWING, checked};
-use epochs::Authority;
+use epochs::{Authority, Readiness};
+use quorum_expr::MemberSet;
 use std::alloc::Global;
 use std::test::*;
 use volume_model::Fault::{self, AllGrown, NoGroup, NotInPlan, Superseded};
@@ -13,6 +14,13 @@ use wire::Message;
 const PLAN: &[u8] = b"{\"format\":1,\"lal\":10,\"groups\":[{\"configurations\":[\
 {\"parent\":null,\"members\":[0],\"full\":[0],\"read\":0,\"write\":0,\"meets\":{\"rule\":\"clash\",\"left\":0,\"right\":0},\"step\":null},\
 {\"parent\":0,\"members\":[0,1],\"full\":[0],\"read\":0,\"write\":0,\"meets\":{\"rule\":\"clash\",\"left\":0,\"right\":0},\"step\":{\"rule\":\"clash\",\"left\":0,\"right\":0}}]}]}";
+
+/// One group. Member 0 reads and writes alone; in the child of the root it reads together with member 1.
+const TWO_READ: &[u8] = b"{\"format\":1,\"lal\":10,\"groups\":[{\"configurations\":[\
+{\"parent\":null,\"members\":[0],\"full\":[0],\"read\":0,\"write\":0,\"meets\":{\"rule\":\"clash\",\"left\":0,\"right\":0},\"step\":null},\
+{\"parent\":0,\"members\":[0,1],\"full\":[0],\"read\":{\"k\":2,\"of\":\"all\"},\"write\":0,\
+\"meets\":{\"rule\":\"pick\",\"side\":\"left\",\"item\":0,\"children\":[0],\
+\"then\":[{\"rule\":\"clash\",\"left\":0,\"right\":0}]},\"step\":{\"rule\":\"dead\",\"side\":\"left\",\"item\":0}}]}]}";
 
 /// What the authority is asked, and what it is asked whether it may do it.
 #[derive(Clone, Copy)]
@@ -102,8 +110,47 @@ const GROUPS_JOIN: &[Row] = &[
     (Asked::Joined, Ok(Count(2))),
 ];
 
+/// The whole members, and whether they can read and write after the advance to the child.
+const READINESS: &[(&[u8], bool, bool)] = &[
+    (&[], false, false),
+    (&[0], false, true),
+    (&[1], false, false),
+    (&[0, 1], true, true),
+];
+
+/// The place of the first row for which a new volume's authority answers otherwise.
+fn wrong_readiness(alloc: Global) -> Result<Option<usize>, Fault> {
+    let authority = Authority::new(alloc, checked(alloc, TWO_READ)?)?;
+    for (place, (members, can_read, can_write)) in READINESS.iter().enumerate() {
+        let mut whole = MemberSet::empty();
+        for member in *members {
+            whole = whole.with(*member & 63);
+        }
+        let expected = Readiness {
+            can_read: *can_read,
+            can_write: *can_write,
+        };
+        if authority.may_advance(0, 1, whole) != Ok(expected) {
+            return Ok(Some(place));
+        }
+    }
+    Ok(None)
+}
+
+/// What the authority refuses to answer for this group and configuration.
+fn refused(alloc: Global, group: u8, configuration: u32) -> Result<Fault, Fault> {
+    let authority = Authority::new(alloc, checked(alloc, TWO_READ)?)?;
+    match authority.may_advance(group, configuration, MemberSet::empty()) {
+        Ok(_) => Ok(Fault::NoMessage),
+        Err(fault) => Ok(fault),
+    }
+}
+
 #[test]
 fn authorities(rt: HostRuntime) {
     assert_eq!(rt; broken(rt.alloc(), PLAN, STEPS_AND_VIEWS), Ok(None));
     assert_eq!(rt; broken(rt.alloc(), GROWING, GROUPS_JOIN), Ok(None));
+    assert_eq!(rt; wrong_readiness(rt.alloc()), Ok(None));
+    assert_eq!(rt; refused(rt.alloc(), 1, 1), Ok(NoGroup));
+    assert_eq!(rt; refused(rt.alloc(), 0, 0), Ok(NotInPlan));
 }

@@ -1,0 +1,60 @@
+//! What an advance waits for.
+
+ghost use Rattle.std.specs.Prelude.{◌≡◌, MatchResult, Err, Ok};
+ghost use Rattle.std.specs.FinSet as set;
+ghost use Rattle.epochs.specs.Authority.{authority_of, authority_plan};
+ghost use Rattle.epochs.specs.Waiting.{WaitingKeepsReaders};
+
+use super::Authority;
+use quorum_expr::{MemberSet, holds};
+use volume_model::Fault;
+
+/// What the whole members of a group allow after an advance to a configuration.
+#[derive(Clone, Copy, Debug, PartialEq, Eq)]
+pub struct Readiness {
+    /// Whether they satisfy the configuration's read expression. If they don't, wait: after such an advance no later
+    /// recovery of the volume could open.
+    pub can_read: bool,
+    /// Whether they satisfy its write expression. If they don't, commits wait until more members have hydrated.
+    pub can_write: bool,
+}
+
+impl Authority {
+    ghost use Rattle.epochs.specs.Waiting.{allowed, ready_to_advance};
+
+    /// Returns what the members of a group that are whole allow after [`Authority::advance`] to a configuration. Takes
+    /// no memory.
+    ///
+    /// An advance is safe if `can_read` is true. A member that was whole stays whole, so an older list of whole members
+    /// serves as well.
+    ///
+    /// # Errors
+    /// Those of [`Authority::admits_advance`].
+    pub fn may_advance(
+        &self,
+        group: u8,
+        configuration: u32,
+        whole: MemberSet,
+    ) -> Result<Readiness, Fault>
+        ensures { MatchResult result
+            (λ readiness. ready_to_advance (authority_plan self.now) (authority_of self.now) group configuration
+            (set.contains whole) ≡ Ok (allowed readiness))
+            (λ fault. ready_to_advance (authority_plan self.now) (authority_of self.now) group configuration
+            (set.contains whole) ≡ Err fault) }
+    {
+        let child = self.child(group, configuration)?;
+        match self.plan.configuration(group, child) {
+            Some(configuration) => Ok(Readiness {
+                can_read: holds(&configuration.read, whole),
+                can_write: holds(&configuration.write, whole),
+            }),
+            None => Err(Fault::NotInPlan),
+        }
+    }
+}
+
+/// Proves that a group whose last advance waited can be read: in every run its whole members satisfy the read
+/// expression of its configuration, if the members of its root satisfy that of the root.
+pub fn waiting_keeps_readers()
+    ensures { WaitingKeepsReaders }
+{}
