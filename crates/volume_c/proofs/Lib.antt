@@ -4,3 +4,4 @@ pub mod Statuses
 pub mod Did
 pub mod Back
 pub mod Made
+pub mod Amongst

@@ -9,3 +9,4 @@ pub mod Saved
 pub mod Segments
 pub mod Clients
 pub mod Authorities
+pub mod Advances

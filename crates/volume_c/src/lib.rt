@@ -6,6 +6,7 @@
 
 mod actor;
 mod acts;
+mod advance_calls;
 mod authority_calls;
 mod buffer;
 mod changes;
@@ -24,6 +25,7 @@ mod status;
 #[cfg(test)]
 mod tests;
 
+pub use advance_calls::{VolumeReadiness, volume_authority_may_advance};
 pub use authority_calls::{
     volume_authority_advance, volume_authority_assign, volume_authority_grow, volume_authority_new,
     volume_authority_refresh, volume_authority_resume, volume_authority_snapshot,
