@@ -18,7 +18,7 @@ pub enum Fault {
     BadField = 2,
     /// There are bytes after the record.
     Trailing = 3,
-    /// A growth was refused.
+    /// Memory ran out.
     NoMemory = 9,
     /// A threshold that isn't `1 <= k <= n <= 64`.
     BadCount = 10,
@@ -44,7 +44,7 @@ pub enum Fault {
     CountTooSmall = 26,
     /// Another number of branches than of children or pairs.
     BranchCount = 27,
-    /// The parent doesn't stand before the configuration.
+    /// Configuration 0 has a parent, or the parent of another one doesn't come before it.
     BadParent = 30,
     /// A fresh member that an ancestor has.
     MemberReused = 31,
@@ -52,11 +52,11 @@ pub enum Fault {
     NoCertificate = 32,
     /// A certificate that doesn't refute its claim.
     Certificate = 33,
-    /// More than the limit.
+    /// A text, an expression or a certificate is larger than allowed.
     OverLimit = 34,
     /// The volume epoch isn't the last one assigned.
     Superseded = 40,
-    /// No such configuration of the plan, or not a child of the present one.
+    /// The configuration isn't a child of the present one, or isn't in the plan.
     NotInPlan = 41,
     /// No such group.
     NoGroup = 42,
@@ -78,11 +78,11 @@ pub enum Fault {
     Full = 55,
     /// The node is whole already.
     AlreadyWhole = 56,
-    /// The copies aren't those of a read set.
+    /// The complete copies aren't those of a read quorum.
     NotEnough = 57,
     /// The segment holds no such record.
     NoRecord = 58,
-    /// No piece that can be one, or one of another number of pieces than those that are kept.
+    /// The piece can't be one of an Install or of a copy.
     BadPiece = 59,
     /// The member keeps no whole pages.
     TailSegment = 60,
@@ -94,17 +94,17 @@ pub enum Fault {
     NotOpen = 70,
     /// The log would run too far ahead of the durable point.
     LimitReached = 71,
-    /// No transaction of 1 to 32 good changes.
+    /// Not a transaction of 1 to 32 valid changes.
     BadTransaction = 72,
     /// No log sequence number is left.
     LsnSpent = 73,
-    /// The sets that the step asks for aren't there yet.
+    /// Too few members have answered for this step.
     NotReady = 74,
-    /// The client has taken this step already.
+    /// The client has taken this step before.
     AlreadyDone = 75,
     /// The log has no such record.
     NoLogRecord = 76,
-    /// The group hasn't joined the writer: its install doesn't count yet.
+    /// No write quorum has acknowledged the group's Install yet.
     NotJoined = 77,
     /// No such message was made.
     NoMessage = 80,
