@@ -10,8 +10,7 @@ ghost use Rattle.node_fleet.specs.Bases.{passes_of, IsBaseOf};
 
 use crate::Told;
 use crate::texts::{LONG, REPLACED, SIX};
-use fleet_actors::StepGate;
-use node_fleet::{Base, Fleet, FleetSite, Journal, Pass, Receipt, Row};
+use node_fleet::{Base, Fleet, FleetSite, Journal, Pass, Receipt, Row, StepGate};
 use plan::{CheckedPlan, check_plan, read_plan};
 use segment_core::NodeAction;
 use std::alloc::{AllocError, Global};

@@ -131,7 +131,7 @@ fn main(rt: HostRuntime) -> ExitCode {
 
 CORE_CRATES = ["volume_model", "quorum_expr", "refutation", "quorum_checker", "plan", "cert_search", "json"]
 
-FLEET_CRATES = ["volume_model", "plan", "redo_record", "wire", "epochs", "writer_core", "recovery", "world", "board", "journal", "fleet_actors", "node_fleet"]
+FLEET_CRATES = ["volume_model", "plan", "redo_record", "wire", "epochs", "writer_core", "recovery", "world", "board", "journal", "node_fleet"]
 
 # Those of one pass and of three, and what the cores answer.
 FLEET_STORIES = ["one pass", "three passes"]

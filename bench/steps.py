@@ -31,8 +31,7 @@ ghost use Rattle.plan.specs.CheckedModel.{checked_model};
 ghost use Rattle.journal.specs.Tokens.{ids_of};
 ghost use Rattle.node_fleet.specs.Bases.{passes_of, IsBaseOf};
 
-use fleet_actors::StepGate;
-use node_fleet::{Base, Fleet, FleetSite, Pass, Row};
+use node_fleet::{Base, Fleet, FleetSite, Pass, Row, StepGate};
 use plan::{CheckedPlan, check_plan, read_plan};
 use segment_core::NodeAction;
 use std::alloc::{AllocError, Global};
@@ -400,7 +399,7 @@ abbrev pub ghosts-on_fleet-L-FleetSite : goal.ghosts-on_fleet-L-FleetSite
 ghosts-on_fleet-L-FleetSite g a = record { mail = mail_in a.base }
 """
 
-CRATES = ["volume_model", "plan", "redo_record", "wire", "epochs", "segment_core", "writer_core", "world", "board", "journal", "fleet_actors", "node_fleet"]
+CRATES = ["volume_model", "plan", "redo_record", "wire", "epochs", "segment_core", "writer_core", "world", "board", "journal", "node_fleet"]
 
 # Changes a transaction, passes, rounds.
 JOBS = [(1, 1, 200), (1, 4, 200), (8, 1, 30), (8, 4, 30)]

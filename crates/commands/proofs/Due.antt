@@ -7,11 +7,11 @@ use Rattle.plan.specs.Plan.{plan_data}
 use Rattle.plan.specs.PlanData.{PlanData, model_of}
 use Rattle.plan.specs.declared.checked.CheckedPlan.{CheckedPlan}
 use Rattle.plan.specs.declared.fault.PlanFault.{PlanFault}
-use Rattle.script.specs.Script.{IsFirstBad, ReadsScript}
-use Rattle.script.specs.Seen.{asked_by}
-use Rattle.script.specs.declared.reading.Script.{Script}
-use Rattle.script.specs.declared.reading.ScriptFault.{ScriptFault}
-use Rattle.script.specs.declared.reading.ScriptFault.TheVariants as scripts
+use Rattle.drivers.specs.Script.{IsFirstBad, ReadsScript}
+use Rattle.drivers.specs.Seen.{asked_by}
+use Rattle.drivers.specs.declared.reading.Script.{Script}
+use Rattle.drivers.specs.declared.reading.ScriptFault.{ScriptFault}
+use Rattle.drivers.specs.declared.reading.ScriptFault.TheVariants as scripts
 use Rattle.commands.specs.Answer.{Answer, IsSaid, fault_answer, printed}
 use Rattle.commands.specs.Answers.{AnswersOf, BothAnswer, ChecksTo, File, IsBadScript, PlanAnswers, ScriptAnswers, PrintsFleetOf, PrintsOrders, PrintsScript}
 use Rattle.commands.specs.Answers.AnswersOf.{read, unread, unmade}

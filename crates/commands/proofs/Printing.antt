@@ -6,7 +6,7 @@ use Rattle.volume_model.specs.declared.fault.Fault.{Fault}
 use Rattle.commands.specs.RunText.{AreLinesOf, IsLineOf, LineResult, EventResult, counts_line, each_line, first_if, refused_line, rest_if, line_results}
 use Rattle.commands.specs.RunText.AreLinesOf.{none, more}
 use Rattle.commands.specs.RunLines.{AppendsLine, AppendsLines}
-use Rattle.script.specs.declared.reading.Step.{Step}
+use Rattle.drivers.specs.declared.reading.Step.{Step}
 
 -- Of the steps the first have their lines, after what stood there; these results are those of the later ones.
 pub record IsLineResult (steps : List Step) (results left : List EventResult) (i : ℕ) (old now : List ℕ) : Type 0 where

@@ -8,10 +8,10 @@ use Rattle.plan.specs.declared.fault.PlanFault.{PlanFault}
 use Rattle.world.specs.Events.{events_from}
 use Rattle.world.specs.declared.event.Order.{Order}
 use Rattle.commands.specs.declared.action.Job.{Job}
-use Rattle.script.specs.Grammar.{LineAction}
-use Rattle.script.specs.Script.{IsFirstBad, IsScript, kept_of}
-use Rattle.script.specs.Seen.{asked_by}
-use Rattle.script.specs.declared.reading.Step.{Step}
+use Rattle.drivers.specs.Grammar.{LineAction}
+use Rattle.drivers.specs.Script.{IsFirstBad, IsScript, kept_of}
+use Rattle.drivers.specs.Seen.{asked_by}
+use Rattle.drivers.specs.declared.reading.Step.{Step}
 use Rattle.commands.specs.Answer.{Answer, bad_line, fault_answer, no_memory, printed, unreadable}
 use Rattle.commands.specs.Streams.{IsTextOf, is_unread, left_of}
 use Rattle.commands.specs.RunText.{PrintsRun, plan_line}

@@ -6,9 +6,9 @@ use Rattle.plan.specs.Plan.{plan_data}
 use Rattle.plan.specs.PlanText.{plan_of}
 use Rattle.plan.specs.PlanFaults.{plan_fault}
 use Rattle.plan.specs.declared.checked.CheckedPlan.{CheckedPlan}
-use Rattle.script.specs.Grammar.{LineAction}
-use Rattle.script.specs.Script.{IsScript, Keeps}
-use Rattle.script.specs.declared.reading.Script.{Script}
+use Rattle.drivers.specs.Grammar.{LineAction}
+use Rattle.drivers.specs.Script.{IsScript, Keeps}
+use Rattle.drivers.specs.declared.reading.Script.{Script}
 use Rattle.commands.specs.Answers.{File}
 use Rattle.commands.specs.Streams.{IsTextOf}
 

@@ -1,7 +1,7 @@
 -- What is added to a text of a run.
 use Rattle.std.specs.Prelude.{◌≡◌, ℕ, List, ◌++◌, Option}
 use Rattle.commands.specs.RunText.{AreLinesOf, IsLineOf, EventResult, line_results}
-use Rattle.script.specs.declared.reading.Step.{Step}
+use Rattle.drivers.specs.declared.reading.Step.{Step}
 
 -- a line was added
 abbrev pub AppendsLine : ℕ → Option EventResult → List ℕ → List ℕ → Type 0

@@ -8,7 +8,7 @@ use Rattle.volume_model.specs.Lineage.{last_start}
 use Rattle.volume_model.specs.Outcome.{Opened, Find}
 use Rattle.volume_model.specs.Plan.{Plan}
 use Rattle.volume_model.specs.Redo.{last_lsn}
-use Rattle.script.specs.declared.reading.Step.{Step}
+use Rattle.drivers.specs.declared.reading.Step.{Step}
 use Rattle.plan.specs.Sums.{sum_below}
 
 -- the result of an event: the number of messages that it made, or why it was refused

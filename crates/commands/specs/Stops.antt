@@ -6,9 +6,9 @@ use Rattle.plan.specs.PlanFaultText.{plan_fault_text}
 use Rattle.volume_model.specs.declared.fault.Fault.TheVariants as faults
 use Rattle.plan.specs.declared.fault.PlanFault.{PlanFault}
 use Rattle.plan.specs.declared.fault.PlanFault.TheVariants.{Text}
-use Rattle.script.specs.Script.{IsFirstBad}
-use Rattle.script.specs.declared.reading.ScriptFault.{ScriptFault}
-use Rattle.script.specs.declared.reading.ScriptFault.TheVariants as scripts
+use Rattle.drivers.specs.Script.{IsFirstBad}
+use Rattle.drivers.specs.declared.reading.ScriptFault.{ScriptFault}
+use Rattle.drivers.specs.declared.reading.ScriptFault.TheVariants as scripts
 use Rattle.commands.specs.Answer.{Answer, line_answer, printed}
 use Rattle.commands.specs.declared.reply.Reply.{Reply}
 use Rattle.commands.specs.declared.reply.Stop.{Stop}

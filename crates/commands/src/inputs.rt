@@ -19,7 +19,7 @@ use crate::files::{ReadFault, Source};
 use crate::reply::Stop;
 use json::Scratch;
 use plan::{CheckedPlan, Plan, TapedPlan, check_plan};
-use script::{Script, read_script};
+use drivers::{Script, read_script};
 use std::alloc::Global;
 use std::sync::Arc;
 

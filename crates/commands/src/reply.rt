@@ -3,7 +3,7 @@
 ghost use Rattle.std.specs.Prelude.{◌≤◌};
 
 use plan::PlanFault;
-use script::ScriptFault;
+use drivers::ScriptFault;
 use std::alloc::{AllocError, AllocFailed};
 use std::fmt;
 use volume_model::Fault;

@@ -14,7 +14,7 @@ use crate::reply::Reply;
 use drivers::Driven;
 use itoa::Buffer;
 use plan::CheckedPlan;
-use script::Step;
+use drivers::Step;
 use std::alloc::{AllocError, Global};
 use volume_model::Fault;
 use world::{Outcome, RecoveryOutcome, WriterOutcome};

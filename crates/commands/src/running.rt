@@ -18,7 +18,7 @@ use crate::reply::{Reply, Stop};
 use crate::run_text::{fleet_lines, run_lines};
 use drivers::drive;
 use plan::CheckedPlan;
-use script::Script;
+use drivers::Script;
 use std::alloc::Global;
 use std::sync::{Arc, Wait};
 use std::thread::Threads;

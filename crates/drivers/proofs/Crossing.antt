@@ -27,13 +27,13 @@ use Rattle.world.specs.contracts.client.Client as Client
 use denote.Ref.{NamedLft}
 use Rattle.std.specs.declared.sync.ledger.Ledger as ledger
 use Rattle.board.proofs.Board.TheSendSync as board
-use Rattle.mailbox.proofs.per_node.Mailboxes.TheSendSync as mailboxes
+use Rattle.node_fleet.proofs.mailboxes.Mailboxes.TheSendSync as mailboxes
 use Rattle.journal.specs.declared.row.Site as site
 use Rattle.journal.proofs.cursor.ActorCursor.TheSendSync as cursor
 use Rattle.journal.proofs.log.Log.TheSendSync as log
-use Rattle.fleet_actors.specs.contracts.authority.AuthorityActor as AuthorityActor
-use Rattle.fleet_actors.specs.contracts.client.ClientActor as ClientActor
-use Rattle.fleet_actors.specs.contracts.node.NodeActor as NodeActor
+use Rattle.node_fleet.specs.contracts.authority.AuthorityActor as AuthorityActor
+use Rattle.node_fleet.specs.contracts.client.ClientActor as ClientActor
+use Rattle.node_fleet.specs.contracts.node.NodeActor as NodeActor
 use Rattle.node_fleet.specs.contracts.fleet.Fleet as Fleet
 use Rattle.node_fleet.specs.declared.site.FleetSite as fleet_site
 

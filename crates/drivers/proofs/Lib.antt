@@ -1,2 +1,13 @@
+pub mod Scripts
+pub mod Numerals
+pub mod Lines
+pub mod Parsing
+pub mod Splits
+pub mod Heads
+pub mod Turns
+pub mod Places
+pub mod LastWords
+pub mod NamedLines
+pub mod PlainChanges
 pub mod Crossing
 pub mod Sending

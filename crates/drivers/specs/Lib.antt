@@ -1,2 +1,12 @@
+pub mod Parts
+pub mod Pieces
+pub mod Reads
+pub mod Words
+pub mod Grammar
+pub mod Seen
+pub mod Script
+pub mod Named
+pub mod Plain
+pub mod Examples
 pub mod Counts
 pub mod Driven

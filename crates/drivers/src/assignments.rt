@@ -2,7 +2,7 @@
 
 ghost use Rattle.std.specs.Prelude.{◌≡◌, ◌≤◌, IfOk, vec_len};
 
-use script::Script;
+use crate::reading::Script;
 use std::alloc::{AllocError, Global};
 
 /// The assignment of an order to a driver.

@@ -1,18 +1,33 @@
-//! Scripts on threads: drivers take a script's lines in turn, and each node takes its messages on a thread of its
-//! own.
+//! Scripts: a text's lines as orders, and their run on threads, where drivers take the lines in turn and each node takes
+//! its messages on a thread of its own.
 #![tactic(auto)]
 
 mod agreeing;
 mod assignments;
 mod calls;
+mod changes;
 mod completion;
 mod completion_slot;
 mod completion_table;
 mod driving;
+mod examples;
+mod line;
+mod named;
+mod names;
 mod nodes;
+mod numbers;
+mod numeral;
+mod parts;
+mod payload;
+mod pieces;
+mod plain;
+mod reading;
 mod run;
 mod run_counts;
+mod seeking;
 mod threads;
 mod worker;
 
 pub use driving::{Driven, drive};
+pub use examples::say_their_lines;
+pub use reading::{Script, ScriptFault, Step, read_script};

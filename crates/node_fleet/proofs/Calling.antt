@@ -1,23 +1,16 @@
 -- What an attempt says of the call.
-use Rattle.std.proofs.Common.{◌≡◌, ℕ, List, Result, Err, refl, ap, ◌∙◌, subst}
+use Rattle.std.proofs.Common.{◌≡◌, List, Result, Err, refl, ap, ◌∙◌, subst}
 use Rattle.volume_model.specs.declared.fault.Fault.{Fault}
 use Rattle.volume_model.specs.declared.fault.Fault.TheVariants.{NoMessage}
 use Rattle.volume_model.specs.World.{Event}
 use Rattle.volume_model.specs.Judging.{Refusal}
 use Rattle.journal.specs.declared.entry.Receipt.{Receipt}
-use Rattle.journal.specs.Passes.{AddsStep}
 use Rattle.journal.specs.PassSteps.{Made}
-use Rattle.fleet_actors.specs.declared.halt.Halt.{Halt}
-use Rattle.fleet_actors.specs.declared.halt.Halt.TheVariants.{Refused}
-use Rattle.fleet_actors.specs.RecordsAttempt.{RecordsAttempt}
+use Rattle.node_fleet.specs.declared.halt.Halt.{Halt}
+use Rattle.node_fleet.specs.declared.halt.Halt.TheVariants.{Refused}
+use Rattle.node_fleet.specs.RecordsAttempt.{RecordsAttempt}
 use Rattle.node_fleet.specs.Calls.{NamesElse, RecordsCall}
-use Rattle.fleet_actors.specs.Volumes.{IsElsewhere, IsUnmade}
-
--- a step of the last try, before which the pass was as at first
-pub adds_first : (event asked : Event) (r : Receipt) (first steps steps' : List Made) (notes notes' before : List Refusal) → asked ≡ event → steps ≡ first → notes ≡ before
-    → AddsStep asked r steps steps' × (notes' ≡ notes) → AddsStep event r first steps' × (notes' ≡ before)
-adds_first event asked r first steps steps' notes notes' before is same kept recorded =
-    (subst (λ (e : Event). AddsStep e r first steps') is (subst (λ (s : List Made). AddsStep asked r s steps') same recorded.0), recorded.1 ∙ kept)
+use Rattle.node_fleet.specs.Volumes.{IsElsewhere, IsUnmade}
 
 -- a message that is not there
 pub names_else : (event : Event) (steps : List Made) → IsElsewhere event steps → NamesElse event steps

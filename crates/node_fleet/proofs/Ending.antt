@@ -1,17 +1,16 @@
 -- Seats of passes that are taken back, the last pass first.
-use Rattle.std.proofs.Common.{◌≡◌, ℕ, zero, suc, ◌+◌, true, List, [], ◌∷◌, ◌++◌, length, map, All, Option, Some, None, refl, sym, ap, ◌∙◌, subst, append_assoc, arith}
+use Rattle.std.proofs.Common.{◌≡◌, ℕ, zero, suc, List, [], ◌∷◌, ◌++◌, length, map, All, Some, refl, sym, ap, ◌∙◌, subst, append_assoc, arith}
 use Rattle.std.specs.Prelude.{slice_get}
 use Rattle.std.proofs.lemmas.List.{append-nil, length-map, map-append, nil_from_length}
-use Rattle.volume_model.specs.Plan.{Plan, is_named}
+use Rattle.volume_model.specs.Plan.{Plan}
 use Rattle.world.specs.Slots.{slot_of}
-use Rattle.mailbox.specs.declared.Mailbox.{Mailbox}
-use Rattle.mailbox.specs.declared.MailStep.{MailStep}
-use Rattle.mailbox.specs.declared.per_node.Mailboxes.{Mailboxes}
-use Rattle.mailbox.specs.declared.per_node.MailSeats.{MailSeats}
-use Rattle.mailbox.specs.Mail.{AreKept}
-use Rattle.mailbox.specs.Mails.{back_at, ids_of, steps_at, AreAllKept, AreNew, AreSeatsIn, AreSeatsOf, AreWhole, Has, HasNodes, IsNew}
-use Rattle.mailbox.proofs.Back.{back_first}
-use Rattle.mailbox.proofs.Mails.{box_at}
+use Rattle.node_fleet.specs.declared.mailbox.Mailbox.{Mailbox}
+use Rattle.node_fleet.specs.declared.mailboxes.Mailboxes.{Mailboxes}
+use Rattle.node_fleet.specs.declared.mailboxes.MailSeats.{MailSeats}
+use Rattle.node_fleet.specs.Mail.{AreKept}
+use Rattle.node_fleet.specs.Mails.{back_at, steps_at, AreAllKept, AreNew, AreSeatsOf, AreWhole, Has, HasNodes, IsNew}
+use Rattle.node_fleet.proofs.Back.{back_first}
+use Rattle.node_fleet.proofs.Mails.{box_at}
 use Rattle.journal.specs.declared.row.Site.{Ghosts as SiteGhosts}
 use Rattle.node_fleet.specs.declared.site.FleetSite.{Ghosts as FleetGhosts}
 use Rattle.node_fleet.specs.declared.pass.Pass.{Pass}

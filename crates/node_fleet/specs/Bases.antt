@@ -3,8 +3,8 @@ use Rattle.std.specs.Prelude.{◌≡◌, ℕ, List, Option, All, vec_len}
 use Rattle.volume_model.specs.Plan.{Plan}
 use Rattle.atomic_table.specs.Seated.{TableId}
 use Rattle.board.specs.Seats.{board_table}
-use Rattle.mailbox.specs.Seats.{MailboxId}
-use Rattle.mailbox.specs.Mails.{ids_of, AreNew, AreSeatsOf, HasNodes, HasNoSteps}
+use Rattle.node_fleet.specs.Seats.{MailboxId}
+use Rattle.node_fleet.specs.Mails.{ids_of, AreNew, AreSeatsOf, HasNodes, HasNoSteps}
 use Rattle.journal.specs.Fronts.{book_of}
 use Rattle.node_fleet.specs.declared.base.Base.{Base}
 

@@ -14,7 +14,7 @@ use Rattle.journal.specs.declared.pass.Pass.{Pass}
 use Rattle.journal.specs.declared.row.Site.{Ghosts as SiteGhosts}
 use Rattle.journal.specs.Passes.{AddsStep, notes_of, steps_of}
 use Rattle.journal.specs.PassSteps.{IsElse, Made}
-use Rattle.fleet_actors.specs.RecordsAttempt.{AddsNote}
+use Rattle.node_fleet.specs.RecordsAttempt.{AddsNote}
 
 -- the pass has the step of this event more, as its receipt says, or a note of the refusal
 abbrev pub RecordsCall : Event → Result Receipt Fault → List Made → List Made → List Refusal → List Refusal → Type 0

@@ -1,3 +1,15 @@
+pub mod Authorities
+pub mod Actions
+pub mod RecordsAttempt
+pub mod Nodes
+pub mod Ready
+pub mod Attempts
+pub mod Volumes
+pub mod Views
+pub mod Mail
+pub mod Seats
+pub mod Mails
+pub mod MailProps
 pub mod Bases
 pub mod Calls
 pub mod Journals

@@ -5,8 +5,8 @@ use Rattle.volume_model.specs.Judging.{Refusal}
 use Rattle.volume_model.specs.World.{Event}
 use Rattle.world.specs.Slots.{slot_of}
 use Rattle.board.specs.declared.BoardStep.{BoardStep}
-use Rattle.mailbox.specs.declared.MailStep.{MailStep}
-use Rattle.mailbox.specs.Mails.{steps_at, HasNoSteps}
+use Rattle.node_fleet.specs.declared.mailbox.MailStep.{MailStep}
+use Rattle.node_fleet.specs.Mails.{steps_at, HasNoSteps}
 use Rattle.journal.specs.declared.entry.Receipt.{Receipt}
 use Rattle.journal.specs.declared.row.Site.{Ghosts as SiteGhosts}
 use Rattle.journal.specs.Passes as journal

@@ -1,11 +1,11 @@
 -- Mailboxes whose seats are taken back from passes.
 use Rattle.std.specs.Prelude.{◌≡◌, ℕ, true, List, map}
 use Rattle.volume_model.specs.Plan.{Plan, is_named}
-use Rattle.mailbox.specs.declared.Mailbox.{Mailbox}
-use Rattle.mailbox.specs.declared.per_node.Mailboxes.{Mailboxes}
-use Rattle.mailbox.specs.declared.per_node.MailSeats.{MailSeats}
-use Rattle.mailbox.specs.Mail.{AreKept}
-use Rattle.mailbox.specs.Mails.{back_at, steps_at, Has}
+use Rattle.node_fleet.specs.declared.mailbox.Mailbox.{Mailbox}
+use Rattle.node_fleet.specs.declared.mailboxes.Mailboxes.{Mailboxes}
+use Rattle.node_fleet.specs.declared.mailboxes.MailSeats.{MailSeats}
+use Rattle.node_fleet.specs.Mail.{AreKept}
+use Rattle.node_fleet.specs.Mails.{back_at, steps_at, Has}
 use Rattle.journal.specs.declared.row.Site.{Ghosts as SiteGhosts}
 use Rattle.node_fleet.specs.declared.site.FleetSite.{Ghosts as FleetGhosts}
 use Rattle.node_fleet.specs.declared.pass.Pass.{Pass}

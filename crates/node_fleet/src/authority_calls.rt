@@ -3,12 +3,14 @@
 ghost use Rattle.std.specs.Prelude.{◌≡◌, IfErr};
 ghost use Rattle.journal.specs.Passes.{seat_of};
 ghost use Rattle.world.specs.Actions.{authority_event};
-ghost use Rattle.fleet_actors.specs.RecordsAttempt.{PassRecords};
+ghost use Rattle.node_fleet.specs.RecordsAttempt.{PassRecords};
 ghost use Rattle.node_fleet.specs.Calls.{PassRecordsCall};
 
 use crate::fleet::Fleet;
+use crate::halt::Halt;
+use crate::locking::lock_spinning;
+use crate::settling::refusal_of;
 use crate::site::FleetSite;
-use fleet_actors::{Halt, lock_spinning};
 use journal::{Pass, Receipt};
 use std::sync::Wait;
 use volume_model::Fault;
@@ -17,7 +19,7 @@ use world::AuthorityAction;
 impl<'a, L: FleetSite> Fleet<'a, L> {
     ghost use Rattle.std.specs.Prelude.{◌≢◌, Err};
     ghost use Rattle.volume_model.specs.declared.fault.Fault.TheVariants.{NoMessage};
-    ghost use Rattle.fleet_actors.specs.declared.halt.Halt.TheVariants.{Refused};
+    ghost use Rattle.node_fleet.specs.declared.halt.Halt.TheVariants.{Refused};
 
     // Tries once what the authority is asked to do.
     fn try_authority<R: Wait>(
@@ -46,13 +48,9 @@ impl<'a, L: FleetSite> Fleet<'a, L> {
         ensures seat { seat_of pass.new ≡ seat_of pass.old }
         ensures found { IfErr result (λ fault. fault ≢ NoMessage) }
     {
-        for _ in rt.forever() {
-            match self.try_authority(rt, pass, action) {
-                Ok(receipt) => return Ok(receipt),
-                Err(Halt::StaleCursor) => {}
-                Err(Halt::Refused(fault)) => return Err(fault),
-            }
+        match self.try_authority(rt, pass, action) {
+            Ok(receipt) => Ok(receipt),
+            Err(halt) => Err(refusal_of(rt, halt)),
         }
-        unreachable!()
     }
 }

@@ -5,9 +5,9 @@ ghost use Rattle.std.proofs.Props.{props};
 ghost use Rattle.board.specs.Seats.{seats_of, steps_of, IsSeatOf};
 ghost use Rattle.journal.specs.Fronts.{log_of};
 
+use crate::mailboxes::{MailSeats, Mailboxes};
 use board::{Board, BoardSeat};
 use journal::Opened;
-use mailbox::{MailSeats, Mailboxes};
 use plan::CheckedPlan;
 use std::alloc::{AllocError, Global};
 use std::sync::ledger::Blank;

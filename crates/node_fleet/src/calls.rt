@@ -8,11 +8,11 @@ ghost use Rattle.node_fleet.specs.Calls.{NamesElse, RaisesBy, Unmade};
 ghost use Rattle.node_fleet.specs.Passes.{notes_of, seat_of, steps_of, IsEntrySame, IsMailSame, Records};
 
 use crate::fleet::Fleet;
+use crate::gate::StepGate;
+use crate::mailbox::Letter;
 use crate::pass::Pass;
 use crate::site::FleetSite;
-use fleet_actors::StepGate;
 use journal::Receipt;
-use mailbox::Letter;
 use segment_core::NodeAction;
 use std::sync::Wait;
 use volume_model::Fault;
@@ -26,14 +26,14 @@ impl<'a, L: FleetSite> Fleet<'a, L> {
     ghost use Rattle.world.specs.Slots.{slot_of};
     ghost use Rattle.board.specs.Board.{number_of, IsKept};
     ghost use Rattle.board.specs.declared.BoardStep.{BoardStep};
-    ghost use Rattle.mailbox.specs.Mail.{AddsCollected, AddsPosted};
-    ghost use Rattle.mailbox.specs.Mails.{ChangesAt};
+    ghost use Rattle.node_fleet.specs.Mail.{AddsCollected, AddsPosted};
+    ghost use Rattle.node_fleet.specs.Mails.{ChangesAt};
 
     /// Makes a step of the authority: assigns a volume epoch, advances a group to a child of its configuration, makes
     /// a View for a client, or lets the next group join.
     ///
     /// # Errors
-    /// The authority's refusal, as [`AuthorityActor::act`](fleet_actors::AuthorityActor::act) gives it; `NoSlot` of
+    /// The authority's refusal, as [`AuthorityActor::act`](crate::authority::AuthorityActor::act) gives it; `NoSlot` of
     /// an assignment beyond the last slot; `JournalFull` if no cell is left; `NoMemory`, which isn't noted.
     pub fn advance<R: Wait>(
         &self,
@@ -54,7 +54,7 @@ impl<'a, L: FleetSite> Fleet<'a, L> {
     ///
     /// # Errors
     /// `NoMessage` if no step has made the message to take; it isn't noted. The client's refusal, as
-    /// [`ClientActor::act`](fleet_actors::ClientActor::act) gives it; a client without a slot is one that no View has
+    /// [`ClientActor::act`](crate::client::ClientActor::act) gives it; a client without a slot is one that no View has
     /// reached. `JournalFull` if no cell is left. `NoMemory`, which isn't noted.
     pub fn client_step<R: Wait>(
         &self,
@@ -105,7 +105,7 @@ impl<'a, L: FleetSite> Fleet<'a, L> {
     ///
     /// # Errors
     /// `NoActor` if the plan names no such node or its group hasn't joined. `NoMessage` if no step has made the
-    /// message; it isn't noted. The node's refusal, as [`NodeActor::react`](fleet_actors::NodeActor::react) gives it.
+    /// message; it isn't noted. The node's refusal, as [`NodeActor::react`](crate::node::NodeActor::react) gives it.
     /// `JournalFull` if no cell is left. `NoMemory`, which isn't noted.
     pub fn deliver<R: Wait, G: StepGate>(
         &self,
@@ -128,7 +128,7 @@ impl<'a, L: FleetSite> Fleet<'a, L> {
     ///
     /// # Errors
     /// `NoActor` if the plan names no such node or its group hasn't joined. The node's refusal, as
-    /// [`NodeActor::act`](fleet_actors::NodeActor::act) gives it. `JournalFull` if no cell is left. `NoMemory`, which
+    /// [`NodeActor::act`](crate::node::NodeActor::act) gives it. `JournalFull` if no cell is left. `NoMemory`, which
     /// isn't noted.
     pub fn node_step<R: Wait>(
         &self,

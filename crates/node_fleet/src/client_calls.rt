@@ -4,14 +4,18 @@ ghost use Rattle.std.specs.Prelude.{◌≡◌, IfErr, IfOk, OnErr};
 ghost use Rattle.volume_model.specs.Actor.{actor_of, Actor};
 ghost use Rattle.journal.specs.Passes.{seat_of, steps_of};
 ghost use Rattle.world.specs.Events.{event_of};
-ghost use Rattle.fleet_actors.specs.RecordsAttempt.{PassRecords};
-ghost use Rattle.fleet_actors.specs.Volumes.{IsUnmade};
+ghost use Rattle.node_fleet.specs.RecordsAttempt.{PassRecords};
+ghost use Rattle.node_fleet.specs.Volumes.{IsUnmade};
 ghost use Rattle.node_fleet.specs.Calls.{is_moving, NamesElse, PassRecordsCall, RaisesBy};
 
+use crate::client::ClientActor;
+use crate::client_attempt::try_step;
 use crate::fleet::Fleet;
+use crate::halt::Halt;
+use crate::locking::lock_spinning;
 use crate::settling::refusal_of;
 use crate::site::FleetSite;
-use fleet_actors::{ClientActor, Halt, lock_spinning, refused, try_step};
+use crate::step::refused;
 use journal::{ActorName, Log, Pass, Receipt};
 use std::sync::{Mutex, Wait};
 use volume_model::Fault;
@@ -31,8 +35,8 @@ impl<'a, L: FleetSite> Fleet<'a, L> {
     ghost use Rattle.volume_model.specs.Client.{unborn};
     ghost use Rattle.world.specs.Actions.{message_found};
     ghost use Rattle.journal.specs.Passes.{world_of, HasNoteRoom, SeesAll};
-    ghost use Rattle.fleet_actors.specs.Actions.{IsFound};
-    ghost use Rattle.fleet_actors.specs.declared.halt.Halt.TheVariants.{Refused};
+    ghost use Rattle.node_fleet.specs.Actions.{IsFound};
+    ghost use Rattle.node_fleet.specs.declared.halt.Halt.TheVariants.{Refused};
 
     // Returns the client of a volume epoch, if it has a slot.
     fn client(&self, volume: u32) -> Option<&Mutex<ClientActor<L>>> {

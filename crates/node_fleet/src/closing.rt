@@ -3,17 +3,17 @@
 ghost use Rattle.std.specs.Prelude.{length, map, sum_by, vec_len, ◌<◌, ◌≡◌, All};
 ghost use Rattle.volume_model.specs.Judging.{IsRefused};
 ghost use Rattle.board.specs.Seats.{board_table, returned, AreReturnedTo};
-ghost use Rattle.mailbox.specs.Mails.{ids_of, AreBack};
+ghost use Rattle.node_fleet.specs.Mails.{ids_of, AreBack};
 ghost use Rattle.journal.specs.Passes.{journal_of};
 ghost use Rattle.journal.specs.PassSteps.{Stands};
 ghost use Rattle.node_fleet.specs.Passes.{notes_of, seat_of, steps_of};
 ghost use Rattle.node_fleet.specs.Returned.{HasAll};
 
+use crate::mailboxes::{MailSeats, Mailboxes};
 use crate::pass::Pass;
 use crate::site::FleetSite;
 use board::{Board, ReturnedSeats};
 use journal::Log;
-use mailbox::{MailSeats, Mailboxes};
 use std::sync::ledger::Share;
 
 /// What passes leave when they are taken back: their parts of the ledger, and their seats on the board and at the

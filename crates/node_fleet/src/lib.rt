@@ -2,24 +2,37 @@
 //! nodes.
 #![tactic(auto)]
 
+mod action;
+mod authority;
+mod authority_attempt;
 mod authority_calls;
 mod base;
 mod calls;
+mod client;
+mod client_attempt;
 mod client_calls;
 mod closed;
 mod closing;
 mod fleet;
+mod gate;
+mod halt;
+mod locking;
+mod mailbox;
+mod mailboxes;
+mod node;
 mod node_calls;
 mod opening;
 mod pass;
+mod reaction;
 mod settling;
 mod site;
+mod step;
 
 pub use base::Base;
 pub use closed::Journal;
 pub use fleet::Fleet;
-pub use fleet_actors::StepGate;
+pub use gate::StepGate;
 pub use journal::{Receipt, Row};
-pub use mailbox::Letter;
+pub use mailbox::{Letter, MailSeat, Mailbox};
 pub use pass::Pass;
 pub use site::FleetSite;

@@ -6,14 +6,17 @@ ghost use Rattle.volume_model.specs.World.{step};
 ghost use Rattle.volume_model.specs.World.Event.{Deliver};
 ghost use Rattle.journal.specs.Passes.{journal_of, message_ref_number, notes_of, seat_of, steps_of, world_of};
 ghost use Rattle.world.specs.Events.{event_of};
-ghost use Rattle.fleet_actors.specs.RecordsAttempt.{AddsNote, PassRecords};
+ghost use Rattle.node_fleet.specs.RecordsAttempt.{AddsNote, PassRecords};
 ghost use Rattle.world.specs.Actions.{node_event};
 ghost use Rattle.node_fleet.specs.Calls.{IsOfNone, PassRecordsCall, Unmade};
 
 use crate::fleet::Fleet;
+use crate::gate::StepGate;
+use crate::halt::Halt;
+use crate::locking::lock_spinning;
+use crate::node::NodeActor;
 use crate::settling::refusal_of;
 use crate::site::FleetSite;
-use fleet_actors::{Halt, NodeActor, StepGate, lock_spinning};
 use journal::{Log, MessageRef, Pass, Receipt};
 use segment_core::NodeAction;
 use std::sync::{Mutex, Wait};
@@ -24,7 +27,7 @@ impl<'a, L: FleetSite> Fleet<'a, L> {
     ghost use Rattle.std.specs.Prelude.{false, ◌≢◌, IfNone, IfOk, OnOk};
     ghost use Rattle.volume_model.specs.Plan.{is_named};
     ghost use Rattle.volume_model.specs.declared.fault.Fault.TheVariants.{NoMessage};
-    ghost use Rattle.fleet_actors.specs.declared.halt.Halt.TheVariants.{Refused};
+    ghost use Rattle.node_fleet.specs.declared.halt.Halt.TheVariants.{Refused};
 
     // Returns the node of a member of a group, and none where the plan doesn't name it.
     fn node(&self, group: u8, member: u8) -> Option<&Mutex<NodeActor<L>>>

@@ -1,11 +1,11 @@
 //! What one caller did in a fleet.
 
 ghost use Rattle.std.proofs.Props.{props};
-ghost use Rattle.mailbox.specs.Mails.{AreSeatsIn};
-ghost use Rattle.mailbox.proofs.Seats.{seats_prop};
+ghost use Rattle.node_fleet.specs.Mails.{AreSeatsIn};
+ghost use Rattle.node_fleet.specs.MailProps.{seats_prop};
 
+use crate::mailboxes::MailSeats;
 use crate::site::FleetSite;
-use mailbox::MailSeats;
 
 /// What one caller did: its steps and notes in the journal, its seat on the board, and its seats at the mailboxes.
 #[derive(Drop)]

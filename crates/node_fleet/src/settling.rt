@@ -1,9 +1,9 @@
 //! The refusal of an attempted step.
 
 ghost use Rattle.std.specs.Prelude.{◌≡◌};
-ghost use Rattle.fleet_actors.specs.declared.halt.Halt.TheVariants.{Refused};
+ghost use Rattle.node_fleet.specs.declared.halt.Halt.TheVariants.{Refused};
 
-use fleet_actors::Halt;
+use crate::halt::Halt;
 use std::sync::Wait;
 use volume_model::Fault;
 

@@ -1,8 +1,8 @@
 //! Letters that are posted and collected, by one thread and by two.
 
-ghost use Rattle.mailbox.specs.Seats.{IsSeatOf};
+ghost use Rattle.node_fleet.specs.Seats.{IsSeatOf};
 
-use mailbox::{MailSeat, Mailbox};
+use node_fleet::{MailSeat, Mailbox};
 use std::sync::Wait;
 use std::test::*;
 use std::thread;

@@ -1,7 +1,7 @@
 use Rattle.std.proofs.Common.{get_or, false, refl, string_bytes}
 use Rattle.std.specs.Option.{option_copied}
 use Rattle.commands.proofs.Printing.{prints_more, prints_none}
-use Rattle.script.specs.declared.reading.Step.{Step}
+use Rattle.drivers.specs.declared.reading.Step.{Step}
 use Rattle.commands.proofs.run_text.add_steps.Goals as goal
 
 pub loop-step-init : goal.loop-step-init

@@ -1,4 +1,4 @@
-use Rattle.std.proofs.Common.{◌≡◌, ◌++◌, [], ◌∷◌, List, Option, length, map, All, refl, sym, ap, ◌∙◌, subst, arith}
+use Rattle.std.proofs.Common.{◌++◌, [], ◌∷◌, List, Option, length, map, All, refl, sym, ap, ◌∙◌, subst, arith}
 use Rattle.std.specs.Prelude.{sum_by}
 use Rattle.std.proofs.lemmas.List.Sums.{sum_by-append}
 use Rattle.volume_model.specs.Judging.{IsRefused}
@@ -6,10 +6,10 @@ use Rattle.volume_model.specs.Journal.{Entry}
 use Rattle.atomic_table.specs.Seated.{TableId}
 use Rattle.board.specs.Seats.{returned, AreReturnedTo}
 use Rattle.board.specs.declared.BoardStep.{BoardStep}
-use Rattle.mailbox.specs.declared.MailStep.{MailStep}
-use Rattle.mailbox.specs.Mails.{back_at, steps_at, AreSeatsIn, AreSeatsOf}
-use Rattle.mailbox.specs.Seats.{MailboxId}
-use Rattle.mailbox.proofs.Back.{have_first}
+use Rattle.node_fleet.specs.declared.mailbox.MailStep.{MailStep}
+use Rattle.node_fleet.specs.Mails.{back_at, steps_at, AreSeatsIn, AreSeatsOf}
+use Rattle.node_fleet.specs.Seats.{MailboxId}
+use Rattle.node_fleet.proofs.Back.{have_first}
 use Rattle.journal.specs.Entries.{entries_of}
 use Rattle.journal.specs.Passes.{journal_of}
 use Rattle.journal.specs.PassSteps.{Stands}

@@ -2,8 +2,8 @@ use Rattle.std.proofs.Common.{◌≡◌, ◌+◌, ◌++◌, ℕ, length, map, ve
 use Rattle.std.specs.Prelude.{sum_by}
 use Rattle.volume_model.specs.Judging.{IsRefused}
 use Rattle.board.specs.Seats.{returned, AreReturnedTo}
-use Rattle.mailbox.specs.Mails.{back_at, steps_at, AreBack, Has}
-use Rattle.mailbox.specs.declared.Mailbox.{Mailbox}
+use Rattle.node_fleet.specs.Mails.{back_at, steps_at, AreBack, Has}
+use Rattle.node_fleet.specs.declared.mailbox.Mailbox.{Mailbox}
 use Rattle.journal.specs.Passes.{journal_of}
 use Rattle.node_fleet.specs.Passes.{steps_of, notes_of, seat_of}
 use Rattle.journal.specs.PassSteps.{Stands}

@@ -6,7 +6,7 @@ use Rattle.plan.specs.Plan.{plan_data}
 use Rattle.plan.specs.declared.checked.CheckedPlan.{CheckedPlan}
 use Rattle.world.proofs.Low.{is_low}
 use Rattle.world.proofs.Steps.{LowFor}
-use Rattle.mailbox.proofs.Homes.{has_nodes}
+use Rattle.node_fleet.proofs.Homes.{has_nodes}
 use Rattle.node_fleet.proofs.opening.nodes.Goals as goal
 
 pub returns-clause-each : goal.returns-clause-each

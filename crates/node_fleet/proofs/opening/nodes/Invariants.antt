@@ -1,6 +1,6 @@
 use Rattle.std.proofs.Common.{◌≡◌, [], vec_len}
 use Rattle.journal.specs.Fronts.{log_of}
-use Rattle.mailbox.proofs.Homes.{AreHomes}
+use Rattle.node_fleet.proofs.Homes.{AreHomes}
 use Rattle.node_fleet.proofs.opening.nodes.Given as goal
 
 abbrev pub invariant-loop-slot : goal.invariant-loop-slot

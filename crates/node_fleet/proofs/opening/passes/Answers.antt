@@ -3,8 +3,8 @@ use Rattle.std.proofs.lemmas.List.Elements.{All-pop, All-push}
 use Rattle.board.specs.Seats as board
 use Rattle.board.specs.Seats.{IsSeatIn}
 use Rattle.board.specs.declared.BoardSeat.{BoardSeat}
-use Rattle.mailbox.specs.Mails.{AreSeatsIn, HasNoSteps}
-use Rattle.mailbox.specs.declared.per_node.MailSeats.{MailSeats}
+use Rattle.node_fleet.specs.Mails.{AreSeatsIn, HasNoSteps}
+use Rattle.node_fleet.specs.declared.mailboxes.MailSeats.{MailSeats}
 use Rattle.node_fleet.specs.Passes.{IsFresh}
 use Rattle.node_fleet.specs.declared.pass.Pass.{Pass}
 use Rattle.node_fleet.proofs.opening.passes.Goals as goal

@@ -2,7 +2,7 @@ use Rattle.std.proofs.Common.{◌≡◌, ◌+◌, [], All, length, vec_len}
 use Rattle.journal.specs.Fronts.{log_of}
 use Rattle.board.specs.Seats as board
 use Rattle.board.specs.Seats.{IsSeatIn}
-use Rattle.mailbox.specs.Mails.{AreSeatsIn, HasNoSteps}
+use Rattle.node_fleet.specs.Mails.{AreSeatsIn, HasNoSteps}
 use Rattle.node_fleet.specs.Passes.{IsFresh}
 use Rattle.node_fleet.proofs.opening.passes.Given as goal
 

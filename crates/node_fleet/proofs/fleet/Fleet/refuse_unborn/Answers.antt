@@ -6,8 +6,8 @@ use Rattle.world.specs.Clients.{client_plan, client_volume, seen_client}
 use Rattle.world.specs.Events.{event_of}
 use Rattle.journal.specs.Passes.{journal_of}
 use Rattle.world.specs.Actions.{action_event, client_acted, client_event, message_found}
-use Rattle.fleet_actors.proofs.Acting.{event_is, refuses_alike}
-use Rattle.fleet_actors.proofs.Exactly.{exact_of}
+use Rattle.node_fleet.proofs.Acting.{event_is, refuses_alike}
+use Rattle.node_fleet.proofs.Exactly.{exact_of}
 use Rattle.node_fleet.proofs.fleet.Fleet.refuse_unborn.Goals as goal
 
 pub refused-requires-clause-exact : goal.refused-requires-clause-exact

@@ -1,5 +1,0 @@
-mod NodeSteps
-pub mod Acting
-pub mod Exactly
-pub mod Judged
-pub mod Ruling

@@ -1,8 +1,0 @@
-use Rattle.std.proofs.Common.{◌≡◌, All, [], vec_len}
-use Rattle.mailbox.proofs.per_node.without_seats.Given as goal
-
-abbrev pub invariant-loop : goal.invariant-loop
-invariant-loop l = record {
-  count : vec_len l.made ≡ l.counter;
-  none : All (λ s. s.seats.items ≡ []) l.made.items;
-}

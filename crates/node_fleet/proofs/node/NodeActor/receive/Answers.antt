@@ -1,0 +1,41 @@
+use Rattle.std.proofs.Common.{List, sym, ap, ◌∙◌}
+use Rattle.volume_model.specs.Journal.{Entry, world_at}
+use Rattle.volume_model.specs.Lists.{numbered}
+use Rattle.volume_model.specs.World.{World}
+use Rattle.wire.specs.Listed.{listed}
+use Rattle.wire.specs.Message.{messages_of}
+use Rattle.segment_core.specs.Prepared.{step_of}
+use Rattle.segment_core.specs.Segment.{node_of}
+use Rattle.journal.specs.Passes.{journal_of, message_ref_message, message_ref_number, marked, seen_at}
+use Rattle.node_fleet.proofs.NodeSteps.{answers, becomes, not_joined, same_of, there_joined, unjoined_delivery}
+use Rattle.node_fleet.proofs.node.NodeActor.receive.Goals as goal
+
+pub refused-requires-clause-exact : goal.refused-requires-clause-exact
+refused-requires-clause-exact g c =
+    let node = c.args.self.now in
+    let now = world_at g.L.Site.plan (journal_of c.catch_up_and_reserve.new.log) in
+    unjoined_delivery g.L.Site.plan now node.group node.member c.number.result (not_joined now node.group c.from.result c.joined.result c.joined.ensures c.from.ensures c.if-from-joined.true)
+
+pub enter-requires-clause-goes : goal.enter-requires-clause-goes
+enter-requires-clause-goes g c =
+    let plan = g.L.Site.plan in
+    let node = c.args.self.now in
+    let message_ref = c.args.message_ref.now in
+    answers plan g.L.Site.slots 0 (journal_of c.catch_up_and_reserve.new.log) (world_at plan (seen_at node.cursor)) (marked node.cursor) node.group node.member (node_of node.segment) node.who node.named node.state c.in_ok-catch_up_and_reserve.ensures.agree (there_joined (world_at plan (journal_of c.catch_up_and_reserve.new.log)) node.group c.from.result c.joined.result c.joined.ensures c.from.ensures c.if-from-joined.false)
+    (message_ref_number message_ref) c.number.result (message_ref_message message_ref) (c.number.ensures ∙ c.has.ensures.message_ref.0) (ap (λ (l : List Entry). numbered (world_at g.L.Site.plan l).messages (message_ref_number message_ref)) (c.catch_up_and_reserve.ensures.log ∙ c.has.ensures.log) ∙ c.has.ensures.is) (step_of c.args.prepared (node_of node.segment)) c.requires.step
+    (messages_of (listed c.apply-made.result)) (ap messages_of c.apply-made.ensures.answers)
+
+pub invariant_of-self-2 : goal.invariant_of-self-2
+invariant_of-self-2 g c =
+    let plan = g.L.Site.plan in
+    let node = c.args.self.now in
+    let message_ref = c.args.message_ref.now in
+    let now =
+    becomes plan g.L.Site.slots 0 (journal_of c.catch_up_and_reserve.new.log) (world_at plan (seen_at node.cursor)) (marked node.cursor) node.group node.member (node_of node.segment) node.who node.named node.state c.in_ok-catch_up_and_reserve.ensures.agree (there_joined (world_at plan (journal_of c.catch_up_and_reserve.new.log)) node.group c.from.result c.joined.result c.joined.ensures c.from.ensures c.if-from-joined.false)
+    (message_ref_number message_ref) c.number.result (message_ref_message message_ref) (c.number.ensures ∙ c.has.ensures.message_ref.0) (ap (λ (l : List Entry). numbered (world_at g.L.Site.plan l).messages (message_ref_number message_ref)) (c.catch_up_and_reserve.ensures.log ∙ c.has.ensures.log) ∙ c.has.ensures.is) (step_of c.args.prepared (node_of node.segment)) c.requires.step in
+    record {
+      who = c.enter.ensures.cursor.0 ∙ c.catch_up_and_reserve.ensures.cursor.0 ∙ node.who;
+      of = same_of plan node.group node.member node.segment c.apply-made.new.self node.of c.apply-made.ensures.actor;
+      named = node.named;
+      state = c.apply-made.ensures.node ∙ sym now ∙ ap (λ (w : World). w.nodes node.group node.member) (sym c.enter.ensures.world) ∙ ap (λ (es : List Entry). (world_at plan es).nodes node.group node.member) (sym c.enter.ensures.cursor.1);
+    }

@@ -1,0 +1,26 @@
+-- What contracts see of a node's actor, and what it does.
+use Rattle.std.specs.Prelude.{ℕ, Option}
+use Rattle.std.specs.declared.sync.ledger.Ledger.{Ghosts as LedgerGhosts}
+use Rattle.volume_model.specs.Message.{Message}
+use Rattle.volume_model.specs.Node.{Node, NodeAnswer}
+use Rattle.volume_model.specs.World.{deliver}
+use Rattle.segment_core.specs.Segment.{node_of}
+use Rattle.journal.specs.declared.row.Site.{Ghosts as SiteGhosts}
+use Rattle.node_fleet.specs.declared.node.NodeActor.{NodeActor}
+
+module _ {X : Type 0} {s : SiteGhosts X} {l : LedgerGhosts X} where
+  -- its group
+  abbrev pub actor_group : NodeActor X s l → ℕ
+  actor_group actor = actor.group
+
+  -- the member whose node it is
+  abbrev pub actor_member : NodeActor X s l → ℕ
+  actor_member actor = actor.member
+
+  -- the node of the model that it is
+  abbrev pub actor_node : NodeActor X s l → Node
+  actor_node actor = node_of actor.segment
+
+  -- what it does with a message that was found
+  abbrev pub delivery_of : NodeActor X s l → Option Message → NodeAnswer
+  delivery_of actor found = deliver s.plan actor.group actor.member (node_of actor.segment) found

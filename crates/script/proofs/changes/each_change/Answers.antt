@@ -1,9 +1,0 @@
-use Rattle.script.specs.Grammar.{changes_in}
-use Rattle.script.specs.Parts.{parts_left}
-use Rattle.script.proofs.Parsing.{changes_more}
-use Rattle.script.proofs.changes.each_change.Goals as goal
-
-pub loop-word-preserved : goal.loop-word-preserved
-loop-word-preserved c =
-    changes_more (changes_in (parts_left c.args.words)) (parts_left c.loop-word.words) (parts_left c.take_first.new.self) c.in-Some.word.now c.loop-word.changes.items c.push.new.self.items c.in_ok-change.field-0
-    c.loop-word.invariant c.in-Some.ensures.part c.in_ok-change.ensures c.in_ok-push.ensures.items

@@ -1,9 +1,0 @@
-use Rattle.std.proofs.lemmas.List.{take_rest}
-use Rattle.script.proofs.Places.{cut_at, uncut}
-use Rattle.script.proofs.parts.split_first.Goals as goal
-
-pub returns-in-Some : goal.returns-in-Some
-returns-in-Some c = rw take_rest (cut_at c.args.separator c.args.text.now c.in-Some.at c.in-Some.ensures)
-
-pub returns-in-None : goal.returns-in-None
-returns-in-None c = uncut c.args.separator c.args.text.now c.in-None.ensures

@@ -1,5 +1,0 @@
-use Rattle.script.proofs.Places.{place_found}
-use Rattle.script.proofs.seeking.first_place.Goals as goal
-
-pub returns : goal.returns
-returns c = place_found c.args.byte c.args.text.now c.memchr.result c.memchr.ensures

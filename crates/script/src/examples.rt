@@ -1,8 +1,0 @@
-//! Worked lines of the grammar.
-
-ghost use Rattle.script.specs.Examples.{SayTheirLines};
-
-/// Proves what the grammar says of some lines.
-pub fn say_their_lines()
-    ensures { SayTheirLines }
-{}
